@@ -33,7 +33,7 @@ pub struct Line {
 }
 
 impl Model for Line {
-    ghost use Rattle.std.specs.Prelude.{ℕ, List, ◌≤◌, ◌×◌, vec_capacity, vec_len};
+    ghost use Rattle.std.specs.Prelude.{ℕ, List, ◌≤◌, vec_capacity, vec_len};
 
     ghost Value = { List ℕ };
 
