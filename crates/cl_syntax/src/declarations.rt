@@ -48,10 +48,12 @@ pub struct DisplayDecl {
     pub at: u32,
 }
 
-/// `(define-command NAME () BODY)`
+/// `(define-command NAME () BODY)`. The command-line name is made from the symbol: a leading `com-`
+/// is dropped, hyphens become spaces, and the first letter of each word becomes a capital.
 #[derive(Drop)]
 pub struct CommandDecl {
     pub name: Text,
+    pub line_name: Text,
     pub body: Acts,
     pub at: u32,
 }

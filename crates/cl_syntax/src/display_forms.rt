@@ -21,9 +21,13 @@ pub struct Shapes {
 
 impl Model for Shapes {
     ghost use Rattle.std.specs.Prelude.{List};
+    ghost use Rattle.std.specs.Coded.{coded_list};
     ghost use Rattle.cl_syntax.specs.declared.display_forms.Shape.{Shape};
+    ghost use Rattle.cl_syntax.specs.contracts.display_forms.Shape as row;
 
     ghost Value = { List Shape };
+
+    ghost coded = { coded_list row.the_row.coded };
 
     ghost view = { λ s. s.items.items };
 }

@@ -20,9 +20,13 @@ pub struct Acts {
 
 impl Model for Acts {
     ghost use Rattle.std.specs.Prelude.{List};
+    ghost use Rattle.std.specs.Coded.{coded_list};
     ghost use Rattle.cl_syntax.specs.declared.statements.Act.{Act};
+    ghost use Rattle.cl_syntax.specs.contracts.statements.Act as row;
 
     ghost Value = { List Act };
+
+    ghost coded = { coded_list row.the_row.coded };
 
     ghost view = { λ s. s.items.items };
 }
