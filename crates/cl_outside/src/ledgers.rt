@@ -70,8 +70,7 @@ impl Tally {
     // Counts one more.
     fn up(&mut self)
         ensures { self.new.count ≡ self.old.count + 1 }
-    {
-    }
+    {}
 }
 
 /// A ledger of this crate, which stands in proofs alone and costs nothing.

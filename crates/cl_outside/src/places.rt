@@ -33,6 +33,7 @@ pub trait Place {
 
     // faults of `make_sink`, and of `write_sink`; no count falls, and each stands still at 2^64 - 1
     ghost making_faults: { Self → ℕ };
+
     ghost writing_faults: { Self → ℕ };
 
     // the loan that a place which only lends another one holds; no call changes it
