@@ -2,3 +2,4 @@ pub mod Outcome
 pub mod Slots
 pub mod Meaning
 pub mod Agrees
+pub mod Executed

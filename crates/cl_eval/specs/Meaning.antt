@@ -1,6 +1,6 @@
 -- The meaning of expressions and statements. Each form that is entered costs 1, and its parts cost in turn, from left to right.
 -- Traps: 1 wrong kind, 2 overflow, 5 budget, 6 depth.
-use Rattle.std.specs.Prelude.{ℕ, ◌+◌, ◌^◌, ℤ, pos, negsuc, ◌+ℤ◌, Bool, nat_lt, nat_le, if◌then◌else◌, ◌==◌, max, List, [], ◌∷◌, Option, Some, None}
+use Rattle.std.specs.Prelude.{ℕ, zero, suc, ◌+◌, ◌^◌, ℤ, pos, negsuc, ◌+ℤ◌, Bool, nat_lt, nat_le, if◌then◌else◌, ◌==◌, max, List, [], ◌∷◌, Option, Some, None}
 use Rattle.std.specs.Fmt.{signed_decimal}
 use Rattle.cl_value.specs.Data.{Data, int, text, symbol}
 use Rattle.cl_syntax.specs.Term as term
@@ -67,4 +67,4 @@ acts (suc left) budget level a slots = entering (suc left) budget level >>= λ _
 -- statements in order, each with the slots that the ones before it left
 abbrev pub runs : ℕ → ℕ → ℕ → List Act → Slots → Run Slots
 runs left budget level [] slots = give slots
-runs left budget level (a ∷ as) slots = acts left budget level a slots >>= runs left budget level as
+runs left budget level (a ∷ rest) slots = acts left budget level a slots >>= runs left budget level rest

@@ -18,8 +18,11 @@ found x (s ∷ slots) = if is_name s.0 x then Some s.1 else found x slots
 -- the slot of that name with this value, or a new one at the end
 abbrev pub put : List ℕ → Data → Slots → Slots
 put x d [] = (x, d) ∷ []
-put x d (s ∷ slots) = if is_name s.0 x then (s.0, d) ∷ slots else s ∷ put x d slots
+put x d (s ∷ slots) = if is_name s.0 x then (x, d) ∷ slots else s ∷ put x d slots
 
 -- a name with its value, as the program holds them
 abbrev pub entry_of : List ℕ × Value → List ℕ × Data
 entry_of e = (e.0, data_of e.1)
+
+abbrev pub is_named : List ℕ → List ℕ × Value → Bool
+is_named x e = is_name e.0 x

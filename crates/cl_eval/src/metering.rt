@@ -20,7 +20,9 @@ pub enum Stop {
 }
 
 impl From<AllocError> for Stop {
-    ghost from_gives = { λ _ s. s ≡ Stop.Memory };
+    ghost use Rattle.cl_eval.specs.declared.metering.Stop.TheVariants.{Memory};
+
+    ghost from_gives = { λ _ s. s ≡ Memory };
 
     fn from(_: AllocError) -> Stop {
         Stop::Memory

@@ -1,4 +1,5 @@
-ghost use Rattle.std.specs.Prelude.{◌≡◌};
+ghost use Rattle.std.specs.Prelude.{◌≡◌, ◌+ℤ◌, IfOk};
+ghost use Rattle.std.specs.Fmt.{signed_decimal};
 ghost use Rattle.cl_value.specs.Value.{data_of};
 ghost use Rattle.cl_eval.specs.Slots.{found};
 ghost use Rattle.cl_eval.specs.Meaning.{calculated, looked_up, number, written};
@@ -31,7 +32,10 @@ pub fn write(alloc: Global, value: &Value, meter: &Meter) -> Result<Value, Stop>
     }
 }
 
-fn decimal(alloc: Global, number: i64) -> Result<Text, AllocError> {
+// A number in decimal.
+fn decimal(alloc: Global, number: i64) -> Result<Text, AllocError>
+    ensures { IfOk result (λ t. t ≡ signed_decimal number) }
+{
     let digits = format!(in alloc; "{number}")?;
     Text::from_slice(alloc, digits.as_bytes())
 }
@@ -41,9 +45,16 @@ pub fn calculate(operator: Arithmetic, first: &Value, second: &Value, meter: &Me
     ensures { Agrees data_of result meter.now (calculated operator (data_of first.now) (data_of second.now) meter.now.cost meter.now.deepest) }
 {
     match (operator, first, second) {
-        (Arithmetic::Add, Value::Int(first), Value::Int(second)) => {
-            checked(first.checked_add(*second))
-        }
+        (Arithmetic::Add, Value::Int(first), Value::Int(second)) => add(*first, *second, meter),
         _ => Err(Stop::Trap(1)),
+    }
+}
+
+fn add(first: i64, second: i64, meter: &Meter) -> Result<Value, Stop>
+    ensures { Agrees data_of result meter.now (number (first +ℤ second) meter.now.cost meter.now.deepest) }
+{
+    match first.checked_add(second) {
+        Some(sum) => Ok(Value::Int(sum)),
+        None => Err(Stop::Trap(2)),
     }
 }

@@ -1,6 +1,6 @@
-ghost use Rattle.std.specs.Prelude.{◌≡◌, [], OnOk, OnErr, IfOk, option_map, List, map};
+ghost use Rattle.std.specs.Prelude.{◌≡◌, [], OnOk, OnErr, IfOk, option_map, position, ◌<◌, slice_set, vec_len};
 ghost use Rattle.cl_value.specs.Value.{data_of};
-ghost use Rattle.cl_eval.specs.Slots.{found, put, entry_of};
+ghost use Rattle.cl_eval.specs.Slots.{found, put, is_named};
 
 use cl_value::{Text, Value};
 use std::alloc::{AllocError, Global};
@@ -54,9 +54,9 @@ impl Slots {
         ensures ok { OnOk result (self.new ≡ put name (data_of value) self.old) }
         ensures err { OnErr result (self.new ≡ self.old) }
     {
-        match position(&self.entries, name.as_slice()) {
+        match place_of(&self.entries, name.as_slice()) {
             Some(at) => {
-                self.entries[at].1 = value;
+                set_entry(&mut self.entries, at, (name, value));
                 Ok(())
             }
             None => {
@@ -76,4 +76,20 @@ impl Slots {
         }
         Ok(Slots { entries })
     }
+}
+
+// The place of the first entry of that name.
+fn place_of(entries: &[(Text, Value)], name: &[u8]) -> Option<usize>
+    ensures { result ≡ position (is_named name.now) entries.now }
+{
+    entries
+        .iter()
+        .position(|entry| entry.0.as_slice() == name)
+}
+
+fn set_entry(entries: &mut Vec<(Text, Value)>, at: usize, entry: (Text, Value))
+    requires { at < vec_len entries.old }
+    ensures { entries.new.items ≡ slice_set entries.old.items at entry }
+{
+    entries[at] = entry;
 }
