@@ -21,3 +21,9 @@ Shows (shown.Built h) (Traps kind cost deepest) = ⊥
 Shows (shown.Trapped h k) (Gives s cost deepest) = ⊥
 Shows (shown.Trapped h k) (Traps kind cost deepest) = (k ≡ kind) × (h ≡ trap_history kind)
 Shows shown.Memory o = Unit {0}
+
+-- the ledger rises by the cost; where there was no memory, by no more
+abbrev pub Rises : Shown → ℕ → ℕ → ℕ → Type 0
+Rises (shown.Built h) old new cost = new ≡ old + cost
+Rises (shown.Trapped h k) old new cost = new ≡ old + cost
+Rises shown.Memory old new cost = old ≤ new

@@ -1,6 +1,6 @@
 -- Evaluation of display forms from nothing: what each form draws, from the drawing so far.
 -- Traps, beside those of expressions: 9 range of coordinates, 10 weight.
-use Rattle.std.specs.Prelude.{ℕ, ◌+◌, ◌&&◌, nat_le, if◌then◌else◌, List, [], ◌∷◌, ◌++◌, length}
+use Rattle.std.specs.Prelude.{ℕ, zero, suc, ◌+◌, ◌&&◌, nat_le, if◌then◌else◌, List, [], ◌∷◌, ◌++◌, length}
 use Rattle.cl_value.specs.Data.{Data, text}
 use Rattle.cl_syntax.specs.Term.{Term}
 use Rattle.cl_syntax.specs.declared.display_forms.Shape.{Shape}

@@ -1,9 +1,9 @@
-ghost use Rattle.std.specs.Prelude.{◌≡◌, ◌+◌, ◌<◌, ◌≤◌, ◌^◌};
+ghost use Rattle.std.specs.Prelude.{◌≡◌, ◌+◌, ◌<◌, ◌≤◌, ◌^◌, IfOk};
 ghost use Rattle.cl_eval.specs.Outcome.{cost_of};
 ghost use Rattle.cl_display.specs.Fresh.{draws, draws_all, shape_parts};
 ghost use Rattle.cl_eval.specs.Meaning.{means};
 ghost use Rattle.cl_display.specs.Script.{fresh, trap_history};
-ghost use Rattle.cl_display.specs.Agrees.{Draws, Shows};
+ghost use Rattle.cl_display.specs.Agrees.{Draws, Rises, Shows};
 
 use crate::drawings::Drawing;
 use crate::histories::{History, TextItem};
@@ -25,6 +25,7 @@ pub enum Shown {
 }
 
 /// Evaluates a display once, from nothing. Each form that it enters is a step.
+#[tactic(auto, unfolding(crate::specs::Script::fresh))]
 pub fn display<L: Ledger>(
     alloc: Global,
     forms: &Shapes,
@@ -34,6 +35,7 @@ pub fn display<L: Ledger>(
 ) -> Shown
     requires { limits.depth ≤ 512 }
     ensures shows { Shows result (fresh limits forms.now slots.now) }
+    ensures ledger { Rises result steps.old steps.new (cost_of (fresh limits forms.now slots.now)) }
 {
     let context = Context {
         alloc,
