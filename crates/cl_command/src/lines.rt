@@ -39,7 +39,7 @@ impl Model for Line {
 
     ghost view = { λ l. l.elements.items };
 
-    ghost invariant = { λ l. 256 ≤ vec_capacity l.elements };
+    ghost invariant = { λ l. (256 ≤ vec_capacity l.elements) × (vec_len l.elements ≤ 256) };
 }
 
 impl Line {
@@ -59,10 +59,10 @@ impl Line {
         if text.len() > MOST.saturating_sub(self.elements.len()) {
             return Pushed::Full;
         }
-        if self.elements.extend_from_slice(text).is_err() {
-            unreachable!()
+        match self.elements.extend_from_slice(text) {
+            Ok(()) => Pushed::Done,
+            Err(_) => unreachable!(),
         }
-        Pushed::Done
     }
 
     /// Removes all elements; takes no memory.
