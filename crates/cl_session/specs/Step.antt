@@ -9,7 +9,7 @@ use Rattle.cl_eval.specs.Executed.{ran}
 use Rattle.cl_display.specs.declared.drawings.Drawing.{Drawing}
 use Rattle.cl_display.specs.declared.histories.TextItem.{TextItem}
 use Rattle.cl_display.specs.Script.{fresh, history_of, script}
-use Rattle.cl_redisplay.specs.Paint.{rows_of}
+use Rattle.cl_redisplay.specs.Paint.{shown_rows}
 use Rattle.cl_command.specs.declared.lines.Finished.{Finished}
 use Rattle.cl_command.specs.declared.lines.Finished.TheVariants.{Command, Unknown, Surplus}
 use Rattle.cl_command.specs.Line.{finish_of}
@@ -53,7 +53,7 @@ returned app limits w Surplus = refused w 0 (codes "! surplus")
 
 abbrev pub framed : App → World → Handled
 framed app w = record {
-    replies = rows_of (items_in w.pane) app.frame.width app.frame.height;
+    replies = shown_rows (items_in w.pane) app.frame.width app.frame.height;
     slots = w.slots; line = w.line; commits = false; cost = 0 }
 
 abbrev pub handled : App → Limits → World → Gesture → Handled
