@@ -3,3 +3,4 @@ pub mod Device
 pub mod Lent
 pub mod Outside
 pub mod Place
+pub mod Memory

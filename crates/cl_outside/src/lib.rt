@@ -7,7 +7,9 @@ mod answers;
 mod cells;
 mod devices;
 mod ledgers;
+mod mem_source;
 mod places;
+mod plan;
 mod sinks;
 mod sources;
 
@@ -15,6 +17,7 @@ pub use answers::{Opened, Sent, Took};
 pub use cells::Cell;
 pub use devices::Device;
 pub use ledgers::{Ledger, OwnLedger, Steps, own_steps};
+pub use mem_source::MemSource;
 pub use places::Place;
 pub use sinks::Sink;
 pub use sources::Source;
