@@ -4,3 +4,4 @@ pub mod Lent
 pub mod Outside
 pub mod Place
 pub mod Memory
+pub mod Adapters
