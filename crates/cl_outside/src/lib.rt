@@ -6,6 +6,7 @@
 mod answers;
 mod cells;
 mod devices;
+mod file_place;
 mod ledgers;
 mod mem_sink;
 mod mem_source;
@@ -20,6 +21,7 @@ mod writer_sink;
 pub use answers::{Opened, Sent, Took};
 pub use cells::Cell;
 pub use devices::Device;
+pub use file_place::FilePlace;
 pub use ledgers::{Ledger, OwnLedger, Steps, own_steps};
 pub use mem_sink::MemSink;
 pub use mem_source::MemSource;
