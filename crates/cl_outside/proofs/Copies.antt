@@ -10,7 +10,8 @@ handed_over content copied buf at n is_copied is_n room within =
     let rest : List ℕ = drop at content in
     let all : length copied ≡ n = omega (arith, ap length is_copied, length-take n rest) in
     let behind : drop n rest ≡ drop (at + n) content = drop-drop n at content in
-    let count : length (drop (at + n) content) ≡ length content - (at + n) = length-drop (at + n) content in
-    (omega (arith, length-append copied (drop n buf)),
-     sym (take-append-drop n rest) ∙ ap (λ l. l ++ drop n rest) (sym is_copied ∙ sym (take_at copied (drop n buf) n all)) ∙ ap (λ l. take n (copied ++ drop n buf) ++ l) behind,
-     λ none. nil_from_length (drop (at + n) content) (omega (arith, count, is_n, none, length-drop at content)))
+    let count : length (drop (at + n) content) ≡ length content - (at + n) = length-drop (at + n) content in (
+      omega (arith, length-append copied (drop n buf)),
+      sym (take-append-drop n rest) ∙ ap (λ l. l ++ drop n rest) (sym is_copied ∙ sym (take_at copied (drop n buf) n all)) ∙ ap (λ l. take n (copied ++ drop n buf) ++ l) behind,
+      λ none. nil_from_length (drop (at + n) content) (omega (arith, count, is_n, none, length-drop at content)),
+    )

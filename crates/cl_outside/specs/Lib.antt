@@ -5,3 +5,4 @@ pub mod Outside
 pub mod Place
 pub mod Memory
 pub mod Adapters
+pub mod MemoryDevice

@@ -34,7 +34,12 @@ impl MemSink {
     /// the n-th write that does not fail takes, where as many are offered and there is room; behind
     /// the last piece a write takes all that is offered and has room. `fails` lists the numbers,
     /// from 1, of the calls of `write` that are to fail.
-    pub fn new(alloc: Global, room: usize, pieces: Vec<usize>, fails: Vec<u64>) -> Result<MemSink, AllocError>
+    pub fn new(
+        alloc: Global,
+        room: usize,
+        pieces: Vec<usize>,
+        fails: Vec<u64>,
+    ) -> Result<MemSink, AllocError>
         requires { AllPositive pieces.items }
         ensures taken { IfOk result (λ s. s.taken ≡ []) }
         ensures room { IfOk result (λ s. s.room ≡ room) }

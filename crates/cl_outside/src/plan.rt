@@ -40,5 +40,7 @@ impl FaultPlan {
 fn is_listed(numbers: &[u64], before: u64) -> bool
     ensures { IsTrue result ↔ Contains numbers.now (before + 1) }
 {
-    numbers.iter().any(|number| *number > 0 && *number - 1 == before)
+    numbers
+        .iter()
+        .any(|number| *number > 0 && *number - 1 == before)
 }
