@@ -5,6 +5,7 @@ use crate::sources::Source;
 
 /// Lends a source: it has the content and the count of what it lends. While it lives and after,
 /// what it did is what was done to that source.
+#[derive(Drop)]
 pub struct LentSource<'a, G: Source> {
     pub source: &'a mut G,
 }

@@ -6,6 +6,7 @@ use crate::sinks::Sink;
 
 /// Lends the made sink of a place: it has the bytes that this sink took and its count. While it
 /// lives and after, what it did is what was done to that place, whose other files stay.
+#[derive(Drop)]
 pub struct PlaceSink<'a, P: Place> {
     pub place: &'a mut P,
     pub ghost made: { P.made place.now ≡ true },
