@@ -2,3 +2,4 @@ pub mod Bytes
 pub mod Numbers
 pub mod Tokens
 pub mod Reads
+pub mod Lies

@@ -10,8 +10,11 @@ use std::alloc::{AllocFailed, Global};
 
 mod begin;
 mod byte;
+mod laws;
 mod quoted;
 mod word;
+
+pub use laws::{tokens_join, tokens_lie, tokens_rise};
 
 /// A word of an optional `-` and digits is a number; any other word is a symbol.
 #[derive(Clone, Copy, PartialEq, Eq, Debug)]
