@@ -1,5 +1,5 @@
 -- A number that stands still at 2^64 - 1 has the value of its digits, as far as that fits.
-use Rattle.std.proofs.Common.{◌≡◌, ℕ, suc, ◌+◌, ◌-◌, ◌*◌, ◌^◌, ◌<◌, ◌≤◌, List, [], ◌∷◌, length, get_or, drop, min, refl, sym, ap, ◌∙◌, inl, inr, arith, drop-cons, add-one}
+use Rattle.std.proofs.Common.{◌≡◌, ℕ, suc, ◌+◌, ◌-◌, ◌*◌, ◌^◌, ◌<◌, ◌≤◌, List, [], ◌∷◌, length, get_or, drop, min, refl, inl, inr, arith, drop-cons, add-one}
 use Rattle.std.proofs.lemmas.List.{drop_all}
 use Rattle.std.proofs.lemmas.Bool.{cases_lt}
 use Rattle.cl_sexp.specs.Numbers.{decimal_after}
@@ -19,7 +19,7 @@ stands_still : (w v : ℕ) (ds : List ℕ) → w ≡ min v (2 ^ 64 - 1) → min 
 stands_still w v ds e = elim (cases_lt (2 ^ 64 - 1) v) [ inl h ↦ large w v ds e h | inr h ↦ small w v ds e h ]
 
 pub magnitude_next : (value r i : ℕ) (ds : List ℕ) → i < length ds → r ≡ min (value * 10 + (get_or ds i 0 - 48)) (2 ^ 64 - 1)
-  → min (decimal_after r (drop (i + 1) ds)) (2 ^ 64 - 1) ≡ min (decimal_after value (drop i ds)) (2 ^ 64 - 1)
+    → min (decimal_after r (drop (i + 1) ds)) (2 ^ 64 - 1) ≡ min (decimal_after value (drop i ds)) (2 ^ 64 - 1)
 magnitude_next value r i ds h e = rw (add-one, drop-cons ds i 0 h) (stands_still r (value * 10 + (get_or ds i 0 - 48)) (drop (suc i) ds) e)
 
 pub magnitude_end : (value i : ℕ) (ds : List ℕ) → length ds ≤ i → decimal_after value (drop i ds) ≡ value

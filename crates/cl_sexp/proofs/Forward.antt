@@ -1,5 +1,5 @@
 -- What reading keeps from token to token.
-use Rattle.std.proofs.Common.{◌≡◌, ℕ, zero, suc, ◌+◌, ◌-◌, ◌<◌, ◌≤◌, List, [], ◌∷◌, ◌++◌, length, drop, take, ℤ, refl, sym, ap, ◌∙◌, arith}
+use Rattle.std.proofs.Common.{◌≡◌, ℕ, zero, suc, ◌+◌, ◌-◌, ◌<◌, ◌≤◌, List, [], ◌∷◌, ◌++◌, length, drop, take, refl, sym, ap, ◌∙◌, arith}
 use Rattle.std.specs.Prelude.{All, Result, Ok, Err}
 use Rattle.cl_sexp.specs.Tokens.{tokens_from, tokens_of, with_front, Nests, KeepsNest, InText, begins, depth_after}
 use Rattle.cl_sexp.specs.declared.Kind.{Kind}
@@ -30,7 +30,7 @@ gap_step depth at (suc m) (b ∷ bs) e p h =
     rw (e, tokens_from, one) (skip m depth at bs (omega arith))
 
 pub token_step : (depth at n : ℕ) (kind : Kind) (bs : List ℕ) → begins depth bs ≡ Lexeme kind n → 0 < n → n ≤ length bs
-  → tokens_from 0 depth at bs ≡ with_front (record { kind = kind; start = at; end = at + n } ∷ []) (tokens_from 0 (depth_after kind depth) (at + n) (drop n bs))
+    → tokens_from 0 depth at bs ≡ with_front (record { kind = kind; start = at; end = at + n } ∷ []) (tokens_from 0 (depth_after kind depth) (at + n) (drop n bs))
 token_step depth at n kind [] e p h = absurd (omega arith)
 token_step depth at zero kind (b ∷ bs) e p h = absurd (omega arith)
 token_step depth at (suc m) kind (b ∷ bs) e p h =
@@ -45,7 +45,7 @@ rest_is : (text : List ℕ) (at : ℕ) → take (length text - at) (drop at text
 rest_is text at = take_all (length text - at) (drop at text) (omega (arith, length-drop at text))
 
 pub forward_gap : (text : List ℕ) (tokens : List Token) (depth at n : ℕ) → Forward text tokens depth at → Gap n ≡ begins depth (take (length text - at) (drop at text)) → 0 < n → n ≤ length (take (length text - at) (drop at text))
-  → Forward text tokens depth (at + n)
+    → Forward text tokens depth (at + n)
 forward_gap text tokens depth at n f g p l =
     let e : begins depth (drop at text) ≡ Gap n = sym (g ∙ ap (begins depth) (rest_is text at)) in
     let h : n ≤ length (drop at text) = rw (rest_is text at) at l in
@@ -66,7 +66,7 @@ keeps_shallow Text depth h k = h
 keeps_shallow Symbol depth h k = h
 
 pub forward_token : (text : List ℕ) (tokens : List Token) (depth at n : ℕ) (kind : Kind) → Forward text tokens depth at → Lexeme kind n ≡ begins depth (take (length text - at) (drop at text)) → 0 < n → n ≤ length (take (length text - at) (drop at text))
-  → KeepsNest kind depth → Forward text (tokens ++ record { kind = kind; start = at; end = at + n } ∷ []) (depth_after kind depth) (at + n)
+    → KeepsNest kind depth → Forward text (tokens ++ record { kind = kind; start = at; end = at + n } ∷ []) (depth_after kind depth) (at + n)
 forward_token text tokens depth at n kind f g p l k =
     let e : begins depth (drop at text) ≡ Lexeme kind n = sym (g ∙ ap (begins depth) (rest_is text at)) in
     let h : n ≤ length (drop at text) = rw (rest_is text at) at l in
@@ -75,8 +75,8 @@ forward_token text tokens depth at n kind f g p l k =
       within = omega (arith, length-drop at text, f.within, h);
       shallow = keeps_shallow kind depth f.shallow k;
       reads = sym (front_of_front tokens t (tokens_from 0 (depth_after kind depth) (at + n) (drop (at + n) text)))
-        ∙ ap (with_front tokens) (sym (token_step depth at n kind (drop at text) e p h ∙ ap (λ bs. with_front (t ∷ []) (tokens_from 0 (depth_after kind depth) (at + n) bs)) (drop-drop n at text)))
-        ∙ f.reads;
+          ∙ ap (with_front tokens) (sym (token_step depth at n kind (drop at text) e p h ∙ ap (λ bs. with_front (t ∷ []) (tokens_from 0 (depth_after kind depth) (at + n) bs)) (drop-drop n at text)))
+          ∙ f.reads;
       nested = λ more m. rw (append_assoc tokens (t ∷ []) more) (f.nested (t ∷ more) (k, m));
       inside = All-push (InText (length text)) tokens t f.inside (omega arith, omega (arith, length-drop at text, f.within, h));
     }

@@ -1,6 +1,6 @@
 -- What is read lies in the text.
-use Rattle.std.proofs.Common.{◌≡◌, ℕ, zero, suc, ◌+◌, ◌-◌, ◌<◌, ◌≤◌, Bool, true, false, List, [], ◌∷◌, ◌++◌, length, drop, take, ℤ, refl, sym, ap, ◌∙◌, ◌⊎◌, inl, inr, subst, arith}
-use Rattle.std.specs.Prelude.{not, ◌&&◌, ◌==◌, if◌then◌else◌, IsTrue, Result, Ok, Err, ⊤}
+use Rattle.std.proofs.Common.{◌≡◌, ℕ, zero, suc, ◌+◌, ◌<◌, ◌≤◌, Bool, true, false, List, [], ◌∷◌, ◌++◌, length, drop, take, refl, sym, ap, ◌∙◌, ◌⊎◌, inl, inr, subst, arith}
+use Rattle.std.specs.Prelude.{not, ◌==◌, if◌then◌else◌, IsTrue, Result, Ok, Err, ⊤}
 use Rattle.std.specs.List.{list_all, prefix_len, slice_range}
 use Rattle.std.proofs.Common.{length-append}
 use Rattle.std.proofs.lemmas.Bool.{eqb-true}
@@ -14,7 +14,7 @@ use Rattle.cl_sexp.specs.Tokens.{begins, word_begins, text_begins, tokens_from, 
 use Rattle.cl_sexp.specs.Lies
 use Rattle.cl_sexp.specs.Lies.{Stops, IsBlank, is_quoted, IsWord, Spells, Lies, Rises, joined}
 use Rattle.cl_sexp.specs.declared.Kind.{Kind}
-use Rattle.cl_sexp.specs.declared.Kind.TheVariants.{Open, Close, Quote, Int, Text, Symbol}
+use Rattle.cl_sexp.specs.declared.Kind.TheVariants.{Text}
 use Rattle.cl_sexp.specs.declared.Token.{Token}
 use Rattle.cl_sexp.specs.declared.begin.Begins.{Begins}
 use Rattle.cl_sexp.specs.declared.begin.Begins.TheVariants.{Gap, Lexeme, Fault}
@@ -42,9 +42,9 @@ not_false false h = cc
 
 run_more : (test : ℕ → Bool) (m b : ℕ) (bs : List ℕ) → suc m ≡ prefix_len test (b ∷ bs) → (test b ≡ true) × (m ≡ prefix_len test bs)
 run_more test m b bs e = elim (is_or_not (test b)) [
-    inl h ↦ (h, (let f : suc m ≡ 1 + prefix_len test bs = rw h at e in omega (arith, f)))
+  | inl h ↦ (h, (let f : suc m ≡ 1 + prefix_len test bs = rw h at e in omega (arith, f)))
   | inr h ↦ absurd (let f : suc m ≡ 0 = rw h at e in omega (arith, f))
-  ]
+]
 
 run_whole : (test : ℕ → Bool) (n : ℕ) (bs : List ℕ) → n ≡ prefix_len test bs → list_all test (take n bs) ≡ true
 run_whole test zero bs e = refl
@@ -59,9 +59,9 @@ run_longest : (test : ℕ → Bool) (n : ℕ) (bs : List ℕ) → n ≡ prefix_l
 run_longest test zero [] e = tt
 run_longest test (suc m) [] e = tt
 run_longest test zero (b ∷ bs) e = elim (is_or_not (test b)) [
-    inl h ↦ absurd (let f : 0 ≡ 1 + prefix_len test bs = rw h at e in omega (arith, f))
+  | inl h ↦ absurd (let f : 0 ≡ 1 + prefix_len test bs = rw h at e in omega (arith, f))
   | inr h ↦ h
-  ]
+]
 run_longest test (suc m) (b ∷ bs) e = run_longest test m bs (run_more test m b bs e).1
 
 run_len : (test : ℕ → Bool) (n : ℕ) (bs : List ℕ) → n ≡ prefix_len test bs → n ≡ length (take n bs)
@@ -113,9 +113,14 @@ word_run n bs e p =
     (subst (λ k. BeginsSpells (take n bs ++ drop n bs) (word_begins (take n bs) k)) (sym len) (word_spells (take n bs) (drop n bs) w))
 
 comment_spells : (n : ℕ) (bs : List ℕ) → n ≡ prefix_len in_comment bs → BeginsSpells (59 ∷ bs) (Gap (n + 1))
-comment_spells n bs e =
-    (59 ∷ take n bs, drop n bs, ap (λ x. 59 ∷ x) (sym (take-append-drop n bs)), (let len : n ≡ length (take n bs) = run_len in_comment n bs e in omega (arith, len)), omega arith,
-    Lies.comment (take n bs) (drop n bs) (run_whole in_comment n bs e) (run_longest in_comment n bs e))
+comment_spells n bs e = (
+  59 ∷ take n bs,
+  drop n bs,
+  ap (λ x. 59 ∷ x) (sym (take-append-drop n bs)),
+  (let len : n ≡ length (take n bs) = run_len in_comment n bs e in omega (arith, len)),
+  omega arith,
+  Lies.comment (take n bs) (drop n bs) (run_whole in_comment n bs e) (run_longest in_comment n bs e),
+)
 
 begin_spells : (depth : ℕ) (b : ℕ) (bs : List ℕ) → BeginsSpells (b ∷ bs) (begins depth (b ∷ bs))
 begin_spells depth b bs =
@@ -150,16 +155,16 @@ gap_lies : (fuel depth at : ℕ) (gap rest : List ℕ) (ts : List Token) → Beh
 gap_lies fuel depth at gap rest ts behind g p blank h e =
     let len : length (gap ++ rest) ≡ length gap + length rest = length-append gap rest in
     let step : tokens_from 0 depth at (gap ++ rest) ≡ tokens_from 0 depth (at + length gap) rest =
-      gap_step depth at (length gap) (gap ++ rest) g p (omega (arith, len)) ∙ ap (tokens_from 0 depth (at + length gap)) (drop-append_seam gap rest) in
+    gap_step depth at (length gap) (gap ++ rest) g p (omega (arith, len)) ∙ ap (tokens_from 0 depth (at + length gap)) (drop-append_seam gap rest) in
     Lies.blank at gap rest ts blank (behind depth (at + length gap) rest ts (omega (arith, len, h, p)) (sym step ∙ e))
 
 token_lies : (fuel depth at : ℕ) (kind : Kind) (word rest : List ℕ) (ts : List Token) → Behind fuel → begins depth (word ++ rest) ≡ Lexeme kind (length word) → 0 < length word → Spells kind word rest → length (word ++ rest) ≤ suc fuel
-  → tokens_from 0 depth at (word ++ rest) ≡ Ok ts → Lies at (word ++ rest) ts
+    → tokens_from 0 depth at (word ++ rest) ≡ Ok ts → Lies at (word ++ rest) ts
 token_lies fuel depth at kind word rest ts behind g p spells h e =
     let len : length (word ++ rest) ≡ length word + length rest = length-append word rest in
     let t : Token = record { kind = kind; start = at; end = at + length word } in
     let step : tokens_from 0 depth at (word ++ rest) ≡ with_front (t ∷ []) (tokens_from 0 (depth_after kind depth) (at + length word) rest) =
-      token_step depth at (length word) kind (word ++ rest) g p (omega (arith, len)) ∙ ap (λ x. with_front (t ∷ []) (tokens_from 0 (depth_after kind depth) (at + length word) x)) (drop-append_seam word rest) in
+    token_step depth at (length word) kind (word ++ rest) g p (omega (arith, len)) ∙ ap (λ x. with_front (t ∷ []) (tokens_from 0 (depth_after kind depth) (at + length word) x)) (drop-append_seam word rest) in
     let f : (more : List Token) × (tokens_from 0 (depth_after kind depth) (at + length word) rest ≡ Ok more) × (t ∷ more ≡ ts) = front_ok t _ ts (sym step ∙ e) in
     subst (λ x. Lies at (word ++ rest) x) f.2 (Lies.token at kind word rest f.0 spells (behind (depth_after kind depth) (at + length word) rest f.0 (omega (arith, len, h, p)) f.1))
 

@@ -1,5 +1,5 @@
 -- How tokens lie in a text: between them stand white space and comments alone, and each word is the longest.
-use Rattle.std.specs.Prelude.{◌≡◌, ℕ, ◌+◌, ◌<◌, ◌≤◌, Bool, true, false, not, ◌&&◌, ◌==◌, List, [], ◌∷◌, ◌++◌, length, drop, if◌then◌else◌, IsTrue, ⊤}
+use Rattle.std.specs.Prelude.{◌≡◌, ℕ, ◌+◌, ◌<◌, ◌≤◌, Bool, false, not, ◌&&◌, ◌==◌, List, [], ◌∷◌, ◌++◌, length, drop, if◌then◌else◌, IsTrue, ⊤}
 use Rattle.std.specs.List.{list_all, slice_range}
 use Rattle.cl_sexp.specs.Bytes.{is_space, in_comment, is_word, is_text}
 use Rattle.cl_sexp.specs.Numbers.{is_number, number_of, fits_i64}
@@ -42,7 +42,7 @@ pub data Lies : ℕ → List ℕ → List Token → Type 0 where
   at_end : (at : ℕ) → Lies at [] []
   blank : (at : ℕ) (gap rest : List ℕ) (ts : List Token) → IsBlank gap rest → Lies (at + length gap) rest ts → Lies at (gap ++ rest) ts
   token : (at : ℕ) (kind : Kind) (word rest : List ℕ) (ts : List Token) → Spells kind word rest → Lies (at + length word) rest ts
-    → Lies at (word ++ rest) (record { kind = kind; start = at; end = at + length word } ∷ ts)
+      → Lies at (word ++ rest) (record { kind = kind; start = at; end = at + length word } ∷ ts)
 
 -- each token has bytes, and begins where the one before ends, or later
 abbrev pub Rises : ℕ → List Token → Type 0

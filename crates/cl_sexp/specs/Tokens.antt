@@ -1,5 +1,5 @@
 -- The tokens of an application text, or the first refusal.
-use Rattle.std.specs.Prelude.{◌≡◌, ℕ, zero, suc, ◌+◌, ◌-◌, ◌<◌, ◌≤◌, Bool, true, false, not, ◌==◌, List, [], ◌∷◌, ◌++◌, take, if◌then◌else◌, Result, Ok, Err, ⊤}
+use Rattle.std.specs.Prelude.{◌≡◌, ℕ, zero, suc, ◌+◌, ◌-◌, ◌<◌, ◌≤◌, Bool, false, not, ◌==◌, List, [], ◌∷◌, ◌++◌, take, if◌then◌else◌, Result, Ok, Err, ⊤}
 use Rattle.std.specs.List.{prefix_len}
 use Rattle.cl_sexp.specs.Bytes.{is_space, in_comment, is_word, is_text}
 use Rattle.cl_sexp.specs.Numbers.{is_number, number_of, fits_i64}
@@ -65,9 +65,9 @@ tokens_from begun depth at [] = if depth == 0 then Ok [] else Err (2, at)
 tokens_from (suc begun) depth at (b ∷ bs) = tokens_from begun depth (at + 1) bs
 tokens_from zero depth at (b ∷ bs) =
     elim (begins depth (b ∷ bs)) [
-      Gap n ↦ tokens_from (n - 1) depth (at + 1) bs
-    | Lexeme kind n ↦ with_front (record { kind = kind; start = at; end = at + n } ∷ []) (tokens_from (n - 1) (depth_after kind depth) (at + 1) bs)
-    | Fault number n ↦ Err (number, at + n)
+      | Gap n ↦ tokens_from (n - 1) depth (at + 1) bs
+      | Lexeme kind n ↦ with_front (record { kind = kind; start = at; end = at + n } ∷ []) (tokens_from (n - 1) (depth_after kind depth) (at + 1) bs)
+      | Fault number n ↦ Err (number, at + n)
     ]
 
 abbrev pub tokens_of : List ℕ → Result (List Token) (ℕ × ℕ)

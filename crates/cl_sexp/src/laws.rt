@@ -8,19 +8,16 @@ ghost use Rattle.cl_sexp.specs.declared.Token.{Token};
 #[tactic(auto, using(crate::proofs::Lying::lies_of))]
 pub fn tokens_lie()
     ensures { (text : List ℕ) (tokens : List Token) → tokens_of text ≡ Ok tokens → Lies 0 text tokens }
-{
-}
+{}
 
 /// The tokens' slices with what stands between them are the text.
 #[tactic(auto, using(crate::proofs::Lying::join_of))]
 pub fn tokens_join()
     ensures { (text : List ℕ) (tokens : List Token) → tokens_of text ≡ Ok tokens → joined text 0 tokens ≡ text }
-{
-}
+{}
 
 /// Each token has bytes, and begins where the one before ends, or later.
 #[tactic(auto, using(crate::proofs::Lying::rises_of))]
 pub fn tokens_rise()
     ensures { (text : List ℕ) (tokens : List Token) → tokens_of text ≡ Ok tokens → Rises 0 tokens }
-{
-}
+{}

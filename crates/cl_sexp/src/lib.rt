@@ -72,7 +72,11 @@ pub fn read_forms(alloc: Global, text: &[u8]) -> Result<Vec<Token>, ReadRefusal>
         match what_begins(&text[at..], depth) {
             Begins::Gap(n) => at += n,
             Begins::Lexeme(kind, n) => {
-                tokens.push(Token { kind, start: at as u32, end: (at + n) as u32 })?;
+                tokens.push(Token {
+                    kind,
+                    start: at as u32,
+                    end: (at + n) as u32,
+                })?;
                 depth = behind(kind, depth);
                 at += n;
             }

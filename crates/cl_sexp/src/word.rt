@@ -71,7 +71,9 @@ fn magnitude_of(digits: &[u8]) -> u64
 {
     let mut value: u64 = 0;
     for digit in digits {
-        value = value.saturating_mul(10).saturating_add(u64::from(digit.saturating_sub(48)));
+        value = value
+            .saturating_mul(10)
+            .saturating_add(u64::from(digit.saturating_sub(48)));
     }
     value
 }

@@ -1,5 +1,4 @@
 -- A gap is passed over, a token is put behind the others.
-use Rattle.std.proofs.Common.{◌≡◌, sym, drop}
 use Rattle.cl_sexp.proofs.Forward.{forward_gap, forward_token}
 use Rattle.cl_sexp.proofs.read_forms.Goals as goal
 

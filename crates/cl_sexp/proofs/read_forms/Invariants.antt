@@ -1,4 +1,4 @@
-use Rattle.std.proofs.Common.{ℕ, ◌-◌, length}
+use Rattle.std.proofs.Common.{◌-◌, length}
 use Rattle.cl_sexp.proofs.Forward.{Forward}
 use Rattle.cl_sexp.proofs.read_forms.Given as goal
 

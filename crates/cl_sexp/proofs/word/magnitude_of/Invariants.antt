@@ -1,4 +1,4 @@
-use Rattle.std.proofs.Common.{◌≡◌, ◌+◌, ◌-◌, ◌^◌, ◌<◌, min, drop}
+use Rattle.std.proofs.Common.{◌≡◌, ◌-◌, ◌^◌, ◌<◌, min, drop}
 use Rattle.cl_sexp.specs.Numbers.{decimal_after}
 use Rattle.cl_sexp.proofs.word.magnitude_of.Given as goal
 
