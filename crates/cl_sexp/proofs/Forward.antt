@@ -1,7 +1,7 @@
 -- What reading keeps from token to token.
 use Rattle.std.proofs.Common.{◌≡◌, ℕ, zero, suc, ◌+◌, ◌-◌, ◌<◌, ◌≤◌, List, [], ◌∷◌, ◌++◌, length, drop, take, refl, sym, ap, ◌∙◌, arith}
 use Rattle.std.specs.Prelude.{All, Result, Ok, Err}
-use Rattle.cl_sexp.specs.Tokens.{tokens_from, tokens_of, with_front, Nests, KeepsNest, InText, begins, depth_after}
+use Rattle.cl_sexp.specs.Tokens.{tokens_from, tokens_of, with_front, Nests, KeepsNest, least_len, InText, begins, depth_after}
 use Rattle.cl_sexp.specs.declared.Kind.{Kind}
 use Rattle.cl_sexp.specs.declared.begin.Begins.TheVariants.{Gap, Lexeme}
 use Rattle.cl_sexp.specs.declared.Kind.TheVariants.{Open, Close, Quote, Int, Text, Symbol}
@@ -65,9 +65,18 @@ keeps_shallow (Int z) depth h k = h
 keeps_shallow Text depth h k = h
 keeps_shallow Symbol depth h k = h
 
-pub forward_token : (text : List ℕ) (tokens : List Token) (depth at n : ℕ) (kind : Kind) → Forward text tokens depth at → Lexeme kind n ≡ begins depth (take (length text - at) (drop at text)) → 0 < n → n ≤ length (take (length text - at) (drop at text))
+has_byte : (kind : Kind) → 0 < least_len kind
+has_byte Open = omega arith
+has_byte Close = omega arith
+has_byte Quote = omega arith
+has_byte (Int z) = omega arith
+has_byte Text = omega arith
+has_byte Symbol = omega arith
+
+pub forward_token : (text : List ℕ) (tokens : List Token) (depth at n : ℕ) (kind : Kind) → Forward text tokens depth at → Lexeme kind n ≡ begins depth (take (length text - at) (drop at text)) → least_len kind ≤ n → n ≤ length (take (length text - at) (drop at text))
     → KeepsNest kind depth → Forward text (tokens ++ record { kind = kind; start = at; end = at + n } ∷ []) (depth_after kind depth) (at + n)
-forward_token text tokens depth at n kind f g p l k =
+forward_token text tokens depth at n kind f g a l k =
+    let p : 0 < n = omega (arith, has_byte kind, a) in
     let e : begins depth (drop at text) ≡ Lexeme kind n = sym (g ∙ ap (begins depth) (rest_is text at)) in
     let h : n ≤ length (drop at text) = rw (rest_is text at) at l in
     let t : Token = record { kind = kind; start = at; end = at + n } in
@@ -78,5 +87,5 @@ forward_token text tokens depth at n kind f g p l k =
           ∙ ap (with_front tokens) (sym (token_step depth at n kind (drop at text) e p h ∙ ap (λ bs. with_front (t ∷ []) (tokens_from 0 (depth_after kind depth) (at + n) bs)) (drop-drop n at text)))
           ∙ f.reads;
       nested = λ more m. rw (append_assoc tokens (t ∷ []) more) (f.nested (t ∷ more) (k, m));
-      inside = All-push (InText (length text)) tokens t f.inside (omega arith, omega (arith, length-drop at text, f.within, h));
+      inside = All-push (InText (length text)) tokens t f.inside (omega (arith, a), omega (arith, length-drop at text, f.within, h));
     }

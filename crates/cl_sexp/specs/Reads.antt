@@ -1,6 +1,6 @@
 -- What the functions of this crate answer.
 use Rattle.std.specs.Prelude.{◌≡◌, ℕ, ◌<◌, ◌≤◌, List, Result, Ok, Err, ⊤}
-use Rattle.cl_sexp.specs.Tokens.{KeepsNest}
+use Rattle.cl_sexp.specs.Tokens.{KeepsNest, least_len}
 use Rattle.cl_sexp.specs.declared.Token.{Token}
 use Rattle.cl_sexp.specs.declared.begin.Begins.{Begins}
 use Rattle.cl_sexp.specs.declared.begin.Begins.TheVariants.{Gap, Lexeme, Fault}
@@ -18,10 +18,10 @@ abbrev pub Gives : Result (Vec Token Global) ReadRefusal → Result (List Token)
 Gives (Ok v) r = r ≡ Ok v.items
 Gives (Err e) r = Refuses e r
 
--- what begins does not reach past bytes of this number, and it has at least one byte
+-- what begins has a byte, a text its two quotes, and does not reach past bytes of this number
 abbrev pub BeginsWithin : Begins → ℕ → Type 0
 BeginsWithin (Gap n) len = (0 < n) × (n ≤ len)
-BeginsWithin (Lexeme kind n) len = (0 < n) × (n ≤ len)
+BeginsWithin (Lexeme kind n) len = (least_len kind ≤ n) × (n ≤ len)
 BeginsWithin (Fault number n) len = n ≤ len
 
 -- a token that begins keeps the nesting

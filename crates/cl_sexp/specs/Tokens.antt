@@ -80,6 +80,15 @@ abbrev pub Nests : ℕ → List Token → Type 0
 Nests depth [] = depth ≡ 0
 Nests depth (t ∷ ts) = KeepsNest t.kind depth × Nests (depth_after t.kind depth) ts
 
+-- a token has a byte, and a text its two quotes
+abbrev pub least_len : Kind → ℕ
+least_len Open = 1
+least_len Close = 1
+least_len Quote = 1
+least_len (Int z) = 1
+least_len Text = 2
+least_len Symbol = 1
+
 -- the token lies in a text of this length
 abbrev pub InText : ℕ → Token → Type 0
-InText len t = (t.start < t.end) × (t.end ≤ len)
+InText len t = (t.start + least_len t.kind ≤ t.end) × (t.end ≤ len)
