@@ -1,0 +1,35 @@
+-- `new` picks the number 0.
+use Rattle.std.proofs.Common.{[], ◌∷◌, refl}
+use Rattle.std.proofs.raw_atomic.Walks.{proved}
+use contract.Running.{tables}
+use types.Kit.{‵, raw, ◌$◌, ◌∵◌, !, qed, drop, fjoin, suffices, done}
+use types.Part.{agg}
+use types.Run.{enter, returns, no_more}
+use types.ByLocal.{alloc_all, pass_all, free_all, look_at, sets}
+use base.Fml.{ftrue}
+use denote.Steps.{nothing}
+use denote.Triple.Entry.{on_entry}
+use denote.Triple.Walked.{says, Stays, walk_of, ends_at}
+use Rattle.cl_outside.proofs.Walks.{none, none_made}
+use Rattle.cl_outside.specs.contracts.ledgers.Tally.{the_row as Row}
+use Rattle.cl_outside.specs.contracts.ledgers.Tally.new as f
+use Rattle.cl_outside.proofs.ledgers.Tally.new.Statement.{statement}
+use Rattle.cl_outside.proofs.ledgers.Tally.new.Code as code
+
+abbrev stayed : Stays f.ended.signature.params f.ended.kept
+stayed = tt
+
+pub new_spec : {M : Type 1} → statement M
+new_spec 𝓤 𝓛 𝓜 𝓡 wired =
+    let c = f.clauses 𝓛 𝓜.mem 𝓡.returns in let W = walk_of 𝓛 f.ended stayed c in
+    proved 𝓛 f.ended stayed c 𝓜 𝓡 tt
+    f.Key.name code.function (code.unfolded 𝓤 𝓛.H 𝓜 𝓡 wired)
+    (λ κs. tt) (λ κs. tt) (λ κs qs bounds a _ are.
+    let y : W.Ghost = ((κs, qs, bounds, a, tt), tt) in
+    let made : Row.Denot = record { count = 0 } in
+    qed 𝓛 (raw (on_entry 𝓛 f.signature κs qs a y.0.4) ∷ ‵ ftrue ∷ []) ∵ drop ! $ drop ! $
+    enter ! _ _ _ _ _ $ alloc_all ! (λ l. pass_all ! refl tt $
+    sets ! (agg ! (no_more !)) refl (tt, tt) $
+    returns ! (look_at ! 0 refl) $ free_all ! refl $
+    suffices ! _ (ends_at 𝓛 f.ended stayed c y none made tt tt) $ says ! refl $
+    nothing ! $ none_made ! $ fjoin ! $ nothing ! $ nothing ! $ done !))

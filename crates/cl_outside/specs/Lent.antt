@@ -1,0 +1,15 @@
+-- What an adapter that lends another object keeps of it, through every call.
+use Rattle.std.specs.Prelude.{ℕ, List, Option, None}
+
+-- the name of the reference that it holds; of a place the files that no write changes, by name
+-- (outer None: not told, inner None: no such file)
+pub record Lent : Type 0 where
+  pub reference : ℕ
+  pub files : List ℕ → Option (Option (List ℕ))
+
+abbrev pub no_file_told : List ℕ → Option (Option (List ℕ))
+no_file_told name = None
+
+-- of a value that lends nothing
+abbrev pub nothing_lent : Lent
+nothing_lent = record { reference = 0; files = no_file_told }

@@ -1,0 +1,5 @@
+pub mod Causes
+pub mod Device
+pub mod Lent
+pub mod Outside
+pub mod Place

@@ -1,0 +1,23 @@
+ghost use Rattle.std.specs.Prelude.{◌≡◌, ℕ, ◌≤◌, ◌<◌, List, Option, length};
+ghost use Rattle.cl_outside.specs.Outside.{ReadTook, FailedRose};
+
+use crate::answers::Took;
+
+/// A source of bytes, with a count of its faults.
+pub trait Source {
+    // the bytes that are still to come; None: not told
+    ghost left: { Self → Option (List ℕ) };
+
+    // how often a read failed; never falls, and stands still at 2^64 - 1
+    ghost faults: { Self → ℕ };
+
+    // the loan that a source which only lends another one holds; no call changes it
+    ghost lent: { Self → ℕ } = { λ _. 0 };
+
+    /// Hands over the next bytes at the front of `buf`; what stands behind them in `buf` is not said.
+    fn read(&mut self, buf: &mut [u8]) -> Took
+        requires { 0 < length buf.old }
+        ensures lent { lent self.new ≡ lent self.old }
+        ensures bytes { ReadTook (left self.old) (left self.new) buf.new result }
+        ensures cause { FailedRose (faults self.old) (faults self.new) result };
+}
