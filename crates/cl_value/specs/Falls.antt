@@ -1,0 +1,29 @@
+-- A value's parts are smaller than the value, by which a recursion over values ends.
+use Rattle.std.specs.Prelude.{Option, Some, None, Vec, ◌≤◌, List, [], ◌∷◌, map}
+use Rattle.std.proofs.Common.{arith}
+use Rattle.cl_value.specs.Data.{size_of, size_of_items, items_of}
+use Rattle.cl_value.specs.Value.{data_of}
+use Rattle.cl_value.specs.declared.Value.{Value}
+use Rattle.cl_value.specs.declared.Value.TheVariants as value
+use Rattle.cl_value.specs.declared.Values.TheDeep.{deep-Value, deep-Values}
+use Rattle.cl_value.specs.Shared.{shared_items}
+use Rattle.std.specs.declared.rc.Rc.{Rc}
+use Rattle.std.specs.declared.alloc.Global.{Global}
+use denote.Param.Weighed.{most}
+
+pub deep-size : (v : Value) → deep-Value v ≤ size_of (data_of v)
+deep-size (value.Int n) = omega arith
+deep-size (value.Bool b) = omega arith
+deep-size (value.Text s) = omega arith
+deep-size (value.Symbol s) = omega arith
+deep-size value.Null = omega arith
+deep-size (value.List ds) = omega arith
+deep-size (value.Record s ds) = omega arith
+
+pub most-size : (vs : List Value) → most deep-Value vs ≤ size_of_items (items_of (map data_of vs))
+most-size [] = omega arith
+most-size (v ∷ vs) = omega (arith, deep-size v, most-size vs)
+
+pub parts-size : (alloc : Global) (items : Option (Rc (Vec Value Global) Global)) → deep-Values (record { alloc = alloc; items = items }) ≤ size_of_items (items_of (map data_of (shared_items items)))
+parts-size alloc None = omega arith
+parts-size alloc (Some r) = omega (arith, most-size r.value.items)

@@ -1,0 +1,4 @@
+pub mod Data
+pub mod Shared
+pub mod Value
+pub mod Falls
