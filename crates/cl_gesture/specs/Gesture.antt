@@ -1,5 +1,5 @@
 -- What a line of the stream says.
-use Rattle.std.specs.Prelude.{◌≡◌, ◌&&◌, ◌-◌, ℕ, Bool, true, false, nat_eq, nat_le, nat_lt, if◌then◌else◌, Option, Some, None, List, [], ◌∷◌, length, take, drop, codes}
+use Rattle.std.specs.Prelude.{◌≡◌, ◌==◌, ◌&&◌, not, ◌-◌, ℕ, Bool, true, false, nat_eq, nat_le, if◌then◌else◌, Option, Some, None, List, [], ◌∷◌, length, take, drop, codes}
 use Rattle.std.specs.List.{list_all, starts_with, ends_with}
 use Rattle.std.specs.Str.{bytes_eq}
 use Rattle.cl_gesture.specs.declared.answers.Gesture.{Gesture}
@@ -26,7 +26,7 @@ is_printable byte = nat_le 32 byte && nat_le byte 126
 
 -- 1 or more bytes from 32 to 126
 abbrev pub is_typable : List ℕ → Bool
-is_typable bytes = nat_lt 0 (length bytes) && list_all is_printable bytes
+is_typable bytes = not (length bytes == 0) && list_all is_printable bytes
 
 -- TEXT of a line `type TEXT`: all that stands behind the word and one space
 abbrev pub typed_text : List ℕ → Option (List ℕ)

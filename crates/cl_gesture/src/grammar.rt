@@ -1,4 +1,5 @@
 ghost use Rattle.std.specs.Prelude.{◌≡◌, MatchOption, None, Some};
+ghost use Rattle.std.specs.List.{list_all};
 ghost use Rattle.cl_gesture.specs.Gesture.{without_return, is_idle, is_printable, is_typable, typed_text, says};
 ghost use Rattle.cl_gesture.specs.Said.{SaidOf};
 
@@ -43,11 +44,18 @@ fn is_printable(byte: u8) -> bool
     32 <= byte && byte <= 126
 }
 
+/// Whether all bytes are printable.
+fn are_printable(text: &[u8]) -> bool
+    ensures { result ≡ list_all is_printable text.now }
+{
+    text.iter().all(|byte| is_printable(*byte))
+}
+
 /// Whether these bytes can be typed at once.
 fn is_typable(text: &[u8]) -> bool
     ensures { result ≡ is_typable text.now }
 {
-    !text.is_empty() && text.iter().all(|byte| is_printable(*byte))
+    !text.is_empty() && are_printable(text)
 }
 
 /// The text of a line `type TEXT`.
