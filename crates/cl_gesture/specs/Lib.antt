@@ -1,3 +1,4 @@
 pub mod Lines
 pub mod Gesture
 pub mod Said
+pub mod Ahead

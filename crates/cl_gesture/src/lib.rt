@@ -1,6 +1,7 @@
 //! Gestures, and the reader of their lines.
 #![tactic(auto)]
 
+mod ahead;
 mod answers;
 mod grammar;
 
