@@ -1,11 +1,11 @@
 -- Lemmas on how bytes are cut into lines.
-use Rattle.std.proofs.Common.{◌≡◌, ◌≢◌, ◌==◌, ◌||◌, ◌≤◌, ◌+◌, ℕ, Bool, true, false, List, [], ◌∷◌, ◌++◌, length, Option, All, cond, length-append, eqb, refl, sym, ap, ◌∙◌, append_assoc, append-nil, arith, rules}
+use Rattle.std.proofs.Common.{◌≡◌, ◌≢◌, ◌==◌, ◌||◌, ◌≤◌, ◌<◌, ◌+◌, ℕ, Bool, true, false, List, [], ◌∷◌, ◌++◌, length, Option, All, cond, length-append, eqb, refl, sym, ap, ◌∙◌, append_assoc, append-nil, arith, rules}
 use Rattle.std.specs.List.{flat_map}
 use Rattle.std.specs.Io.KnownBytes.{Consumes, IsAtEnd}
 use Rattle.std.proofs.KnownBytes.{Consumes-trans}
-use Rattle.std.proofs.lemmas.List.Elements.{All-append, All-nil, All-cons, All-push}
+use Rattle.std.proofs.lemmas.List.Elements.{All-append, All-head, All-tail, All-nil, All-cons, All-push}
 use Rattle.std.proofs.lemmas.Grind.{flat_map-append}
-use Rattle.std.proofs.lemmas.Bool.{eqb-true, eqb-false}
+use Rattle.std.proofs.lemmas.Bool.{eqb-true, eqb-false, eq-eqb, ne_eqb}
 use Rattle.std.proofs.lemmas.Bool.Decides.{nat_tests}
 use Rattle.cl_gesture.specs.Lines.{Piece, line, long, ended_at, held_after, ended_from, held_from, ended, last_line, pieces, Reads, AreCut, Lines, bytes_of, IsNoFeed, IsPiece, AreTheBytes, AreWellCut, line_feed, longest_line}
 
@@ -109,3 +109,62 @@ pub are_well_cut : AreWellCut
 are_well_cut bytes =
     let all = well_cut_from [] bytes (omega arith, All-nil IsNoFeed) in
     All-append IsPiece (ended bytes) (last_line (held_from [] bytes)) all.0 (well_cut_last (held_from [] bytes) all.1)
+
+-- ---- one line, found by its line feed
+
+plain_at : (held : List ℕ) (byte : ℕ) → byte ≢ 10 → length held ≢ 4096 → (ended_at held byte ≡ []) × (held_after held byte ≡ held ++ byte ∷ [])
+plain_at held byte other room =
+    let no_feed : eqb byte 10 ≡ false = ne_eqb byte 10 other in let no_cut : eqb (length held) 4096 ≡ false = ne_eqb (length held) 4096 room in
+    ((rw (no_feed, no_cut)), (rw (no_feed, no_cut)))
+
+cut_at : (held : List ℕ) (byte : ℕ) → byte ≢ 10 → length held ≡ 4096 → (ended_at held byte ≡ long (held ++ byte ∷ []) ∷ []) × (held_after held byte ≡ [])
+cut_at held byte other full =
+    let no_feed : eqb byte 10 ≡ false = ne_eqb byte 10 other in let cut : eqb (length held) 4096 ≡ true = eq-eqb (length held) 4096 full in
+    ((rw (no_feed, cut)), (rw (no_feed, cut)))
+
+plain_from : (held xs : List ℕ) → All IsNoFeed xs → length held + length xs ≤ 4096 → (ended_from held xs ≡ []) × (held_from held xs ≡ held ++ xs)
+plain_from held [] none short = (refl, sym (append-nil held))
+plain_from held (x ∷ xs) none short =
+    let room : length held ≢ 4096 = omega arith in
+    let here = plain_at held x (All-head IsNoFeed x xs none) room in
+    let rest = plain_from (held ++ x ∷ []) xs (All-tail IsNoFeed x xs none) (omega (arith, length-append held (x ∷ []))) in
+    (rw (here.0, here.1) rest.0, rw here.1 (rest.1 ∙ append_assoc held (x ∷ []) xs))
+
+-- bytes without a line feed, and too few of them to be cut
+pub ended-plain : (xs : List ℕ) → All IsNoFeed xs → length xs ≤ 4096 → (ended xs ≡ []) × (held_from [] xs ≡ xs)
+ended-plain xs none short = plain_from [] xs none (omega arith)
+
+after-plain : (xs ys : List ℕ) → (ended xs ≡ []) × (held_from [] xs ≡ xs) → ended (xs ++ ys) ≡ ended_from xs ys
+after-plain xs ys plain =
+    ended_from-append [] xs ys ∙ ap (λ l. l ++ ended_from (held_from [] xs) ys) plain.0 ∙ ap (λ held. ended_from held ys) plain.1
+
+-- a line and its line feed
+pub ended-line : (xs : List ℕ) → All IsNoFeed xs → length xs ≤ 4096 → (ended (xs ++ 10 ∷ []) ≡ line xs ∷ []) × (held_from [] (xs ++ 10 ∷ []) ≡ [])
+ended-line xs none short =
+    let plain = ended-plain xs none short in
+    (after-plain xs (10 ∷ []) plain, held_from-append [] xs (10 ∷ []) ∙ ap (λ held. held_from held (10 ∷ [])) plain.1)
+
+-- 4,097 bytes without a line feed
+pub ended-long : (xs : List ℕ) (byte : ℕ) → All IsNoFeed xs → byte ≢ 10 → length xs ≡ 4096
+    → (ended (xs ++ byte ∷ []) ≡ long (xs ++ byte ∷ []) ∷ []) × (held_from [] (xs ++ byte ∷ []) ≡ [])
+ended-long xs byte none other full =
+    let plain = ended-plain xs none (omega arith) in let cut = cut_at xs byte other full in
+    (after-plain xs (byte ∷ []) plain ∙ ap (λ l. l ++ []) cut.0,
+    held_from-append [] xs (byte ∷ []) ∙ ap (λ held. held_from held (byte ∷ [])) plain.1 ∙ cut.1)
+
+-- the last line, which no line feed ends
+pub pieces-last : (byte : ℕ) (xs : List ℕ) → All IsNoFeed (byte ∷ xs) → length (byte ∷ xs) ≤ 4096 → pieces (byte ∷ xs) ≡ line (byte ∷ xs) ∷ []
+pieces-last byte xs none short =
+    let plain = ended-plain (byte ∷ xs) none short in ap (λ l. l ++ last_line (held_from [] (byte ∷ xs))) plain.0 ∙ ap last_line plain.1
+
+-- ---- where a further byte comes after whole lines, there is a further piece
+
+some_piece : (ps : List Piece) (held : List ℕ) (byte : ℕ) (bytes : List ℕ) → flat_map bytes_of ps ++ held ≡ byte ∷ bytes → 0 < length (ps ++ last_line held)
+some_piece [] [] byte bytes same = absurd (cc)
+some_piece [] (x ∷ xs) byte bytes same = omega arith
+some_piece (p ∷ ps) held byte bytes same = omega arith
+
+pub pieces-further : (xs : List ℕ) (byte : ℕ) (ys : List ℕ) → held_from [] xs ≡ [] → length (ended xs) < length (pieces (xs ++ byte ∷ ys))
+pieces-further xs byte ys none =
+    let some = some_piece (ended (byte ∷ ys)) (held_from [] (byte ∷ ys)) byte ys (joined_from [] (byte ∷ ys)) in
+    rw (pieces-more xs (byte ∷ ys) none) (omega (arith, length-append (ended xs) (pieces (byte ∷ ys))))
