@@ -2,3 +2,4 @@ pub mod Lines
 pub mod Gesture
 pub mod Said
 pub mod Ahead
+pub mod Cut

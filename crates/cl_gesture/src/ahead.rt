@@ -43,6 +43,13 @@ impl Ahead {
         &self.bytes.as_slice()[self.start..self.end]
     }
 
+    /// How many bytes are ahead.
+    pub fn len(&self) -> usize
+        ensures { result ≡ length self.now }
+    {
+        self.end - self.start
+    }
+
     /// Takes the first `count` bytes away.
     pub fn skip(&mut self, count: usize)
         requires { count ≤ length self.old }

@@ -3,6 +3,7 @@
 
 mod ahead;
 mod answers;
+mod cut;
 mod grammar;
 
 pub use answers::{Gesture, Next};
