@@ -16,7 +16,10 @@ drop_part n start end bytes short =
 -- what was read behind the bytes that were there
 pub FillTook-read : (a b : Option (List ℕ)) (old bytes items : List ℕ) (kept n m : ℕ) → take kept bytes ≡ old → ReadTook a b (drop kept bytes) (Bytes n)
     → items ≡ bytes → m ≡ kept + n → FillTook a b old (take m items) (Bytes n)
-FillTook-read a b old bytes items kept n m same h is whole =
-    (take n (drop kept bytes), h.1,
-    ap (take m) is ∙ ap (λ k. take k bytes) whole ∙ take-add kept n bytes ∙ ap (λ l. l ++ take n (drop kept bytes)) same,
-    length-take-le n (drop kept bytes) h.0, h.2)
+FillTook-read a b old bytes items kept n m same h is whole = (
+  take n (drop kept bytes),
+  h.1,
+  ap (take m) is ∙ ap (λ k. take k bytes) whole ∙ take-add kept n bytes ∙ ap (λ l. l ++ take n (drop kept bytes)) same,
+  length-take-le n (drop kept bytes) h.0,
+  h.2,
+)

@@ -23,8 +23,8 @@ Reads-trans a b c u v w xs ys p q = record {
   handed = p.handed ++ q.handed;
   consumed = Consumes-trans a b c p.handed q.handed p.consumed q.consumed;
   same =
-    sym (append_assoc u p.handed q.handed) ∙ ap (λ l. l ++ q.handed) p.same
-    ∙ append_assoc xs v q.handed ∙ ap (λ l. xs ++ l) q.same ∙ sym (append_assoc xs ys w)
+      sym (append_assoc u p.handed q.handed) ∙ ap (λ l. l ++ q.handed) p.same
+      ∙ append_assoc xs v q.handed ∙ ap (λ l. xs ++ l) q.same ∙ sym (append_assoc xs ys w);
 }
 
 -- ---- whole lines, and then more of them
@@ -54,7 +54,7 @@ pub Lines-more : (a b c : Option (List ℕ)) (u v w : List ℕ) (f : Bool) (ps q
 Lines-more a b c u v w f ps qs p q = record {
   read = p.read ++ q.read;
   reads = Reads-trans a b c u v w p.read q.read p.reads q.reads;
-  cut = AreCut-more f c w p.read q.read ps qs p.cut.0 p.cut.1 q.cut
+  cut = AreCut-more f c w p.read q.read ps qs p.cut.0 p.cut.1 q.cut;
 }
 
 -- ---- the laws
@@ -148,9 +148,10 @@ ended-line xs none short =
 pub ended-long : (xs : List ℕ) (byte : ℕ) → All IsNoFeed xs → byte ≢ 10 → length xs ≡ 4096
     → (ended (xs ++ byte ∷ []) ≡ long (xs ++ byte ∷ []) ∷ []) × (held_from [] (xs ++ byte ∷ []) ≡ [])
 ended-long xs byte none other full =
-    let plain = ended-plain xs none (omega arith) in let cut = cut_at xs byte other full in
-    (after-plain xs (byte ∷ []) plain ∙ ap (λ l. l ++ []) cut.0,
-    held_from-append [] xs (byte ∷ []) ∙ ap (λ held. held_from held (byte ∷ [])) plain.1 ∙ cut.1)
+    let plain = ended-plain xs none (omega arith) in let cut = cut_at xs byte other full in (
+      after-plain xs (byte ∷ []) plain ∙ ap (λ l. l ++ []) cut.0,
+      held_from-append [] xs (byte ∷ []) ∙ ap (λ held. held_from held (byte ∷ [])) plain.1 ∙ cut.1,
+    )
 
 -- the last line, which no line feed ends
 pub pieces-last : (byte : ℕ) (xs : List ℕ) → All IsNoFeed (byte ∷ xs) → length (byte ∷ xs) ≤ 4096 → pieces (byte ∷ xs) ≡ line (byte ∷ xs) ∷ []

@@ -79,7 +79,7 @@ Looking-start a u before lent = record {
   lent = refl;
   short = omega arith;
   within = omega arith;
-  unended = All-nil IsNoFeed
+  unended = All-nil IsNoFeed;
 }
 
 Reads-filled : (a b c : Option (List ℕ)) (u v w : List ℕ) (n : ℕ) → Reads a b u v [] → FillTook b c v w (Bytes n) → Reads a c u w []
@@ -99,7 +99,7 @@ Looking-more a b c u v w before mid now lent l1 l2 seen n k none f rose same =
       lent = same ∙ k.lent;
       short = none.0;
       within = omega arith;
-      unended = subst P (sym (ap (take (length v)) f.2 ∙ take-append_seam v f.0)) none.1
+      unended = subst P (sym (ap (take (length v)) f.2 ∙ take-append_seam v f.0)) none.1;
     }
 
 -- a read that handed over nothing, where some bytes of a line are ahead

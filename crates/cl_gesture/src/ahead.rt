@@ -33,7 +33,11 @@ impl Ahead {
         ensures { IfOk result (λ a. a ≡ []) }
     {
         let bytes = vec![in alloc; 0; ROOM]?;
-        Ok(Ahead { bytes, start: 0, end: 0 })
+        Ok(Ahead {
+            bytes,
+            start: 0,
+            end: 0,
+        })
     }
 
     /// The bytes ahead.
@@ -56,6 +60,13 @@ impl Ahead {
         ensures { self.new ≡ drop count self.old }
     {
         self.start += count;
+    }
+
+    /// Takes all bytes away.
+    pub fn clear(&mut self)
+        ensures { self.new ≡ [] }
+    {
+        self.start = self.end;
     }
 
     /// Reads once, behind the bytes ahead.

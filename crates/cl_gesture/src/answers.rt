@@ -26,3 +26,16 @@ pub enum Next {
     /// Want of memory; the line is lost.
     Memory,
 }
+
+/// Where a reader of gestures stopped.
+#[derive(Clone, Copy, PartialEq, Eq, Debug)]
+pub enum Stop {
+    /// Nowhere yet.
+    Going,
+    /// At the source's end.
+    AtEnd,
+    /// At a fault of the source.
+    AtFault,
+    /// At a byte behind a million lines.
+    AtLimit,
+}

@@ -2,9 +2,8 @@ ghost use Rattle.std.specs.Prelude.{◌≡◌, ◌≤◌, All, length, take};
 ghost use Rattle.cl_gesture.specs.Lines.{IsNoFeed, longest_line};
 ghost use Rattle.cl_gesture.specs.Cut.{FoundIn, CutOf};
 
-use cl_outside::{Source, Took};
-
 use crate::ahead::Ahead;
+use cl_outside::{Source, Took};
 
 /// So many bytes without a line feed are cut.
 pub const CUT_AT: usize = 4097;
@@ -45,7 +44,11 @@ fn find_line(bytes: &[u8], seen: usize) -> Found
             return Found::Line(at);
         }
     }
-    if bytes.len() < CUT_AT { Found::Unended } else { Found::Long }
+    if bytes.len() < CUT_AT {
+        Found::Unended
+    } else {
+        Found::Long
+    }
 }
 
 /// Looks for the next line of the bytes ahead, and reads on only while it has no end there.

@@ -1,12 +1,11 @@
 ghost use Rattle.std.specs.Prelude.{◌≡◌, MatchOption, None, Some};
 ghost use Rattle.std.specs.List.{list_all};
 ghost use Rattle.cl_gesture.specs.Gesture.{without_return, is_idle, is_printable, is_typable, typed_text, says};
-ghost use Rattle.cl_gesture.specs.Said.{SaidOf};
+ghost use Rattle.cl_gesture.specs.Said.{SaidOf, AnswerOf};
 
+use crate::answers::{Gesture, Next};
 use cl_value::Text;
 use std::alloc::Global;
-
-use crate::answers::Gesture;
 
 /// What one line says.
 #[derive(Drop)]
@@ -85,5 +84,17 @@ pub fn read_line(alloc: Global, line: &[u8]) -> Said
     match Text::from_slice(alloc, text) {
         Ok(text) => Said::Gesture(Gesture::Type(text)),
         Err(_) => Said::Memory,
+    }
+}
+
+/// The answer for a line of this number; None: the line does nothing.
+pub fn answer(said: Said, number: u32) -> Option<Next>
+    ensures { AnswerOf said number result }
+{
+    match said {
+        Said::Idle => None,
+        Said::Bad => Some(Next::Bad(number)),
+        Said::Gesture(gesture) => Some(Next::Gesture(gesture)),
+        Said::Memory => Some(Next::Memory),
     }
 }

@@ -5,5 +5,7 @@ mod ahead;
 mod answers;
 mod cut;
 mod grammar;
+mod reader;
 
-pub use answers::{Gesture, Next};
+pub use answers::{Gesture, Next, Stop};
+pub use reader::Gestures;
