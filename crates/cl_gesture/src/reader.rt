@@ -60,8 +60,9 @@ impl<G: Source> Gestures<G> {
             Stop::AtLimit => return Next::TooMany,
         }
         while self.count < MOST_LINES {
-            if let Some(next) = self.next_line() {
-                return next;
+            match self.next_line() {
+                None => {}
+                Some(next) => return next,
             }
         }
         self.look_further()
