@@ -1,1 +1,4 @@
+pub mod Copies
+pub mod Grids
+pub mod Spans
 pub mod Walks

@@ -1,0 +1,6 @@
+use Rattle.cl_outside.proofs.Spans.{Paints-told}
+use Rattle.cl_outside.proofs.mem_device.MemDeviceDevice.span.Goals as goal
+
+pub returns-then-y-self-clause-shows : goal.returns-then-y-self-clause-shows
+returns-then-y-self-clause-shows c =
+    rw (← c.self.view_is) (Paints-told c.self.inside.cleared c.self.inside.broken _ _ c.args.x c.args.y c.args.ink c.args.glyphs.now c.if-self.true (rw (← c.self.view_is) at c.requires.whole) (c.paint_row.ensures c.self.inside.height))

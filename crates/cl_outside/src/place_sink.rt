@@ -1,0 +1,39 @@
+ghost use Rattle.std.specs.Prelude.{◌≡◌, ℕ, List, true};
+
+use crate::answers::Took;
+use crate::places::Place;
+use crate::sinks::Sink;
+
+/// Lends the made sink of a place: it has the bytes that this sink took and its count. While it
+/// lives and after, what it did is what was done to that place, whose other files stay.
+#[derive(Drop)]
+pub struct PlaceSink<'a, P: Place> {
+    pub place: &'a mut P,
+    pub ghost made: { P.made place.now ≡ true },
+}
+
+impl<'a, P: Place> PlaceSink<'a, P> {
+    pub fn new(place: &'a mut P) -> PlaceSink<'a, P>
+        requires { P.made place.old ≡ true }
+        ensures same_reference { result.place.ghost_name ≡ place.entry.ghost_name }
+        ensures taken { P.taken result.place.now ≡ P.taken place.old }
+        ensures faults { P.writing_faults result.place.now ≡ P.writing_faults place.old }
+        ensures others { (name : List ℕ) → P.others result.place.now name ≡ P.others place.old name }
+    {
+        PlaceSink { place }
+    }
+}
+
+impl<'a, P: Place> Sink for PlaceSink<'a, P> {
+    ghost use Rattle.cl_outside.specs.Lent.{Lent};
+
+    ghost taken = { λ s. P.taken s.place.now };
+
+    ghost faults = { λ s. P.writing_faults s.place.now };
+
+    ghost lent = { λ s. record { reference = s.place.ghost_name; files = P.others s.place.now } };
+
+    fn write(&mut self, bytes: &[u8]) -> Took {
+        self.place.write_sink(bytes)
+    }
+}
