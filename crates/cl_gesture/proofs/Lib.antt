@@ -1,0 +1,4 @@
+pub mod Cutting
+pub mod Buffer
+pub mod Finding
+pub mod Turning

@@ -1,0 +1,12 @@
+use Rattle.std.proofs.Common.{◌-◌, ◌≡◌}
+use Rattle.cl_gesture.specs.Reader.{source_of, count_of, progress_of}
+use Rattle.cl_gesture.proofs.Turning.{Passed}
+use Rattle.cl_gesture.proofs.reader.Gestures.next.Given as goal
+
+abbrev pub invariant-loop-self : goal.invariant-loop-self
+invariant-loop-self g l =
+    Passed (progress_of g.G.Source.left g.G.Source.faults l.initial.self) (progress_of g.G.Source.left g.G.Source.faults l.self)
+    × (g.G.Source.lent l.self.source ≡ g.G.Source.lent l.initial.self.source)
+
+abbrev pub decreases-loop-self : goal.decreases-loop-self
+decreases-loop-self g l = 1000000 - l.self.count

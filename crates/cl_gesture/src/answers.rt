@@ -1,0 +1,41 @@
+use cl_value::Text;
+
+/// What a person did.
+#[derive(Drop)]
+pub enum Gesture {
+    /// Typed this text, 1 or more bytes from 32 to 126.
+    Type(Text),
+    /// Ended the line that was typed.
+    Return,
+    /// Asked for what the screen shows.
+    Frame,
+}
+
+/// What the next line is, or why there is none.
+#[derive(Drop)]
+pub enum Next {
+    Gesture(Gesture),
+    /// No line of the grammar, or one that was cut; its number, from 1.
+    Bad(u32),
+    /// The source's end, with no bytes of a line left.
+    End,
+    /// The source failed.
+    ReadFault,
+    /// A million lines were read, and a further byte came.
+    TooMany,
+    /// Want of memory; the line is lost.
+    Memory,
+}
+
+/// Where a reader of gestures stopped.
+#[derive(Clone, Copy, PartialEq, Eq, Debug)]
+pub enum Stop {
+    /// Nowhere yet.
+    Going,
+    /// At the source's end.
+    AtEnd,
+    /// At a fault of the source.
+    AtFault,
+    /// At a byte behind a million lines.
+    AtLimit,
+}
