@@ -1,4 +1,4 @@
-ghost use Rattle.std.specs.Prelude.{◌≡◌, ◌<◌, ◌≤◌, IfOk, slice_set, vec_len};
+ghost use Rattle.std.specs.Prelude.{◌≡◌, ◌<◌, ◌≤◌, IfOk, length, slice_set, vec_len};
 ghost use Rattle.cl_raster.specs.Raster.{Sets, blank, row_of};
 
 use cl_outside::Cell;
@@ -67,7 +67,8 @@ impl Raster {
     /// The glyphs of a row, from left to right.
     pub fn row(&self, y: u16) -> &[u8]
         requires { y < self.now.height }
-        ensures { result.now ≡ row_of self.now.glyphs self.now.width y }
+        ensures cells { result.now ≡ row_of self.now.glyphs self.now.width y }
+        ensures count { length result.now ≡ self.now.width }
     {
         let from = y as usize * self.width as usize;
         &self.glyphs[from..from + self.width as usize]
@@ -76,7 +77,8 @@ impl Raster {
     /// The inks of a row, numbers from 0 to 7, from left to right.
     pub fn inks(&self, y: u16) -> &[u8]
         requires { y < self.now.height }
-        ensures { result.now ≡ row_of self.now.inks self.now.width y }
+        ensures cells { result.now ≡ row_of self.now.inks self.now.width y }
+        ensures count { length result.now ≡ self.now.width }
     {
         let from = y as usize * self.width as usize;
         &self.inks[from..from + self.width as usize]

@@ -1,3 +1,6 @@
 pub mod World
 pub mod Step
-pub mod Transcript
+
+pub mod Pane
+pub mod Replies
+

@@ -1,13 +1,7 @@
-// A library with one function.
+// A session: an application's frame between gestures, and the step by one gesture.
 #![tactic(auto)]
 
-ghost use Rattle.std.specs.Prelude.{◌≡◌};
-ghost use Rattle.cl_session.specs.Echo.{echo_of};
+pub mod answers;
+pub mod panes;
 
-// The `ensures` clause is the contract: what `echo` returns is `echo_of` of its argument, a definition
-// in `specs/Echo.antt`, which a caller's clause can cite too.
-pub fn echo(x: usize) -> usize
-    ensures { result ≡ echo_of x }
-{
-    x
-}
+pub use answers::{Lines, PaneReport, Replies, Report};
