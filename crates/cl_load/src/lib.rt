@@ -1,0 +1,6 @@
+//! Loads an application text.
+#![tactic(auto)]
+
+mod atom;
+mod form;
+mod parse;
