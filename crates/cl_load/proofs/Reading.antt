@@ -1,9 +1,9 @@
 -- A form is read from its tokens, and then the next one.
-use Rattle.std.proofs.Common.{◌≡◌, ℕ, ◌+◌, ◌-◌, ◌<◌, ◌≤◌, Bool, true, false, List, [], ◌∷◌, ◌++◌, length, append-nil, refl, sym, ap, ◌∙◌, subst, arith}
+use Rattle.std.proofs.Common.{◌≡◌, ℕ, ◌+◌, ◌-◌, true, false, List, [], ◌∷◌, ◌++◌, length, append-nil, refl, sym, ap, ◌∙◌, subst, arith}
 use Rattle.std.proofs.lemmas.List.{append_assoc}
 use Rattle.std.proofs.lemmas.List.Elements.{All-tail}
-use Rattle.std.specs.Prelude.{All, not, map}
-use Rattle.cl_load.specs.Tree.{Tree, Trees, none, item, form, spelled, spelled_all, trees_of, Lexeme, open_at, close}
+use Rattle.std.specs.Prelude.{All, not}
+use Rattle.cl_load.specs.Tree.{Tree, form, spelled, spelled_all, trees_of, open_at, close}
 use Rattle.cl_load.specs.Spelled.{lexeme_of, lexemes, begins_form, is_close, IsAtom, IsRead, AreRead}
 use Rattle.cl_sexp.specs.Tokens.{Nests, InText, depth_after, KeepsNest}
 use Rattle.cl_sexp.specs.declared.Kind.{Kind}
@@ -42,7 +42,7 @@ closes_nests depth kind rest k n =
     subst (λ d. Nests d rest) one (subst (λ x. Nests (depth_after x (depth + 1)) rest) k n)
 
 parts_spelled : (text : List ℕ) (depth : ℕ) (t c : Token) (after rest : List Token) (trees : List Tree) → t.kind ≡ Open → c.kind ≡ Close → lexemes text after ≡ spelled_all (trees_of trees) ++ lexemes text (c ∷ rest)
-  → lexemes text (t ∷ after) ≡ spelled (form (trees_of trees) t.start) ++ lexemes text rest
+    → lexemes text (t ∷ after) ≡ spelled (form (trees_of trees) t.start) ++ lexemes text rest
 parts_spelled text depth t c after rest trees k l r =
     ap (λ kind. lexeme_of text kind t.start t.end ∷ lexemes text after) k
     ∙ ap (λ ls. open_at t.start ∷ ls) (r ∙ ap (λ kind. spelled_all (trees_of trees) ++ lexeme_of text kind c.start c.end ∷ lexemes text rest) l)
@@ -50,7 +50,7 @@ parts_spelled text depth t c after rest trees k l r =
 
 -- a form of parts: its token, the parts, and the token that closes it
 pub parts_read : (text : List ℕ) (depth : ℕ) (tokens after closed rest : List Token) (t c : Token) (trees : List Tree) → tokens ≡ t ∷ after → t.kind ≡ Open → AreRead text (depth + 1) after trees closed → begins_form closed ≡ false → closed ≡ c ∷ rest
-  → IsRead text depth tokens (form (trees_of trees) t.start) rest
+    → IsRead text depth tokens (form (trees_of trees) t.start) rest
 parts_read text depth tokens after closed rest t c trees e k r b f =
     let last : not (is_close c.kind) ≡ false = ap begins_form (sym f) ∙ b in
     let closing : c.kind ≡ Close = closes c.kind last in
@@ -72,7 +72,7 @@ is_atom Symbol o c = tt
 
 -- an atom: its token
 pub atom_read : (text : List ℕ) (depth : ℕ) (tokens after : List Token) (t : Token) (tree : Tree) → tokens ≡ t ∷ after → Nests depth tokens → All (InText (length text)) tokens → (t.kind ≡ Open → ⊥) → begins_form tokens ≡ true
-  → spelled tree ≡ lexeme_of text t.kind t.start t.end ∷ [] → IsRead text depth tokens tree after
+    → spelled tree ≡ lexeme_of text t.kind t.start t.end ∷ [] → IsRead text depth tokens tree after
 atom_read text depth tokens after t tree e n i o b s =
     let a : IsAtom t.kind = is_atom t.kind o (ap begins_form (sym e) ∙ b) in
     let both : KeepsNest t.kind depth × Nests (depth_after t.kind depth) after = subst (Nests depth) e n in

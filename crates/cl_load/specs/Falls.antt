@@ -1,5 +1,5 @@
 -- A form's parts weigh less than the form, by which a recursion over forms ends.
-use Rattle.std.specs.Prelude.{ℕ, ◌+◌, ◌≤◌, List, [], ◌∷◌, map}
+use Rattle.std.specs.Prelude.{◌≤◌, List, [], ◌∷◌, map}
 use Rattle.std.proofs.Common.{arith}
 use Rattle.cl_load.specs.Tree.{weight, weights, trees_of}
 use Rattle.cl_load.specs.Form.{tree_of}

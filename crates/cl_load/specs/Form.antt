@@ -1,6 +1,5 @@
 -- What a `Form` is as a tree.
-use Rattle.std.specs.Prelude.{List, map}
-use Rattle.cl_load.specs.Tree.{Tree, Trees, number, literal, name, form, trees_of}
+use Rattle.cl_load.specs.Tree.{Tree, number, literal, name, form, trees_of}
 use Rattle.cl_load.specs.declared.form.Form.{Form}
 use Rattle.cl_load.specs.declared.form.Form.TheVariants as variant
 

@@ -50,7 +50,6 @@ abbrev pub begins_form : List Token → Bool
 begins_form [] = false
 begins_form (t ∷ ts) = not (is_close t.kind)
 
-
 -- the tree is what stands before the rest, and the rest nests and lies in the text as before
 pub record IsRead (text : List ℕ) (depth : ℕ) (tokens : List Token) (tree : Tree) (rest : List Token) : Type 0 where
   pub reads : lexemes text tokens ≡ spelled tree ++ lexemes text rest

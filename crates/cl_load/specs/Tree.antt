@@ -10,6 +10,7 @@ mutual
     literal : List ℕ → ℕ → Tree
     name : List ℕ → ℕ → Tree
     form : Trees → ℕ → Tree
+
   pub data Trees : Type 0 where
     none : Trees
     item : Tree → Trees → Trees
@@ -25,6 +26,7 @@ abbrev mutual
   weight (literal s at) = 1
   weight (name s at) = 1
   weight (form ts at) = 1 + weights ts
+
   pub weights : Trees → ℕ
   weights none = 0
   weights (item t ts) = weight t + weights ts
@@ -46,6 +48,7 @@ abbrev mutual
   spelled (literal s at) = literal_at s at ∷ []
   spelled (name s at) = name_at s at ∷ []
   spelled (form ts at) = open_at at ∷ (spelled_all ts ++ close ∷ [])
+
   pub spelled_all : Trees → List Lexeme
   spelled_all none = []
   spelled_all (item t ts) = spelled t ++ spelled_all ts
@@ -61,6 +64,7 @@ abbrev mutual
   code (literal s at) = gcons (gnum 1) (gcons (bytes_code s) (gnum at))
   code (name s at) = gcons (gnum 2) (gcons (bytes_code s) (gnum at))
   code (form ts at) = gcons (gnum 3) (gcons (codes_of ts) (gnum at))
+
   pub codes_of : Trees → Gv
   codes_of none = gnil
   codes_of (item t ts) = gcons (code t) (codes_of ts)
@@ -99,6 +103,7 @@ mutual
       let at : m ≡ n = ap (λ g. code_number (code_tail (code_tail g))) p in
       λ i. form (first i) (at i)
   code-inj x y p = cc
+
   pub codes_of-inj : (ts us : Trees) → codes_of ts ≡ codes_of us → ts ≡ us
   codes_of-inj none none p = refl
   codes_of-inj (item t ts) (item u us) p =

@@ -50,6 +50,9 @@ fn content(alloc: Global, bytes: &[u8]) -> Result<Text, AllocError>
 fn small(alloc: Global, bytes: &[u8]) -> Result<Text, AllocError>
     ensures { IfOk result (λ t. t ≡ map to_ascii_lowercase bytes.now) }
 {
-    let bytes = bytes.iter().map(|byte| byte.to_ascii_lowercase()).collect(alloc)?;
+    let bytes = bytes
+        .iter()
+        .map(|byte| byte.to_ascii_lowercase())
+        .collect(alloc)?;
     Text::from_vec(alloc, bytes)
 }

@@ -51,7 +51,9 @@ impl Forms {
     pub fn new(alloc: Global) -> Forms
         ensures { result ≡ [] }
     {
-        Forms { items: Vec::new(alloc) }
+        Forms {
+            items: Vec::new(alloc),
+        }
     }
 
     pub fn as_slice(&self) -> &[Form]

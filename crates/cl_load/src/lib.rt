@@ -3,4 +3,7 @@
 
 mod atom;
 mod form;
+mod laws;
 mod parse;
+
+pub use laws::one_tree;

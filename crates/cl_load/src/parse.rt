@@ -22,7 +22,12 @@ pub fn all_forms(alloc: Global, text: &[u8], tokens: &[Token]) -> Result<Forms, 
 
 /// The forms up to the `)` that closes the form around them, or to the end, and the tokens from there on.
 #[cycle(parse)]
-fn forms_in<'a>(alloc: Global, text: &[u8], tokens: &'a [Token], depth: u8) -> Result<(Forms, &'a [Token]), AllocError>
+fn forms_in<'a>(
+    alloc: Global,
+    text: &[u8],
+    tokens: &'a [Token],
+    depth: u8,
+) -> Result<(Forms, &'a [Token]), AllocError>
     requires nested { Nests depth tokens.now }
     requires inside { All (InText (length text.now)) tokens.now }
     ensures read { IfOk result (λ r. AreRead text.now depth tokens.now r.0 r.1.now) }
@@ -40,7 +45,12 @@ fn forms_in<'a>(alloc: Global, text: &[u8], tokens: &'a [Token], depth: u8) -> R
 
 /// The form that begins here, and the tokens behind it.
 #[cycle(parse)]
-fn form_at<'a>(alloc: Global, text: &[u8], tokens: &'a [Token], depth: u8) -> Result<(Form, &'a [Token]), AllocError>
+fn form_at<'a>(
+    alloc: Global,
+    text: &[u8],
+    tokens: &'a [Token],
+    depth: u8,
+) -> Result<(Form, &'a [Token]), AllocError>
     requires begins { IsTrue (begins_form tokens.now) }
     requires nested { Nests depth tokens.now }
     requires inside { All (InText (length text.now)) tokens.now }

@@ -1,4 +1,4 @@
-use Rattle.std.proofs.Common.{◌≡◌, ap, length, arith}
+use Rattle.std.proofs.Common.{ap, length, arith}
 use Rattle.cl_load.proofs.Reading.{parts_read, atom_read, more_read, opens_nests, tail_inside}
 use Rattle.cl_load.proofs.parse.+parse.Goals as goal
 
