@@ -1,6 +1,11 @@
-// The loader of application texts.
+//! The loader of application texts.
 #![tactic(auto)]
 
-pub mod application;
+mod application;
+mod atom;
+mod form;
+mod laws;
+mod parse;
 
 pub use application::Loaded;
+pub use laws::one_tree;
