@@ -3,7 +3,7 @@ use Rattle.std.proofs.Common.{◌≡◌, ℕ, zero, suc, ◌+◌, ◌-◌, ◌*�
 use Rattle.std.proofs.lemmas.List.{length-take}
 use Rattle.cl_display.specs.declared.histories.TextItem.{TextItem}
 use Rattle.cl_raster.specs.Raster.{Picture, row_of}
-use Rattle.cl_redisplay.specs.Paint.{Shows, painted, row_from, shown_row}
+use Rattle.cl_redisplay.specs.Paint.{Shows, painted, row_from, rows_from, shown_row}
 
 pub take-row_from : (items : List TextItem) (glyphs : List ℕ) (y k x n : ℕ) → length (take n (drop k glyphs)) ≡ n
     → ((i : ℕ) → i < n → slice_index glyphs (k + i) ≡ painted items (x + i) y 32)
@@ -29,3 +29,9 @@ row-shown_row items p y row shows less is count =
     let counted : length (take p.width (drop (y * p.width) p.glyphs)) ≡ p.width = sym (ap length cells) ∙ count in
     cells ∙ take-row_from items p.glyphs y (y * p.width) 0 p.width counted
       (λ i within. rw zero-add (shows i y within less))
+
+pub rows_from-next : (items : List TextItem) (width y end : ℕ) → y < end
+    → rows_from items width y (end - y) ≡ shown_row items width y ∷ rows_from items width (y + 1) (end - (y + 1))
+rows_from-next items width y end h =
+    let next : end - y ≡ suc (end - (y + 1)) = omega arith in
+    rw next

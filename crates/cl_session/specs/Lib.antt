@@ -4,3 +4,4 @@ pub mod Step
 pub mod Pane
 pub mod Replies
 
+pub mod Handling

@@ -2,6 +2,7 @@
 #![tactic(auto)]
 
 pub mod answers;
+pub mod handling;
 pub mod panes;
 
 pub use answers::{Lines, PaneReport, Replies, Report};
