@@ -8,7 +8,7 @@ use Rattle.cl_session.specs.Step.{Handled}
 -- the replies, the slots and the line, and whether a command committed; want of memory leaves slots and line
 abbrev pub HandlesTo : Handled → Handling → (slots_old slots_new : Slots) → (line_old line_new : List ℕ) → Type 0
 HandlesTo h (handling.Replied replies) slots_old slots_new line_old line_new =
-    h ≡ record { replies = replies; slots = slots_new; line = line_new; commits = false; cost = h.cost }
+    (h ≡ record { replies = replies; slots = slots_new; line = line_new; commits = false; cost = h.cost }) × (slots_new ≡ slots_old)
 HandlesTo h (handling.Committed replies) slots_old slots_new line_old line_new =
     h ≡ record { replies = replies; slots = slots_new; line = line_new; commits = true; cost = h.cost }
 HandlesTo h handling.Memory slots_old slots_new line_old line_new = (slots_new ≡ slots_old) × (line_new ≡ line_old)

@@ -1,7 +1,6 @@
 pub mod World
 pub mod Step
-
 pub mod Pane
 pub mod Replies
-
 pub mod Handling
+pub mod Session

@@ -4,5 +4,6 @@
 pub mod answers;
 pub mod handling;
 pub mod panes;
+pub mod sessions;
 
 pub use answers::{Lines, PaneReport, Replies, Report};
