@@ -1,5 +1,5 @@
 -- Lemmas on the turns of a reader of gestures.
-use Rattle.std.proofs.Common.{◌≡◌, ◌≤◌, ◌<◌, ◌+◌, ℕ, Bool, true, false, List, [], ◌∷◌, ◌++◌, length, Option, Some, None, unwrap_or, append_assoc, length-append, refl, sym, ap, subst, ◌∙◌, arith}
+use Rattle.std.proofs.Common.{◌≡◌, ◌⊎◌, inl, inr, ◌≤◌, ◌<◌, ◌+◌, ℕ, Bool, true, false, List, [], ◌∷◌, ◌++◌, length, Option, Some, None, unwrap_or, append_assoc, append-nil, length-append, refl, sym, ap, subst, ◌∙◌, arith}
 use Rattle.cl_outside.specs.Causes.{Rose}
 use Rattle.cl_gesture.specs.declared.answers.Gesture.{Gesture}
 use Rattle.cl_gesture.specs.declared.answers.Next.{Next}
@@ -10,7 +10,7 @@ use Rattle.cl_gesture.specs.declared.grammar.Said.TheVariants as said
 use Rattle.cl_gesture.specs.Lines.{Piece, line, long, ended, held_from, pieces, Reads, Lines}
 use Rattle.cl_gesture.specs.Gesture.{LineKind, idle, bad, does, kind_of}
 use Rattle.cl_gesture.specs.Said.{SaidOf, AnswerOf}
-use Rattle.cl_gesture.specs.Next.{Progress, AreIdle, Passes, stop_at, ReadsTo, ReadsToEnd, ReadsToFault, ReadsToLimit, NextOf, TurnOf, most_lines}
+use Rattle.cl_gesture.specs.Next.{Progress, AreIdle, Passes, stop_at, ReadsTo, ReadsToEnd, ReadsToFault, ReadsToLimit, NextOf, TurnOf, UnreadTurn, most_lines}
 use Rattle.cl_gesture.proofs.Cutting.{Lines-more, Reads-trans, ended-more}
 use Rattle.cl_gesture.proofs.Finding.{Reads-none}
 
@@ -165,3 +165,29 @@ NextOf-limit old new left ahead count stopped full further =
       full = count ∙ full;
       further = omega (arith, ap length ahead)
     }
+
+-- ---- what was not read
+
+-- idle lines were taken of those ahead, and the source was read only where all that had ended ahead are idle
+abbrev pub Unread : {A : Type 0} → A → A → List ℕ → List ℕ → Type 0
+Unread source_old source_new ahead_old ahead_new =
+    AreIdle (ended ahead_old) ⊎ ((source_new ≡ source_old) × (idles : List Piece) × AreIdle idles × (ended ahead_old ≡ idles ++ ended ahead_new))
+
+pub Unread-start : {A : Type 0} (s : A) (u : List ℕ) → Unread s s u u
+Unread-start s u = inr (refl, [], tt, refl)
+
+Unread-all : (u v : List ℕ) (idles : List Piece) → AreIdle idles → ended u ≡ idles ++ ended v → ended v ≡ [] → AreIdle (ended u)
+Unread-all u v idles are taken none =
+    let P : List Piece → Type 0 = λ ps. AreIdle ps in subst P (sym (taken ∙ ap (λ l. idles ++ l) none ∙ append-nil idles)) are
+
+pub Unread-more : {A : Type 0} (s t r : A) (u v w : List ℕ) → Unread s t u v → UnreadTurn t r v w None → Unread s r u w
+Unread-more s t r u v w (inl all) turn = inl all
+Unread-more s t r u v w (inr k) (inl none) = inl (Unread-all u v k.1 k.2 k.3 none)
+Unread-more s t r u v w (inr k) (inr h) =
+    inr (h.0 ∙ k.0, k.1 ++ h.1 ∷ [], AreIdle-append k.1 (h.1 ∷ []) k.2 (h.2, tt),
+    k.3 ∙ ap (λ l. k.1 ++ l) h.3 ∙ sym (append_assoc k.1 (h.1 ∷ []) (ended w)))
+
+pub Unread-end : {A : Type 0} (s t r : A) (u v : List ℕ) → Unread s t u v → (ended v ≡ []) ⊎ (r ≡ t) → AreIdle (ended u) ⊎ (r ≡ s)
+Unread-end s t r u v (inl all) turn = inl all
+Unread-end s t r u v (inr k) (inl none) = inl (Unread-all u v k.1 k.2 k.3 none)
+Unread-end s t r u v (inr k) (inr still) = inr (still ∙ k.0)
