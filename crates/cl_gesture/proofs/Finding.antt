@@ -1,5 +1,5 @@
 -- Lemmas on where the first piece of some bytes ends.
-use Rattle.std.proofs.Common.{◌≡◌, ◌⊎◌, inl, inr, ◌≤◌, ◌<◌, ◌+◌, ℕ, true, false, List, [], ◌∷◌, ◌++◌, length, take, drop, get_or, Option, Some, All, append-nil, length-append, refl, sym, ap, subst, ◌∙◌, arith}
+use Rattle.std.proofs.Common.{◌≡◌, ◌⊎◌, inl, inr, ◌≤◌, ◌<◌, ◌+◌, ℕ, List, [], ◌∷◌, ◌++◌, length, take, drop, get_or, Option, Some, All, append-nil, length-append, refl, sym, ap, subst, ◌∙◌, arith}
 use Rattle.std.proofs.KnownBytes.{Consumes-nil, Consumes-kept}
 use Rattle.std.proofs.Math.Seq.{take-length, take-append_seam}
 use Rattle.std.proofs.lemmas.List.{take_more, length-take-le, take-append-drop, nil_from_length}
@@ -10,7 +10,7 @@ use Rattle.cl_outside.specs.declared.answers.Took.TheVariants.{Bytes, Failed}
 use Rattle.cl_gesture.specs.Ahead.{FillTook}
 use Rattle.cl_gesture.specs.declared.cut.Found.TheVariants as found
 use Rattle.cl_gesture.specs.declared.cut.Cut.TheVariants as cut
-use Rattle.cl_gesture.specs.Lines.{Piece, line, long, ended, held_from, IsNoFeed, Reads, Lines}
+use Rattle.cl_gesture.specs.Lines.{Piece, line, long, ended, held_from, IsNoFeed, Reads}
 use Rattle.cl_gesture.specs.Cut.{FoundIn, CutOf}
 use Rattle.cl_gesture.proofs.Cutting.{ended-line, ended-long, ended-plain, ended-more, pieces-last, Reads-trans}
 
@@ -100,7 +100,7 @@ Looking-more a b c u v w before mid now lent l1 l2 seen after n k none f rose sa
       lent = same ∙ k.lent;
       short = omega (arith, none.0);
       within = omega arith;
-      unended = subst P (sym kept) none.1
+      unended = subst P (sym kept) none.1;
     }
 
 -- a read that handed over nothing, where some bytes of a line are ahead

@@ -1,5 +1,5 @@
 -- A line does a gesture exactly where it is that gesture's spelling.
-use Rattle.std.proofs.Common.{◌≡◌, ◌≢◌, ◌==◌, ◌&&◌, ◌↔◌, ◌≤◌, ◌<◌, ◌+◌, ◌-◌, not, ℕ, Bool, true, false, cond, List, [], ◌∷◌, ◌++◌, length, take, drop, nat_eq, nat_le, codes, Option, Some, None, All, refl, sym, ap, subst, ◌∙◌, arith, rules}
+use Rattle.std.proofs.Common.{◌≡◌, ◌==◌, ◌&&◌, ◌<◌, not, ℕ, Bool, true, false, cond, List, [], ◌∷◌, ◌++◌, length, drop, nat_eq, codes, Some, None, All, refl, ap, subst, ◌∙◌, arith}
 use Rattle.std.specs.List.{list_all, starts_with}
 use Rattle.std.specs.Str.{bytes_eq}
 use Rattle.std.proofs.lemmas.Slice.Eq.{bytes_eq-Decides, starts_is}
@@ -9,7 +9,7 @@ use Rattle.std.proofs.lemmas.List.Elements.{All-nil, All-cons, All-head, All-tai
 use Rattle.std.proofs.lemmas.Bool.{and_parts, and_from, ne_eqb}
 use Rattle.cl_gesture.specs.declared.answers.Gesture.{Gesture}
 use Rattle.cl_gesture.specs.declared.answers.Gesture.TheVariants as gesture
-use Rattle.cl_gesture.specs.Gesture.{LineKind, idle, bad, does, is_idle, is_printable, is_typable, typed_text, typing, says, spelling_of, IsPrintable, IsTypable, AreSpelled}
+use Rattle.cl_gesture.specs.Gesture.{idle, does, is_idle, is_printable, is_typable, typing, says, spelling_of, IsPrintable, IsTypable, AreSpelled}
 
 is_printable-true : (byte : ℕ) → is_printable byte ≡ true → IsPrintable byte
 is_printable-true byte h = grind (arith, nat_tests, common_steps)

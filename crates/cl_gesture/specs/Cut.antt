@@ -5,7 +5,7 @@ use Rattle.cl_gesture.specs.declared.cut.Found.{Found}
 use Rattle.cl_gesture.specs.declared.cut.Found.TheVariants as found
 use Rattle.cl_gesture.specs.declared.cut.Cut.{Cut}
 use Rattle.cl_gesture.specs.declared.cut.Cut.TheVariants as cut
-use Rattle.cl_gesture.specs.Lines.{Piece, line, long, ended, held_from, longest_line, IsNoFeed, Reads, Lines}
+use Rattle.cl_gesture.specs.Lines.{line, long, ended, held_from, longest_line, IsNoFeed, Reads, Lines}
 
 -- where the first piece of the bytes ends
 abbrev pub FoundIn : List ℕ → Found → Type 0

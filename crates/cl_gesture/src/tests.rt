@@ -1,12 +1,10 @@
 ghost use Rattle.std.specs.Prelude.{◌≡◌, ◌<◌, ◌≤◌, length, None};
 ghost use Rattle.cl_outside.specs.Outside.{ReadTook, FailedRose};
 
+use crate::{Gesture, Gestures, Next};
+use cl_outside::{MemSource, Source, Took};
 use std::alloc::{AllocError, Global};
 use std::test::Fail;
-
-use cl_outside::{MemSource, Source, Took};
-
-use crate::{Gesture, Gestures, Next};
 
 /// Hands over one byte a read, and tells nothing.
 #[derive(Drop)]
@@ -60,9 +58,11 @@ fn answers<G: Source>(alloc: Global, gestures: &mut Gestures<G>) -> Result<Strin
     Ok(told)
 }
 
-const STREAM: &[u8] = b"return\nframe\r\n\n# a comment\n#\ntype Add\ntype  two \n\r\ntype\ntype \nReturn\nreturn \n frame\njump\ntype a\tb\ntype ~!#\r\n\r#\ntype a\r\r\nrub out\nreturnframe\ntype \x7f\ntype x";
+const STREAM: &[u8] =
+    b"return\nframe\r\n\n# a comment\n#\ntype Add\ntype  two \n\r\ntype\ntype \nReturn\nreturn \n frame\njump\ntype a\tb\ntype ~!#\r\n\r#\ntype a\r\r\nrub out\nreturnframe\ntype \x7f\ntype x";
 
-const TOLD: &str = "return\nframe\ntype Add\ntype  two \nbad 9\nbad 10\nbad 11\nbad 12\nbad 13\nbad 14\nbad 15\ntype ~!#\nbad 17\nbad 18\nbad 19\nbad 20\nbad 21\ntype x\nend";
+const TOLD: &str =
+    "return\nframe\ntype Add\ntype  two \nbad 9\nbad 10\nbad 11\nbad 12\nbad 13\nbad 14\nbad 15\ntype ~!#\nbad 17\nbad 18\nbad 19\nbad 20\nbad 21\ntype x\nend";
 
 #[test]
 fn lines_say_what_the_format_says(rt: HostRuntime) -> Result<(), Fail> {
@@ -109,7 +109,11 @@ fn ends_and_long_lines(rt: HostRuntime) -> Result<(), Fail> {
     ];
     for (times, bytes, last, want) in rows {
         let content = repeated(alloc, times, bytes, last)?;
-        assert_eq!(rt; told(alloc, content, Vec::new(alloc))?.as_str(), want, "{times} times");
+        assert_eq!(rt;
+            told(alloc, content, Vec::new(alloc))?.as_str(),
+            want,
+            "{times} times"
+        );
     }
     Ok(())
 }
@@ -130,7 +134,10 @@ fn a_million_lines(rt: HostRuntime) -> Result<(), Fail> {
     let full = repeated(alloc, 1_000_000, b"#\n", b"")?;
     assert_eq!(rt; told(alloc, full, Vec::new(alloc))?.as_str(), "end");
     let unended = repeated(alloc, 999_999, b"#\n", b"jump")?;
-    assert_eq!(rt; told(alloc, unended, Vec::new(alloc))?.as_str(), "bad 1000000\nend");
+    assert_eq!(rt;
+        told(alloc, unended, Vec::new(alloc))?.as_str(),
+        "bad 1000000\nend"
+    );
     let further = repeated(alloc, 1_000_000, b"#\n", b"x")?;
     let mut gestures = Gestures::new(alloc, MemSource::new(further, Vec::new(alloc)))?;
     assert_eq!(rt; answers(alloc, &mut gestures)?.as_str(), "too many");

@@ -1,4 +1,4 @@
-use Rattle.std.proofs.Common.{inl, ◌≡◌, ◌<◌, List, ℕ, length, arith, subst}
+use Rattle.std.proofs.Common.{inl, List, ℕ, arith, subst}
 use Rattle.cl_gesture.specs.declared.cut.Found.TheVariants as found
 use Rattle.cl_gesture.specs.Cut.{FoundIn}
 use Rattle.cl_gesture.proofs.Finding.{CutOf-long, CutOf-ended, CutOf-failed, Looking-more, NotRead-none, NotRead-line, NotRead-long}
@@ -42,6 +42,7 @@ returns-in-Failed-clause-unread g c =
 pub loop-at-preserved : goal.loop-at-preserved
 loop-at-preserved g c =
     let P : List ℕ → Type 0 = λ bytes. FoundIn bytes found.Unended in
-    let none = subst P c.as_slice.ensures c.in-Unended.ensures in
-    (Looking-more _ _ _ c.args.ahead.now c.loop-at.ahead c.fill.new.self _ _ _ _ _ _ _ _ _ c.loop-at.invariant.0 none c.in-Bytes.ensures.bytes c.in-Bytes.ensures.cause c.in-Bytes.ensures.lent c.len-seen.ensures,
-    inl (NotRead-none c.args.source.now c.loop-at.source c.args.ahead.now c.loop-at.ahead c.loop-at.invariant.1 none))
+    let none = subst P c.as_slice.ensures c.in-Unended.ensures in (
+      Looking-more _ _ _ c.args.ahead.now c.loop-at.ahead c.fill.new.self _ _ _ _ _ _ _ _ _ c.loop-at.invariant.0 none c.in-Bytes.ensures.bytes c.in-Bytes.ensures.cause c.in-Bytes.ensures.lent c.len-seen.ensures,
+      inl (NotRead-none c.args.source.now c.loop-at.source c.args.ahead.now c.loop-at.ahead c.loop-at.invariant.1 none),
+    )

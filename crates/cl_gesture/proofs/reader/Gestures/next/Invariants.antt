@@ -1,5 +1,5 @@
 use Rattle.std.proofs.Common.{◌-◌, ◌≡◌}
-use Rattle.cl_gesture.specs.Reader.{source_of, count_of, progress_of}
+use Rattle.cl_gesture.specs.Reader.{progress_of}
 use Rattle.cl_gesture.proofs.Turning.{Passed, Unread}
 use Rattle.cl_gesture.proofs.reader.Gestures.next.Given as goal
 
