@@ -1,13 +1,11 @@
 -- Lemmas on how bytes are cut into lines.
-use Rattle.std.proofs.Common.{◌≡◌, ◌≢◌, ◌==◌, ◌||◌, ◌≤◌, ◌<◌, ◌+◌, ℕ, Bool, true, false, List, [], ◌∷◌, ◌++◌, length, Option, All, cond, length-append, eqb, refl, sym, ap, ◌∙◌, append_assoc, append-nil, arith, rules}
+use Rattle.std.proofs.Common.{◌≡◌, ◌≢◌, ◌||◌, ◌≤◌, ◌<◌, ◌+◌, ℕ, Bool, true, false, List, [], ◌∷◌, ◌++◌, length, Option, All, cond, length-append, eqb, refl, sym, ap, ◌∙◌, append_assoc, append-nil, arith}
 use Rattle.std.specs.List.{flat_map}
-use Rattle.std.specs.Io.KnownBytes.{Consumes, IsAtEnd}
 use Rattle.std.proofs.KnownBytes.{Consumes-trans}
 use Rattle.std.proofs.lemmas.List.Elements.{All-append, All-head, All-tail, All-nil, All-cons, All-push}
 use Rattle.std.proofs.lemmas.Grind.{flat_map-append}
 use Rattle.std.proofs.lemmas.Bool.{eqb-true, eqb-false, eq-eqb, ne_eqb}
-use Rattle.std.proofs.lemmas.Bool.Decides.{nat_tests}
-use Rattle.cl_gesture.specs.Lines.{Piece, line, long, ended_at, held_after, ended_from, held_from, ended, last_line, pieces, Reads, AreCut, Lines, bytes_of, IsNoFeed, IsPiece, AreTheBytes, AreWellCut, line_feed, longest_line}
+use Rattle.cl_gesture.specs.Lines.{Piece, line, long, ended_at, held_after, ended_from, held_from, ended, last_line, pieces, Reads, AreCut, Lines, bytes_of, IsNoFeed, IsPiece, AreTheBytes, AreWellCut}
 
 pub ended_from-append : (held xs ys : List ℕ) → ended_from held (xs ++ ys) ≡ ended_from held xs ++ ended_from (held_from held xs) ys
 ended_from-append held [] ys = refl

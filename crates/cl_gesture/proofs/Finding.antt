@@ -1,5 +1,5 @@
 -- Lemmas on where the first piece of some bytes ends.
-use Rattle.std.proofs.Common.{◌≡◌, ◌≤◌, ◌<◌, ◌+◌, ℕ, true, false, List, [], ◌∷◌, ◌++◌, length, take, drop, get_or, Option, Some, All, append-nil, length-append, refl, sym, ap, subst, ◌∙◌, arith}
+use Rattle.std.proofs.Common.{◌≡◌, ◌⊎◌, inl, inr, ◌≤◌, ◌<◌, ◌+◌, ℕ, List, [], ◌∷◌, ◌++◌, length, take, drop, get_or, Option, Some, All, append-nil, length-append, refl, sym, ap, subst, ◌∙◌, arith}
 use Rattle.std.proofs.KnownBytes.{Consumes-nil, Consumes-kept}
 use Rattle.std.proofs.Math.Seq.{take-length, take-append_seam}
 use Rattle.std.proofs.lemmas.List.{take_more, length-take-le, take-append-drop, nil_from_length}
@@ -10,9 +10,9 @@ use Rattle.cl_outside.specs.declared.answers.Took.TheVariants.{Bytes, Failed}
 use Rattle.cl_gesture.specs.Ahead.{FillTook}
 use Rattle.cl_gesture.specs.declared.cut.Found.TheVariants as found
 use Rattle.cl_gesture.specs.declared.cut.Cut.TheVariants as cut
-use Rattle.cl_gesture.specs.Lines.{Piece, line, long, ended, held_from, IsNoFeed, Reads, Lines}
+use Rattle.cl_gesture.specs.Lines.{Piece, line, long, ended, held_from, IsNoFeed, Reads}
 use Rattle.cl_gesture.specs.Cut.{FoundIn, CutOf}
-use Rattle.cl_gesture.proofs.Cutting.{ended-line, ended-long, ended-plain, pieces-last, Reads-trans}
+use Rattle.cl_gesture.proofs.Cutting.{ended-line, ended-long, ended-plain, ended-more, pieces-last, Reads-trans}
 
 ended-whole : (xs : List ℕ) → All IsNoFeed xs → length xs ≡ 4097 → (ended xs ≡ long xs ∷ []) × (held_from [] xs ≡ [])
 ended-whole xs none full =
@@ -88,18 +88,19 @@ Reads-filled a b c u v w n r f = Reads-trans a b c u v w [] [] r (record { hande
 Reads-kept : (a b c : Option (List ℕ)) (u v w : List ℕ) → Reads a b u v [] → FillTook b c v w Failed → Reads a c u w []
 Reads-kept a b c u v w r f = record { handed = r.handed; consumed = Consumes-kept a b c r.handed r.consumed f.0; same = r.same ∙ sym f.1 }
 
-pub Looking-more : (a b c : Option (List ℕ)) (u v w : List ℕ) (before mid now lent l1 l2 seen n : ℕ) → Looking a b u v before mid lent l1 seen
-    → FoundIn v found.Unended → FillTook b c v w (Bytes n) → mid ≤ now → l2 ≡ l1 → Looking a c u w before now lent l2 (length v)
-Looking-more a b c u v w before mid now lent l1 l2 seen n k none f rose same =
+pub Looking-more : (a b c : Option (List ℕ)) (u v w : List ℕ) (before mid now lent l1 l2 seen after n : ℕ) → Looking a b u v before mid lent l1 seen
+    → FoundIn v found.Unended → FillTook b c v w (Bytes n) → mid ≤ now → l2 ≡ l1 → after ≡ length v → Looking a c u w before now lent l2 after
+Looking-more a b c u v w before mid now lent l1 l2 seen after n k none f rose same all =
     let P : List ℕ → Type 0 = λ xs. All IsNoFeed xs in
     let grown : length w ≡ length v + length f.0 = ap length f.2 ∙ length-append v f.0 in
+    let kept : take after w ≡ v = ap (λ m. take m w) all ∙ ap (take (length v)) f.2 ∙ take-append_seam v f.0 in
     record {
       reads = Reads-filled a b c u v w n k.reads f;
       later = omega (arith, k.later);
       lent = same ∙ k.lent;
-      short = none.0;
+      short = omega (arith, none.0);
       within = omega arith;
-      unended = subst P (sym (ap (take (length v)) f.2 ∙ take-append_seam v f.0)) none.1;
+      unended = subst P (sym kept) none.1;
     }
 
 -- a read that handed over nothing, where some bytes of a line are ahead
@@ -115,3 +116,27 @@ pub CutOf-failed : (a b c : Option (List ℕ)) (u v w : List ℕ) (before mid no
 CutOf-failed a b c u v w before mid now r none f early rose =
     let P : List ℕ → Type 0 = λ xs. FoundIn xs found.Unended in
     CutOf-fault a c u w before now (Reads-kept a b c u v w r f) (subst P (sym f.1) none) (omega (arith, rose.1))
+
+-- ---- what was not read
+
+-- the source was read only where no piece ends in the bytes that were ahead
+abbrev pub NotRead : {A : Type 0} → A → A → List ℕ → List ℕ → Type 0
+NotRead source_old source_new ahead_old ahead_new = (ended ahead_old ≡ []) ⊎ ((source_new ≡ source_old) × (ahead_new ≡ ahead_old))
+
+pub NotRead-none : {A : Type 0} (s t : A) (u v : List ℕ) → NotRead s t u v → FoundIn v found.Unended → ended u ≡ []
+NotRead-none s t u v (inl none) f = none
+NotRead-none s t u v (inr k) f = ap ended (sym k.1) ∙ (ended-plain v f.1 f.0).0
+
+first_ended : (n : ℕ) (v : List ℕ) (piece : Piece) → ended (take n v) ≡ piece ∷ [] → held_from [] (take n v) ≡ [] → ended v ≡ piece ∷ ended (drop n v)
+first_ended n v piece is none =
+    ap ended (sym (take-append-drop n v)) ∙ ended-more (take n v) (drop n v) none ∙ ap (λ l. l ++ ended (drop n v)) is
+
+pub NotRead-line : {A : Type 0} (s t : A) (u v : List ℕ) (n : ℕ) → NotRead s t u v → FoundIn v (found.Line n)
+    → (ended u ≡ []) ⊎ ((t ≡ s) × (ended u ≡ line (take n v) ∷ ended (drop (n + 1) v)))
+NotRead-line s t u v n (inl none) f = inl none
+NotRead-line s t u v n (inr k) f = inr (k.0, ap ended (sym k.1) ∙ first_ended (n + 1) v (line (take n v)) f.1 f.2)
+
+pub NotRead-long : {A : Type 0} (s t : A) (u v : List ℕ) → NotRead s t u v → FoundIn v found.Long
+    → (ended u ≡ []) ⊎ ((t ≡ s) × (ended u ≡ long (take 4097 v) ∷ ended (drop 4097 v)))
+NotRead-long s t u v (inl none) f = inl none
+NotRead-long s t u v (inr k) f = inr (k.0, ap ended (sym k.1) ∙ first_ended 4097 v (long (take 4097 v)) f.1 f.2)

@@ -1,16 +1,14 @@
 -- Lemmas on the turns of a reader of gestures.
-use Rattle.std.proofs.Common.{◌≡◌, ◌≤◌, ◌<◌, ◌+◌, ℕ, Bool, true, false, List, [], ◌∷◌, ◌++◌, length, Option, Some, None, unwrap_or, append_assoc, length-append, refl, sym, ap, subst, ◌∙◌, arith}
-use Rattle.cl_outside.specs.Causes.{Rose}
-use Rattle.cl_gesture.specs.declared.answers.Gesture.{Gesture}
+use Rattle.std.proofs.Common.{◌≡◌, ◌⊎◌, inl, inr, ◌≤◌, ◌<◌, ◌+◌, ℕ, Bool, true, false, List, [], ◌∷◌, ◌++◌, length, Option, None, unwrap_or, append_assoc, append-nil, length-append, refl, sym, ap, subst, ◌∙◌, arith}
 use Rattle.cl_gesture.specs.declared.answers.Next.{Next}
 use Rattle.cl_gesture.specs.declared.answers.Next.TheVariants as next
 use Rattle.cl_gesture.specs.declared.answers.Stop.TheVariants as stop
 use Rattle.cl_gesture.specs.declared.grammar.Said.{Said}
 use Rattle.cl_gesture.specs.declared.grammar.Said.TheVariants as said
-use Rattle.cl_gesture.specs.Lines.{Piece, line, long, ended, held_from, pieces, Reads, Lines}
-use Rattle.cl_gesture.specs.Gesture.{LineKind, idle, bad, does, kind_of}
+use Rattle.cl_gesture.specs.Lines.{Piece, line, long, ended, Reads, Lines}
+use Rattle.cl_gesture.specs.Gesture.{LineKind, bad, does, kind_of}
 use Rattle.cl_gesture.specs.Said.{SaidOf, AnswerOf}
-use Rattle.cl_gesture.specs.Next.{Progress, AreIdle, Passes, stop_at, ReadsTo, ReadsToEnd, ReadsToFault, ReadsToLimit, NextOf, TurnOf, most_lines}
+use Rattle.cl_gesture.specs.Next.{Progress, AreIdle, Passes, stop_at, ReadsTo, ReadsToFault, NextOf, TurnOf, UnreadTurn, most_lines}
 use Rattle.cl_gesture.proofs.Cutting.{Lines-more, Reads-trans, ended-more}
 use Rattle.cl_gesture.proofs.Finding.{Reads-none}
 
@@ -67,7 +65,7 @@ AreIdle-append (x ∷ ps) qs p q = (p.0, AreIdle-append ps qs p.1 q)
 pub Passes-more : (a b c : Progress) (f : Bool) (ps qs : List Piece) → Passes a b false ps → Passes b c f qs → Passes a c f (ps ++ qs)
 Passes-more a b c f ps qs p q = record {
   lines = Lines-more a.left b.left c.left a.ahead b.ahead c.ahead f ps qs p.lines q.lines;
-  counted = omega (arith, length-append ps qs, p.counted, q.counted)
+  counted = omega (arith, length-append ps qs, p.counted, q.counted);
 }
 
 -- idle lines were read, and nothing else
@@ -84,10 +82,10 @@ Passed-start a going = record {
   idle = tt;
   passes = record {
     lines = record { read = []; reads = Reads-none a.left a.ahead; cut = (refl, refl) };
-    counted = omega arith
+    counted = omega arith;
   };
   going = going;
-  later = omega arith
+  later = omega arith;
 }
 
 pub Passed-more : (a b c : Progress) → Passed a b → TurnOf b c None → b.faults ≤ c.faults → Passed a c
@@ -96,7 +94,7 @@ Passed-more a b c p t later = record {
   idle = AreIdle-append p.idles (t.0 ∷ []) p.idle (t.1, tt);
   passes = Passes-more a b c false p.idles (t.0 ∷ []) p.passes t.2;
   going = t.3;
-  later = omega (arith, p.later)
+  later = omega (arith, p.later);
 }
 
 ReadsTo-after : (kind : LineKind) (a b c : Progress) → Passed a b → ReadsTo kind b c → ReadsTo kind a c
@@ -109,7 +107,7 @@ ReadsTo-after kind a b c p r =
       says = r.says;
       finished = r.finished;
       stopped = r.stopped;
-      passes = subst P (sym (append_assoc p.idles r.idles (r.piece ∷ []))) (Passes-more a b c r.finished p.idles (r.idles ++ r.piece ∷ []) p.passes r.passes)
+      passes = subst P (sym (append_assoc p.idles r.idles (r.piece ∷ []))) (Passes-more a b c r.finished p.idles (r.idles ++ r.piece ∷ []) p.passes r.passes);
     }
 
 ReadsToFault-after : (a b c : Progress) → Passed a b → ReadsToFault b c → ReadsToFault a c
@@ -124,7 +122,7 @@ ReadsToFault-after a b c p r =
       reads = Reads-trans a.left b.left c.left a.ahead b.ahead c.ahead lines.read r.read lines.reads r.reads;
       none = r.none;
       counted = omega (arith, ap length all, length-append p.idles (ended r.read), p.passes.counted, r.counted);
-      rose = omega (arith, r.rose, p.later)
+      rose = omega (arith, r.rose, p.later);
     }
 
 -- the answer after idle lines
@@ -135,7 +133,7 @@ NextOf-after a b c next.End p r = record {
   idles = p.idles ++ r.idles;
   idle = AreIdle-append p.idles r.idles p.idle r.idle;
   stopped = r.stopped;
-  passes = Passes-more a b c true p.idles r.idles p.passes r.passes
+  passes = Passes-more a b c true p.idles r.idles p.passes r.passes;
 }
 NextOf-after a b c next.ReadFault p r = ReadsToFault-after a b c p r
 NextOf-after a b c next.TooMany p r = record {
@@ -144,7 +142,7 @@ NextOf-after a b c next.TooMany p r = record {
   stopped = r.stopped;
   passes = Passes-more a b c false p.idles r.idles p.passes r.passes;
   full = r.full;
-  further = r.further
+  further = r.further;
 }
 NextOf-after a b c next.Memory p r = (r.0, ReadsTo-after (does r.0) a b c p r.1)
 
@@ -160,8 +158,38 @@ NextOf-limit old new left ahead count stopped full further =
       stopped = stopped;
       passes = record {
         lines = record { read = []; reads = subst Q (sym ahead) (subst P (sym left) (Reads-none old.left old.ahead)); cut = (refl, refl) };
-        counted = omega arith
+        counted = omega arith;
       };
       full = count ∙ full;
-      further = omega (arith, ap length ahead)
+      further = omega (arith, ap length ahead);
     }
+
+-- ---- what was not read
+
+-- idle lines were taken of those ahead, and the source was read only where all that had ended ahead are idle
+abbrev pub Unread : {A : Type 0} → A → A → List ℕ → List ℕ → Type 0
+Unread source_old source_new ahead_old ahead_new =
+    AreIdle (ended ahead_old) ⊎ ((source_new ≡ source_old) × (idles : List Piece) × AreIdle idles × (ended ahead_old ≡ idles ++ ended ahead_new))
+
+pub Unread-start : {A : Type 0} (s : A) (u : List ℕ) → Unread s s u u
+Unread-start s u = inr (refl, [], tt, refl)
+
+Unread-all : (u v : List ℕ) (idles : List Piece) → AreIdle idles → ended u ≡ idles ++ ended v → ended v ≡ [] → AreIdle (ended u)
+Unread-all u v idles are taken none =
+    let P : List Piece → Type 0 = λ ps. AreIdle ps in subst P (sym (taken ∙ ap (λ l. idles ++ l) none ∙ append-nil idles)) are
+
+pub Unread-more : {A : Type 0} (s t r : A) (u v w : List ℕ) → Unread s t u v → UnreadTurn t r v w None → Unread s r u w
+Unread-more s t r u v w (inl all) turn = inl all
+Unread-more s t r u v w (inr k) (inl none) = inl (Unread-all u v k.1 k.2 k.3 none)
+Unread-more s t r u v w (inr k) (inr h) =
+    inr (
+      h.0 ∙ k.0,
+      k.1 ++ h.1 ∷ [],
+      AreIdle-append k.1 (h.1 ∷ []) k.2 (h.2, tt),
+      k.3 ∙ ap (λ l. k.1 ++ l) h.3 ∙ sym (append_assoc k.1 (h.1 ∷ []) (ended w)),
+    )
+
+pub Unread-end : {A : Type 0} (s t r : A) (u v : List ℕ) → Unread s t u v → (ended v ≡ []) ⊎ (r ≡ t) → AreIdle (ended u) ⊎ (r ≡ s)
+Unread-end s t r u v (inl all) turn = inl all
+Unread-end s t r u v (inr k) (inl none) = inl (Unread-all u v k.1 k.2 k.3 none)
+Unread-end s t r u v (inr k) (inr still) = inr (still ∙ k.0)

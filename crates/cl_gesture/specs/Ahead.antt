@@ -1,5 +1,5 @@
 -- What the bytes ahead of a reader become.
-use Rattle.std.specs.Prelude.{◌≡◌, ◌<◌, ℕ, Option, List, [], ◌++◌, length}
+use Rattle.std.specs.Prelude.{◌≡◌, ℕ, Option, List, ◌++◌, length}
 use Rattle.std.specs.Io.KnownBytes.{Consumes, IsAtEnd, Keeps}
 use Rattle.cl_outside.specs.declared.answers.Took.{Took}
 use Rattle.cl_outside.specs.declared.answers.Took.TheVariants.{Bytes, Failed}

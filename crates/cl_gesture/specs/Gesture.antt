@@ -1,5 +1,5 @@
 -- What a line of the stream says.
-use Rattle.std.specs.Prelude.{◌≡◌, ◌==◌, ◌&&◌, not, ◌-◌, ℕ, Bool, true, false, nat_eq, nat_le, if◌then◌else◌, Option, Some, None, List, [], ◌∷◌, length, take, drop, codes}
+use Rattle.std.specs.Prelude.{◌≡◌, ◌==◌, ◌&&◌, ◌↔◌, ◌<◌, ◌≤◌, ◌++◌, All, not, ◌-◌, ℕ, Bool, true, nat_eq, nat_le, if◌then◌else◌, Option, Some, None, List, [], ◌∷◌, length, take, drop, codes}
 use Rattle.std.specs.List.{list_all, starts_with, ends_with}
 use Rattle.std.specs.Str.{bytes_eq}
 use Rattle.cl_gesture.specs.declared.answers.Gesture.{Gesture}
@@ -48,3 +48,24 @@ says bytes =
 abbrev pub kind_of : Piece → LineKind
 kind_of (line bytes) = says (without_return bytes)
 kind_of (long bytes) = bad
+
+-- ---- law of the grammar
+
+-- the line of a gesture
+abbrev pub spelling_of : Gesture → List ℕ
+spelling_of gesture.Return = codes "return"
+spelling_of gesture.Frame = codes "frame"
+spelling_of (gesture.«Type» text) = codes "type " ++ text
+
+abbrev pub IsPrintable : ℕ → Type 0
+IsPrintable byte = (32 ≤ byte) × (byte ≤ 126)
+
+-- what is typed is 1 or more bytes from 32 to 126
+abbrev pub IsTypable : Gesture → Type 0
+IsTypable gesture.Return = Unit {0}
+IsTypable gesture.Frame = Unit {0}
+IsTypable (gesture.«Type» text) = (0 < length text) × All IsPrintable text
+
+-- a line does a gesture exactly where it is the spelling of that gesture
+abbrev pub AreSpelled : Type 0
+AreSpelled = (bytes : List ℕ) (g : Gesture) → (says bytes ≡ does g) ↔ ((bytes ≡ spelling_of g) × IsTypable g)

@@ -1,5 +1,5 @@
 -- What the next call of a reader of gestures answers.
-use Rattle.std.specs.Prelude.{◌≡◌, ◌+◌, ◌<◌, ◌≤◌, ℕ, Bool, true, false, Option, Some, None, List, [], ◌∷◌, ◌++◌, length}
+use Rattle.std.specs.Prelude.{◌≡◌, ◌⊎◌, ◌+◌, ◌<◌, ℕ, Bool, true, false, Option, Some, None, List, [], ◌∷◌, ◌++◌, length}
 use Rattle.cl_outside.specs.Causes.{Rose}
 use Rattle.cl_gesture.specs.declared.answers.Gesture.{Gesture}
 use Rattle.cl_gesture.specs.declared.answers.Next.{Next}
@@ -92,3 +92,10 @@ Again stop.AtLimit old new answer = (answer ≡ next.TooMany) × (new ≡ old)
 abbrev pub TurnOf : Progress → Progress → Option Next → Type 0
 TurnOf old new None = (piece : Piece) × (kind_of piece ≡ idle) × Passes old new false (piece ∷ []) × (new.stop ≡ stop.Going)
 TurnOf old new (Some answer) = NextOf old new answer
+
+-- the source was read only where no line that had ended was ahead; else this line was taken of those ahead, an idle one (None)
+-- or one with an answer
+abbrev pub UnreadTurn : {A : Type 0} → A → A → List ℕ → List ℕ → Option Next → Type 0
+UnreadTurn source_old source_new ahead_old ahead_new None =
+    (ended ahead_old ≡ []) ⊎ ((source_new ≡ source_old) × (piece : Piece) × (kind_of piece ≡ idle) × (ended ahead_old ≡ piece ∷ ended ahead_new))
+UnreadTurn source_old source_new ahead_old ahead_new (Some answer) = (ended ahead_old ≡ []) ⊎ (source_new ≡ source_old)

@@ -1,6 +1,6 @@
 ghost use Rattle.std.specs.Prelude.{◌≡◌, ◌≤◌, All, length, take};
 ghost use Rattle.cl_gesture.specs.Lines.{IsNoFeed, longest_line};
-ghost use Rattle.cl_gesture.specs.Cut.{FoundIn, CutOf};
+ghost use Rattle.cl_gesture.specs.Cut.{FoundIn, CutOf, UnreadCut};
 
 use crate::ahead::Ahead;
 use cl_outside::{Source, Took};
@@ -55,6 +55,7 @@ fn find_line(bytes: &[u8], seen: usize) -> Found
 pub fn next_cut<G: Source>(ahead: &mut Ahead, source: &mut G) -> Cut
     ensures lent { G.lent source.new ≡ G.lent source.old }
     ensures later { G.faults source.old ≤ G.faults source.new }
+    ensures unread { UnreadCut source.old source.new ahead.old ahead.new result }
     ensures cut { CutOf (G.left source.old) (G.left source.new) ahead.old ahead.new (G.faults source.old) (G.faults source.new) result }
 {
     let mut seen = 0;

@@ -1,4 +1,4 @@
-ghost use Rattle.std.specs.Prelude.{◌≡◌, ◌≤◌, ◌<◌, [], IfOk};
+ghost use Rattle.std.specs.Prelude.{◌≡◌, ◌⊎◌, ◌≤◌, ◌<◌, [], IfOk};
 
 use crate::ahead::Ahead;
 use crate::answers::{Next, Stop};
@@ -23,7 +23,8 @@ pub struct Gestures<G> {
 
 impl<G: Source> Gestures<G> {
     ghost use Rattle.cl_gesture.specs.declared.answers.Stop.TheVariants as stop;
-    ghost use Rattle.cl_gesture.specs.Next.{NextOf, Again, TurnOf, most_lines};
+    ghost use Rattle.cl_gesture.specs.Next.{AreIdle, NextOf, Again, TurnOf, UnreadTurn, most_lines};
+    ghost use Rattle.cl_gesture.specs.Lines.{ended};
     ghost use Rattle.cl_gesture.specs.Reader.{source_of, ahead_of, count_of, stop_of, progress_of};
 
     /// A reader at the first line of what the source has left. Want of memory gives the source up.
@@ -46,10 +47,12 @@ impl<G: Source> Gestures<G> {
     }
 
     /// The next gesture or bad line, or why there is none. Empty lines and comments are counted and passed over.
-    /// Once a whole line is ahead it is answered without a further read.
+    /// The source is read only where each line that has ended in the bytes ahead is idle, so that no answer waits for a
+    /// further byte.
     pub fn next(&mut self) -> Next
         ensures lent { G.lent (source_of self.new) ≡ G.lent (source_of self.old) }
         ensures later { G.faults (source_of self.old) ≤ G.faults (source_of self.new) }
+        ensures unread { AreIdle (ended (ahead_of self.old)) ⊎ (source_of self.new ≡ source_of self.old) }
         ensures again { Again (stop_of self.old) self.old self.new result }
         ensures next { stop_of self.old ≡ stop.Going → NextOf (progress_of G.left G.faults self.old) (progress_of G.left G.faults self.new) result }
     {
@@ -74,6 +77,7 @@ impl<G: Source> Gestures<G> {
         requires going { stop_of self.old ≡ stop.Going }
         ensures lent { G.lent (source_of self.new) ≡ G.lent (source_of self.old) }
         ensures later { G.faults (source_of self.old) ≤ G.faults (source_of self.new) }
+        ensures unread { UnreadTurn (source_of self.old) (source_of self.new) (ahead_of self.old) (ahead_of self.new) result }
         ensures turn { TurnOf (progress_of G.left G.faults self.old) (progress_of G.left G.faults self.new) result }
     {
         match next_cut(&mut self.ahead, &mut self.source) {
@@ -113,6 +117,7 @@ impl<G: Source> Gestures<G> {
         requires going { stop_of self.old ≡ stop.Going }
         ensures lent { G.lent (source_of self.new) ≡ G.lent (source_of self.old) }
         ensures later { G.faults (source_of self.old) ≤ G.faults (source_of self.new) }
+        ensures unread { (ended (ahead_of self.old) ≡ []) ⊎ (source_of self.new ≡ source_of self.old) }
         ensures next { NextOf (progress_of G.left G.faults self.old) (progress_of G.left G.faults self.new) result }
     {
         if self.ahead.len() > 0 {

@@ -1,4 +1,4 @@
-use Rattle.std.proofs.Common.{◌≡◌, ◌≤◌, ◌-◌, length, take, drop, arith, ap, sym, ◌∙◌}
+use Rattle.std.proofs.Common.{◌≡◌, ◌≤◌, ◌-◌, length, take, drop, arith, ap, ◌∙◌}
 use Rattle.std.proofs.lemmas.List.{length-take}
 use Rattle.cl_gesture.proofs.Buffer.{drop_part}
 use Rattle.cl_gesture.proofs.ahead.Ahead.skip.Goals as goal

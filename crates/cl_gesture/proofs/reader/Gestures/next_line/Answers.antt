@@ -1,7 +1,5 @@
-use Rattle.std.proofs.Common.{◌≡◌, ◌+◌, ◌-◌, ℕ, List, [], ◌∷◌, take, drop, Option, unwrap_or, true, false, refl, sym, ap, subst, ◌∙◌, arith}
+use Rattle.std.proofs.Common.{◌+◌, ℕ, List, [], take, true, false, refl, sym, subst}
 use Rattle.cl_gesture.specs.declared.answers.Next.{Next}
-use Rattle.cl_gesture.specs.declared.answers.Next.TheVariants as next
-use Rattle.cl_gesture.specs.declared.answers.Stop.{Stop}
 use Rattle.cl_gesture.specs.declared.answers.Stop.TheVariants as stop
 use Rattle.cl_gesture.specs.Lines.{line, long}
 use Rattle.cl_gesture.specs.Gesture.{says, without_return}

@@ -1,0 +1,68 @@
+-- A line does a gesture exactly where it is that gesture's spelling.
+use Rattle.std.proofs.Common.{◌≡◌, ◌==◌, ◌&&◌, ◌<◌, not, ℕ, Bool, true, false, cond, List, [], ◌∷◌, ◌++◌, length, drop, nat_eq, codes, Some, None, All, refl, ap, subst, ◌∙◌, arith}
+use Rattle.std.specs.List.{list_all, starts_with}
+use Rattle.std.specs.Str.{bytes_eq}
+use Rattle.std.proofs.lemmas.Slice.Eq.{bytes_eq-Decides, starts_is}
+use Rattle.std.proofs.lemmas.Bool.Decides.{Decides-eqb, nat_tests}
+use Rattle.std.proofs.lemmas.Grind.{common_steps}
+use Rattle.std.proofs.lemmas.List.Elements.{All-nil, All-cons, All-head, All-tail}
+use Rattle.std.proofs.lemmas.Bool.{and_parts, and_from, ne_eqb}
+use Rattle.cl_gesture.specs.declared.answers.Gesture.{Gesture}
+use Rattle.cl_gesture.specs.declared.answers.Gesture.TheVariants as gesture
+use Rattle.cl_gesture.specs.Gesture.{idle, does, is_idle, is_printable, is_typable, typing, says, spelling_of, IsPrintable, IsTypable, AreSpelled}
+
+is_printable-true : (byte : ℕ) → is_printable byte ≡ true → IsPrintable byte
+is_printable-true byte h = grind (arith, nat_tests, common_steps)
+
+is_printable-yes : (byte : ℕ) → IsPrintable byte → is_printable byte ≡ true
+is_printable-yes byte h = grind (arith, nat_tests, common_steps)
+
+are_printable : (xs : List ℕ) → list_all is_printable xs ≡ true → All IsPrintable xs
+are_printable [] h = All-nil IsPrintable
+are_printable (x ∷ xs) h =
+    let parts = and_parts (is_printable x) (list_all is_printable xs) h in
+    All-cons IsPrintable x xs (is_printable-true x parts.0) (are_printable xs parts.1)
+
+printable_all : (xs : List ℕ) → All IsPrintable xs → list_all is_printable xs ≡ true
+printable_all [] h = refl
+printable_all (x ∷ xs) h =
+    and_from (is_printable x) (list_all is_printable xs) (is_printable-yes x (All-head IsPrintable x xs h)) (printable_all xs (All-tail IsPrintable x xs h))
+
+is_typable-true : (text : List ℕ) → is_typable text ≡ true → (0 < length text) × All IsPrintable text
+is_typable-true [] h = absurd (cc)
+is_typable-true (x ∷ xs) h = (omega arith, are_printable (x ∷ xs) (and_parts (not (length (x ∷ xs) == 0)) (list_all is_printable (x ∷ xs)) h).1)
+
+is_typable-yes : (text : List ℕ) → (0 < length text) × All IsPrintable text → is_typable text ≡ true
+is_typable-yes [] h = absurd (omega arith)
+is_typable-yes (x ∷ xs) h = and_from (not (length (x ∷ xs) == 0)) (list_all is_printable (x ∷ xs)) (ap not (ne_eqb (length (x ∷ xs)) 0 (λ e. omega (arith, e)))) (printable_all (x ∷ xs) h.1)
+
+forward : (bytes : List ℕ) (g : Gesture) (i r f t : Bool) → (r ≡ true → bytes ≡ codes "return") → (f ≡ true → bytes ≡ codes "frame")
+    → (t ≡ true → (bytes ≡ codes "type " ++ drop 5 bytes) × IsTypable (gesture.«Type» (drop 5 bytes)))
+    → cond i idle (cond r (does gesture.Return) (cond f (does gesture.Frame) (typing (cond t (Some (drop 5 bytes)) None)))) ≡ does g
+    → (bytes ≡ spelling_of g) × IsTypable g
+forward bytes g true r f t is_r is_f is_t same = absurd (cc)
+forward bytes g false true f t is_r is_f is_t same =
+    let e : gesture.Return ≡ g = cc in let P : Gesture → Type 0 = λ h. (bytes ≡ spelling_of h) × IsTypable h in subst P e (is_r refl, tt)
+forward bytes g false false true t is_r is_f is_t same =
+    let e : gesture.Frame ≡ g = cc in let P : Gesture → Type 0 = λ h. (bytes ≡ spelling_of h) × IsTypable h in subst P e (is_f refl, tt)
+forward bytes g false false false true is_r is_f is_t same =
+    let e : gesture.«Type» (drop 5 bytes) ≡ g = cc in let P : Gesture → Type 0 = λ h. (bytes ≡ spelling_of h) × IsTypable h in subst P e (is_t refl)
+forward bytes g false false false false is_r is_f is_t same = absurd (cc)
+
+backward : (g : Gesture) → IsTypable g → says (spelling_of g) ≡ does g
+backward gesture.Return h = refl
+backward gesture.Frame h = refl
+backward (gesture.«Type» text) h = rw (is_typable-yes text h)
+
+typed-is : (bytes : List ℕ) → (starts_with nat_eq bytes (codes "type ") && is_typable (drop 5 bytes)) ≡ true
+    → (bytes ≡ codes "type " ++ drop 5 bytes) × IsTypable (gesture.«Type» (drop 5 bytes))
+typed-is bytes h =
+    let parts = and_parts (starts_with nat_eq bytes (codes "type ")) (is_typable (drop 5 bytes)) h in
+    ((starts_is Decides-eqb bytes (codes "type ") (starts_with nat_eq bytes (codes "type ")) refl).0 parts.0, is_typable-true (drop 5 bytes) parts.1)
+
+pub are_spelled : AreSpelled
+are_spelled bytes g =
+    let there : says bytes ≡ does g → (bytes ≡ spelling_of g) × IsTypable g = λ same.
+    forward bytes g (is_idle bytes) (bytes_eq bytes (codes "return")) (bytes_eq bytes (codes "frame")) (starts_with nat_eq bytes (codes "type ") && is_typable (drop 5 bytes))
+    (bytes_eq-Decides bytes (codes "return")).0 (bytes_eq-Decides bytes (codes "frame")).0 (typed-is bytes) same in
+    (there, λ h. ap says h.0 ∙ backward g h.1)
