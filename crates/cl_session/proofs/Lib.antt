@@ -1,2 +1,3 @@
 pub mod RowLemmas
 pub mod SettlingLemmas
+pub mod WritingLemmas

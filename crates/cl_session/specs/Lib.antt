@@ -4,3 +4,5 @@ pub mod Pane
 pub mod Replies
 pub mod Handling
 pub mod Session
+pub mod Transcript
+pub mod Writing

@@ -5,5 +5,6 @@ pub mod answers;
 pub mod handling;
 pub mod panes;
 pub mod sessions;
+pub mod writing;
 
 pub use answers::{Lines, PaneReport, Replies, Report};
