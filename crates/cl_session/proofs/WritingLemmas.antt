@@ -1,10 +1,11 @@
 -- Writes one after another are one write.
-use Rattle.std.proofs.Common.{◌≡◌, ℕ, ◌+◌, ◌<◌, ◌≤◌, suc, Bool, true, false, Option, List, [], ◌∷◌, ◌++◌, length, map, take, drop, refl, sym, ◌∙◌, ap, arith, append_assoc, drop-cons, get_or}
-use Rattle.std.proofs.lemmas.List.{take-append-drop, drop-drop}
+use Rattle.std.proofs.Common.{◌≡◌, ℕ, ◌+◌, ◌<◌, ◌≤◌, suc, Bool, true, false, Option, List, [], ◌∷◌, ◌++◌, length, map, take, drop, refl, sym, ◌∙◌, ap, arith, append_assoc, append-nil, drop-cons, get_or}
+use Rattle.std.proofs.lemmas.List.{take-append-drop, drop-drop, map-append}
 use Rattle.std.proofs.KnownBytes.{Appends-nil, Appends-trans, Appends-kept}
 use Rattle.std.specs.Io.KnownBytes.{Appends, Keeps}
 use Rattle.cl_outside.specs.Causes.{Rose}
-use Rattle.cl_session.specs.Writing.{Wrote, Puts, joined}
+use Rattle.cl_session.specs.Writing.{Wrote, Puts, Says, joined}
+use Rattle.cl_session.specs.Transcript.{ended_line, said}
 
 pub Wrote-nothing : (a : Option (List ℕ)) (bytes : List ℕ) → Wrote a a bytes bytes
 Wrote-nothing a bytes = record { sent = []; appended = Appends-nil a; same = refl }
@@ -75,3 +76,39 @@ Puts-piece f a b c all pieces d at waits now x y z h w le p =
       Wrote-trans a b c all (waits ++ joined (map f (drop at pieces))) (p.0.0 ++ joined (map f (drop (at + 1) pieces))) w
         (Wrote-piece f b c pieces d at waits p.0.0 h p.0.1)),
     omega (arith, le, p.1))
+
+-- two puts, one after the other
+pub Puts-then : (done : Bool) (a b c : Option (List ℕ)) (waits xs ys mid now : List ℕ) (x y z : ℕ)
+    → Wrote a b (waits ++ xs) mid → x ≤ y → Puts done b c (mid ++ ys) now y z → Puts done a c (waits ++ (xs ++ ys)) now x z
+Puts-then true a b c waits xs ys mid now x y z w le p =
+    rw (← append_assoc waits xs ys) (Wrote-trans a b c ((waits ++ xs) ++ ys) (mid ++ ys) now (Wrote-more a b (waits ++ xs) mid ys w) p)
+Puts-then false a b c waits xs ys mid now x y z w le p =
+    ((p.0.0, rw (← append_assoc waits xs ys) (Wrote-trans a b c ((waits ++ xs) ++ ys) (mid ++ ys) p.0.0 (Wrote-more a b (waits ++ xs) mid ys w) p.0.1)),
+    omega (arith, le, p.1))
+
+-- a put and then a flush of all that waits
+pub Says-flushed : (done : Bool) (a b c : Option (List ℕ)) (bytes mid now : List ℕ) (x y z : ℕ) → now ≡ []
+    → Wrote a b bytes mid → x ≤ y → Puts done b c mid now y z → Says done a c bytes x z
+Says-flushed true a b c bytes mid now x y z e w le p =
+    let all = Wrote-trans a b c bytes mid now w p in
+    let same : bytes ≡ all.sent = all.same ∙ (ap (λ xs. all.sent ++ xs) e ∙ append-nil all.sent) in
+    rw same all.appended
+Says-flushed false a b c bytes mid now x y z e w le p =
+    ((p.0.0, Wrote-trans a b c bytes mid p.0.0 w p.0.1), omega (arith, le, p.1))
+
+-- a put that failed before what comes behind it
+pub Puts-first : (a b : Option (List ℕ)) (waits xs ys now : List ℕ) (x y : ℕ) → Puts false a b (waits ++ xs) now x y
+    → Puts false a b (waits ++ (xs ++ ys)) now x y
+Puts-first a b waits xs ys now x y p =
+    ((p.0.0 ++ ys, rw (← append_assoc waits xs ys) (Wrote-more a b (waits ++ xs) p.0.0 ys p.0.1)), p.1)
+
+pub joined-append : (xs ys : List (List ℕ)) → joined (xs ++ ys) ≡ joined xs ++ joined ys
+joined-append [] ys = refl
+joined-append (x ∷ xs) ys = ap (λ zs. x ++ zs) (joined-append xs ys) ∙ sym (append_assoc x (joined xs) (joined ys))
+
+pub said-append : (xs ys : List (List ℕ)) → said (xs ++ ys) ≡ said xs ++ said ys
+said-append xs ys = ap joined (map-append ended_line xs ys) ∙ joined-append (map ended_line xs) (map ended_line ys)
+
+-- a line of two parts
+pub said-parts : (xs ys : List ℕ) → said ((xs ++ ys) ∷ []) ≡ xs ++ (ys ++ 10 ∷ [])
+said-parts xs ys = append-nil ((xs ++ ys) ++ 10 ∷ []) ∙ append_assoc xs ys (10 ∷ [])

@@ -72,10 +72,15 @@ pub record Settled : Type 0 where
   pub lines : List (List ℕ)
   pub cost : ℕ
 
+abbrev pub report_head : List ℕ → (kept moved : ℕ) → List ℕ
+report_head name kept moved = codes "pane " ++ name ++ codes " kept " ++ decimal kept ++ codes " moved " ++ decimal moved
+
+abbrev pub report_tail : (drawn erased : ℕ) → List ℕ
+report_tail drawn erased = codes " drawn " ++ decimal drawn ++ codes " erased " ++ decimal erased
+
+-- `pane NAME kept K moved M drawn D erased E`
 abbrev pub report_line : List ℕ → (kept moved drawn erased : ℕ) → List ℕ
-report_line name kept moved drawn erased =
-    codes "pane " ++ name ++ codes " kept " ++ decimal kept ++ codes " moved " ++ decimal moved ++ codes " drawn " ++ decimal drawn
-    ++ codes " erased " ++ decimal erased
+report_line name kept moved drawn erased = report_head name kept moved ++ report_tail drawn erased
 
 abbrev pub trap_line : List ℕ → ℕ → List ℕ
 trap_line name kind = codes "pane " ++ name ++ codes " trap " ++ decimal kind

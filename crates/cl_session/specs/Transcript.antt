@@ -1,6 +1,5 @@
 -- The transcript: what is said of the pieces of a stream, one after another.
-use Rattle.std.specs.Prelude.{◌≡◌, ℕ, ◌+◌, List, [], ◌∷◌, ◌++◌, codes}
-use Rattle.std.specs.List.{flat_map}
+use Rattle.std.specs.Prelude.{◌≡◌, ℕ, ◌+◌, List, [], ◌∷◌, ◌++◌, codes, map}
 use Rattle.std.specs.Fmt.{decimal}
 use Rattle.cl_syntax.specs.declared.declarations.App.{App}
 use Rattle.cl_eval.specs.declared.metering.Limits.{Limits}
@@ -9,13 +8,14 @@ use Rattle.cl_gesture.specs.Lines.{Piece}
 use Rattle.cl_gesture.specs.Gesture.{LineKind, idle, bad, does, kind_of}
 use Rattle.cl_session.specs.World.{World}
 use Rattle.cl_session.specs.Step.{Met, next}
+use Rattle.cl_session.specs.Writing.{joined}
 
 -- a line with the line feed that ends it
 abbrev pub ended_line : List ℕ → List ℕ
 ended_line bytes = bytes ++ 10 ∷ []
 
 abbrev pub said : List (List ℕ) → List ℕ
-said lines = flat_map ended_line lines
+said lines = joined (map ended_line lines)
 
 abbrev pub bad_line : ℕ → List ℕ
 bad_line number = codes "! bad " ++ decimal number

@@ -18,3 +18,8 @@ Puts false old new bytes left faults_old faults_new = ((lost : List ℕ) × Wrot
 abbrev pub joined : List (List ℕ) → List ℕ
 joined [] = []
 joined (p ∷ ps) = p ++ joined ps
+
+-- all bytes were written; or the sink failed behind the first ones of them
+abbrev pub Says : Bool → Option (List ℕ) → Option (List ℕ) → List ℕ → ℕ → ℕ → Type 0
+Says true old new bytes faults_old faults_new = Appends old new bytes
+Says false old new bytes faults_old faults_new = ((lost : List ℕ) × Wrote old new bytes lost) × Rose faults_old faults_new

@@ -5,6 +5,7 @@ pub mod answers;
 pub mod handling;
 pub mod panes;
 pub mod sessions;
+pub mod speaking;
 pub mod writing;
 
 pub use answers::{Lines, PaneReport, Replies, Report};

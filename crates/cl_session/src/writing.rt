@@ -80,6 +80,13 @@ impl Outgoing {
         true
     }
 
+    /// No bytes wait any more.
+    pub fn clear(&mut self)
+        ensures { self.new ≡ [] }
+    {
+        self.bytes.clear();
+    }
+
     /// Writes all that waits; false where the sink failed, and then what was not written is lost.
     pub fn flush<O: Sink>(&mut self, out: &mut O) -> bool
         ensures lent { O.lent out.new ≡ O.lent out.old }
