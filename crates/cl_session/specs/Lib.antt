@@ -6,3 +6,5 @@ pub mod Handling
 pub mod Session
 pub mod Transcript
 pub mod Writing
+pub mod Serving
+pub mod Turns

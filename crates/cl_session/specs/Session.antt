@@ -1,5 +1,5 @@
 -- What a session is as a world, and when it fits an application and slots.
-use Rattle.std.specs.Prelude.{◌≡◌, ◌⊎◌, ℕ, ◌+◌, ◌≤◌, Bool, ◌||◌, is_none, Option, Some, None, List}
+use Rattle.std.specs.Prelude.{◌≡◌, ◌⊎◌, ℕ, ◌+◌, ◌≤◌, Bool, ◌||◌, is_none, Option, Some, None, List, []}
 use Rattle.cl_syntax.specs.declared.declarations.App.{App}
 use Rattle.cl_eval.specs.Slots.{Slots}
 use Rattle.cl_eval.specs.declared.metering.Limits.{Limits}
@@ -21,14 +21,15 @@ world_of session slots = record { slots = slots; line = session.line; pane = ses
 abbrev pub IsCurrent : App → Limits → Slots → Option (List TextItem) → Type 0
 IsCurrent app limits slots history = (history ≡ None) ⊎ (history ≡ Some (script limits app.display.body slots))
 
--- A session fits an application and slots: its pane is as large as the frame, its cells are those of its history, and its history
--- is the script of these slots, unless it is blank for want of memory.
+-- A session fits an application and slots: its pane is as large as the frame, its cells are those of its history, its history
+-- is the script of these slots, unless it is blank for want of memory, and no bytes wait to be written.
 pub record Fits (app : App) (slots : Slots) (session : Session) : Type 0 where
   pub depth : session.limits.depth ≤ 512
   pub width : session.pane.raster.width ≡ app.frame.width
   pub height : session.pane.raster.height ≡ app.frame.height
   pub painted : IsPainted session.pane
   pub current : IsCurrent app session.limits slots session.pane.history
+  pub none_waits : session.outgoing ≡ []
 
 -- the history and the lines of a pane that is settled where that is due or where it is blank
 pub record SettlesIf (due : Bool) (app : App) (limits : Limits) (slots : Slots) (old new : Option (List TextItem)) (report : PaneReport) : Type 0 where

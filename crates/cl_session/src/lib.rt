@@ -4,6 +4,7 @@
 pub mod answers;
 pub mod handling;
 pub mod panes;
+pub mod serving;
 pub mod sessions;
 pub mod speaking;
 pub mod writing;

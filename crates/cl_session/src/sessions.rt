@@ -7,6 +7,7 @@ ghost use Rattle.cl_session.specs.Session.{Fits, IsCurrent, SettlesIf, Steps as 
 use crate::answers::{Lines, PaneReport, Replies};
 use crate::handling::{Handling, handle};
 use crate::panes::Pane;
+use crate::writing::Outgoing;
 use cl_command::Line;
 use cl_eval::{Limits, Slots};
 use cl_gesture::Gesture;
@@ -18,13 +19,14 @@ use std::alloc::{AllocError, Global};
 /// How many forms may be entered and not left.
 pub const DEPTH: u32 = 512;
 
-/// An application's frame between two gestures: its command line, its pane and its limits. The slots
-/// stand apart.
+/// An application's frame between two gestures: its command line, its pane, its limits, and the bytes
+/// of replies that wait to be written, none between two gestures. The slots stand apart.
 #[derive(Drop)]
 pub struct Session {
     pub line: Line,
     pub pane: Pane,
     pub limits: Limits,
+    pub outgoing: Outgoing,
 }
 
 impl Session {
@@ -42,11 +44,12 @@ impl Session {
         ensures fits { IfOk result (Fits loaded.now.app slots.now) }
     {
         let line = Line::new(alloc)?;
+        let outgoing = Outgoing::new(alloc)?;
         let mut pane = Pane::new(alloc, loaded.app.frame.width, loaded.app.frame.height)?;
         let limits = Limits { budget, depth: DEPTH };
         match pane.settle(alloc, &loaded.app.display.body, slots, limits, steps) {
             PaneReport::Memory => Err(AllocError),
-            _ => Ok(Session { line, pane, limits }),
+            _ => Ok(Session { line, pane, limits, outgoing }),
         }
     }
 
@@ -99,6 +102,7 @@ impl Session {
         ensures current { IsCurrent app.now self.old.limits slots.now self.new.pane.history }
         ensures line { self.new.line ≡ self.old.line }
         ensures limits { self.new.limits ≡ self.old.limits }
+        ensures outgoing { self.new.outgoing ≡ self.old.outgoing }
     {
         if due || self.pane.history.is_none() {
             self.pane.settle(alloc, &app.display.body, slots, self.limits, steps)
