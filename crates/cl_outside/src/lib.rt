@@ -7,6 +7,7 @@ mod answers;
 mod cells;
 mod devices;
 mod file_place;
+mod file_table;
 mod grid;
 mod ledgers;
 mod lent_source;
