@@ -1,5 +1,5 @@
 -- What a change to a list of things by name changes.
-use Rattle.std.proofs.Common.{◌≡◌, ℕ, zero, suc, ◌+◌, ◌<◌, ◌≤◌, ◌⊎◌, Bool, true, false, cond, List, [], ◌∷◌, ◌++◌, Option, Some, None, length, set, get_or, refl, sym, ap, ◌∙◌, subst, inl, inr, ⊎_elim, arith}
+use Rattle.std.proofs.Common.{◌≡◌, ℕ, zero, suc, ◌+◌, ◌<◌, ◌≤◌, ◌⊎◌, Bool, true, false, cond, List, [], ◌∷◌, ◌++◌, Option, Some, None, length, set, get_or, refl, sym, ap, ◌∙◌, subst, inl, inr, ⊎_elim, arith, unwrap_or}
 use Rattle.std.proofs.lemmas.Bool.{cases_Bool}
 use Rattle.std.proofs.lemmas.Slice.Eq.{bytes_eq-Decides}
 use Rattle.std.specs.Str.{bytes_eq}
@@ -121,3 +121,11 @@ module _ {X : Type 0} where
   first_updated es n v k at =
       let same : k ≡ place_in (updated es n v) n = at ∙ sym (place_in-updated_same es n v) in
       first_named (updated es n v) n k same (let p = place_in-updated_below es n v in omega arith)
+
+  -- a thing that is given what it has
+  pub updated_found : (es : List (List ℕ × X)) (n : List ℕ) (d : X) → place_in es n < length es → updated es n (unwrap_or (found es n) d) ≡ es
+  updated_found [] n d below = absurd (omega arith)
+  updated_found (e ∷ es) n d below =
+      ⊎_elim (λ here. rw here refl)
+      (λ away. let p : suc (place_in es n) < suc (length es) = rw away at below in rw away (ap (λ l. e ∷ l) (updated_found es n d (omega arith))))
+      (cases_Bool (bytes_eq e.0 n))

@@ -25,3 +25,13 @@ rooms_of files = map room_of files
 
 abbrev pub files_of : List (String Global × Vec ℕ Global) → Files
 files_of files = record { entries = entries_of files; rooms = rooms_of files }
+
+-- counts by name
+abbrev pub is_counted : List ℕ → String Global × ℕ → Bool
+is_counted name count = bytes_eq (string_bytes count.0) name
+
+abbrev pub count_entry : String Global × ℕ → List ℕ × ℕ
+count_entry count = (string_bytes count.0, count.1)
+
+abbrev pub counts_of : List (String Global × ℕ) → List (List ℕ × ℕ)
+counts_of counts = map count_entry counts

@@ -5,6 +5,7 @@
 
 mod answers;
 mod cells;
+mod count_table;
 mod devices;
 mod file_place;
 mod file_table;
