@@ -3,7 +3,7 @@ use Rattle.std.proofs.Common.{◌≡◌, ℕ, ◌+◌, ◌<◌, ◌≤◌, List,
 use Rattle.std.specs.Prelude.{IsOk, is_ok, is_err, slice_index}
 use Rattle.std.specs.declared.alloc.Global.{Global}
 use Rattle.cl_outside.specs.Named.{found, name_at, updated, bytes_of, IsFirst}
-use Rattle.cl_outside.specs.MemoryPlace.{entries_of, rooms_of, entry_of, room_of}
+use Rattle.cl_outside.specs.NameTables.{entries_of, rooms_of, entry_of, room_of}
 use Rattle.cl_outside.proofs.Entries.{found_read, first_below, entries-set, number_read, number_written}
 
 pub ok_not_err : {T E : Type 0} (r : Result T E) → IsOk r → is_err r ≡ true → ⊥

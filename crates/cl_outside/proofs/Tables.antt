@@ -129,3 +129,21 @@ module _ {X : Type 0} where
       ⊎_elim (λ here. rw here refl)
       (λ away. let p : suc (place_in es n) < suc (length es) = rw away at below in rw away (ap (λ l. e ∷ l) (updated_found es n d (omega arith))))
       (cases_Bool (bytes_eq e.0 n))
+
+  pub updated-updated : (es : List (List ℕ × X)) (n : List ℕ) (v w : X) → updated (updated es n v) n w ≡ updated es n w
+  updated-updated [] n v w = rw (bytes_eq-refl n) refl
+  updated-updated (e ∷ es) n v w =
+      ⊎_elim (λ here. rw here (rw here refl)) (λ away. rw away (rw away (ap (λ l. e ∷ l) (updated-updated es n v w)))) (cases_Bool (bytes_eq e.0 n))
+
+  pub found-updated_same : (es : List (List ℕ × X)) (n : List ℕ) (v : X) → found (updated es n v) n ≡ Some v
+  found-updated_same es n v = found-updated es n n v ∙ rw (bytes_eq-refl n) refl
+
+  pub found-updated_other : (es : List (List ℕ × X)) (n m : List ℕ) (v : X) → (n ≡ m → ⊥) → found (updated es n v) m ≡ found es m
+  found-updated_other es n m v h = found-updated es n m v ∙ rw (bytes_eq-other n m h) refl
+
+  -- a place that is the first of its name has something
+  pub found_first : (es : List (List ℕ × X)) (k : ℕ) → IsFirst es k → found es (name_at es k) ≡ None → ⊥
+  found_first es k at none =
+      let there : place_in es (name_at es k) < length es = omega (arith, at.first, at.below) in
+      elim es as (λ l. place_in l (name_at es k) < length l → found l (name_at es k) ≡ None → ⊥) [ [] ↦ λ below e. absurd (omega arith) | e ∷ rest ↦ λ below no.
+        let some = found-place (e ∷ rest) (name_at es k) e below in cc ] there none

@@ -5,6 +5,7 @@ pub mod Lent
 pub mod Memory
 pub mod MemoryDevice
 pub mod MemoryPlace
+pub mod NameTables
 pub mod Named
 pub mod Outside
 pub mod Place

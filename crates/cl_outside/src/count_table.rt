@@ -1,7 +1,7 @@
 ghost use Rattle.std.specs.Prelude.{◌≡◌, ℕ, ◌+◌, ◌≤◌, ◌<◌, [], length, MatchOption, IfOk, OnErr, OnOk};
 ghost use Rattle.std.specs.List.{position};
 ghost use Rattle.cl_outside.specs.Memory.{one_more};
-ghost use Rattle.cl_outside.specs.MemoryPlace.{is_counted};
+ghost use Rattle.cl_outside.specs.NameTables.{is_counted};
 ghost use Rattle.cl_outside.specs.Named.{place_in, name_at, IsFirst, updated, count_of};
 
 use std::alloc::{AllocError, Global};
@@ -15,7 +15,7 @@ pub(crate) struct CountTable {
 
 impl Model for CountTable {
     ghost use Rattle.std.specs.Prelude.{List, ℕ};
-    ghost use Rattle.cl_outside.specs.MemoryPlace.{counts_of};
+    ghost use Rattle.cl_outside.specs.NameTables.{counts_of};
 
     ghost Value = { List (List ℕ × ℕ) };
 

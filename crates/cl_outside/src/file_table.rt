@@ -1,6 +1,6 @@
 ghost use Rattle.std.specs.Prelude.{◌≡◌, ℕ, ◌+◌, ◌≤◌, ◌<◌, [], ◌++◌, length, slice_index, MatchOption, IfOk, OnErr, OnOk, Some, vec_capacity};
 ghost use Rattle.std.specs.List.{position};
-ghost use Rattle.cl_outside.specs.MemoryPlace.{is_named};
+ghost use Rattle.cl_outside.specs.NameTables.{is_named};
 ghost use Rattle.cl_outside.specs.Named.{found, place_in, name_at, IsFirst, updated, bytes_of};
 
 use std::alloc::{AllocError, Global};
@@ -13,7 +13,7 @@ pub(crate) struct FileTable {
 }
 
 impl Model for FileTable {
-    ghost use Rattle.cl_outside.specs.MemoryPlace.{Files, files_of};
+    ghost use Rattle.cl_outside.specs.NameTables.{Files, files_of};
 
     ghost Value = { Files };
 
@@ -21,7 +21,7 @@ impl Model for FileTable {
 }
 
 impl FileTable {
-    ghost use Rattle.cl_outside.specs.MemoryPlace.{entries_of, rooms_of};
+    ghost use Rattle.cl_outside.specs.NameTables.{entries_of, rooms_of};
 
     pub(crate) fn new(list: Vec<(String, Vec<u8>)>) -> FileTable
         ensures entries { result.entries ≡ entries_of list.items }

@@ -1,4 +1,4 @@
-use Rattle.cl_outside.specs.MemoryPlace.{count_entry}
+use Rattle.cl_outside.specs.NameTables.{count_entry}
 use Rattle.cl_outside.proofs.Entries.{found_position}
 use Rattle.cl_outside.proofs.count_table.CountTable.find.Goals as goal
 

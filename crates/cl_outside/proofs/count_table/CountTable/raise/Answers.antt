@@ -1,7 +1,7 @@
 use Rattle.std.proofs.Common.{◌≡◌, refl, sym, ap, ◌∙◌}
 use Rattle.cl_outside.specs.Memory.{one_more}
 use Rattle.cl_outside.specs.Named.{updated, name_at, count_of}
-use Rattle.cl_outside.specs.MemoryPlace.{count_entry, counts_of}
+use Rattle.cl_outside.specs.NameTables.{count_entry, counts_of}
 use Rattle.cl_outside.proofs.Entries.{entries-set, found_read}
 use Rattle.cl_outside.proofs.count_table.CountTable.raise.Goals as goal
 

@@ -1,4 +1,4 @@
-use Rattle.cl_outside.specs.MemoryPlace.{entry_of}
+use Rattle.cl_outside.specs.NameTables.{entry_of}
 use Rattle.cl_outside.proofs.Entries.{found_read}
 use Rattle.cl_outside.proofs.file_table.FileTable.bytes.Goals as goal
 

@@ -1,4 +1,4 @@
-use Rattle.cl_outside.specs.MemoryPlace.{entry_of}
+use Rattle.cl_outside.specs.NameTables.{entry_of}
 use Rattle.cl_outside.proofs.Entries.{found_position}
 use Rattle.cl_outside.proofs.file_table.FileTable.find.Goals as goal
 

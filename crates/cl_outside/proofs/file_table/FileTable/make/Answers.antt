@@ -1,7 +1,7 @@
 use Rattle.std.proofs.Common.{◌≡◌, length, sym, ◌∙◌, arith}
 use Rattle.std.proofs.lemmas.List.{length-map}
 use Rattle.cl_outside.specs.Named.{place_in}
-use Rattle.cl_outside.specs.MemoryPlace.{entry_of, entries_of}
+use Rattle.cl_outside.specs.NameTables.{entry_of, entries_of}
 use Rattle.cl_outside.proofs.Tables.{IsFirst-updated, name_at-updated, first_updated}
 use Rattle.cl_outside.proofs.file_table.FileTable.make.Goals as goal
 

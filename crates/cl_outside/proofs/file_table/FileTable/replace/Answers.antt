@@ -1,5 +1,5 @@
 use Rattle.std.proofs.Common.{refl}
-use Rattle.cl_outside.specs.MemoryPlace.{entry_of, room_of}
+use Rattle.cl_outside.specs.NameTables.{entry_of, room_of}
 use Rattle.cl_outside.proofs.Entries.{entries-set, number_written, first_below}
 use Rattle.cl_outside.proofs.file_table.FileTable.replace.Goals as goal
 
