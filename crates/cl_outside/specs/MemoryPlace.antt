@@ -91,15 +91,22 @@ MakeStep old new name Done = new ≡ record (called old) { files = updated old.f
 MakeStep old new name Failed = new ≡ record (called old) { making_faults = one_more old.making_faults }
 MakeStep old new name Memory = new ≡ called old
 
+-- the bytes that the made sink took
+abbrev pub sink_bytes : List (List ℕ × List ℕ) → Option (List ℕ) → List ℕ
+sink_bytes files None = []
+sink_bytes files (Some name) = bytes_of files name
+
 -- what a call of `read_source` leaves, where this source is open
-abbrev pub ReadStep : MemoryPlace → MemoryPlace → OpenSource → Took → Type 0
-ReadStep old new source (took.Bytes n) =
+abbrev pub ReadStep : MemoryPlace → MemoryPlace → Option OpenSource → Took → Type 0
+ReadStep old new (Some source) (took.Bytes n) =
     new ≡ record (called old) { source = Some (record { name = source.name; at = min source.at (length (bytes_of old.files source.name)) + n }) }
-ReadStep old new source took.Failed = new ≡ with_fault (called old) source.name
+ReadStep old new (Some source) took.Failed = new ≡ with_fault (called old) source.name
+ReadStep old new None answer = ⊥
 
 -- what a call of `write_sink` leaves, where this sink is made
-abbrev pub WriteStep : MemoryPlace → MemoryPlace → List ℕ → List ℕ → Took → Type 0
-WriteStep old new sink bytes (took.Bytes n) =
+abbrev pub WriteStep : MemoryPlace → MemoryPlace → Option (List ℕ) → List ℕ → Took → Type 0
+WriteStep old new (Some sink) bytes (took.Bytes n) =
     (n ≡ min (next_piece old.pieces (length bytes)) (old.room - length (bytes_of old.files sink)))
     × (new ≡ record (called old) { files = updated old.files sink (bytes_of old.files sink ++ take n bytes); pieces = later_pieces old.pieces })
-WriteStep old new sink bytes took.Failed = new ≡ record (called old) { writing_faults = one_more old.writing_faults }
+WriteStep old new (Some sink) bytes took.Failed = new ≡ record (called old) { writing_faults = one_more old.writing_faults }
+WriteStep old new None bytes answer = ⊥

@@ -10,6 +10,7 @@ mod devices;
 mod file_place;
 mod file_table;
 mod grid;
+mod handing;
 mod ledgers;
 mod lent_source;
 mod mem_device;

@@ -1,11 +1,13 @@
-ghost use Rattle.std.specs.Prelude.{◌≡◌, ◌⊎◌, ℕ, ◌+◌, ◌-◌, ◌≤◌, ◌<◌, List, [], length, None, Some, IfSome, IsSome};
+ghost use Rattle.std.specs.Prelude.{◌≡◌, ◌↔◌, ◌⊎◌, ℕ, ◌+◌, ◌-◌, ◌≤◌, ◌<◌, List, [], length, None, Some, IfSome, IsSome};
 ghost use Rattle.cl_outside.specs.Memory.{AllPositive, IsToFail, new_plan};
 ghost use Rattle.cl_outside.specs.NameTables.{entries_of};
 ghost use Rattle.cl_outside.specs.Named.{found};
+ghost use Rattle.cl_outside.specs.Outside.{ReadTook, WriteTook};
 
 use crate::answers::{Opened, Took};
 use crate::count_table::CountTable;
 use crate::file_table::FileTable;
+use crate::handing::hand_over;
 use crate::pieces::Pieces;
 use crate::plan::FaultPlan;
 use crate::reading::Reading;
@@ -41,7 +43,7 @@ impl Model for MemPlace {
 }
 
 impl MemPlace {
-    ghost use Rattle.cl_outside.specs.MemoryPlace.{OpenStep, MakeStep, FailsWhere};
+    ghost use Rattle.cl_outside.specs.MemoryPlace.{OpenStep, MakeStep, ReadStep, WriteStep, FailsWhere, left_in, taken_in, sink_bytes};
 
     /// `room` is the number of bytes that each made sink may take; it is taken in `make_sink`, and
     /// no write takes memory. The n-th of `pieces` says how many bytes the n-th write that does not
@@ -113,5 +115,51 @@ impl MemPlace {
             }
             Err(_) => Opened::Memory,
         }
+    }
+
+    fn read(&mut self, buf: &mut [u8]) -> Took
+        requires open { IsSome self.old.source }
+        requires room { 0 < length buf.old }
+        ensures step { ReadStep self.old self.new self.old.source result }
+        ensures bytes { ReadTook (left_in self.old.files self.old.source) (left_in self.new.files self.new.source) buf.new result }
+        ensures fails { (result ≡ Took.Failed) ↔ IsToFail self.old.plan }
+    {
+        let Some(reading) = self.source else {
+            unreachable!()
+        };
+        if self.plan.next_fails() {
+            self.faults.raise(reading.fault);
+            return Took::Failed;
+        }
+        let content = self.files.bytes(reading.file);
+        let at = reading.at.min(content.len());
+        let n = hand_over(content, at, buf);
+        self.source = Some(Reading {
+            file: reading.file,
+            at: at + n,
+            fault: reading.fault,
+        });
+        Took::Bytes(n)
+    }
+
+    fn write(&mut self, bytes: &[u8]) -> Took
+        requires made { IsSome self.old.sink }
+        requires some { 0 < length bytes.now }
+        ensures step { WriteStep self.old self.new self.old.sink bytes.now result }
+        ensures bytes { WriteTook (taken_in self.old.files self.old.sink) (taken_in self.new.files self.new.sink) bytes.now result }
+        ensures fails { (result ≡ Took.Failed) ↔ (IsToFail self.old.plan ⊎ (length (sink_bytes self.old.files self.old.sink) ≡ self.old.room)) }
+    {
+        let Some(place) = self.sink else {
+            unreachable!()
+        };
+        let fails = self.plan.next_fails();
+        let room = self.room - self.files.bytes(place).len();
+        if fails || room == 0 {
+            self.writing_faults = self.writing_faults.saturating_add(1);
+            return Took::Failed;
+        }
+        let n = self.pieces.next(bytes.len()).min(room);
+        self.files.append(place, &bytes[..n]);
+        Took::Bytes(n)
     }
 }

@@ -3,6 +3,7 @@ ghost use Rattle.cl_outside.specs.Outside.{ReadTook, FailedRose};
 ghost use Rattle.cl_outside.specs.Memory.{IsToFail, counted, new_plan, CountsFault, ReadsAll};
 
 use crate::answers::Took;
+use crate::handing::hand_over;
 use crate::plan::FaultPlan;
 use crate::sources::Source;
 use std::marker::Model;
@@ -65,18 +66,4 @@ impl Source for MemSource {
         self.at += n;
         Took::Bytes(n)
     }
-}
-
-// Copies as much as there is room for, and says how much that is.
-fn hand_over(content: &[u8], at: usize, buf: &mut [u8]) -> usize
-    requires room { 0 < length buf.old }
-    requires within { at ≤ length content.now }
-    ensures within { at + result ≤ length content.now }
-    ensures bytes { ReadTook (Some (drop at content.now)) (Some (drop (at + result) content.now)) buf.new (Took.Bytes result) }
-    ensures amount { ReadsAll (drop at content.now) buf.new (Took.Bytes result) }
-{
-    let rest = &content[at..];
-    let n = rest.len().min(buf.len());
-    buf[..n].copy_from_slice(&rest[..n]);
-    n
 }
