@@ -9,3 +9,4 @@ pub mod NameTables
 pub mod Named
 pub mod Outside
 pub mod Place
+pub mod Told

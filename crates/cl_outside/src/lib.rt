@@ -15,6 +15,7 @@ mod ledgers;
 mod lent_source;
 mod mem_device;
 mod mem_place;
+mod mem_place_calls;
 mod mem_sink;
 mod mem_source;
 mod null_sink;

@@ -76,7 +76,7 @@ impl MemPlace {
         }
     }
 
-    fn open(&mut self, name: &str) -> Opened
+    pub(crate) fn open(&mut self, name: &str) -> Opened
         ensures step { OpenStep self.old self.new name.now result }
         ensures fails { FailsWhere result (IsToFail self.old.plan ⊎ (found self.old.files name.now ≡ None)) }
     {
@@ -100,7 +100,7 @@ impl MemPlace {
         }
     }
 
-    fn make(&mut self, name: &str) -> Opened
+    pub(crate) fn make(&mut self, name: &str) -> Opened
         ensures step { MakeStep self.old self.new name.now result }
         ensures fails { FailsWhere result (IsToFail self.old.plan) }
     {
@@ -117,7 +117,7 @@ impl MemPlace {
         }
     }
 
-    fn read(&mut self, buf: &mut [u8]) -> Took
+    pub(crate) fn read(&mut self, buf: &mut [u8]) -> Took
         requires open { IsSome self.old.source }
         requires room { 0 < length buf.old }
         ensures step { ReadStep self.old self.new self.old.source result }
@@ -142,7 +142,7 @@ impl MemPlace {
         Took::Bytes(n)
     }
 
-    fn write(&mut self, bytes: &[u8]) -> Took
+    pub(crate) fn write(&mut self, bytes: &[u8]) -> Took
         requires made { IsSome self.old.sink }
         requires some { 0 < length bytes.now }
         ensures step { WriteStep self.old self.new self.old.sink bytes.now result }
