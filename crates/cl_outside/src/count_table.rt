@@ -4,6 +4,7 @@ ghost use Rattle.cl_outside.specs.Memory.{one_more};
 ghost use Rattle.cl_outside.specs.NameTables.{is_counted};
 ghost use Rattle.cl_outside.specs.Named.{place_in, name_at, IsFirst, updated, count_of};
 
+use crate::plan::raised;
 use std::alloc::{AllocError, Global};
 use std::marker::Model;
 
@@ -53,7 +54,7 @@ impl CountTable {
         ensures { self.new ≡ updated self.old (name_at self.old place) (one_more (count_of self.old (name_at self.old place))) }
     {
         let count = &mut self.list[place];
-        count.1 = count.1.saturating_add(1);
+        count.1 = raised(count.1);
     }
 
     fn find(&self, name: &str) -> Option<usize>

@@ -9,7 +9,7 @@ use crate::count_table::CountTable;
 use crate::file_table::FileTable;
 use crate::handing::hand_over;
 use crate::pieces::Pieces;
-use crate::plan::FaultPlan;
+use crate::plan::{FaultPlan, raised};
 use crate::reading::Reading;
 use std::alloc::Global;
 use std::marker::Model;
@@ -105,7 +105,7 @@ impl MemPlace {
         ensures fails { FailsWhere result (IsToFail self.old.plan) }
     {
         if self.plan.next_fails() {
-            self.making_faults = self.making_faults.saturating_add(1);
+            self.making_faults = raised(self.making_faults);
             return Opened::Failed;
         }
         match self.files.make(self.alloc, name, self.room) {
@@ -155,7 +155,7 @@ impl MemPlace {
         let fails = self.plan.next_fails();
         let room = self.room - self.files.bytes(place).len();
         if fails || room == 0 {
-            self.writing_faults = self.writing_faults.saturating_add(1);
+            self.writing_faults = raised(self.writing_faults);
             return Took::Failed;
         }
         let n = self.pieces.next(bytes.len()).min(room);

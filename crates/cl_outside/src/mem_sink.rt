@@ -4,7 +4,7 @@ ghost use Rattle.cl_outside.specs.Memory.{AllPositive, IsToFail, counted, new_pl
 
 use crate::answers::Took;
 use crate::pieces::Pieces;
-use crate::plan::FaultPlan;
+use crate::plan::{FaultPlan, raised};
 use crate::sinks::Sink;
 use std::alloc::{AllocError, Global};
 use std::marker::Model;
@@ -83,7 +83,7 @@ impl Sink for MemSink {
         let fails = self.plan.next_fails();
         let room = self.room - self.taken.len();
         if fails || room == 0 {
-            self.faults = self.faults.saturating_add(1);
+            self.faults = raised(self.faults);
             return Took::Failed;
         }
         let n = self.pieces.next(bytes.len()).min(room);

@@ -4,7 +4,7 @@ ghost use Rattle.cl_outside.specs.Memory.{IsToFail, counted, new_plan, CountsFau
 
 use crate::answers::Took;
 use crate::handing::hand_over;
-use crate::plan::FaultPlan;
+use crate::plan::{FaultPlan, raised};
 use crate::sources::Source;
 use std::marker::Model;
 
@@ -59,7 +59,7 @@ impl Source for MemSource {
         ensures amount { ReadsAll self.old.left buf.new result }
     {
         if self.plan.next_fails() {
-            self.faults = self.faults.saturating_add(1);
+            self.faults = raised(self.faults);
             return Took::Failed;
         }
         let n = hand_over(self.content.as_slice(), self.at, buf);

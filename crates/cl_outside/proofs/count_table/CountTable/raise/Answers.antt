@@ -13,5 +13,5 @@ returns c =
     let name = name_at (counts_of all) c.args.place in
     let count : count_of (counts_of all) name ≡ c.index_mut-count.result.now.1 =
     rw (found_read count_entry all c.args.place c.index_mut-count.result.now at c.index_mut-count.ensures.value) refl in
-    rw (← v) (entries-set count_entry all c.args.place c.index_mut-count.result.now (c.index_mut-count.result.now.0, c.saturating_add-count.result) at c.index_mut-count.ensures.value refl
-      ∙ ap (updated (counts_of all) name) (c.saturating_add-count.ensures ∙ ap one_more (sym count)))
+    rw (← v) (entries-set count_entry all c.args.place c.index_mut-count.result.now (c.index_mut-count.result.now.0, c.raised-count.result) at c.index_mut-count.ensures.value refl
+      ∙ ap (updated (counts_of all) name) (c.raised-count.ensures ∙ ap one_more (sym count)))
