@@ -2,6 +2,7 @@ pub mod Copies
 pub mod Entries
 pub mod Files
 pub mod Grids
+pub mod PlaceFrames
 pub mod PlaceSteps
 pub mod Spans
 pub mod Tables
