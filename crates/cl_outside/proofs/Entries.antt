@@ -42,7 +42,7 @@ module _ {R X : Type 0} (entry : R → List ℕ × X) where
   entries-set xs k x y at is same =
       let inside : k < length xs = omega (arith, length-map xs entry, at.below) in
       let name : name_at (map entry xs) k ≡ (entry y).0 =
-        name_at-get (map entry xs) k (entry x) at.below ∙ ap (λ (e : List ℕ × X). e.0) (get_or-map entry xs k x (entry x) inside ∙ ap entry (sym is)) ∙ sym same in
+      name_at-get (map entry xs) k (entry x) at.below ∙ ap (λ (e : List ℕ × X). e.0) (get_or-map entry xs k x (entry x) inside ∙ ap entry (sym is)) ∙ sym same in
       map-set entry xs k y ∙ ap (λ n. set (map entry xs) k (n, (entry y).1)) (sym name) ∙ set-first (map entry xs) (name_at (map entry xs) k) k (entry y).1 at.below at.first
 
   -- one element is put last

@@ -26,7 +26,7 @@ count_of-kept counts name other =
 pub count_of-later : (counts : List (List ℕ × ℕ)) (name other : List ℕ) → count_of counts other ≤ count_of (updated counts name (one_more (count_of counts name))) other
 count_of-later counts name other =
     ⊎_elim (λ (here : bytes_eq name other ≡ true). subst (λ n. count_of counts n ≤ count_of (updated counts name (one_more (count_of counts name))) n) (same_name name other here)
-      (rw (count_of-same counts name (one_more (count_of counts name))) (omega arith)))
+    (rw (count_of-same counts name (one_more (count_of counts name))) (omega arith)))
     (λ (away : bytes_eq name other ≡ false). rw (found-updated counts name other (one_more (count_of counts name)), away) (omega arith)) (cases_Bool (bytes_eq name other))
 
 pub count_of-rose : (counts : List (List ℕ × ℕ)) (name : List ℕ)
@@ -63,8 +63,8 @@ pub write_left : (old new : MemoryPlace) (sink : Option (List ℕ)) (bytes : Lis
 write_left old new None bytes n step apart = absurd step
 write_left old new (Some made) bytes n step apart =
     rw step.1 (left_in-other old.files old.source made (bytes_of old.files made ++ take n bytes) (λ reads. let no : IsSome (other_file old.files (Some made) made) = apart made reads in
-      let none : other_file old.files (Some made) made ≡ None = rw (bytes_eq-refl made) refl in
-      let false_true = rw none at no in cc))
+    let none : other_file old.files (Some made) made ≡ None = rw (bytes_eq-refl made) refl in
+    let false_true = rw none at no in cc))
 
 pub write_others : (old new : MemoryPlace) (sink : Option (List ℕ)) (bytes : List ℕ) (n : ℕ) → old.sink ≡ sink → WriteStep old new sink bytes (took.Bytes n) → (other : List ℕ)
     → other_file new.files new.sink other ≡ other_file old.files old.sink other

@@ -78,9 +78,9 @@ IsPlace-written files now faults source sink room place more made same roomy fit
     let at : IsFirst files.entries place = rw made at is.sink_first in
     let had : room ≤ slice_index files.rooms place = rw made at is.sink_room in
     rw made (IsPlace-file files now faults source sink room name bytes place same
-      (rw same (IsFirst-updated files.entries name bytes place at))
-      (ap (λ (l : List (List ℕ × List ℕ)). name_at l place) same ∙ name_at-updated files.entries name bytes place at.below)
-      (omega arith) (omega (arith, length-append (bytes_of files.entries name) more)) is)
+    (rw same (IsFirst-updated files.entries name bytes place at))
+    (ap (λ (l : List (List ℕ × List ℕ)). name_at l place) same ∙ name_at-updated files.entries name bytes place at.below)
+    (omega arith) (omega (arith, length-append (bytes_of files.entries name) more)) is)
 
 -- a write that took some bytes
 module _ (p : Inside) (now : Files) (place : ℕ) (held : List ℕ) (made : p.sink ≡ Some place) (is : IsPlace p.files p.faults p.source p.sink p.room)
@@ -106,6 +106,12 @@ module _ (p : Inside) (now : Files) (place : ℕ) (held : List ℕ) (made : p.si
       → pieces ≡ later_pieces p.pieces → plan ≡ counted p.plan
       → WriteStep (the_view p) (the_view (record p { files = now; pieces = pieces; plan = plan })) (named_sink p.files.entries p.sink) bytes (took.Bytes n)
   written_step pieces plan bytes n same amount later next =
-      rw (made, named_again (take n bytes) same, same,
-        named_source-updated p.files p.faults p.source p.sink p.room (name_at p.files.entries place) (bytes_of p.files.entries (name_at p.files.entries place) ++ take n bytes) is, later, next)
+      rw (
+        made,
+        named_again (take n bytes) same,
+        same,
+        named_source-updated p.files p.faults p.source p.sink p.room (name_at p.files.entries place) (bytes_of p.files.entries (name_at p.files.entries place) ++ take n bytes) is,
+        later,
+        next,
+      )
       (amount ∙ ap (λ l. min (next_piece p.pieces (length bytes)) (p.room - length l)) (sym bytes_held), refl)

@@ -20,8 +20,8 @@ module _ {X : Type 0} where
   found-updated (e ∷ es) n m v =
       ⊎_elim (λ here. rw here (rw (same_name e.0 n here) (⊎_elim (λ y. rw y refl) (λ z. rw z refl) (cases_Bool (bytes_eq n m)))))
       (λ away. rw away (rw (found-updated es n m v) (
-        ⊎_elim (λ y. rw y (⊎_elim (λ z. absurd (let same : bytes_eq e.0 n ≡ true = rw (same_name e.0 m y ∙ sym (same_name n m z)) (bytes_eq-refl n) in cc)) (λ z. rw z refl) (cases_Bool (bytes_eq n m))))
-        (λ y. rw y refl) (cases_Bool (bytes_eq e.0 m)))))
+      ⊎_elim (λ y. rw y (⊎_elim (λ z. absurd (let same : bytes_eq e.0 n ≡ true = rw (same_name e.0 m y ∙ sym (same_name n m z)) (bytes_eq-refl n) in cc)) (λ z. rw z refl) (cases_Bool (bytes_eq n m))))
+      (λ y. rw y refl) (cases_Bool (bytes_eq e.0 m)))))
       (cases_Bool (bytes_eq e.0 n))
 
   -- a write at the first place of its name
@@ -52,8 +52,8 @@ module _ {X : Type 0} where
   place_in-updated (e ∷ es) n v m below =
       ⊎_elim (λ here. rw here refl)
       (λ away. rw away (⊎_elim (λ y. rw y refl)
-        (λ z. let p : suc (place_in es m) < suc (length es) = rw z at below in rw z (ap suc (place_in-updated es n v m (omega arith))))
-        (cases_Bool (bytes_eq e.0 m))))
+      (λ z. let p : suc (place_in es m) < suc (length es) = rw z at below in rw z (ap suc (place_in-updated es n v m (omega arith))))
+      (cases_Bool (bytes_eq e.0 m))))
       (cases_Bool (bytes_eq e.0 n))
 
   pub place_in-updated_same : (es : List (List ℕ × X)) (n : List ℕ) (v : X) → place_in (updated es n v) n ≡ place_in es n
@@ -145,5 +145,8 @@ module _ {X : Type 0} where
   pub found_first : (es : List (List ℕ × X)) (k : ℕ) → IsFirst es k → found es (name_at es k) ≡ None → ⊥
   found_first es k at none =
       let there : place_in es (name_at es k) < length es = omega (arith, at.first, at.below) in
-      elim es as (λ l. place_in l (name_at es k) < length l → found l (name_at es k) ≡ None → ⊥) [ [] ↦ λ below e. absurd (omega arith) | e ∷ rest ↦ λ below no.
-        let some = found-place (e ∷ rest) (name_at es k) e below in cc ] there none
+      elim es as (λ l. place_in l (name_at es k) < length l → found l (name_at es k) ≡ None → ⊥) [
+        | [] ↦ λ below e. absurd (omega arith)
+        | e ∷ rest ↦ λ below no.
+            let some = found-place (e ∷ rest) (name_at es k) e below in cc
+      ] there none

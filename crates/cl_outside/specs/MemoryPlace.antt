@@ -6,7 +6,7 @@ use Rattle.cl_outside.specs.declared.answers.Opened.TheVariants.{Done, Failed, M
 use Rattle.cl_outside.specs.declared.answers.Took.{Took}
 use Rattle.cl_outside.specs.declared.answers.Took.TheVariants as took
 use Rattle.cl_outside.specs.declared.reading.Reading.{Reading}
-use Rattle.cl_outside.specs.Memory.{Plan, IsToFail, counted, one_more, next_piece, later_pieces}
+use Rattle.cl_outside.specs.Memory.{Plan, IsToFail, counted, one_more, next_piece, later_pieces, ReadsAll}
 use Rattle.cl_outside.specs.Named.{found, name_at, IsFirst, updated, bytes_of, count_of}
 use Rattle.cl_outside.specs.NameTables.{Files}
 
@@ -49,6 +49,11 @@ pub record IsPlace (files : Files) (faults : List (List ℕ × ℕ)) (source : O
 abbrev pub left_in : List (List ℕ × List ℕ) → Option OpenSource → Option (List ℕ)
 left_in files None = None
 left_in files (Some source) = Some (drop source.at (bytes_of files source.name))
+
+-- a read that does not fail hands over as much as the buffer holds and is left
+abbrev pub ReadsAllOf : Option (List ℕ) → List ℕ → Took → Type 0
+ReadsAllOf None buf answer = Unit {0}
+ReadsAllOf (Some left) buf answer = ReadsAll left buf answer
 
 abbrev pub Reads : Option OpenSource → List ℕ → Type 0
 Reads None name = ⊥

@@ -1,5 +1,6 @@
 ghost use Rattle.std.specs.Prelude.{◌≡◌, ℕ, ◌+◌, ◌≤◌, ◌<◌, [], ◌++◌, length, slice_index, MatchOption, IfOk, OnErr, OnOk, Some, vec_capacity};
 ghost use Rattle.std.specs.List.{position};
+ghost use Rattle.std.specs.Option.{option_copied};
 ghost use Rattle.cl_outside.specs.NameTables.{is_named};
 ghost use Rattle.cl_outside.specs.Named.{found, place_in, name_at, IsFirst, updated, bytes_of};
 
@@ -43,8 +44,22 @@ impl FileTable {
         self.list[place].1.as_slice()
     }
 
+    pub(crate) fn get(&self, name: &str) -> Option<&[u8]>
+        ensures { option_copied result ≡ found self.now.entries name.now }
+    {
+        match self.find(name) {
+            Some(place) => Some(self.bytes(place)),
+            None => None,
+        }
+    }
+
     // Makes the file of this name empty, with this room, and gives its place.
-    pub(crate) fn make(&mut self, alloc: Global, name: &str, room: usize) -> Result<usize, AllocError>
+    pub(crate) fn make(
+        &mut self,
+        alloc: Global,
+        name: &str,
+        room: usize,
+    ) -> Result<usize, AllocError>
         ensures entries { OnOk result (self.new.entries ≡ updated self.old.entries name.now []) }
         ensures place { IfOk result (λ k. IsFirst self.new.entries k × (name_at self.new.entries k ≡ name.now)) }
         ensures room { IfOk result (λ k. room ≤ slice_index self.new.rooms k) }
@@ -68,9 +83,7 @@ impl FileTable {
     pub(crate) fn append(&mut self, place: usize, bytes: &[u8])
         requires first { IsFirst self.old.entries place }
         requires room { length (bytes_of self.old.entries (name_at self.old.entries place)) + length bytes.now ≤ slice_index self.old.rooms place }
-        ensures entries {
-            self.new.entries ≡ updated self.old.entries (name_at self.old.entries place) (bytes_of self.old.entries (name_at self.old.entries place) ++ bytes.now)
-        }
+        ensures entries { self.new.entries ≡ updated self.old.entries (name_at self.old.entries place) (bytes_of self.old.entries (name_at self.old.entries place) ++ bytes.now) }
         ensures room { slice_index self.old.rooms place ≤ slice_index self.new.rooms place }
     {
         let file = &mut self.list[place];

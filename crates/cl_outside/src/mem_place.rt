@@ -1,6 +1,7 @@
 ghost use Rattle.std.specs.Prelude.{◌≡◌, ◌↔◌, ◌⊎◌, ℕ, ◌+◌, ◌-◌, ◌≤◌, ◌<◌, List, [], length, None, Some, IfSome, IsSome};
 ghost use Rattle.cl_outside.specs.Memory.{AllPositive, IsToFail, new_plan};
 ghost use Rattle.cl_outside.specs.NameTables.{entries_of};
+ghost use Rattle.std.specs.Option.{option_copied};
 ghost use Rattle.cl_outside.specs.Named.{found};
 ghost use Rattle.cl_outside.specs.Outside.{ReadTook, WriteTook};
 
@@ -35,22 +36,26 @@ impl Model for MemPlace {
 
     ghost Value = { MemoryPlace };
 
-    ghost view = {
-        λ p. record { files = p.files.entries; faults = p.faults; source = named_source p.files.entries p.source; sink = named_sink p.files.entries p.sink; room = p.room; pieces = p.pieces; plan = p.plan; making_faults = p.making_faults; writing_faults = p.writing_faults }
-    };
+    ghost view = { λ p. record { files = p.files.entries; faults = p.faults; source = named_source p.files.entries p.source; sink = named_sink p.files.entries p.sink; room = p.room; pieces = p.pieces; plan = p.plan; making_faults = p.making_faults; writing_faults = p.writing_faults } };
 
     ghost invariant = { λ p. IsPlace p.files p.faults p.source p.sink p.room };
 }
 
 impl MemPlace {
-    ghost use Rattle.cl_outside.specs.MemoryPlace.{OpenStep, MakeStep, ReadStep, WriteStep, FailsWhere, left_in, taken_in, sink_bytes};
+    ghost use Rattle.cl_outside.specs.MemoryPlace.{OpenStep, MakeStep, ReadStep, WriteStep, FailsWhere, ReadsAllOf, left_in, taken_in, sink_bytes};
 
     /// `room` is the number of bytes that each made sink may take; it is taken in `make_sink`, and
     /// no write takes memory. The n-th of `pieces` says how many bytes the n-th write that does not
     /// fail takes, where as many are offered and there is room; behind the last piece a write takes
     /// all that is offered and has room. `fails` lists the numbers, from 1, of the calls of this
     /// place, of all four kinds, that are to fail.
-    pub fn new(alloc: Global, files: Vec<(String, Vec<u8>)>, room: usize, pieces: Vec<usize>, fails: Vec<u64>) -> MemPlace
+    pub fn new(
+        alloc: Global,
+        files: Vec<(String, Vec<u8>)>,
+        room: usize,
+        pieces: Vec<usize>,
+        fails: Vec<u64>,
+    ) -> MemPlace
         requires { AllPositive pieces.items }
         ensures files { result.files ≡ entries_of files.items }
         ensures faults { result.faults ≡ [] }
@@ -74,6 +79,13 @@ impl MemPlace {
             writing_faults: 0,
             alloc,
         }
+    }
+
+    /// The bytes of a file: None exactly where there is none of this name.
+    pub fn file(&self, name: &str) -> Option<&[u8]>
+        ensures { option_copied result ≡ found self.now.files name.now }
+    {
+        self.files.get(name)
     }
 
     pub(crate) fn open(&mut self, name: &str) -> Opened
@@ -122,6 +134,7 @@ impl MemPlace {
         requires room { 0 < length buf.old }
         ensures step { ReadStep self.old self.new self.old.source result }
         ensures bytes { ReadTook (left_in self.old.files self.old.source) (left_in self.new.files self.new.source) buf.new result }
+        ensures amount { ReadsAllOf (left_in self.old.files self.old.source) buf.new result }
         ensures fails { (result ≡ Took.Failed) ↔ IsToFail self.old.plan }
     {
         let Some(reading) = self.source else {

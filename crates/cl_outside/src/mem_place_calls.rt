@@ -3,7 +3,7 @@ ghost use Rattle.cl_outside.specs.Outside.{ReadTook, WriteTook, FailedRose};
 ghost use Rattle.cl_outside.specs.Place.{HasBytes, IsEmptyFile, IsTold, OnDone, OnMemory, OpenedRose};
 ghost use Rattle.cl_outside.specs.Memory.{IsToFail};
 ghost use Rattle.cl_outside.specs.Named.{found, count_of};
-ghost use Rattle.cl_outside.specs.MemoryPlace.{left_in, Reads, taken_in, other_file, sink_bytes, FailsWhere, OpenStep, MakeStep, ReadStep, WriteStep};
+ghost use Rattle.cl_outside.specs.MemoryPlace.{left_in, Reads, taken_in, other_file, sink_bytes, FailsWhere, ReadsAllOf, OpenStep, MakeStep, ReadStep, WriteStep};
 
 use crate::answers::{Opened, Took};
 use crate::mem_place::MemPlace;
@@ -77,6 +77,7 @@ impl Place for MemPlace {
         ensures later { (other : List ℕ) → count_of self.old.faults other ≤ count_of self.new.faults other }
         ensures other_faults { (other : List ℕ) → (Reads self.old.source other → ⊥) → count_of self.new.faults other ≡ count_of self.old.faults other }
         ensures step { ReadStep self.old self.new self.old.source result }
+        ensures amount { ReadsAllOf (left_in self.old.files self.old.source) buf.new result }
         ensures fails { (result ≡ Took.Failed) ↔ IsToFail self.old.plan }
     {
         match self.read(buf) {
@@ -97,10 +98,8 @@ impl Place for MemPlace {
         ensures taken { OnDone result (HasBytes (Some (found self.new.files name.now)) (taken_in self.new.files self.new.sink)) }
         ensures named { OnDone result (other_file self.new.files self.new.sink name.now ≡ None) }
         ensures others { OnDone result ((other : List ℕ) → other ≢ name.now → other_file self.new.files self.new.sink other ≡ Some (found self.new.files other)) }
-        ensures memory {
-            OnMemory result ((is_some self.new.sink ≡ is_some self.old.sink) × (taken_in self.new.files self.new.sink ≡ taken_in self.old.files self.old.sink)
-            × (left_in self.new.files self.new.source ≡ left_in self.old.files self.old.source))
-        }
+        ensures memory { OnMemory result ((is_some self.new.sink ≡ is_some self.old.sink) × (taken_in self.new.files self.new.sink ≡ taken_in self.old.files self.old.sink)
+            × (left_in self.new.files self.new.source ≡ left_in self.old.files self.old.source)) }
         ensures memory_files { OnMemory result ((other : List ℕ) → ◌≡◌ {A = Option (Option (List ℕ))} (Some (found self.new.files other)) (Some (found self.old.files other))) }
         ensures memory_others { OnMemory result ((other : List ℕ) → other_file self.new.files self.new.sink other ≡ other_file self.old.files self.old.sink other) }
         ensures cause { OpenedRose self.old.making_faults self.new.making_faults result }
@@ -119,10 +118,8 @@ impl Place for MemPlace {
         requires some { 0 < length bytes.now }
         ensures opened { is_some self.new.source ≡ is_some self.old.source }
         ensures reads { (other : List ℕ) → Reads self.old.source other → Reads self.new.source other }
-        ensures left {
-            ((name : List ℕ) → Reads self.old.source name → IsSome (other_file self.old.files self.old.sink name))
-                → left_in self.new.files self.new.source ≡ left_in self.old.files self.old.source
-        }
+        ensures left { ((name : List ℕ) → Reads self.old.source name → IsSome (other_file self.old.files self.old.sink name))
+            → left_in self.new.files self.new.source ≡ left_in self.old.files self.old.source }
         ensures app_faults { (other : List ℕ) → count_of self.new.faults other ≡ count_of self.old.faults other }
         ensures making { self.new.making_faults ≡ self.old.making_faults }
         ensures made { is_some self.new.sink ≡ true }

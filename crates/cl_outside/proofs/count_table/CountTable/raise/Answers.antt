@@ -14,4 +14,4 @@ returns c =
     let count : count_of (counts_of all) name ≡ c.index_mut-count.result.now.1 =
     rw (found_read count_entry all c.args.place c.index_mut-count.result.now at c.index_mut-count.ensures.value) refl in
     rw (← v) (entries-set count_entry all c.args.place c.index_mut-count.result.now (c.index_mut-count.result.now.0, c.raised-count.result) at c.index_mut-count.ensures.value refl
-      ∙ ap (updated (counts_of all) name) (c.raised-count.ensures ∙ ap one_more (sym count)))
+    ∙ ap (updated (counts_of all) name) (c.raised-count.ensures ∙ ap one_more (sym count)))

@@ -7,7 +7,7 @@ pub returns-clause-entries : goal.returns-clause-entries
 returns-clause-entries c =
     let v = c.self.view_is in
     rw (← v) (entries-set entry_of c.self.inside.list.items c.args.place c.index_mut-file.result.now (c.index_mut-file.result.now.0, c.args.content)
-      (rw (← v) at c.requires) c.index_mut-file.ensures.value refl)
+    (rw (← v) at c.requires) c.index_mut-file.ensures.value refl)
 
 pub returns-clause-room : goal.returns-clause-room
 returns-clause-room c =

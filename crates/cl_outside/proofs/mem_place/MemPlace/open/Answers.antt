@@ -13,8 +13,11 @@ invariant_of-self-then-fails c =
 
 pub returns-then-fails-clause-step : goal.returns-then-fails-clause-step
 returns-then-fails-clause-step c =
-    rw (← c.self.view_is, ready_raised c.self.inside.faults c.ready.new.self c.raise.new.self c.args.name.now c.in-Ok.fault c.in-Ok.ensures.counts c.in-Ok.ensures.place.1 c.raise.ensures,
-      c.next_fails-fails.ensures.counted) refl
+    rw (
+      ← c.self.view_is,
+      ready_raised c.self.inside.faults c.ready.new.self c.raise.new.self c.args.name.now c.in-Ok.fault c.in-Ok.ensures.counts c.in-Ok.ensures.place.1 c.raise.ensures,
+      c.next_fails-fails.ensures.counted,
+    ) refl
 
 pub invariant_of-self-in-None : goal.invariant_of-self-in-None
 invariant_of-self-in-None c =
@@ -24,15 +27,18 @@ invariant_of-self-in-None c =
 
 pub returns-in-None-clause-step : goal.returns-in-None-clause-step
 returns-in-None-clause-step c =
-    rw (← c.self.view_is, ready_raised c.self.inside.faults c.ready.new.self c.raise-in-None.new.self c.args.name.now c.in-Ok.fault c.in-Ok.ensures.counts c.in-Ok.ensures.place.1 c.raise-in-None.ensures,
-      c.next_fails-fails.ensures.counted) refl
+    rw (
+      ← c.self.view_is,
+      ready_raised c.self.inside.faults c.ready.new.self c.raise-in-None.new.self c.args.name.now c.in-Ok.fault c.in-Ok.ensures.counts c.in-Ok.ensures.place.1 c.raise-in-None.ensures,
+      c.next_fails-fails.ensures.counted,
+    ) refl
 
 pub returns-in-Some-clause-fails : goal.returns-in-Some-clause-fails
 returns-in-Some-clause-fails c =
     rw (← c.self.view_is) (⊎_elim
-      (λ (listed : IsToFail c.self.inside.plan). let yes : c.next_fails-fails.result ≡ true = c.next_fails-fails.ensures.listed.1 listed in let no = c.if-fails.false in cc)
-      (λ (none : found c.self.inside.files.entries c.args.name.now ≡ None).
-        found_first c.self.inside.files.entries c.in-Some.file c.in-Some.ensures.0 (ap (found c.self.inside.files.entries) c.in-Some.ensures.1 ∙ none)))
+    (λ (listed : IsToFail c.self.inside.plan). let yes : c.next_fails-fails.result ≡ true = c.next_fails-fails.ensures.listed.1 listed in let no = c.if-fails.false in cc)
+    (λ (none : found c.self.inside.files.entries c.args.name.now ≡ None).
+    found_first c.self.inside.files.entries c.in-Some.file c.in-Some.ensures.0 (ap (found c.self.inside.files.entries) c.in-Some.ensures.1 ∙ none)))
 
 pub returns-in-None-clause-fails : goal.returns-in-None-clause-fails
 returns-in-None-clause-fails c = rw (← c.self.view_is) (inr (found-none c.self.inside.files.entries c.args.name.now c.in-None.ensures))

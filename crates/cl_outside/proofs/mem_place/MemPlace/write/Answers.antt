@@ -18,7 +18,7 @@ returns-clause-step c =
     subst (λ (v : MemoryPlace). WriteStep v (the_view (record p { files = c.append.new.self; pieces = c.next.new.self; plan = c.next_fails-fails.new.self })) v.sink c.args.bytes.now (took.Bytes c.min-n.result))
     c.self.view_is
     (written_step p c.append.new.self c.in-Some.place c.bytes.result.now c.in-Some.is c.self.invariant c.bytes.ensures c.next.new.self c.next_fails-fails.new.self c.args.bytes.now c.min-n.result
-      c.append.ensures.entries (rw c.next.ensures.amount at c.min-n.ensures) c.next.ensures.later c.next_fails-fails.ensures.counted)
+    c.append.ensures.entries (rw c.next.ensures.amount at c.min-n.ensures) c.next.ensures.later c.next_fails-fails.ensures.counted)
 
 pub returns-clause-bytes : goal.returns-clause-bytes
 returns-clause-bytes c =
