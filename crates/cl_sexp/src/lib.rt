@@ -12,6 +12,8 @@ mod begin;
 mod byte;
 mod laws;
 mod quoted;
+#[cfg(test)]
+mod tests;
 mod word;
 
 pub use laws::{tokens_join, tokens_lie, tokens_rise};
