@@ -1,1 +1,2 @@
 pub mod EnteringLemmas
+pub mod CostLemmas

@@ -1,2 +1,3 @@
 pub mod EnteringLemmas
 pub mod SlotLemmas
+pub mod CostLemmas

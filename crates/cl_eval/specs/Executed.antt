@@ -27,4 +27,4 @@ Executes executed.Memory o = Unit {0}
 abbrev pub Rises : Executed → ℕ → ℕ → ℕ → Type 0
 Rises (executed.Done s) old new cost = new ≡ old + cost
 Rises (executed.Trap k) old new cost = new ≡ old + cost
-Rises executed.Memory old new cost = old ≤ new
+Rises executed.Memory old new cost = (old ≤ new) × (new ≤ old + cost)
