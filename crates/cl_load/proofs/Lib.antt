@@ -1,2 +1,4 @@
 pub mod Reading
 pub mod OneTree
+pub mod Trees
+pub mod Rows

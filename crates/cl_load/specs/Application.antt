@@ -1,5 +1,5 @@
 -- The application that a text declares: a frame with one slot and one pane, its display, and one command.
-use Rattle.std.specs.Prelude.{◌≡◌, ℕ, ◌≤◌, ◌<◌, ◌-◌, ℤ, pos, Bool, true, false, not, ◌&&◌, ◌||◌, ◌==◌, nat_le, if◌then◌else◌, List, [], ◌∷◌, ◌++◌, length, drop, Option, Some, None, Result, Ok, Err, nat_eq, codes}
+use Rattle.std.specs.Prelude.{◌≡◌, ℕ, ◌≤◌, ◌<◌, ◌-◌, ℤ, pos, negsuc, Bool, true, false, not, ◌&&◌, ◌||◌, ◌==◌, nat_le, if◌then◌else◌, List, [], ◌∷◌, ◌++◌, length, drop, Option, Some, None, Result, Ok, Err, nat_eq, codes}
 use Rattle.std.specs.List.{starts_with}
 use Rattle.std.specs.Str.{bytes_eq}
 use Rattle.cl_value.specs.Data.{int}
@@ -52,9 +52,15 @@ name_in (literal s at) = None
 name_in (form ts at) = None
 
 -- a number from a low one to a high one
+abbrev pub within : ℕ → ℕ → ℤ → Option ℕ
+within low high (pos n) = some_if (nat_le low n && nat_le n high) n
+within low high (negsuc n) = None
+
 abbrev pub number_in : ℕ → ℕ → Tree → Option ℕ
-number_in low high (number (pos n) at) = some_if (nat_le low n && nat_le n high) n
-number_in low high t = None
+number_in low high (number z at) = within low high z
+number_in low high (literal s at) = None
+number_in low high (name s at) = None
+number_in low high (form ts at) = None
 
 abbrev pub is_word : List ℕ → Tree → Bool
 is_word word (name bytes at) = bytes_eq bytes word

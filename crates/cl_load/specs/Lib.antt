@@ -3,4 +3,5 @@ pub mod Form
 pub mod Falls
 pub mod Spelled
 pub mod Opening
+pub mod Decodes
 pub mod Application

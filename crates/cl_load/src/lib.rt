@@ -3,8 +3,11 @@
 
 mod application;
 mod atom;
+mod decoding;
+mod expressions;
 mod form;
 mod laws;
+mod names;
 mod parse;
 
 pub use application::Loaded;
