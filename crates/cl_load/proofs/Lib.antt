@@ -2,3 +2,4 @@ pub mod Reading
 pub mod OneTree
 pub mod Trees
 pub mod Rows
+pub mod Shapes

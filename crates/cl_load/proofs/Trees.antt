@@ -1,5 +1,6 @@
 -- The parts of a form are the trees that it was made of.
-use Rattle.std.proofs.Common.{◌≡◌, ℕ, nat_eq, length, map, List, [], ◌∷◌, refl, ap, arith, nat_tests}
+use Rattle.std.proofs.Common.{◌≡◌, ℕ, nat_eq, length, map, List, [], ◌∷◌, refl, ap, arith}
+use Rattle.std.proofs.lemmas.Bool.Decides.{nat_tests}
 use Rattle.cl_load.specs.Tree.{Tree, form, trees_of}
 use Rattle.cl_load.specs.Form.{tree_of}
 use Rattle.cl_load.specs.declared.form.Form.{Form}

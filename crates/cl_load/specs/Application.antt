@@ -117,11 +117,18 @@ list_in (number z at) = None
 list_in (literal s at) = None
 list_in (name s at) = None
 
--- `(write-text E)` or `(newline)`
+-- `(newline)`
+abbrev pub newline : Tree → Option Shape
+newline head = if is_word (codes "newline") head then Some Newline else None
+
+-- `(write-text E)`
+abbrev pub write_text : List ℕ → Tree → Tree → Option Shape
+write_text x head a = if is_word (codes "write-text") head then (term_in x a >>= λ t. Some (WriteText t)) else None
+
 abbrev pub shape_row : List ℕ → List Tree → Option Shape
 shape_row x [] = None
-shape_row x (head ∷ []) = if is_word (codes "newline") head then Some Newline else None
-shape_row x (head ∷ a ∷ []) = if is_word (codes "write-text") head then (term_in x a >>= λ t. Some (WriteText t)) else None
+shape_row x (head ∷ []) = newline head
+shape_row x (head ∷ a ∷ []) = write_text x head a
 shape_row x (head ∷ a ∷ b ∷ rest) = None
 
 abbrev pub shape_in : List ℕ → Tree → Option Shape
@@ -137,15 +144,14 @@ place_row x (head ∷ a ∷ []) = is_word (codes "slot") head && is_word x a
 place_row x parts = false
 
 abbrev pub is_place : List ℕ → Tree → Bool
-is_place x (form ts at) = place_row x (parts_of ts)
-is_place x (number z at) = false
-is_place x (literal s at) = false
-is_place x (name s at) = false
+is_place x t = elim (list_in t) [ None ↦ false | Some parts ↦ place_row x parts ]
 
 -- `(setf (slot NAME) E)`
+abbrev pub setf : List ℕ → Tree → Tree → Tree → Option Act
+setf x head place a = if is_word (codes "setf") head && is_place x place then (term_in x a >>= λ t. Some (Setf x t)) else None
+
 abbrev pub act_row : List ℕ → List Tree → Option Act
-act_row x (head ∷ place ∷ a ∷ []) =
-    if is_word (codes "setf") head && is_place x place then (term_in x a >>= λ t. Some (Setf x t)) else None
+act_row x (head ∷ place ∷ a ∷ []) = setf x head place a
 act_row x parts = None
 
 -- ---- declarations

@@ -4,11 +4,13 @@
 mod application;
 mod atom;
 mod decoding;
+mod display_forms;
 mod expressions;
 mod form;
 mod laws;
 mod names;
 mod parse;
+mod statements;
 
 pub use application::Loaded;
 pub use laws::one_tree;
