@@ -2,6 +2,7 @@
 use Rattle.std.specs.Prelude.{◌≡◌, ℕ, ◌≤◌, ◌<◌, ◌-◌, ℤ, pos, negsuc, Bool, true, false, not, ◌&&◌, ◌||◌, ◌==◌, nat_le, if◌then◌else◌, List, [], ◌∷◌, ◌++◌, length, drop, Option, Some, None, Result, Ok, Err, nat_eq, codes}
 use Rattle.std.specs.List.{starts_with}
 use Rattle.std.specs.Str.{bytes_eq}
+use Rattle.std.specs.Ordering.{int_eq}
 use Rattle.cl_value.specs.Data.{int}
 use Rattle.cl_value.specs.declared.Value.TheVariants as value
 use Rattle.cl_sexp.specs.Tokens.{tokens_of}
@@ -20,6 +21,7 @@ use Rattle.cl_syntax.specs.declared.declarations.DisplayDecl.{DisplayDecl}
 use Rattle.cl_syntax.specs.declared.declarations.CommandDecl.{CommandDecl}
 use Rattle.cl_load.specs.Tree.{Tree, Trees, number, literal, name, form, none, item, trees_of, spelled_all}
 use Rattle.cl_load.specs.Spelled.{lexemes}
+use Rattle.cl_load.specs.declared.frames.Size.{Size}
 
 infixl 10 ◌>>=◌
 abbrev pub ◌>>=◌ : {A B : Type 0} → Option A → (A → Option B) → Option B
@@ -117,18 +119,11 @@ list_in (number z at) = None
 list_in (literal s at) = None
 list_in (name s at) = None
 
--- `(newline)`
-abbrev pub newline : Tree → Option Shape
-newline head = if is_word (codes "newline") head then Some Newline else None
-
--- `(write-text E)`
-abbrev pub write_text : List ℕ → Tree → Tree → Option Shape
-write_text x head a = if is_word (codes "write-text") head then (term_in x a >>= λ t. Some (WriteText t)) else None
-
+-- `(write-text E)` or `(newline)`
 abbrev pub shape_row : List ℕ → List Tree → Option Shape
 shape_row x [] = None
-shape_row x (head ∷ []) = newline head
-shape_row x (head ∷ a ∷ []) = write_text x head a
+shape_row x (head ∷ []) = if is_word (codes "newline") head then Some Newline else None
+shape_row x (head ∷ a ∷ []) = if is_word (codes "write-text") head then (term_in x a >>= λ t. Some (WriteText t)) else None
 shape_row x (head ∷ a ∷ b ∷ rest) = None
 
 abbrev pub shape_in : List ℕ → Tree → Option Shape
@@ -147,18 +142,15 @@ abbrev pub is_place : List ℕ → Tree → Bool
 is_place x t = elim (list_in t) [ None ↦ false | Some parts ↦ place_row x parts ]
 
 -- `(setf (slot NAME) E)`
-abbrev pub setf : List ℕ → Tree → Tree → Tree → Option Act
-setf x head place a = if is_word (codes "setf") head && is_place x place then (term_in x a >>= λ t. Some (Setf x t)) else None
-
 abbrev pub act_row : List ℕ → List Tree → Option Act
-act_row x (head ∷ place ∷ a ∷ []) = setf x head place a
+act_row x (head ∷ place ∷ a ∷ []) =
+    if is_word (codes "setf") head && is_place x place then (term_in x a >>= λ t. Some (Setf x t)) else None
 act_row x parts = None
 
--- ---- declarations
+abbrev pub act_in : List ℕ → Tree → Option Act
+act_in x t = list_in t >>= act_row x
 
-pub record Size : Type 0 where
-  pub width : ℕ
-  pub height : ℕ
+-- ---- declarations
 
 -- `(:size WIDTH HEIGHT)`
 abbrev pub size_row : List Tree → Option Size
@@ -167,6 +159,13 @@ size_row (key ∷ w ∷ h ∷ []) =
     then (number_in 1 512 w >>= λ width. number_in 1 256 h >>= λ height. Some (record { width = width; height = height }))
     else None
 size_row parts = None
+
+abbrev pub size_in : Tree → Option Size
+size_in t = list_in t >>= size_row
+
+-- the sizes that a frame may have
+abbrev pub IsSize : ℕ → ℕ → Type 0
+IsSize width height = (1 ≤ width) × (width ≤ 512) × (1 ≤ height) × (height ≤ 256)
 
 abbrev pub int_in : Tree → Option ℤ
 int_in (number z at) = Some z
@@ -182,32 +181,56 @@ slot_decl (n ∷ type ∷ o ∷ []) =
     else None
 slot_decl parts = None
 
+abbrev pub slot_in : Tree → Option SlotDecl
+slot_in t = list_in t >>= slot_decl
+
 -- `(:slots SLOT)`
 abbrev pub slots_row : List Tree → Option SlotDecl
-slots_row (key ∷ s ∷ []) = if is_word (codes ":slots") key then (list_in s >>= slot_decl) else None
+slots_row (key ∷ s ∷ []) = if is_word (codes ":slots") key then slot_in s else None
 slots_row parts = None
 
+abbrev pub slots_in : Tree → Option SlotDecl
+slots_in t = list_in t >>= slots_row
+
+abbrev pub is_number : ℕ → Tree → Bool
+is_number n (number z at) = int_eq z (pos n)
+is_number n (literal s at) = false
+is_number n (name s at) = false
+is_number n (form ts at) = false
+
+-- a place is the whole frame of this size
+abbrev pub is_whole : ℕ → ℕ → Tree → Tree → Tree → Tree → Bool
+is_whole width height left top w h = is_number 0 left && is_number 0 top && is_number width w && is_number height h
+
 -- `(NAME 0 0 WIDTH HEIGHT DISPLAY)`, as large as the frame
-abbrev pub pane_decl : Size → List Tree → Option PaneDecl
-pane_decl size (n ∷ left ∷ top ∷ w ∷ h ∷ d ∷ []) =
-    name_in n >>= λ x. number_in 0 0 left >>= λ _. number_in 0 0 top >>= λ _.
-    number_in size.width size.width w >>= λ _. number_in size.height size.height h >>= λ _. name_in d >>= λ display.
-    Some (record { name = x; x = 0; y = 0; width = size.width; height = size.height; display = display })
-pane_decl size parts = None
+abbrev pub pane_decl : ℕ → ℕ → List Tree → Option PaneDecl
+pane_decl width height (n ∷ left ∷ top ∷ w ∷ h ∷ d ∷ []) =
+    if is_whole width height left top w h
+    then (name_in n >>= λ x. name_in d >>= λ display.
+      Some (record { name = x; x = 0; y = 0; width = width; height = height; display = display }))
+    else None
+pane_decl width height parts = None
+
+abbrev pub pane_in : ℕ → ℕ → Tree → Option PaneDecl
+pane_in width height t = list_in t >>= pane_decl width height
 
 -- `(:panes PANE)`
-abbrev pub panes_row : Size → List Tree → Option PaneDecl
-panes_row size (key ∷ p ∷ []) = if is_word (codes ":panes") key then (list_in p >>= pane_decl size) else None
-panes_row size parts = None
+abbrev pub panes_row : ℕ → ℕ → List Tree → Option PaneDecl
+panes_row width height (key ∷ p ∷ []) = if is_word (codes ":panes") key then pane_in width height p else None
+panes_row width height parts = None
+
+abbrev pub panes_in : ℕ → ℕ → Tree → Option PaneDecl
+panes_in width height t = list_in t >>= panes_row width height
+
+abbrev pub frame_of : ℕ → Tree → Tree → Tree → Tree → Option FrameDecl
+frame_of at n size slots panes =
+    name_in n >>= λ x. size_in size >>= λ s. slots_in slots >>= λ slot. panes_in s.width s.height panes >>= λ pane.
+    Some (record { name = x; width = s.width; height = s.height; slot = slot; pane = pane; at = at })
 
 -- `(define-application-frame NAME SIZE SLOTS PANES)`
 abbrev pub frame_row : ℕ → List Tree → Option FrameDecl
 frame_row at (head ∷ n ∷ size ∷ slots ∷ panes ∷ []) =
-    if is_word (codes "define-application-frame") head
-    then (name_in n >>= λ x. (list_in size >>= size_row) >>= λ s. (list_in slots >>= slots_row) >>= λ slot.
-      (list_in panes >>= panes_row s) >>= λ pane.
-      Some (record { name = x; width = s.width; height = s.height; slot = slot; pane = pane; at = at }))
-    else None
+    if is_word (codes "define-application-frame") head then frame_of at n size slots panes else None
 frame_row at parts = None
 
 -- the operators of the language, which are no names of displays
@@ -248,7 +271,7 @@ line_name_of symbol = words_of true (if starts_with nat_eq symbol (codes "com-")
 abbrev pub command_row : List ℕ → ℕ → List Tree → Option CommandDecl
 command_row x at (head ∷ n ∷ parameters ∷ body ∷ []) =
     if is_word (codes "define-command") head && is_empty_list parameters
-    then (name_in n >>= λ c. (list_in body >>= act_row x) >>= λ act.
+    then (name_in n >>= λ c. act_in x body >>= λ act.
       Some (record { name = c; line_name = line_name_of c; body = act ∷ []; at = at }))
     else None
 command_row x at parts = None

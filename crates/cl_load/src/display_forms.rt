@@ -2,7 +2,7 @@
 ghost use Rattle.std.specs.Prelude.{map};
 ghost use Rattle.cl_load.specs.Form.{tree_of};
 ghost use Rattle.cl_load.specs.Decodes.{Decodes};
-ghost use Rattle.cl_load.specs.Application.{newline, write_text, shape_row, shape_in, shapes_in};
+ghost use Rattle.cl_load.specs.Application.{shape_row, shape_in, shapes_in};
 
 use crate::decoding::Stop;
 use crate::expressions::term_in;
@@ -33,34 +33,12 @@ fn shape_in(alloc: Global, slot: &Text, form: &Form) -> Result<Shape, Stop>
 }
 
 /// `(write-text E)` or `(newline)`
-#[tactic(auto, using(crate::proofs::Rows::shape_counts))]
 fn shape_row(alloc: Global, slot: &Text, parts: &[Form]) -> Result<Shape, Stop>
     ensures { Decodes result (shape_row slot.now (map tree_of parts.now)) }
 {
     match parts {
-        [head] => newline(head),
-        [head, part] => write_text(alloc, slot, head, part),
-        [] => Err(Stop::Refused),
-        [_, _, _, ..] => Err(Stop::Refused),
-    }
-}
-
-fn newline(head: &Form) -> Result<Shape, Stop>
-    ensures { Decodes result (newline (tree_of head.now)) }
-{
-    if is_word(b"newline", head) {
-        Ok(Shape::Newline)
-    } else {
-        Err(Stop::Refused)
-    }
-}
-
-fn write_text(alloc: Global, slot: &Text, head: &Form, part: &Form) -> Result<Shape, Stop>
-    ensures { Decodes result (write_text slot.now (tree_of head.now) (tree_of part.now)) }
-{
-    if is_word(b"write-text", head) {
-        Ok(Shape::WriteText(term_in(alloc, slot, part)?))
-    } else {
-        Err(Stop::Refused)
+        [head] if is_word(b"newline", head) => Ok(Shape::Newline),
+        [head, part] if is_word(b"write-text", head) => Ok(Shape::WriteText(term_in(alloc, slot, part)?)),
+        _ => Err(Stop::Refused),
     }
 }

@@ -2,9 +2,8 @@
 ghost use Rattle.std.specs.Prelude.{map};
 ghost use Rattle.cl_load.specs.Tree.{trees_of};
 ghost use Rattle.cl_load.specs.Form.{tree_of};
-ghost use Rattle.cl_syntax.specs.Term as term;
 ghost use Rattle.cl_load.specs.Decodes.{Decodes};
-ghost use Rattle.cl_load.specs.Application.{some_if, is_word, subs, slot_row, text_row, sum_row, row_of, term_in};
+ghost use Rattle.cl_load.specs.Application.{subs, slot_row, text_row, sum_row, row_of, term_in};
 
 use crate::decoding::Stop;
 use crate::form::Form;
@@ -49,21 +48,13 @@ fn row_of(alloc: Global, slot: &Text, parts: &[Form]) -> Result<Expr, Stop>
 fn slot_row(slot: &Text, parts: &[Form]) -> Result<Expr, Stop>
     ensures { Decodes result (slot_row slot.now (subs slot.now (trees_of (map tree_of parts.now)))) }
 {
-    match parts {
-        [name] => slot_named(slot, name),
-        [] => Err(Stop::Refused),
-        [_, _, ..] => Err(Stop::Refused),
+    let [name] = parts else {
+        return Err(Stop::Refused);
+    };
+    if !is_word(slot.as_slice(), name) {
+        return Err(Stop::Refused);
     }
-}
-
-fn slot_named(slot: &Text, name: &Form) -> Result<Expr, Stop>
-    ensures { Decodes result (some_if (is_word slot.now (tree_of name.now)) (term.slot slot.now)) }
-{
-    if is_word(slot.as_slice(), name) {
-        Ok(Expr::slot(slot.copy()?))
-    } else {
-        Err(Stop::Refused)
-    }
+    Ok(Expr::slot(slot.copy()?))
 }
 
 /// `(text E)`
@@ -72,14 +63,11 @@ fn slot_named(slot: &Text, name: &Form) -> Result<Expr, Stop>
 fn text_row(alloc: Global, slot: &Text, parts: &[Form]) -> Result<Expr, Stop>
     ensures { Decodes result (text_row (subs slot.now (trees_of (map tree_of parts.now)))) }
 {
-    match parts {
-        [part] => {
-            let part = term_in(alloc, slot, part)?;
-            Ok(Expr::text(alloc, part)?)
-        }
-        [] => Err(Stop::Refused),
-        [_, _, ..] => Err(Stop::Refused),
-    }
+    let [part] = parts else {
+        return Err(Stop::Refused);
+    };
+    let part = term_in(alloc, slot, part)?;
+    Ok(Expr::text(alloc, part)?)
 }
 
 /// `(+ E E)`
@@ -88,14 +76,10 @@ fn text_row(alloc: Global, slot: &Text, parts: &[Form]) -> Result<Expr, Stop>
 fn sum_row(alloc: Global, slot: &Text, parts: &[Form]) -> Result<Expr, Stop>
     ensures { Decodes result (sum_row (subs slot.now (trees_of (map tree_of parts.now)))) }
 {
-    match parts {
-        [first, second] => {
-            let first = term_in(alloc, slot, first)?;
-            let second = term_in(alloc, slot, second)?;
-            Ok(Expr::arithmetic(alloc, Arithmetic::Add, first, second)?)
-        }
-        [] => Err(Stop::Refused),
-        [_] => Err(Stop::Refused),
-        [_, _, _, ..] => Err(Stop::Refused),
-    }
+    let [first, second] = parts else {
+        return Err(Stop::Refused);
+    };
+    let first = term_in(alloc, slot, first)?;
+    let second = term_in(alloc, slot, second)?;
+    Ok(Expr::arithmetic(alloc, Arithmetic::Add, first, second)?)
 }

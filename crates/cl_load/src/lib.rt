@@ -7,6 +7,7 @@ mod decoding;
 mod display_forms;
 mod expressions;
 mod form;
+mod frames;
 mod laws;
 mod names;
 mod parse;

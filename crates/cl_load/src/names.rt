@@ -2,7 +2,7 @@
 ghost use Rattle.std.specs.Prelude.{◌≡◌, ◌≤◌, IfOk, map, option_map};
 ghost use Rattle.cl_load.specs.Form.{tree_of};
 ghost use Rattle.cl_load.specs.Decodes.{Decodes};
-ghost use Rattle.cl_load.specs.Application.{is_constant, is_name, some_if, name_in, within, number_in, int_in, is_word, list_in, is_empty_list};
+ghost use Rattle.cl_load.specs.Application.{is_constant, is_name, some_if, name_in, within, number_in, int_in, is_number, is_word, list_in, is_empty_list};
 
 use crate::decoding::Stop;
 use crate::form::Form;
@@ -77,6 +77,18 @@ pub fn int_in(form: &Form) -> Result<i64, Stop>
         Form::Name(_, _) => Err(Stop::Refused),
         Form::Literal(_, _) => Err(Stop::Refused),
         Form::Parts(_, _) => Err(Stop::Refused),
+    }
+}
+
+/// Whether the form is this number.
+pub fn is_number(wanted: u16, form: &Form) -> bool
+    ensures { result ≡ is_number wanted (tree_of form.now) }
+{
+    match form {
+        Form::Number(number, _) => *number == i64::from(wanted),
+        Form::Name(_, _) => false,
+        Form::Literal(_, _) => false,
+        Form::Parts(_, _) => false,
     }
 }
 
