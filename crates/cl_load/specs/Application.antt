@@ -202,13 +202,15 @@ is_number n (form ts at) = false
 abbrev pub is_whole : ℕ → ℕ → Tree → Tree → Tree → Tree → Bool
 is_whole width height left top w h = is_number 0 left && is_number 0 top && is_number width w && is_number height h
 
+abbrev pub pane_of : ℕ → ℕ → Tree → Tree → Option PaneDecl
+pane_of width height n d =
+    name_in n >>= λ x. name_in d >>= λ display.
+    Some (record { name = x; x = 0; y = 0; width = width; height = height; display = display })
+
 -- `(NAME 0 0 WIDTH HEIGHT DISPLAY)`, as large as the frame
 abbrev pub pane_decl : ℕ → ℕ → List Tree → Option PaneDecl
 pane_decl width height (n ∷ left ∷ top ∷ w ∷ h ∷ d ∷ []) =
-    if is_whole width height left top w h
-    then (name_in n >>= λ x. name_in d >>= λ display.
-      Some (record { name = x; x = 0; y = 0; width = width; height = height; display = display }))
-    else None
+    if is_whole width height left top w h then pane_of width height n d else None
 pane_decl width height parts = None
 
 abbrev pub pane_in : ℕ → ℕ → Tree → Option PaneDecl
@@ -246,34 +248,41 @@ is_empty_list (number z at) = false
 is_empty_list (literal s at) = false
 is_empty_list (name s at) = false
 
+abbrev pub display_of : List ℕ → ℕ → Tree → List Tree → Option DisplayDecl
+display_of x at n body =
+    name_in n >>= λ d. shapes_in x body >>= λ shapes.
+    if is_operator d then None else Some (record { name = d; body = shapes; at = at })
+
 -- `(define-display NAME () SHAPE ...)`
 abbrev pub display_row : List ℕ → ℕ → List Tree → Option DisplayDecl
 display_row x at (head ∷ n ∷ parameters ∷ body) =
-    if is_word (codes "define-display") head && is_empty_list parameters
-    then (name_in n >>= λ d. shapes_in x body >>= λ shapes.
-      if is_operator d then None else Some (record { name = d; body = shapes; at = at }))
-    else None
+    if is_word (codes "define-display") head && is_empty_list parameters then display_of x at n body else None
 display_row x at parts = None
 
 abbrev pub upper : ℕ → ℕ
 upper b = if nat_le 97 b && nat_le b 122 then b - 32 else b
 
+abbrev pub line_byte : Bool → ℕ → ℕ
+line_byte first b = if b == 45 then 32 else (if first then upper b else b)
+
 -- hyphens become spaces, and the first letter of each word a capital
 abbrev pub words_of : Bool → List ℕ → List ℕ
 words_of first [] = []
-words_of first (b ∷ bs) = (if b == 45 then 32 else (if first then upper b else b)) ∷ words_of (b == 45) bs
+words_of first (b ∷ bs) = line_byte first b ∷ words_of (b == 45) bs
 
 -- the command-line name that is made from a symbol: a leading `com-` is dropped
 abbrev pub line_name_of : List ℕ → List ℕ
 line_name_of symbol = words_of true (if starts_with nat_eq symbol (codes "com-") then drop 4 symbol else symbol)
 
+abbrev pub command_of : List ℕ → ℕ → Tree → Tree → Option CommandDecl
+command_of x at n body =
+    name_in n >>= λ c. act_in x body >>= λ act.
+    Some (record { name = c; line_name = line_name_of c; body = act ∷ []; at = at })
+
 -- `(define-command NAME () (setf (slot SLOT) E))`
 abbrev pub command_row : List ℕ → ℕ → List Tree → Option CommandDecl
 command_row x at (head ∷ n ∷ parameters ∷ body ∷ []) =
-    if is_word (codes "define-command") head && is_empty_list parameters
-    then (name_in n >>= λ c. act_in x body >>= λ act.
-      Some (record { name = c; line_name = line_name_of c; body = act ∷ []; at = at }))
-    else None
+    if is_word (codes "define-command") head && is_empty_list parameters then command_of x at n body else None
 command_row x at parts = None
 
 abbrev pub frame_in : Tree → Option FrameDecl

@@ -2,7 +2,7 @@
 ghost use Rattle.std.specs.Prelude.{◌≡◌, map, IfOk};
 ghost use Rattle.cl_load.specs.Form.{tree_of};
 ghost use Rattle.cl_load.specs.Decodes.{Decodes};
-ghost use Rattle.cl_load.specs.Application.{IsSize, size_row, size_in, slot_decl, slot_in, slots_row, slots_in, is_whole, pane_decl, pane_in, panes_row, panes_in, frame_of, frame_row, frame_in};
+ghost use Rattle.cl_load.specs.Application.{IsSize, size_row, size_in, slot_decl, slot_in, slots_row, slots_in, is_whole, pane_of, pane_decl, pane_in, panes_row, panes_in, frame_of, frame_row, frame_in};
 
 use crate::decoding::Stop;
 use crate::form::Form;
@@ -188,6 +188,12 @@ fn pane_decl(width: u16, height: u16, parts: &[Form]) -> Result<PaneDecl, Stop>
     if !is_whole(width, height, left, top, across, down) {
         return Err(Stop::Refused);
     }
+    pane_of(width, height, name, display)
+}
+
+fn pane_of(width: u16, height: u16, name: &Form, display: &Form) -> Result<PaneDecl, Stop>
+    ensures { Decodes result (pane_of width height (tree_of name.now) (tree_of display.now)) }
+{
     let name = name_in(name)?;
     let display = name_in(display)?;
     Ok(PaneDecl {

@@ -3,12 +3,14 @@
 
 mod application;
 mod atom;
+mod declarations;
 mod decoding;
 mod display_forms;
 mod expressions;
 mod form;
 mod frames;
 mod laws;
+mod line_names;
 mod names;
 mod parse;
 mod statements;
