@@ -308,10 +308,12 @@ abbrev pub agreed : FrameDecl → DisplayDecl → CommandDecl → Option App
 agreed frame display command =
     if bytes_eq frame.pane.display display.name then Some (record { frame = frame; display = display; command = command }) else None
 
+abbrev pub declared_by : FrameDecl → Tree → Tree → Option App
+declared_by frame d c = display_in frame.slot.name d >>= λ display. command_in frame.slot.name c >>= λ command. agreed frame display command
+
 -- the declarations, in this order
 abbrev pub application_in : List Tree → Option App
-application_in (f ∷ d ∷ c ∷ []) =
-    frame_in f >>= λ frame. display_in frame.slot.name d >>= λ display. command_in frame.slot.name c >>= λ command. agreed frame display command
+application_in (f ∷ d ∷ c ∷ []) = frame_in f >>= λ frame. declared_by frame d c
 application_in forms = None
 
 -- the application of a text: the text has tokens, these spell forms, and the forms declare it

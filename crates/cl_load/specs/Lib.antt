@@ -5,3 +5,4 @@ pub mod Spelled
 pub mod Opening
 pub mod Decodes
 pub mod Application
+pub mod Loads

@@ -2,7 +2,7 @@
 ghost use Rattle.std.specs.Prelude.{◌≡◌, ◌∷◌, [], map, IfOk};
 ghost use Rattle.cl_load.specs.Form.{tree_of};
 ghost use Rattle.cl_load.specs.Decodes.{Decodes};
-ghost use Rattle.cl_load.specs.Application.{IsSize, is_operator, display_row, display_of, display_in, command_row, command_of, command_in, agreed, application_in};
+ghost use Rattle.cl_load.specs.Application.{IsSize, is_operator, display_row, display_of, display_in, command_row, command_of, command_in, agreed, declared_by, application_in};
 
 use crate::decoding::Stop;
 use crate::display_forms::shapes_in;
@@ -24,7 +24,13 @@ pub fn application_in(alloc: Global, forms: &[Form]) -> Result<App, Stop>
     let [frame, display, command] = forms else {
         return Err(Stop::Refused);
     };
-    let frame = frame_in(frame)?;
+    declared_by(alloc, frame_in(frame)?, display, command)
+}
+
+fn declared_by(alloc: Global, frame: FrameDecl, display: &Form, command: &Form) -> Result<App, Stop>
+    ensures value { Decodes result (declared_by frame (tree_of display.now) (tree_of command.now)) }
+    ensures size { IfOk result (λ app. app.frame ≡ frame) }
+{
     let display = display_in(alloc, &frame.slot.name, display)?;
     let command = command_in(alloc, &frame.slot.name, command)?;
     agreed(frame, display, command)

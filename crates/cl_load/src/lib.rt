@@ -10,6 +10,7 @@ mod expressions;
 mod form;
 mod frames;
 mod laws;
+mod loading;
 mod line_names;
 mod names;
 mod parse;
@@ -17,3 +18,4 @@ mod statements;
 
 pub use application::Loaded;
 pub use laws::one_tree;
+pub use loading::{LoadRefusal, load};
