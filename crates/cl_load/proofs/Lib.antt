@@ -3,3 +3,4 @@ pub mod OneTree
 pub mod Trees
 pub mod Rows
 pub mod Shapes
+pub mod OneApplication

@@ -4,7 +4,7 @@ use Rattle.std.specs.Prelude.{Option, None}
 use Rattle.cl_load.specs.Tree.{Tree, trees_of}
 use Rattle.cl_load.specs.Form.{tree_of}
 use Rattle.cl_load.specs.declared.form.Form.{Form}
-use Rattle.cl_load.specs.Application.{subs, slot_row, text_row, sum_row, is_whole, pane_of, pane_decl, panes_row, frame_row, command_row, application_in}
+use Rattle.cl_load.specs.Application.{subs, slot_row, text_row, sum_row, is_whole, pane_of, pane_decl, panes_row, frame_row, command_row, frame_in, declared_by, application_in, ◌>>=◌}
 
 pub slot_counts : (x : List ℕ) (fs : List Form) → (length fs ≡ 1 → ⊥) → slot_row x (subs x (trees_of (map tree_of fs))) ≡ None
 slot_counts x [] h = refl
@@ -73,3 +73,11 @@ application_counts (a ∷ []) h = refl
 application_counts (a ∷ b ∷ []) h = refl
 application_counts (a ∷ b ∷ c ∷ []) h = absurd (h refl)
 application_counts (a ∷ b ∷ c ∷ d ∷ fs) h = refl
+
+pub application_parts : (fs : List Form) (a b c : Form) → 3 ≤ length fs → length fs < 4 → a ≡ get_or fs 0 a → b ≡ get_or fs 1 b → c ≡ get_or fs 2 c
+    → application_in (map tree_of fs) ≡ frame_in (tree_of a) >>= λ frame. declared_by frame (tree_of b) (tree_of c)
+application_parts [] a b c l k p q r = absurd (omega arith)
+application_parts (g ∷ []) a b c l k p q r = absurd (omega arith)
+application_parts (g ∷ h ∷ []) a b c l k p q r = absurd (omega arith)
+application_parts (g ∷ h ∷ i ∷ []) a b c l k p q r = rw (p, q, r) refl
+application_parts (g ∷ h ∷ i ∷ j ∷ fs) a b c l k p q r = absurd (omega arith)

@@ -78,7 +78,13 @@ fn display_row(alloc: Global, slot: &Text, at: u32, parts: &[Form]) -> Result<Di
     display_of(alloc, slot, at, name, body)
 }
 
-fn display_of(alloc: Global, slot: &Text, at: u32, name: &Form, body: &[Form]) -> Result<DisplayDecl, Stop>
+fn display_of(
+    alloc: Global,
+    slot: &Text,
+    at: u32,
+    name: &Form,
+    body: &[Form],
+) -> Result<DisplayDecl, Stop>
     ensures { Decodes result (display_of slot.now at (tree_of name.now) (map tree_of body.now)) }
 {
     let name = name_in(name)?;
@@ -127,7 +133,13 @@ fn command_row(alloc: Global, slot: &Text, at: u32, parts: &[Form]) -> Result<Co
     command_of(alloc, slot, at, name, body)
 }
 
-fn command_of(alloc: Global, slot: &Text, at: u32, name: &Form, body: &Form) -> Result<CommandDecl, Stop>
+fn command_of(
+    alloc: Global,
+    slot: &Text,
+    at: u32,
+    name: &Form,
+    body: &Form,
+) -> Result<CommandDecl, Stop>
     ensures { Decodes result (command_of slot.now at (tree_of name.now) (tree_of body.now)) }
 {
     let name = name_in(name)?;

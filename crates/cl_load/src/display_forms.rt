@@ -38,7 +38,9 @@ fn shape_row(alloc: Global, slot: &Text, parts: &[Form]) -> Result<Shape, Stop>
 {
     match parts {
         [head] if is_word(b"newline", head) => Ok(Shape::Newline),
-        [head, part] if is_word(b"write-text", head) => Ok(Shape::WriteText(term_in(alloc, slot, part)?)),
+        [head, part] if is_word(b"write-text", head) => Ok(Shape::WriteText(term_in(
+            alloc, slot, part,
+        )?)),
         _ => Err(Stop::Refused),
     }
 }

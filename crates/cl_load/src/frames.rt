@@ -46,7 +46,13 @@ fn frame_row(at: u32, parts: &[Form]) -> Result<FrameDecl, Stop>
     frame_of(at, name, size, slots, panes)
 }
 
-fn frame_of(at: u32, name: &Form, size: &Form, slots: &Form, panes: &Form) -> Result<FrameDecl, Stop>
+fn frame_of(
+    at: u32,
+    name: &Form,
+    size: &Form,
+    slots: &Form,
+    panes: &Form,
+) -> Result<FrameDecl, Stop>
     ensures value { Decodes result (frame_of at (tree_of name.now) (tree_of size.now) (tree_of slots.now) (tree_of panes.now)) }
     ensures size { IfOk result (λ f. IsSize f.width f.height) }
 {

@@ -13,11 +13,11 @@ returns-in_default c =
 pub returns-then-not-is_whole : goal.returns-then-not-is_whole
 returns-then-not-is_whole c =
     rw (pane_parts c.args.width c.args.height c.args.parts.now _ _ _ _ _ _ c.in-len6.len_at_least c.in-len6.len_below
-      c.name-item.is c.left-item.is c.top-item.is c.across-item.is c.down-item.is c.display-item.is)
+    c.name-item.is c.left-item.is c.top-item.is c.across-item.is c.down-item.is c.display-item.is)
     (rw (sym c.is_whole.ensures, c.if-not-is_whole.true) refl)
 
 pub returns : goal.returns
 returns c =
     rw (pane_parts c.args.width c.args.height c.args.parts.now _ _ _ _ _ _ c.in-len6.len_at_least c.in-len6.len_below
-      c.name-item.is c.left-item.is c.top-item.is c.across-item.is c.down-item.is c.display-item.is)
+    c.name-item.is c.left-item.is c.top-item.is c.across-item.is c.down-item.is c.display-item.is)
     (rw (sym c.is_whole.ensures, c.if-not-is_whole.false) c.pane_of.ensures)
