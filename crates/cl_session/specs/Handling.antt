@@ -17,7 +17,7 @@ HandlesTo h handling.Memory slots_old slots_new line_old line_new = (slots_new �
 abbrev pub HandlingRises : Handling → ℕ → ℕ → ℕ → Type 0
 HandlingRises (handling.Replied replies) old new cost = new ≡ old + cost
 HandlingRises (handling.Committed replies) old new cost = new ≡ old + cost
-HandlingRises handling.Memory old new cost = old ≤ new
+HandlingRises handling.Memory old new cost = (old ≤ new) × (new ≤ old + cost)
 
 abbrev pub IsReply : List ℕ → Handling → Type 0
 IsReply bytes (handling.Replied replies) = replies ≡ bytes ∷ []

@@ -29,5 +29,5 @@ SettlesTo old new shown report.Quiet = ⊥
 abbrev pub Rises : PaneReport → ℕ → ℕ → ℕ → Type 0
 Rises (report.Shown r) old new cost = new ≡ old + cost
 Rises (report.Trapped k) old new cost = new ≡ old + cost
-Rises report.Memory old new cost = old ≤ new
+Rises report.Memory old new cost = (old ≤ new) × (new ≤ old + cost)
 Rises report.Quiet old new cost = new ≡ old

@@ -1,5 +1,5 @@
 -- The step of a world by a gesture: the next world and the lines that are said of it.
-use Rattle.std.specs.Prelude.{ℕ, ◌+◌, Bool, true, false, ◌||◌, nat_le, is_none, if◌then◌else◌, List, [], ◌∷◌, ◌++◌, length, Option, Some, None, codes}
+use Rattle.std.specs.Prelude.{◌≡◌, ◌≤◌, ℕ, ◌+◌, Bool, true, false, ◌||◌, nat_le, is_none, if◌then◌else◌, List, [], ◌∷◌, ◌++◌, length, Option, Some, None, codes}
 use Rattle.std.specs.Fmt.{decimal}
 use Rattle.cl_syntax.specs.declared.declarations.App.{App}
 use Rattle.cl_eval.specs.declared.metering.Limits.{Limits}
@@ -120,6 +120,19 @@ after_handling app limits w h met = joined h (settled_if (h.commits || is_none w
 
 abbrev pub next : App → Limits → World → Gesture → Met → Next
 next app limits w g met = after_handling app limits w (handled_or_not app limits w g met.handling) met.pane
+
+-- a ledger rises by a cost; where want of memory was met, by no more
+abbrev pub RisesBy : Bool → (old new cost : ℕ) → Type 0
+RisesBy false old new cost = new ≡ old + cost
+RisesBy true old new cost = (old ≤ new) × (new ≤ old + cost)
+
+-- the ledger rises by the cost of what the handling ran, and then by the cost of the display, where the pane was settled
+pub record Spends (app : App) (limits : Limits) (w : World) (g : Gesture) (met : Met) (old new : ℕ) : Type 0 where
+  pub handled_at : ℕ
+  pub handling : RisesBy met.handling old handled_at (handled app limits w g).cost
+  pub settling : RisesBy met.pane handled_at new
+      (settled_if ((handled_or_not app limits w g met.handling).commits || is_none w.pane) app limits
+        (handled_or_not app limits w g met.handling).slots w.pane met.pane).cost
 
 -- the world at the opening
 abbrev pub opening : App → Limits → Slots → World

@@ -1,7 +1,10 @@
-ghost use Rattle.std.specs.Prelude.{◌≡◌, ◌≤◌, false, IfOk};
+ghost use Rattle.std.specs.Prelude.{◌≡◌, ◌≤◌, ◌+◌, ◌||◌, false, is_none, IfOk};
+ghost use Rattle.cl_display.specs.Script.{fresh};
+ghost use Rattle.cl_eval.specs.Outcome.{cost_of};
 ghost use Rattle.cl_raster.specs.Raster.{SameSize};
+ghost use Rattle.cl_session.specs.Replies.{met_memory, met_of};
 ghost use Rattle.cl_session.specs.Pane.{IsPainted};
-ghost use Rattle.cl_session.specs.Step.{opening};
+ghost use Rattle.cl_session.specs.Step.{RisesBy, Spends, opening, settled_if};
 ghost use Rattle.cl_session.specs.Session.{Fits, IsCurrent, SettlesIf, Steps as StepsTo, world_of};
 
 use crate::answers::{Lines, PaneReport, Replies};
@@ -41,6 +44,8 @@ impl Session {
     ) -> Result<Session, AllocError>
         ensures world { IfOk result (λ s. world_of s slots.now ≡ opening loaded.now.app s.limits slots.now) }
         ensures limits { IfOk result (λ s. (s.limits.budget ≡ budget) × (s.limits.depth ≡ 512)) }
+        ensures ledger { IfOk result (λ s. steps.new ≡ steps.old + cost_of (fresh s.limits loaded.now.app.display.body slots.now)) }
+        ensures later { steps.old ≤ steps.new }
         ensures fits { IfOk result (Fits loaded.now.app slots.now) }
     {
         let line = Line::new(alloc)?;
@@ -65,6 +70,7 @@ impl Session {
     ) -> Replies
         requires { Fits loaded.now.app slots.old self.old }
         ensures steps { StepsTo loaded.now.app self.old self.new slots.old slots.new gesture.now result }
+        ensures ledger { Spends loaded.now.app self.old.limits (world_of self.old slots.old) gesture.now (met_of result) steps.old steps.new }
         ensures fits { Fits loaded.now.app slots.new self.new }
     {
         let app = &loaded.app;
@@ -103,6 +109,7 @@ impl Session {
         ensures line { self.new.line ≡ self.old.line }
         ensures limits { self.new.limits ≡ self.old.limits }
         ensures outgoing { self.new.outgoing ≡ self.old.outgoing }
+        ensures ledger { RisesBy (met_memory result) steps.old steps.new (settled_if (due || is_none self.old.pane.history) app.now self.old.limits slots.now self.old.pane.history (met_memory result)).cost }
     {
         if due || self.pane.history.is_none() {
             self.pane.settle(alloc, &app.display.body, slots, self.limits, steps)
