@@ -20,8 +20,8 @@ pub grows-drawn : (bytes : List ℕ) (s : Drawing) → Grows (drawn bytes s)
 grows-drawn [] s = λ c d. omega arith
 grows-drawn (b ∷ bs) s =
     grows-choice (nat_le (s.x + length (b ∷ bs)) 1000000 && nat_le (s.y + 1) 1000000) _ (trap 9)
-      (grows-choice (nat_le (s.weight + length (b ∷ bs) + 1) 1000000) (give (with_text (b ∷ bs) s)) (trap 10) (λ c d. omega arith) (λ c d. omega arith))
-      (λ c d. omega arith)
+    (grows-choice (nat_le (s.weight + length (b ∷ bs) + 1) 1000000) (give (with_text (b ∷ bs) s)) (trap 10) (λ c d. omega arith) (λ c d. omega arith))
+    (λ c d. omega arith)
 
 pub grows-written : (s : Drawing) (x : Data) → Grows (written s x)
 grows-written s (text bytes) = grows-drawn bytes s
@@ -39,13 +39,13 @@ grows-draws zero budget slots level f s =
     grows-then (entering 0 budget level) (λ _. trap 6) (grows-entering 0 budget level) (λ _ c d. omega arith)
 grows-draws (suc left) budget slots level f s =
     grows-then (entering (suc left) budget level) (λ _. shape_parts (means left budget slots) (level + 1) f s) (grows-entering (suc left) budget level)
-      (λ _. grows-shape_parts (means left budget slots) (grows-means left budget slots) (level + 1) f s)
+    (λ _. grows-shape_parts (means left budget slots) (grows-means left budget slots) (level + 1) f s)
 
 pub grows-draws_all : (left budget : ℕ) (slots : Slots) (level : ℕ) (fs : List Shape) (s : Drawing) → Grows (draws_all left budget slots level fs s)
 grows-draws_all left budget slots level [] s = λ c d. omega arith
 grows-draws_all left budget slots level (f ∷ fs) s =
     grows-then (draws left budget slots level f s) (draws_all left budget slots level fs) (grows-draws left budget slots level f s)
-      (grows-draws_all left budget slots level fs)
+    (grows-draws_all left budget slots level fs)
 
 -- a stop before the rest of a run
 pub Draws-stop : {A B : Type 0} (f : A → B) (e : Stop) (m : Meter) (o : Outcome B) (s : Drawing) (k : B → Run Drawing) → ((x : B) → Grows (k x))

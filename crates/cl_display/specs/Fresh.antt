@@ -14,8 +14,11 @@ use Rattle.cl_display.specs.declared.histories.TextItem.{TextItem}
 -- the text item and the cursor to its right
 abbrev pub with_text : List ℕ → Drawing → Drawing
 with_text bytes s = record {
-    x = s.x + length bytes; y = s.y; weight = s.weight + length bytes + 1;
-    history = s.history ++ record { x = s.x; y = s.y; text = bytes } ∷ [] }
+  x = s.x + length bytes;
+  y = s.y;
+  weight = s.weight + length bytes + 1;
+  history = s.history ++ record { x = s.x; y = s.y; text = bytes } ∷ [];
+}
 
 -- a text at the cursor; an empty one draws nothing
 abbrev pub drawn : List ℕ → Drawing → Run Drawing

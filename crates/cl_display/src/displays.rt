@@ -49,7 +49,14 @@ pub fn display<L: Ledger>(
         weight: 0,
         history: History::empty(alloc),
     };
-    match draw_all(&context, forms.as_slice(), limits.depth, &mut drawing, &mut meter, steps) {
+    match draw_all(
+        &context,
+        forms.as_slice(),
+        limits.depth,
+        &mut drawing,
+        &mut meter,
+        steps,
+    ) {
         Ok(()) => Shown::Built(drawing.history),
         Err(Stop::Trap(kind)) => match trapped(alloc, kind) {
             Ok(history) => Shown::Trapped(history, kind),

@@ -34,7 +34,7 @@ by_test false o p c h g = g
 pub grows-entering : (left budget level : ℕ) → Grows (entering left budget level)
 grows-entering left budget level c d =
     by_test (nat_le budget c) (Traps 5 c d) (if left == 0 then Traps 6 c d else Gives tt (c + 1) (max d (level + 1))) c (omega arith)
-      (by_test (left == 0) (Traps 6 c d) (Gives tt (c + 1) (max d (level + 1))) c (omega arith) (omega arith))
+    (by_test (left == 0) (Traps 6 c d) (Gives tt (c + 1) (max d (level + 1))) c (omega arith) (omega arith))
 
 pub grows-choice : {A : Type 0} (b : Bool) (r s : Run A) → Grows r → Grows s → Grows (if b then r else s)
 grows-choice true r s g h = g
@@ -63,14 +63,14 @@ grows-parts go slots g level (term.slot x) c d = grows-looked_up (found x slots)
 grows-parts go slots g level (term.text t) c d = grows-then (go level t) written (g level t) grows-written c d
 grows-parts go slots g level (term.arithmetic o s t) c d =
     grows-then (go level s) (λ x. go level t >>= λ y. calculated o x y) (g level s)
-      (λ x. grows-then (go level t) (λ y. calculated o x y) (g level t) (λ y. grows-calculated o x y)) c d
+    (λ x. grows-then (go level t) (λ y. calculated o x y) (g level t) (λ y. grows-calculated o x y)) c d
 
 pub grows-means : (left budget : ℕ) (slots : Slots) (level : ℕ) (t : Term) → Grows (means left budget slots level t)
 grows-means zero budget slots level t =
     grows-then (entering 0 budget level) (λ _. λ c d. Traps 6 c d) (grows-entering 0 budget level) (λ _ c d. omega arith)
 grows-means (suc left) budget slots level t =
     grows-then (entering (suc left) budget level) (λ _. parts (means left budget slots) slots (level + 1) t) (grows-entering (suc left) budget level)
-      (λ _. grows-parts (means left budget slots) slots (grows-means left budget slots) (level + 1) t)
+    (λ _. grows-parts (means left budget slots) slots (grows-means left budget slots) (level + 1) t)
 
 pub grows-second : (go : ℕ → Term → Run Data) → ((level : ℕ) (t : Term) → Grows (go level t)) → (level : ℕ) (o : Arithmetic) (t : Term) (x : Data)
     → Grows (go level t >>= λ y. calculated o x y)
@@ -92,7 +92,7 @@ grows-acts zero budget level a slots =
     grows-then (entering 0 budget level) (λ _. λ c d. Traps 6 c d) (grows-entering 0 budget level) (λ _ c d. omega arith)
 grows-acts (suc left) budget level a slots =
     grows-then (entering (suc left) budget level) (λ _. act_parts (means left budget slots) slots (level + 1) a) (grows-entering (suc left) budget level)
-      (λ _. grows-act_parts (means left budget slots) slots (grows-means left budget slots) (level + 1) a)
+    (λ _. grows-act_parts (means left budget slots) slots (grows-means left budget slots) (level + 1) a)
 
 pub grows-runs : (left budget level : ℕ) (as' : List Act) (slots : Slots) → Grows (runs left budget level as' slots)
 grows-runs left budget level [] slots c d = omega arith

@@ -18,7 +18,7 @@ put-here : (b : Bool) (x : List ℕ) (v : Value) (e : List ℕ × Value) (es : E
     → cond (not b) (1 + k) 0 < length es + 1
     → (k < length es → put x (data_of v) (map entry_of es) ≡ map entry_of (slice_set es k (x, v)))
     → (if b then (x, data_of v) ∷ map entry_of es else entry_of e ∷ put x (data_of v) (map entry_of es))
-      ≡ map entry_of (slice_set (e ∷ es) (cond (not b) (1 + k) 0) (x, v))
+    ≡ map entry_of (slice_set (e ∷ es) (cond (not b) (1 + k) 0) (x, v))
 put-here true x v e es k h go = refl
 put-here false x v e es k h go =
     let less : k < length es = omega arith in
@@ -36,7 +36,7 @@ put-none : (b : Bool) (x : List ℕ) (v : Value) (e : List ℕ × Value) (es : E
     → length es + 1 ≤ cond (not b) (1 + k) 0
     → (length es ≤ k → put x (data_of v) (map entry_of es) ≡ map entry_of (es ++ (x, v) ∷ []))
     → (if b then (x, data_of v) ∷ map entry_of es else entry_of e ∷ put x (data_of v) (map entry_of es))
-      ≡ map entry_of (e ∷ es ++ (x, v) ∷ [])
+    ≡ map entry_of (e ∷ es ++ (x, v) ∷ [])
 put-none true x v e es k h go = absurd (omega arith)
 put-none false x v e es k h go =
     let less : length es ≤ k = omega arith in

@@ -39,7 +39,14 @@ pub fn exec<L: Ledger>(
     ensures ledger { Rises result steps.old steps.new (cost_of (ran limits statements.now slots.now)) }
 {
     let mut meter = Meter::new();
-    match run_all(alloc, statements.as_slice(), slots, limits, &mut meter, steps) {
+    match run_all(
+        alloc,
+        statements.as_slice(),
+        slots,
+        limits,
+        &mut meter,
+        steps,
+    ) {
         Ok(slots) => Executed::Done(slots),
         Err(Stop::Trap(kind)) => Executed::Trap(kind),
         Err(Stop::Memory) => Executed::Memory,
@@ -109,7 +116,13 @@ fn run_parts<L: Ledger>(
 }
 
 // The slots with a new number in one of them.
-fn assign(alloc: Global, name: &Text, value: Value, slots: &Slots, meter: &Meter) -> Result<Slots, Stop>
+fn assign(
+    alloc: Global,
+    name: &Text,
+    value: Value,
+    slots: &Slots,
+    meter: &Meter,
+) -> Result<Slots, Stop>
     ensures { Agrees same_slots result meter.now (assigned name.now slots.now (found name.now slots.now) (data_of value) meter.now.cost meter.now.deepest) }
 {
     match (slots.get(name.as_slice()), &value) {

@@ -3,13 +3,11 @@
 
 pub mod evaluation;
 pub mod execution;
-
 pub mod metering;
 pub mod operators;
 pub mod slot_table;
 
 pub use evaluation::{Context, evaluate};
 pub use execution::{Executed, exec};
-
 pub use metering::{Limits, Meter, Stop};
 pub use slot_table::Slots;

@@ -41,7 +41,12 @@ fn decimal(alloc: Global, number: i64) -> Result<Text, AllocError>
 }
 
 /// The sum of two numbers, where it is one.
-pub fn calculate(operator: Arithmetic, first: &Value, second: &Value, meter: &Meter) -> Result<Value, Stop>
+pub fn calculate(
+    operator: Arithmetic,
+    first: &Value,
+    second: &Value,
+    meter: &Meter,
+) -> Result<Value, Stop>
     ensures { Agrees data_of result meter.now (calculated operator (data_of first.now) (data_of second.now) meter.now.cost meter.now.deepest) }
 {
     match (operator, first, second) {

@@ -82,9 +82,7 @@ impl Slots {
 fn place_of(entries: &[(Text, Value)], name: &[u8]) -> Option<usize>
     ensures { result ≡ position (is_named name.now) entries.now }
 {
-    entries
-        .iter()
-        .position(|entry| entry.0.as_slice() == name)
+    entries.iter().position(|entry| entry.0.as_slice() == name)
 }
 
 fn set_entry(entries: &mut Vec<(Text, Value)>, at: usize, entry: (Text, Value))

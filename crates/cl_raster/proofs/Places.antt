@@ -19,13 +19,13 @@ pub at_place-set : (cells : List ℕ) (w x y v i j : ℕ) → x < w → i < w �
     → at_place (slice_set cells (y * w + x) v) w i j ≡ (if (i == x) && (j == y) then v else at_place cells w i j)
 at_place-set cells w x y v i j hx hi h =
     by_test (λ n. at_place (slice_set cells (y * w + x) v) w i j ≡ n) ((i == x) && (j == y)) v (at_place cells w i j)
-      (λ yes. let column : i ≡ x = grind (arith, nat_tests, yes) in
-              let row : j ≡ y = grind (arith, nat_tests, yes) in
-              rw (column, row) (get_or-set_same cells (y * w + x) v 0 h))
-      (λ no. get_or-set_other cells (y * w + x) (j * w + i) v 0
-              (λ e. let column = same_column w x y i j hx hi e in
-                    let row = same_row w x y i j hx hi e in
-                    grind (arith, nat_tests, no, column, row)))
+    (λ yes. let column : i ≡ x = grind (arith, nat_tests, yes) in
+    let row : j ≡ y = grind (arith, nat_tests, yes) in
+    rw (column, row) (get_or-set_same cells (y * w + x) v 0 h))
+    (λ no. get_or-set_other cells (y * w + x) (j * w + i) v 0
+    (λ e. let column = same_column w x y i j hx hi e in
+    let row = same_row w x y i j hx hi e in
+    grind (arith, nat_tests, no, column, row)))
 
 pub inside : (w h x y : ℕ) → x < w → y < h → y * w + x < w * h
 inside w h x y hx hy =
@@ -41,5 +41,5 @@ sets-put w h x y glyph ink glyphs inks new_glyphs new_inks hx hy ge ie g i =
     record {
       size = record { width = refl; height = refl };
       glyphs = λ a b less. rw g (at_place-set glyphs w x y glyph a b hx less (omega (arith, ge)));
-      inks = λ a b less. rw i (at_place-set inks w x y ink a b hx less (omega (arith, ie)))
+      inks = λ a b less. rw i (at_place-set inks w x y ink a b hx less (omega (arith, ie)));
     }

@@ -42,7 +42,14 @@ fn paint_bytes(raster: &mut Raster, x: u32, y: u16, bytes: &[u8])
         if column >= u32::from(raster.width()) {
             break;
         }
-        raster.set(column as u16, y, Cell { glyph: glyph(*byte), ink: 0 });
+        raster.set(
+            column as u16,
+            y,
+            Cell {
+                glyph: glyph(*byte),
+                ink: 0,
+            },
+        );
         column += 1;
     }
 }
@@ -52,5 +59,9 @@ fn glyph(byte: u8) -> u8
     ensures value { result ≡ glyph_of byte }
     ensures printable { (32 ≤ result) × (result ≤ 126) }
 {
-    if byte >= 32 && byte <= 126 { byte } else { b'#' }
+    if byte >= 32 && byte <= 126 {
+        byte
+    } else {
+        b'#'
+    }
 }

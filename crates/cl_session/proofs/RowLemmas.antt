@@ -1,5 +1,5 @@
 -- A row of cells that show some items is the row of these items.
-use Rattle.std.proofs.Common.{◌≡◌, ℕ, zero, suc, ◌+◌, ◌-◌, ◌*◌, ◌<◌, List, [], ◌∷◌, length, slice_index, take, drop, refl, sym, ◌∙◌, ap, arith, add-zero, zero-add, drop-cons, length-drop}
+use Rattle.std.proofs.Common.{◌≡◌, ℕ, zero, suc, ◌+◌, ◌-◌, ◌*◌, ◌<◌, List, ◌∷◌, length, slice_index, take, drop, refl, sym, ◌∙◌, ap, arith, add-zero, zero-add, drop-cons, length-drop}
 use Rattle.std.proofs.lemmas.List.{length-take}
 use Rattle.cl_display.specs.declared.histories.TextItem.{TextItem}
 use Rattle.cl_raster.specs.Raster.{Picture, row_of}
@@ -14,10 +14,10 @@ take-row_from items glyphs y k x (suc n) h f =
     let first : slice_index glyphs k ≡ painted items x y 32 = rw (add-zero, add-zero) at (f 0 (omega arith)) in
     let counted : length (take n (drop (k + 1) glyphs)) ≡ n = omega (arith, h, length-take (suc n) (drop k glyphs), length-drop k glyphs, length-take n (drop (k + 1) glyphs), length-drop (k + 1) glyphs) in
     let rest : take n (drop (k + 1) glyphs) ≡ row_from items y (x + 1) n =
-      take-row_from items glyphs y (k + 1) (x + 1) n counted
-        (λ i less. let one : k + 1 + i ≡ k + (i + 1) = omega arith in
-                   let two : x + 1 + i ≡ x + (i + 1) = omega arith in
-                   rw (one, two) (f (i + 1) (omega arith))) in
+    take-row_from items glyphs y (k + 1) (x + 1) n counted
+    (λ i less. let one : k + 1 + i ≡ k + (i + 1) = omega arith in
+    let two : x + 1 + i ≡ x + (i + 1) = omega arith in
+    rw (one, two) (f (i + 1) (omega arith))) in
     let next : suc k ≡ k + 1 = omega arith in
     rw (drop-cons glyphs k 0, next, first, rest)
 
@@ -28,7 +28,7 @@ row-shown_row items p y row shows less is count =
     let cells = rw wide at is in
     let counted : length (take p.width (drop (y * p.width) p.glyphs)) ≡ p.width = sym (ap length cells) ∙ count in
     cells ∙ take-row_from items p.glyphs y (y * p.width) 0 p.width counted
-      (λ i within. rw zero-add (shows i y within less))
+    (λ i within. rw zero-add (shows i y within less))
 
 pub rows_from-next : (items : List TextItem) (width y end : ℕ) → y < end
     → rows_from items width y (end - y) ≡ shown_row items width y ∷ rows_from items width (y + 1) (end - (y + 1))

@@ -1,5 +1,5 @@
 -- What a report says of a settled pane is what the definition says.
-use Rattle.std.proofs.Common.{◌≡◌, ℕ, ◌++◌, Bool, true, false, Option, Some, None, List, refl, sym, ◌∙◌, ap}
+use Rattle.std.proofs.Common.{◌≡◌, ℕ, ◌++◌, Bool, true, false, Option, Some, None, List, refl, ap}
 use Rattle.std.specs.Prelude.{◌||◌, is_none, ◌⊎◌}
 use Rattle.std.proofs.Common.{inl, inr}
 use Rattle.cl_syntax.specs.declared.declarations.App.{App}
@@ -12,7 +12,7 @@ use Rattle.cl_display.specs.Script.{fresh, history_of}
 use Rattle.cl_session.specs.declared.answers.PaneReport.{PaneReport}
 use Rattle.cl_session.specs.declared.answers.PaneReport.TheVariants as report
 use Rattle.cl_session.specs.World.{World, items_in}
-use Rattle.cl_session.specs.Step.{Handled, after_handling, settled, settled_if}
+use Rattle.cl_session.specs.Step.{Handled, after_handling, settled}
 use Rattle.cl_session.specs.Pane.{SettlesTo}
 use Rattle.cl_session.specs.Replies.{met_memory, report_lines}
 use Rattle.cl_session.specs.Session.{IsCurrent, SettlesIf}
@@ -56,9 +56,9 @@ current-settled app limits slots old new r h = by (fresh limits app.display.body
 pub settles-due : (due : Bool) (app : App) (limits : Limits) (slots : Slots) (old new : Option (List TextItem)) (r : PaneReport)
     → due || is_none old ≡ true → SettlesTo old new (fresh limits app.display.body slots) r → SettlesIf due app limits slots old new r
 settles-due due app limits slots old new r is h = record {
-    history = rw is (history-settled app old new (fresh limits app.display.body slots) r h);
-    lines = rw is (lines-settled app old new (fresh limits app.display.body slots) r h)
-  }
+  history = rw is (history-settled app old new (fresh limits app.display.body slots) r h);
+  lines = rw is (lines-settled app old new (fresh limits app.display.body slots) r h);
+}
 
 pub settles-quiet : (due : Bool) (app : App) (limits : Limits) (slots : Slots) (old : Option (List TextItem))
     → due || is_none old ≡ false → SettlesIf due app limits slots old old report.Quiet

@@ -12,10 +12,10 @@ Wrote-nothing a bytes = record { sent = []; appended = Appends-nil a; same = ref
 
 pub Wrote-trans : (a b c : Option (List ℕ)) (bytes left last : List ℕ) → Wrote a b bytes left → Wrote b c left last → Wrote a c bytes last
 Wrote-trans a b c bytes left last v w = record {
-    sent = v.sent ++ w.sent;
-    appended = Appends-trans a b c v.sent w.sent v.appended w.appended;
-    same = v.same ∙ (ap (λ xs. v.sent ++ xs) w.same ∙ sym (append_assoc v.sent w.sent last))
-  }
+  sent = v.sent ++ w.sent;
+  appended = Appends-trans a b c v.sent w.sent v.appended w.appended;
+  same = v.same ∙ (ap (λ xs. v.sent ++ xs) w.same ∙ sym (append_assoc v.sent w.sent last));
+}
 
 pub Wrote-kept : (a b c : Option (List ℕ)) (bytes left : List ℕ) → Wrote a b bytes left → Keeps b c → Wrote a c bytes left
 Wrote-kept a b c bytes left w k = record { sent = w.sent; appended = Appends-kept a b c w.sent w.appended k; same = w.same }
@@ -23,18 +23,18 @@ Wrote-kept a b c bytes left w k = record { sent = w.sent; appended = Appends-kep
 -- what comes behind is left
 pub Wrote-more : (a b : Option (List ℕ)) (bytes left more : List ℕ) → Wrote a b bytes left → Wrote a b (bytes ++ more) (left ++ more)
 Wrote-more a b bytes left more w = record {
-    sent = w.sent;
-    appended = w.appended;
-    same = ap (λ xs. xs ++ more) w.same ∙ append_assoc w.sent left more
-  }
+  sent = w.sent;
+  appended = w.appended;
+  same = ap (λ xs. xs ++ more) w.same ∙ append_assoc w.sent left more;
+}
 
 pub Wrote-taken : (a b : Option (List ℕ)) (bytes : List ℕ) (at count : ℕ) → Appends a b (take count (drop at bytes))
     → Wrote a b (drop at bytes) (drop (at + count) bytes)
 Wrote-taken a b bytes at count h = record {
-    sent = take count (drop at bytes);
-    appended = h;
-    same = sym (take-append-drop count (drop at bytes)) ∙ ap (λ xs. take count (drop at bytes) ++ xs) (drop-drop count at bytes)
-  }
+  sent = take count (drop at bytes);
+  appended = h;
+  same = sym (take-append-drop count (drop at bytes)) ∙ ap (λ xs. take count (drop at bytes) ++ xs) (drop-drop count at bytes);
+}
 
 -- the next piece is written, and the others are left
 pub Wrote-piece : {A : Type 0} (f : A → List ℕ) (a b : Option (List ℕ)) (pieces : List A) (d : A) (at : ℕ) (waits now : List ℕ)
@@ -44,9 +44,9 @@ Wrote-piece f a b pieces d at waits now h w =
     let rest : List ℕ = joined (map f (drop (at + 1) pieces)) in
     let one : suc at ≡ at + 1 = omega arith in
     let step : drop at pieces ≡ get_or pieces at d ∷ drop (at + 1) pieces =
-      drop-cons pieces at d h ∙ ap (λ n. get_or pieces at d ∷ drop n pieces) one in
+    drop-cons pieces at d h ∙ ap (λ n. get_or pieces at d ∷ drop n pieces) one in
     let whole : waits ++ joined (map f (drop at pieces)) ≡ (waits ++ f (get_or pieces at d)) ++ rest =
-      rw step (sym (append_assoc waits (f (get_or pieces at d)) rest)) in
+    rw step (sym (append_assoc waits (f (get_or pieces at d)) rest)) in
     rw whole (Wrote-more a b (waits ++ f (get_or pieces at d)) now rest w)
 
 -- a put that failed, of the first bytes
@@ -71,20 +71,24 @@ Puts-after false a b c waits bytes none e w x y z le h =
 pub Puts-piece : {A : Type 0} (f : A → List ℕ) (a b c : Option (List ℕ)) (all : List ℕ) (pieces : List A) (d : A) (at : ℕ) (waits now : List ℕ)
     (x y z : ℕ) → at < length pieces → Wrote a b all (waits ++ joined (map f (drop at pieces))) → x ≤ y
     → Puts false b c (waits ++ f (get_or pieces at d)) now y z → ((lost : List ℕ) × Wrote a c all lost) × Rose x z
-Puts-piece f a b c all pieces d at waits now x y z h w le p =
-    ((p.0.0 ++ joined (map f (drop (at + 1) pieces)),
-      Wrote-trans a b c all (waits ++ joined (map f (drop at pieces))) (p.0.0 ++ joined (map f (drop (at + 1) pieces))) w
-        (Wrote-piece f b c pieces d at waits p.0.0 h p.0.1)),
-    omega (arith, le, p.1))
+Puts-piece f a b c all pieces d at waits now x y z h w le p = (
+  (
+    p.0.0 ++ joined (map f (drop (at + 1) pieces)),
+    Wrote-trans a b c all (waits ++ joined (map f (drop at pieces))) (p.0.0 ++ joined (map f (drop (at + 1) pieces))) w
+        (Wrote-piece f b c pieces d at waits p.0.0 h p.0.1),
+  ),
+  omega (arith, le, p.1),
+)
 
 -- two puts, one after the other
 pub Puts-then : (done : Bool) (a b c : Option (List ℕ)) (waits xs ys mid now : List ℕ) (x y z : ℕ)
     → Wrote a b (waits ++ xs) mid → x ≤ y → Puts done b c (mid ++ ys) now y z → Puts done a c (waits ++ (xs ++ ys)) now x z
 Puts-then true a b c waits xs ys mid now x y z w le p =
     rw (← append_assoc waits xs ys) (Wrote-trans a b c ((waits ++ xs) ++ ys) (mid ++ ys) now (Wrote-more a b (waits ++ xs) mid ys w) p)
-Puts-then false a b c waits xs ys mid now x y z w le p =
-    ((p.0.0, rw (← append_assoc waits xs ys) (Wrote-trans a b c ((waits ++ xs) ++ ys) (mid ++ ys) p.0.0 (Wrote-more a b (waits ++ xs) mid ys w) p.0.1)),
-    omega (arith, le, p.1))
+Puts-then false a b c waits xs ys mid now x y z w le p = (
+  (p.0.0, rw (← append_assoc waits xs ys) (Wrote-trans a b c ((waits ++ xs) ++ ys) (mid ++ ys) p.0.0 (Wrote-more a b (waits ++ xs) mid ys w) p.0.1)),
+  omega (arith, le, p.1),
+)
 
 -- a put and then a flush of all that waits
 pub Says-flushed : (done : Bool) (a b c : Option (List ℕ)) (bytes mid now : List ℕ) (x y z : ℕ) → now ≡ []

@@ -1,7 +1,6 @@
 -- What a pane of a session is, and what settling it comes to.
 use Rattle.std.specs.Prelude.{◌≡◌, ℕ, ◌+◌, ◌≤◌, Option, Some, None, List, length}
 use Rattle.cl_eval.specs.Outcome.{Outcome, Gives, Traps}
-use Rattle.cl_raster.specs.Raster.{SameSize}
 use Rattle.cl_redisplay.specs.Paint.{Shows}
 use Rattle.cl_display.specs.declared.drawings.Drawing.{Drawing}
 use Rattle.cl_display.specs.declared.histories.TextItem.{TextItem}

@@ -1,5 +1,5 @@
 -- What serving a stream of gestures comes to.
-use Rattle.std.specs.Prelude.{◌≡◌, ◌<◌, ◌+◌, ℕ, Bool, true, false, Option, List, [], ◌∷◌, ◌++◌, length}
+use Rattle.std.specs.Prelude.{◌≡◌, ◌<◌, ℕ, Bool, true, false, Option, List, [], ◌++◌, length}
 use Rattle.std.specs.Io.KnownBytes.{Appends}
 use Rattle.cl_outside.specs.Causes.{Rose}
 use Rattle.cl_syntax.specs.declared.declarations.App.{App}

@@ -1,5 +1,5 @@
 -- What a session is as a world, and when it fits an application and slots.
-use Rattle.std.specs.Prelude.{◌≡◌, ◌⊎◌, ℕ, ◌+◌, ◌≤◌, Bool, ◌||◌, is_none, Option, Some, None, List, []}
+use Rattle.std.specs.Prelude.{◌≡◌, ◌⊎◌, ◌≤◌, Bool, ◌||◌, is_none, Option, Some, None, List, []}
 use Rattle.cl_syntax.specs.declared.declarations.App.{App}
 use Rattle.cl_eval.specs.Slots.{Slots}
 use Rattle.cl_eval.specs.declared.metering.Limits.{Limits}

@@ -53,8 +53,12 @@ returned app limits w Surplus = refused w 0 (codes "! surplus")
 
 abbrev pub framed : App → World → Handled
 framed app w = record {
-    replies = shown_rows (items_in w.pane) app.frame.width app.frame.height;
-    slots = w.slots; line = w.line; commits = false; cost = 0 }
+  replies = shown_rows (items_in w.pane) app.frame.width app.frame.height;
+  slots = w.slots;
+  line = w.line;
+  commits = false;
+  cost = 0;
+}
 
 abbrev pub handled : App → Limits → World → Gesture → Handled
 handled app limits w (gesture.«Type» text) = typed w text
@@ -111,9 +115,10 @@ pub record Next : Type 0 where
 
 abbrev pub joined : Handled → Settled → Next
 joined h s = record {
-    world = record { slots = h.slots; line = h.line; pane = s.pane };
-    lines = h.replies ++ s.lines;
-    cost = h.cost + s.cost }
+  world = record { slots = h.slots; line = h.line; pane = s.pane };
+  lines = h.replies ++ s.lines;
+  cost = h.cost + s.cost;
+}
 
 abbrev pub after_handling : App → Limits → World → Handled → Bool → Next
 after_handling app limits w h met = joined h (settled_if (h.commits || is_none w.pane) app limits h.slots w.pane met)
@@ -132,7 +137,7 @@ pub record Spends (app : App) (limits : Limits) (w : World) (g : Gesture) (met :
   pub handling : RisesBy met.handling old handled_at (handled app limits w g).cost
   pub settling : RisesBy met.pane handled_at new
       (settled_if ((handled_or_not app limits w g met.handling).commits || is_none w.pane) app limits
-        (handled_or_not app limits w g met.handling).slots w.pane met.pane).cost
+      (handled_or_not app limits w g met.handling).slots w.pane met.pane).cost
 
 -- the world at the opening
 abbrev pub opening : App → Limits → Slots → World

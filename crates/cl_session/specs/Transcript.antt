@@ -3,7 +3,6 @@ use Rattle.std.specs.Prelude.{◌≡◌, ℕ, ◌+◌, List, [], ◌∷◌, ◌+
 use Rattle.std.specs.Fmt.{decimal}
 use Rattle.cl_syntax.specs.declared.declarations.App.{App}
 use Rattle.cl_eval.specs.declared.metering.Limits.{Limits}
-use Rattle.cl_gesture.specs.declared.answers.Gesture.{Gesture}
 use Rattle.cl_gesture.specs.Lines.{Piece}
 use Rattle.cl_gesture.specs.Gesture.{LineKind, idle, bad, does, kind_of}
 use Rattle.cl_session.specs.World.{World}

@@ -1,5 +1,5 @@
 -- What a session is between two gestures.
-use Rattle.std.specs.Prelude.{ℕ, List, [], Option, Some, None, unwrap_or}
+use Rattle.std.specs.Prelude.{ℕ, List, [], Option, unwrap_or}
 use Rattle.cl_eval.specs.Slots.{Slots}
 use Rattle.cl_display.specs.declared.histories.TextItem.{TextItem}
 

@@ -100,5 +100,9 @@ impl Session {
 fn goes_on(written: bool) -> Option<End>
     ensures { result ≡ end_unless written }
 {
-    if written { None } else { Some(End::OutputFault) }
+    if written {
+        None
+    } else {
+        Some(End::OutputFault)
+    }
 }

@@ -51,10 +51,18 @@ impl Session {
         let line = Line::new(alloc)?;
         let outgoing = Outgoing::new(alloc)?;
         let mut pane = Pane::new(alloc, loaded.app.frame.width, loaded.app.frame.height)?;
-        let limits = Limits { budget, depth: DEPTH };
+        let limits = Limits {
+            budget,
+            depth: DEPTH,
+        };
         match pane.settle(alloc, &loaded.app.display.body, slots, limits, steps) {
             PaneReport::Memory => Err(AllocError),
-            _ => Ok(Session { line, pane, limits, outgoing }),
+            _ => Ok(Session {
+                line,
+                pane,
+                limits,
+                outgoing,
+            }),
         }
     }
 
@@ -74,18 +82,39 @@ impl Session {
         ensures fits { Fits loaded.now.app slots.new self.new }
     {
         let app = &loaded.app;
-        match handle(alloc, app, self.limits, gesture, &self.pane, slots, &mut self.line, steps) {
+        match handle(
+            alloc,
+            app,
+            self.limits,
+            gesture,
+            &self.pane,
+            slots,
+            &mut self.line,
+            steps,
+        ) {
             Handling::Replied(own) => {
                 let pane = self.settle_if(false, alloc, app, slots, steps);
-                Replies { own, memory: false, pane }
+                Replies {
+                    own,
+                    memory: false,
+                    pane,
+                }
             }
             Handling::Committed(own) => {
                 let pane = self.settle_if(true, alloc, app, slots, steps);
-                Replies { own, memory: false, pane }
+                Replies {
+                    own,
+                    memory: false,
+                    pane,
+                }
             }
             Handling::Memory => {
                 let pane = self.settle_if(false, alloc, app, slots, steps);
-                Replies { own: Lines::new(alloc), memory: true, pane }
+                Replies {
+                    own: Lines::new(alloc),
+                    memory: true,
+                    pane,
+                }
             }
         }
     }
@@ -112,7 +141,8 @@ impl Session {
         ensures ledger { RisesBy (met_memory result) steps.old steps.new (settled_if (due || is_none self.old.pane.history) app.now self.old.limits slots.now self.old.pane.history (met_memory result)).cost }
     {
         if due || self.pane.history.is_none() {
-            self.pane.settle(alloc, &app.display.body, slots, self.limits, steps)
+            self.pane
+                .settle(alloc, &app.display.body, slots, self.limits, steps)
         } else {
             PaneReport::Quiet
         }

@@ -12,7 +12,12 @@ use itoa::Buffer;
 
 /// Writes the lines of the replies to a gesture, for a pane of this name; false where the sink
 /// failed.
-pub fn say_replies<O: Sink>(outgoing: &mut Outgoing, out: &mut O, name: &[u8], replies: &Replies) -> bool
+pub fn say_replies<O: Sink>(
+    outgoing: &mut Outgoing,
+    out: &mut O,
+    name: &[u8],
+    replies: &Replies,
+) -> bool
     requires { outgoing.old ≡ [] }
     ensures lent { O.lent out.new ≡ O.lent out.old }
     ensures says { Says result (O.taken out.old) (O.taken out.new) (said (lines_of name.now replies.now)) (O.faults out.old) (O.faults out.new) }
@@ -35,7 +40,11 @@ pub fn say_bad<O: Sink>(outgoing: &mut Outgoing, out: &mut O, number: u32) -> bo
     ensures later { O.faults out.old ≤ O.faults out.new }
 {
     let mut digits = Buffer::new();
-    say_pieces(outgoing, out, &[b"! bad ", digits.format(number).as_bytes(), b"\n"])
+    say_pieces(
+        outgoing,
+        out,
+        &[b"! bad ", digits.format(number).as_bytes(), b"\n"],
+    )
 }
 
 /// Writes the line of a gesture that was lost for want of memory.
@@ -64,7 +73,12 @@ fn say_pieces<O: Sink>(outgoing: &mut Outgoing, out: &mut O, pieces: &[&[u8]]) -
     outgoing.flush(out)
 }
 
-fn put_replies<O: Sink>(outgoing: &mut Outgoing, out: &mut O, name: &[u8], replies: &Replies) -> bool
+fn put_replies<O: Sink>(
+    outgoing: &mut Outgoing,
+    out: &mut O,
+    name: &[u8],
+    replies: &Replies,
+) -> bool
     ensures lent { O.lent out.new ≡ O.lent out.old }
     ensures puts { Puts result (O.taken out.old) (O.taken out.new) (outgoing.old ++ said (lines_of name.now replies.now)) outgoing.new (O.faults out.old) (O.faults out.new) }
     ensures later { O.faults out.old ≤ O.faults out.new }
@@ -100,7 +114,12 @@ fn put_lines<O: Sink>(outgoing: &mut Outgoing, out: &mut O, lines: &[Text]) -> b
     true
 }
 
-fn put_report<O: Sink>(outgoing: &mut Outgoing, out: &mut O, name: &[u8], report: PaneReport) -> bool
+fn put_report<O: Sink>(
+    outgoing: &mut Outgoing,
+    out: &mut O,
+    name: &[u8],
+    report: PaneReport,
+) -> bool
     ensures lent { O.lent out.new ≡ O.lent out.old }
     ensures puts { Puts result (O.taken out.old) (O.taken out.new) (outgoing.old ++ said (report_lines name.now report)) outgoing.new (O.faults out.old) (O.faults out.new) }
     ensures later { O.faults out.old ≤ O.faults out.new }
@@ -109,7 +128,16 @@ fn put_report<O: Sink>(outgoing: &mut Outgoing, out: &mut O, name: &[u8], report
         PaneReport::Shown(report) => put_shown(outgoing, out, name, report),
         PaneReport::Trapped(kind) => {
             let mut digits = Buffer::new();
-            outgoing.put_all(out, &[b"pane ", name, b" trap ", digits.format(kind).as_bytes(), b"\n"])
+            outgoing.put_all(
+                out,
+                &[
+                    b"pane ",
+                    name,
+                    b" trap ",
+                    digits.format(kind).as_bytes(),
+                    b"\n",
+                ],
+            )
         }
         PaneReport::Memory => outgoing.put_all(out, &[b"pane ", name, b" memory", b"\n"]),
         PaneReport::Quiet => true,
@@ -127,7 +155,13 @@ fn put_shown<O: Sink>(outgoing: &mut Outgoing, out: &mut O, name: &[u8], report:
     put_tail(outgoing, out, report.drawn, report.erased)
 }
 
-fn put_head<O: Sink>(outgoing: &mut Outgoing, out: &mut O, name: &[u8], kept: u64, moved: u64) -> bool
+fn put_head<O: Sink>(
+    outgoing: &mut Outgoing,
+    out: &mut O,
+    name: &[u8],
+    kept: u64,
+    moved: u64,
+) -> bool
     ensures lent { O.lent out.new ≡ O.lent out.old }
     ensures puts { Puts result (O.taken out.old) (O.taken out.new) (outgoing.old ++ report_head name.now kept moved) outgoing.new (O.faults out.old) (O.faults out.new) }
     ensures later { O.faults out.old ≤ O.faults out.new }

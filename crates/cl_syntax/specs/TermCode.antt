@@ -28,7 +28,7 @@ code-inj (slot x) (slot y) p = ap slot ((coded_list coded_ℕ).inj x y (ap tail 
 code-inj (text s) (text t) p = ap text (code-inj s t (ap tail p))
 code-inj (arithmetic o s t) (arithmetic q u v) p = λ i.
     arithmetic (operator.the_row.coded.inj o q (ap (λ g. head (tail g)) p) i)
-      (code-inj s u (ap (λ g. head (tail (tail g))) p) i) (code-inj t v (ap (λ g. tail (tail (tail g))) p) i)
+    (code-inj s u (ap (λ g. head (tail (tail g))) p) i) (code-inj t v (ap (λ g. tail (tail (tail g))) p) i)
 code-inj x y p = cc
 
 abbrev pub coded_term : Coded Term

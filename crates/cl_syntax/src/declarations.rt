@@ -1,5 +1,5 @@
-use crate::statements::Acts;
 use crate::display_forms::Shapes;
+use crate::statements::Acts;
 use cl_value::{Text, Value};
 
 /// An application: what its text declares.

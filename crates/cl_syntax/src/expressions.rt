@@ -84,11 +84,7 @@ impl Expr {
         ensures { IfOk result (λ e. e ≡ arithmetic operator first second) }
     {
         Ok(Expr {
-            kind: ExprKind::Arithmetic(
-                operator,
-                Box::new(alloc, first)?,
-                Box::new(alloc, second)?,
-            ),
+            kind: ExprKind::Arithmetic(operator, Box::new(alloc, first)?, Box::new(alloc, second)?),
         })
     }
 }

@@ -18,9 +18,9 @@ returns-in_err-next-clause-meaning g c =
     let at = c.loop-statement.statement-index in
     let rest = drop (suc at) statements in
     let step : drop at statements ≡ c.statement-item.result ∷ rest =
-      drop-cons statements at c.statement-item.result c.loop-statement-test.true ∙ ap (λ (a : Act). a ∷ rest) (sym c.statement-item.is) in
+    drop-cons statements at c.statement-item.result c.loop-statement-test.true ∙ ap (λ (a : Act). a ∷ rest) (sym c.statement-item.is) in
     rw (p.1, p.2, ← c.loop-statement.invariant.meaning, step)
-      (Agrees-stop same_slots same_slots c.in_err-next.field-0.0 c.run.new.meter
-        (acts c.args.limits.depth c.args.limits.budget 0 c.statement-item.result c.loop-statement.current c.loop-statement.meter.cost c.loop-statement.meter.deepest)
-        (runs c.args.limits.depth c.args.limits.budget 0 rest) (grows-runs c.args.limits.depth c.args.limits.budget 0 rest)
-        c.in_err-next.ensures.meaning)
+    (Agrees-stop same_slots same_slots c.in_err-next.field-0.0 c.run.new.meter
+    (acts c.args.limits.depth c.args.limits.budget 0 c.statement-item.result c.loop-statement.current c.loop-statement.meter.cost c.loop-statement.meter.deepest)
+    (runs c.args.limits.depth c.args.limits.budget 0 rest) (grows-runs c.args.limits.depth c.args.limits.budget 0 rest)
+    c.in_err-next.ensures.meaning)

@@ -6,5 +6,5 @@ abbrev pub invariant-loop-statement : goal.invariant-loop-statement
 invariant-loop-statement g l = record {
   meaning : runs l.limits.depth l.limits.budget 0 (drop l.statement-index l.statements) l.current l.meter.cost l.meter.deepest
       ≡ runs l.limits.depth l.limits.budget 0 l.statements l.slots l.initial.meter.cost l.initial.meter.deepest;
-  ledger : l.steps + l.initial.meter.cost ≡ l.initial.steps + l.meter.cost
+  ledger : l.steps + l.initial.meter.cost ≡ l.initial.steps + l.meter.cost;
 }

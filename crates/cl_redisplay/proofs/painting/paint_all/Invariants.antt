@@ -7,5 +7,5 @@ abbrev pub invariant-loop-item : goal.invariant-loop-item
 invariant-loop-item l = record {
   size : SameSize l.initial.raster l.raster;
   glyphs : (x y : ℕ) → x < l.initial.raster.width → y < l.initial.raster.height →
-      painted (drop l.item-index l.items) x y (glyph_at l.raster x y) ≡ painted l.items x y (glyph_at l.initial.raster x y)
+      painted (drop l.item-index l.items) x y (glyph_at l.raster x y) ≡ painted l.items x y (glyph_at l.initial.raster x y);
 }

@@ -7,5 +7,5 @@ abbrev pub invariant-loop-byte : goal.invariant-loop-byte
 invariant-loop-byte l = record {
   size : SameSize l.initial.raster l.raster;
   glyphs : (x y : ℕ) → x < l.initial.raster.width →
-      with_bytes (drop l.byte-index l.bytes) l.column l.y x y (glyph_at l.raster x y) ≡ with_bytes l.bytes l.x l.y x y (glyph_at l.initial.raster x y)
+      with_bytes (drop l.byte-index l.bytes) l.column l.y x y (glyph_at l.raster x y) ≡ with_bytes l.bytes l.x l.y x y (glyph_at l.initial.raster x y);
 }

@@ -8,5 +8,5 @@ invariant-loop-line g l = record {
   lent : g.O.Sink.lent l.out ≡ g.O.Sink.lent l.initial.out;
   wrote : Wrote (g.O.Sink.taken l.initial.out) (g.O.Sink.taken l.out)
       (l.initial.outgoing ++ joined (map ended_line l.lines)) (l.outgoing ++ joined (map ended_line (drop l.line-index l.lines)));
-  later : g.O.Sink.faults l.initial.out ≤ g.O.Sink.faults l.out
+  later : g.O.Sink.faults l.initial.out ≤ g.O.Sink.faults l.out;
 }

@@ -15,5 +15,5 @@ invariant-turns g l = record {
   later : g.G.Source.faults (source_of l.initial.gestures) ≤ g.G.Source.faults (source_of l.gestures);
   out_later : g.O.Sink.faults l.initial.out ≤ g.O.Sink.faults l.out;
   fits : Fits l.loaded.app l.slots l.self;
-  limits : l.self.limits ≡ l.initial.self.limits
+  limits : l.self.limits ≡ l.initial.self.limits;
 }
