@@ -5,5 +5,7 @@ mod atom;
 mod form;
 mod laws;
 mod parse;
+#[cfg(test)]
+mod tests;
 
 pub use laws::one_tree;
