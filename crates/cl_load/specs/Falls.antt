@@ -5,7 +5,8 @@ use Rattle.cl_load.specs.Tree.{weight, weights, trees_of}
 use Rattle.cl_load.specs.Form.{tree_of}
 use Rattle.cl_load.specs.declared.form.Form.{Form}
 use Rattle.cl_load.specs.declared.form.Form.TheVariants as variant
-use Rattle.cl_load.specs.declared.form.Forms.TheDeep.{deep-Form}
+use Rattle.cl_load.specs.declared.form.Forms.TheDeep.{deep-Form, deep-Forms}
+use Rattle.cl_load.specs.declared.form.Forms.TheInside.{Inside}
 use denote.Param.Weighed.{most}
 
 pub deep-weight : (f : Form) → deep-Form f ≤ weight (tree_of f)
@@ -17,3 +18,6 @@ deep-weight (variant.Parts ts at) = omega arith
 pub most-weight : (fs : List Form) → most deep-Form fs ≤ weights (trees_of (map tree_of fs))
 most-weight [] = omega arith
 most-weight (f ∷ fs) = omega (arith, deep-weight f, most-weight fs)
+
+pub forms-weight : (a : Inside) → deep-Forms a ≤ weights (trees_of (map tree_of a.items.items))
+forms-weight a = omega (arith, most-weight a.items.items)

@@ -2,6 +2,7 @@
 use Rattle.std.specs.Prelude.{◌≡◌, ℕ, ◌+◌, ℤ, List, [], ◌∷◌, ◌++◌, refl}
 use Rattle.std.specs.Coded.{Coded, coded_ℕ, coded_ℤ, coded_list}
 use Rattle.std.proofs.Common.{ap}
+use Rattle.std.proofs.lemmas.Bool.{eqb-false}
 use base.Stored.{Gv, gnil, gnum, gcons}
 
 mutual
@@ -84,6 +85,18 @@ code_number gnil = 0
 code_number (gnum n) = n
 code_number (gcons a b) = 0
 
+abbrev pub has_parts : Gv → ℕ
+has_parts gnil = 0
+has_parts (gnum n) = 0
+has_parts (gcons a b) = 1
+
+-- the number of a kind
+abbrev pub kind_of : Tree → ℕ
+kind_of (number z at) = 0
+kind_of (literal s at) = 1
+kind_of (name s at) = 2
+kind_of (form ts at) = 3
+
 mutual
   pub code-inj : (x y : Tree) → code x ≡ code y → x ≡ y
   code-inj (number z m) (number w n) p =
@@ -102,7 +115,7 @@ mutual
       let first : ts ≡ us = codes_of-inj ts us (ap (λ g. code_head (code_tail g)) p) in
       let at : m ≡ n = ap (λ g. code_number (code_tail (code_tail g))) p in
       λ i. form (first i) (at i)
-  code-inj x y p = cc
+  code-inj x y p = absurd (eqb-false (kind_of x) (kind_of y) refl (ap (λ g. code_number (code_head g)) p))
 
   pub codes_of-inj : (ts us : Trees) → codes_of ts ≡ codes_of us → ts ≡ us
   codes_of-inj none none p = refl
@@ -110,7 +123,8 @@ mutual
       let first : t ≡ u = code-inj t u (ap code_head p) in
       let rest : ts ≡ us = codes_of-inj ts us (ap code_tail p) in
       λ i. item (first i) (rest i)
-  codes_of-inj ts us p = cc
+  codes_of-inj none (item u us) p = absurd (eqb-false 0 1 refl (ap has_parts p))
+  codes_of-inj (item t ts) none p = absurd (eqb-false 1 0 refl (ap has_parts p))
 
 abbrev pub tree_code : Coded Tree
 tree_code = record { code = code; inj = code-inj }

@@ -40,10 +40,9 @@ impl Model for Forms {
 
     ghost size = { λ ts. weights (trees_of ts) };
 
-    ghost use Rattle.std.proofs.Common.{arith};
-    ghost use Rattle.cl_load.specs.Falls.{most-weight};
+    ghost use Rattle.cl_load.specs.Falls.{forms-weight};
 
-    ghost size_decreases = { λ a h. Prim.omega (arith, most-weight a.items.items) };
+    ghost size_decreases = { λ a h. forms-weight a };
 }
 
 impl Forms {

@@ -15,6 +15,8 @@ mod loading;
 mod names;
 mod parse;
 mod statements;
+#[cfg(test)]
+mod tests;
 
 pub use application::Loaded;
 pub use laws::one_tree;

@@ -1,4 +1,4 @@
-//! The tokens of an application text.
+//! The tokens of an application text. Its form, the refusals and their numbers are our own profile.
 #![tactic(auto)]
 
 ghost use Rattle.std.specs.Prelude.{◌≡◌, ◌≤◌, IfOk, All, length};

@@ -1,4 +1,4 @@
-//! Texts and their tokens or refusals, from a reference of its own.
+//! Texts and their tokens or refusals, as a separate reference gives them.
 use super::*;
 use crate::Kind::{Close, Int, Open, Quote, Symbol, Text};
 use std::test::Fail;

@@ -1,6 +1,7 @@
 -- Values as pure data, and what is said of them: size, depth, order.
 use Rattle.std.specs.Prelude.{◌≡◌, ℕ, ◌+◌, ℤ, Bool, List, [], ◌∷◌, length, max, refl}
 use Rattle.std.proofs.Common.{ap}
+use Rattle.std.proofs.lemmas.Bool.{eqb-false}
 use Rattle.std.specs.declared.cmp.Ordering.{Ordering}
 use Rattle.std.specs.declared.cmp.Ordering.TheVariants.{Less, Equal, Greater}
 use Rattle.std.specs.Ordering.{nat_cmp, int_cmp, bool_cmp, ordering_then}
@@ -119,6 +120,17 @@ code_tail gnil = gnil
 code_tail (gnum n) = gnil
 code_tail (gcons a b) = b
 
+-- the number of a code's kind
+abbrev pub code_kind : Gv → ℕ
+code_kind gnil = 0
+code_kind (gnum n) = n
+code_kind (gcons a b) = code_kind a
+
+abbrev pub has_parts : Gv → ℕ
+has_parts gnil = 0
+has_parts (gnum n) = 0
+has_parts (gcons a b) = 1
+
 mutual
   pub code-inj : (x y : Data) → code x ≡ code y → x ≡ y
   code-inj (int m) (int n) p = ap int (coded_ℤ.inj m n (ap code_tail p))
@@ -131,7 +143,7 @@ mutual
       let names : s ≡ t = (coded_list coded_ℕ).inj s t (ap (λ g. code_head (code_tail g)) p) in
       let parts : ds ≡ es = code_items-inj ds es (ap (λ g. code_tail (code_tail g)) p) in
       λ i. rec (names i) (parts i)
-  code-inj x y p = cc
+  code-inj x y p = absurd (eqb-false (kind_of x) (kind_of y) refl (ap code_kind p))
 
   pub code_items-inj : (ds es : Items) → code_items ds ≡ code_items es → ds ≡ es
   code_items-inj none none p = refl
@@ -139,7 +151,8 @@ mutual
       let first : d ≡ e = code-inj d e (ap code_head p) in
       let rest : ds ≡ es = code_items-inj ds es (ap code_tail p) in
       λ i. item (first i) (rest i)
-  code_items-inj ds es p = cc
+  code_items-inj none (item e es) p = absurd (eqb-false 0 1 refl (ap has_parts p))
+  code_items-inj (item d ds) none p = absurd (eqb-false 1 0 refl (ap has_parts p))
 
 abbrev pub data_code : Coded Data
 data_code = record { code = code; inj = code-inj }

@@ -1,4 +1,5 @@
-//! Values of the application language, and their texts.
+//! Values of the application language, and their texts. The CLIM II specification leaves values to Lisp:
+//! the kinds, their sizes and their order are our own profile.
 #![tactic(auto)]
 
 ghost use Rattle.std.specs.Prelude.{◌≡◌, ◌==◌, ◌++◌, ◌∷◌, [], IfOk, IfErr, OnOk, OnErr, map};
