@@ -6,7 +6,7 @@ use Rattle.cl_eval.specs.declared.metering.Limits.{Limits}
 use Rattle.cl_gesture.specs.Lines.{Piece}
 use Rattle.cl_gesture.specs.Gesture.{LineKind, idle, bad, does, kind_of}
 use Rattle.cl_session.specs.World.{World}
-use Rattle.cl_session.specs.Step.{Met, next}
+use Rattle.cl_session.specs.Step.{Met, Spends, next}
 use Rattle.cl_session.specs.Writing.{joined}
 
 -- a line with the line feed that ends it
@@ -37,10 +37,18 @@ world_after app limits w bad went = w
 world_after app limits w (does g) lost = w
 world_after app limits w (does g) (stepped met) = (next app limits w g met).world
 
--- These bytes are a transcript of the pieces from a world on, where so many lines were read before. Want of memory is chosen
--- anew at each gesture; nothing else is free.
-abbrev pub IsTranscript : App → Limits → World → ℕ → List Piece → List ℕ → Type 0
-IsTranscript app limits w before [] bytes = bytes ≡ []
-IsTranscript app limits w before (p ∷ ps) bytes =
-    (went : Went) × (rest : List ℕ) × (bytes ≡ said_of app limits w before (kind_of p) went ++ rest)
-    × IsTranscript app limits (world_after app limits w (kind_of p) went) (before + 1) ps rest
+-- what a piece spends: the ledger rises by what its gesture ran
+abbrev pub Spent : App → Limits → World → LineKind → Went → (old new : ℕ) → Type 0
+Spent app limits w idle went old new = new ≡ old
+Spent app limits w bad went old new = new ≡ old
+Spent app limits w (does g) lost old new = new ≡ old
+Spent app limits w (does g) (stepped met) old new = Spends app limits w g met old new
+
+-- These bytes are a transcript of the pieces from a world on, where so many lines were read before, and the ledger rose from one
+-- number to another. Want of memory is chosen anew at each gesture; nothing else is free, but for the steps of what met it.
+abbrev pub IsTranscript : App → Limits → World → ℕ → List Piece → List ℕ → (old new : ℕ) → Type 0
+IsTranscript app limits w before [] bytes old new = (bytes ≡ []) × (new ≡ old)
+IsTranscript app limits w before (p ∷ ps) bytes old new =
+    (went : Went) × (rest : List ℕ) × (spent : ℕ) × (bytes ≡ said_of app limits w before (kind_of p) went ++ rest)
+    × Spent app limits w (kind_of p) went old spent
+    × IsTranscript app limits (world_after app limits w (kind_of p) went) (before + 1) ps rest spent new

@@ -43,7 +43,7 @@ impl Session {
     ) -> End
         requires fits { Fits loaded.now.app slots.old self.old }
         requires going { stop_of gestures.old ≡ stop.Going }
-        ensures serves { ServesTo loaded.now.app self.old.limits (world_of self.old slots.old) (progress_of G.left G.faults gestures.old) (progress_of G.left G.faults gestures.new) (O.taken out.old) (O.taken out.new) (O.faults out.old) (O.faults out.new) result }
+        ensures serves { ServesTo loaded.now.app self.old.limits (world_of self.old slots.old) (progress_of G.left G.faults gestures.old) (progress_of G.left G.faults gestures.new) (O.taken out.old) (O.taken out.new) steps.old steps.new (O.faults out.old) (O.faults out.new) result }
         ensures lent { G.lent (source_of gestures.new) ≡ G.lent (source_of gestures.old) }
         ensures out_lent { O.lent out.new ≡ O.lent out.old }
         ensures later { G.faults (source_of gestures.old) ≤ G.faults (source_of gestures.new) }
@@ -72,8 +72,8 @@ impl Session {
     ) -> Option<End>
         requires fits { Fits loaded.now.app slots.old self.old }
         requires open { (stop_of gestures.old ≡ stop.Going) ⊎ (stop_of gestures.old ≡ stop.AtEnd) }
-        ensures turns { stop_of gestures.old ≡ stop.Going → Turns loaded.now.app self.old.limits (world_of self.old slots.old) (world_of self.new slots.new) (progress_of G.left G.faults gestures.old) (progress_of G.left G.faults gestures.new) (O.taken out.old) (O.taken out.new) (O.faults out.old) (O.faults out.new) result }
-        ensures ended { stop_of gestures.old ≡ stop.AtEnd → (result ≡ Some End.Done) × (gestures.new ≡ gestures.old) × (out.new ≡ out.old) }
+        ensures turns { stop_of gestures.old ≡ stop.Going → Turns loaded.now.app self.old.limits (world_of self.old slots.old) (world_of self.new slots.new) (progress_of G.left G.faults gestures.old) (progress_of G.left G.faults gestures.new) (O.taken out.old) (O.taken out.new) steps.old steps.new (O.faults out.old) (O.faults out.new) result }
+        ensures ended { stop_of gestures.old ≡ stop.AtEnd → (result ≡ Some End.Done) × (gestures.new ≡ gestures.old) × (out.new ≡ out.old) × (steps.new ≡ steps.old) }
         ensures lent { G.lent (source_of gestures.new) ≡ G.lent (source_of gestures.old) }
         ensures out_lent { O.lent out.new ≡ O.lent out.old }
         ensures later { G.faults (source_of gestures.old) ≤ G.faults (source_of gestures.new) }

@@ -8,7 +8,7 @@ use Rattle.cl_session.proofs.sessions.Session.serve.Goals as goal
 pub turns-init : goal.turns-init
 turns-init g c = record {
   going = Going-nothing c.args.loaded.now.app c.args.self.now.limits (world_of c.args.self.now c.args.slots.now)
-      (progress_of g.G.Source.left g.G.Source.faults c.args.gestures.now) (g.O.Sink.taken c.args.out.now) c.requires.going;
+      (progress_of g.G.Source.left g.G.Source.faults c.args.gestures.now) (g.O.Sink.taken c.args.out.now) c.args.steps.now c.requires.going;
   counts = omega arith;
   lent = refl;
   out_lent = refl;
@@ -22,7 +22,7 @@ pub turn-requires-clause-open : goal.turn-requires-clause-open
 turn-requires-clause-open g c =
     stop-open c.args.loaded.now.app c.args.self.now.limits (world_of c.args.self.now c.args.slots.now) (world_of c.turns.self c.turns.slots)
     (progress_of g.G.Source.left g.G.Source.faults c.args.gestures.now) (progress_of g.G.Source.left g.G.Source.faults c.turns.gestures)
-    (g.O.Sink.taken c.args.out.now) (g.O.Sink.taken c.turns.out) c.turns.invariant.going
+    (g.O.Sink.taken c.args.out.now) (g.O.Sink.taken c.turns.out) c.args.steps.now c.turns.steps c.turns.invariant.going
 
 pub turns-preserved : goal.turns-preserved
 turns-preserved g c =
@@ -31,7 +31,7 @@ turns-preserved g c =
     (world_of c.turns.self c.turns.slots) (world_of c.turn.new.self c.turn.new.slots)
     (progress_of g.G.Source.left g.G.Source.faults c.args.gestures.now) (progress_of g.G.Source.left g.G.Source.faults c.turns.gestures)
     (progress_of g.G.Source.left g.G.Source.faults c.turn.new.gestures)
-    (g.O.Sink.taken c.args.out.now) (g.O.Sink.taken c.turns.out) (g.O.Sink.taken c.turn.new.out)
+    (g.O.Sink.taken c.args.out.now) (g.O.Sink.taken c.turns.out) (g.O.Sink.taken c.turn.new.out) c.args.steps.now c.turns.steps c.turn.new.steps
     (g.O.Sink.faults c.turns.out) (g.O.Sink.faults c.turn.new.out)
     c.turns.invariant.going turned (λ e. (c.in-None.ensures.ended e).0) in
     record {
@@ -51,8 +51,8 @@ returns-in-Some-clause-serves g c =
     ServesTo-end c.args.loaded.now.app c.args.self.now.limits (world_of c.args.self.now c.args.slots.now) (world_of c.turns.self c.turns.slots)
     (progress_of g.G.Source.left g.G.Source.faults c.args.gestures.now) (progress_of g.G.Source.left g.G.Source.faults c.turns.gestures)
     (progress_of g.G.Source.left g.G.Source.faults c.turn.new.gestures)
-    (g.O.Sink.taken c.args.out.now) (g.O.Sink.taken c.turns.out) (g.O.Sink.taken c.turn.new.out)
+    (g.O.Sink.taken c.args.out.now) (g.O.Sink.taken c.turns.out) (g.O.Sink.taken c.turn.new.out) c.args.steps.now c.turns.steps c.turn.new.steps
     (g.O.Sink.faults c.args.out.now) (g.O.Sink.faults c.turns.out) (g.O.Sink.faults c.turn.new.out)
     c.turns.invariant.going c.turns.invariant.later c.turns.invariant.out_later c.in-Some.end turned
     (λ e. let done = c.in-Some.ensures.ended e in
-    (cc, ap (λ (s : Gestures g.row.G.Denot). progress_of g.G.Source.left g.G.Source.faults s) done.1, ap g.O.Sink.taken done.2))
+    (cc, ap (λ (s : Gestures g.row.G.Denot). progress_of g.G.Source.left g.G.Source.faults s) done.1, ap g.O.Sink.taken done.2, done.3))

@@ -8,7 +8,7 @@ abbrev pub invariant-turns : goal.invariant-turns
 invariant-turns g l = record {
   going : Going l.loaded.app l.initial.self.limits (world_of l.initial.self l.initial.slots) (world_of l.self l.slots)
       (progress_of g.G.Source.left g.G.Source.faults l.initial.gestures) (progress_of g.G.Source.left g.G.Source.faults l.gestures)
-      (g.O.Sink.taken l.initial.out) (g.O.Sink.taken l.out);
+      (g.O.Sink.taken l.initial.out) (g.O.Sink.taken l.out) l.initial.steps l.steps;
   counts : l._turn ≤ count_of l.gestures;
   lent : g.G.Source.lent (source_of l.gestures) ≡ g.G.Source.lent (source_of l.initial.gestures);
   out_lent : g.O.Sink.lent l.out ≡ g.O.Sink.lent l.initial.out;

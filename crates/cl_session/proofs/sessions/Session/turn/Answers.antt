@@ -15,8 +15,8 @@ returns-in-Gesture-clause-turns g c = λ going.
     (world_of c.step-replies.new.self c.step-replies.new.slots) (does c.in-Gesture.gesture) (stepped (met_of c.step-replies.result))
     (progress_of g.G.Source.left g.G.Source.faults c.args.gestures.now) (progress_of g.G.Source.left g.G.Source.faults c.next.new.self)
     (c.in-Gesture.ensures.next going) (g.O.Sink.taken c.args.out.now) (g.O.Sink.taken c.say_replies.new.out)
-    (said (lines_of c.as_slice-name.result.now c.step-replies.result)) (g.O.Sink.faults c.args.out.now) (g.O.Sink.faults c.say_replies.new.out)
-    (ap said lines) c.step-replies.ensures.steps.world c.say_replies.ensures.says)
+    (said (lines_of c.as_slice-name.result.now c.step-replies.result)) c.args.steps.now c.step-replies.new.steps (g.O.Sink.faults c.args.out.now) (g.O.Sink.faults c.say_replies.new.out)
+    (ap said lines) c.step-replies.ensures.steps.world c.step-replies.ensures.ledger c.say_replies.ensures.says)
 
 pub returns-in-Bad-clause-turns : goal.returns-in-Bad-clause-turns
 returns-in-Bad-clause-turns g c = λ going.
@@ -28,8 +28,8 @@ returns-in-Bad-clause-turns g c = λ going.
     (world_of c.args.self.now c.args.slots.now) bad lost
     (progress_of g.G.Source.left g.G.Source.faults c.args.gestures.now) (progress_of g.G.Source.left g.G.Source.faults c.next.new.self)
     r.0 (g.O.Sink.taken c.args.out.now) (g.O.Sink.taken c.say_bad.new.out)
-    (said (bad_line c.in-Bad.number ∷ [])) (g.O.Sink.faults c.args.out.now) (g.O.Sink.faults c.say_bad.new.out)
-    (ap (λ n. said (bad_line n ∷ [])) number) refl c.say_bad.ensures.says)
+    (said (bad_line c.in-Bad.number ∷ [])) c.args.steps.now c.args.steps.now (g.O.Sink.faults c.args.out.now) (g.O.Sink.faults c.say_bad.new.out)
+    (ap (λ n. said (bad_line n ∷ [])) number) refl refl c.say_bad.ensures.says)
 
 pub returns-in-Memory-clause-turns : goal.returns-in-Memory-clause-turns
 returns-in-Memory-clause-turns g c = λ going.
@@ -39,27 +39,27 @@ returns-in-Memory-clause-turns g c = λ going.
     (world_of c.args.self.now c.args.slots.now) (does r.0) lost
     (progress_of g.G.Source.left g.G.Source.faults c.args.gestures.now) (progress_of g.G.Source.left g.G.Source.faults c.next.new.self)
     r.1 (g.O.Sink.taken c.args.out.now) (g.O.Sink.taken c.say_lost.new.out)
-    (said (codes "! memory" ∷ [])) (g.O.Sink.faults c.args.out.now) (g.O.Sink.faults c.say_lost.new.out)
-    refl refl c.say_lost.ensures.says)
+    (said (codes "! memory" ∷ [])) c.args.steps.now c.args.steps.now (g.O.Sink.faults c.args.out.now) (g.O.Sink.faults c.say_lost.new.out)
+    refl refl refl c.say_lost.ensures.says)
 
 pub returns-in-End-clause-turns : goal.returns-in-End-clause-turns
 returns-in-End-clause-turns g c = λ going.
     Served-end c.args.loaded.now.app c.args.self.now.limits (world_of c.args.self.now c.args.slots.now)
     (progress_of g.G.Source.left g.G.Source.faults c.args.gestures.now) (progress_of g.G.Source.left g.G.Source.faults c.next.new.self)
-    (c.in-End.ensures.next going) (g.O.Sink.taken c.args.out.now)
+    (c.in-End.ensures.next going) (g.O.Sink.taken c.args.out.now) c.args.steps.now
 
 pub returns-in-ReadFault-clause-turns : goal.returns-in-ReadFault-clause-turns
 returns-in-ReadFault-clause-turns g c = λ going.
     Faulted-fault c.args.loaded.now.app c.args.self.now.limits (world_of c.args.self.now c.args.slots.now)
     (progress_of g.G.Source.left g.G.Source.faults c.args.gestures.now) (progress_of g.G.Source.left g.G.Source.faults c.next.new.self)
-    (c.in-ReadFault.ensures.next going) (g.O.Sink.taken c.args.out.now)
+    (c.in-ReadFault.ensures.next going) (g.O.Sink.taken c.args.out.now) c.args.steps.now
 
 pub returns-in-TooMany-clause-turns : goal.returns-in-TooMany-clause-turns
 returns-in-TooMany-clause-turns g c = λ going.
     let r = c.in-TooMany.ensures.next going in (
       Served-limit c.args.loaded.now.app c.args.self.now.limits (world_of c.args.self.now c.args.slots.now)
           (progress_of g.G.Source.left g.G.Source.faults c.args.gestures.now) (progress_of g.G.Source.left g.G.Source.faults c.next.new.self)
-          r (g.O.Sink.taken c.args.out.now),
+          r (g.O.Sink.taken c.args.out.now) c.args.steps.now,
       r.full,
       r.further,
     )
