@@ -46,15 +46,17 @@ impl<G: Source> Gestures<G> {
         })
     }
 
-    /// The next gesture or bad line, or why there is none. Empty lines and comments are counted and passed over.
-    /// The source is read only where each line that has ended in the bytes ahead is idle, so that no answer waits for a
-    /// further byte.
+    /// The next gesture or bad line, or why there is none. Empty lines and comments are counted and
+    /// passed over. The source is read only where each line that has ended in the bytes ahead is
+    /// idle, so that no answer waits for a further byte.
     pub fn next(&mut self) -> Next
         ensures lent { G.lent (source_of self.new) ≡ G.lent (source_of self.old) }
         ensures later { G.faults (source_of self.old) ≤ G.faults (source_of self.new) }
-        ensures unread { AreIdle (ended (ahead_of self.old)) ⊎ (source_of self.new ≡ source_of self.old) }
+        ensures unread { AreIdle (ended (ahead_of self.old))
+            ⊎ (source_of self.new ≡ source_of self.old) }
         ensures again { Again (stop_of self.old) self.old self.new result }
-        ensures next { stop_of self.old ≡ stop.Going → NextOf (progress_of G.left G.faults self.old) (progress_of G.left G.faults self.new) result }
+        ensures next { stop_of self.old ≡ stop.Going →
+            NextOf (progress_of G.left G.faults self.old) (progress_of G.left G.faults self.new) result }
     {
         match self.stop {
             Stop::Going => {}
@@ -77,8 +79,10 @@ impl<G: Source> Gestures<G> {
         requires going { stop_of self.old ≡ stop.Going }
         ensures lent { G.lent (source_of self.new) ≡ G.lent (source_of self.old) }
         ensures later { G.faults (source_of self.old) ≤ G.faults (source_of self.new) }
-        ensures unread { UnreadTurn (source_of self.old) (source_of self.new) (ahead_of self.old) (ahead_of self.new) result }
-        ensures turn { TurnOf (progress_of G.left G.faults self.old) (progress_of G.left G.faults self.new) result }
+        ensures unread { UnreadTurn (source_of self.old) (source_of self.new)
+            (ahead_of self.old) (ahead_of self.new) result }
+        ensures turn { TurnOf (progress_of G.left G.faults self.old)
+            (progress_of G.left G.faults self.new) result }
     {
         match next_cut(&mut self.ahead, &mut self.source) {
             Cut::Line(length) => {
@@ -117,8 +121,10 @@ impl<G: Source> Gestures<G> {
         requires going { stop_of self.old ≡ stop.Going }
         ensures lent { G.lent (source_of self.new) ≡ G.lent (source_of self.old) }
         ensures later { G.faults (source_of self.old) ≤ G.faults (source_of self.new) }
-        ensures unread { (ended (ahead_of self.old) ≡ []) ⊎ (source_of self.new ≡ source_of self.old) }
-        ensures next { NextOf (progress_of G.left G.faults self.old) (progress_of G.left G.faults self.new) result }
+        ensures unread { (ended (ahead_of self.old) ≡ [])
+            ⊎ (source_of self.new ≡ source_of self.old) }
+        ensures next { NextOf (progress_of G.left G.faults self.old)
+            (progress_of G.left G.faults self.new) result }
     {
         if self.ahead.len() > 0 {
             self.stop = Stop::AtLimit;
