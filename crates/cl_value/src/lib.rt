@@ -85,6 +85,15 @@ impl Text {
         })
     }
 
+    /// A text of these bytes, which are not copied.
+    pub fn from_vec(alloc: Global, bytes: Vec<u8>) -> Result<Text, AllocError>
+        ensures { IfOk result (λ t. t ≡ bytes.items) }
+    {
+        Ok(Text {
+            bytes: Rc::new(alloc, bytes)?,
+        })
+    }
+
     /// The bytes.
     pub fn as_slice(&self) -> &[u8]
         ensures { result.now ≡ self.now }

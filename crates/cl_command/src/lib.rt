@@ -1,0 +1,6 @@
+// Command lines.
+#![tactic(auto)]
+
+pub mod lines;
+
+pub use lines::{Finished, Line, Pushed};

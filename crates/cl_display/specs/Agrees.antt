@@ -1,0 +1,29 @@
+-- What the evaluation of display forms answers, against what the definition says. Want of memory is no outcome.
+use Rattle.std.specs.Prelude.{◌≡◌, ◌+◌, ◌≤◌, ℕ, Result, Ok, Err, List}
+use Rattle.cl_eval.specs.declared.metering.Meter.{Meter}
+use Rattle.cl_eval.specs.declared.metering.Stop.{Stop}
+use Rattle.cl_eval.specs.declared.metering.Stop.TheVariants.{Trap, Memory}
+use Rattle.cl_eval.specs.Outcome.{Outcome, Gives, Traps}
+use Rattle.cl_display.specs.declared.drawings.Drawing.{Drawing}
+use Rattle.cl_display.specs.declared.displays.Shown.{Shown}
+use Rattle.cl_display.specs.declared.displays.Shown.TheVariants as shown
+use Rattle.cl_display.specs.Script.{trap_history}
+
+abbrev pub Draws : Result (Unit {0}) Stop → Drawing → Meter → Outcome Drawing → Type 0
+Draws (Ok u) s m o = o ≡ Gives s m.cost m.deepest
+Draws (Err (Trap k)) s m o = o ≡ Traps k m.cost m.deepest
+Draws (Err Memory) s m o = Unit {0}
+
+-- the history and the variant that belong to an outcome
+abbrev pub Shows : Shown → Outcome Drawing → Type 0
+Shows (shown.Built h) (Gives s cost deepest) = h ≡ s.history
+Shows (shown.Built h) (Traps kind cost deepest) = ⊥
+Shows (shown.Trapped h k) (Gives s cost deepest) = ⊥
+Shows (shown.Trapped h k) (Traps kind cost deepest) = (k ≡ kind) × (h ≡ trap_history kind)
+Shows shown.Memory o = Unit {0}
+
+-- the ledger rises by the cost; where there was no memory, by no more
+abbrev pub Rises : Shown → ℕ → ℕ → ℕ → Type 0
+Rises (shown.Built h) old new cost = new ≡ old + cost
+Rises (shown.Trapped h k) old new cost = new ≡ old + cost
+Rises shown.Memory old new cost = old ≤ new

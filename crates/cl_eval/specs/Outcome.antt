@@ -1,0 +1,28 @@
+-- What a run comes to, from the cost so far and the deepest level so far.
+use Rattle.std.specs.Prelude.{ℕ}
+
+-- a value, or a trap of some kind; each with the cost and the deepest level then
+pub data Outcome (A : Type 0) : Type 0 where
+  Gives : A → (cost deepest : ℕ) → Outcome A
+  Traps : (kind cost deepest : ℕ) → Outcome A
+
+abbrev pub Run : Type 0 → Type 0
+Run A = ℕ → ℕ → Outcome A
+
+abbrev pub give : {A : Type 0} → A → Run A
+give x cost deepest = Gives x cost deepest
+
+abbrev pub trap : {A : Type 0} → ℕ → Run A
+trap kind cost deepest = Traps kind cost deepest
+
+abbrev pub after : {A B : Type 0} → Outcome A → (A → Run B) → Outcome B
+after (Gives x cost deepest) f = f x cost deepest
+after (Traps kind cost deepest) f = Traps kind cost deepest
+
+infixl 10 ◌>>=◌
+abbrev pub ◌>>=◌ : {A B : Type 0} → Run A → (A → Run B) → Run B
+(m >>= f) cost deepest = after (m cost deepest) f
+
+abbrev pub cost_of : {A : Type 0} → Outcome A → ℕ
+cost_of (Gives x cost deepest) = cost
+cost_of (Traps kind cost deepest) = cost

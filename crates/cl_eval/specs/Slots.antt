@@ -1,0 +1,28 @@
+-- Slots are names with values, in the order in which they were added.
+use Rattle.std.specs.Prelude.{ℕ, Bool, if◌then◌else◌, ◌==◌, List, [], ◌∷◌, Option, Some, None}
+use Rattle.std.specs.Cmp.Lexicographic.{pointwise}
+use Rattle.cl_value.specs.Data.{Data}
+use Rattle.cl_value.specs.declared.Value.{Value}
+use Rattle.cl_value.specs.Value.{data_of}
+
+abbrev pub Slots : Type 0
+Slots = List (List ℕ × Data)
+
+abbrev pub is_name : List ℕ → List ℕ → Bool
+is_name x y = pointwise ◌==◌ x y
+
+abbrev pub found : List ℕ → Slots → Option Data
+found x [] = None
+found x (s ∷ slots) = if is_name s.0 x then Some s.1 else found x slots
+
+-- the slot of that name with this value, or a new one at the end
+abbrev pub put : List ℕ → Data → Slots → Slots
+put x d [] = (x, d) ∷ []
+put x d (s ∷ slots) = if is_name s.0 x then (x, d) ∷ slots else s ∷ put x d slots
+
+-- a name with its value, as the program holds them
+abbrev pub entry_of : List ℕ × Value → List ℕ × Data
+entry_of e = (e.0, data_of e.1)
+
+abbrev pub is_named : List ℕ → List ℕ × Value → Bool
+is_named x e = is_name e.0 x

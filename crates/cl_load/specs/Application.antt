@@ -1,0 +1,280 @@
+-- The application that a text declares: a frame with one slot and one pane, its display, and one command.
+use Rattle.std.specs.Prelude.{◌≡◌, ℕ, ◌≤◌, ◌<◌, ◌-◌, ℤ, pos, Bool, true, false, not, ◌&&◌, ◌||◌, ◌==◌, nat_le, if◌then◌else◌, List, [], ◌∷◌, ◌++◌, length, drop, Option, Some, None, Result, Ok, Err, nat_eq, codes}
+use Rattle.std.specs.List.{starts_with}
+use Rattle.std.specs.Str.{bytes_eq}
+use Rattle.cl_value.specs.Data.{int}
+use Rattle.cl_value.specs.declared.Value.TheVariants as value
+use Rattle.cl_sexp.specs.Tokens.{tokens_of}
+use Rattle.cl_sexp.specs.declared.Token.{Token}
+use Rattle.cl_syntax.specs.Term.{Term, constant, slot, text, arithmetic}
+use Rattle.cl_syntax.specs.declared.expressions.Arithmetic.TheVariants.{Add}
+use Rattle.cl_syntax.specs.declared.display_forms.Shape.{Shape}
+use Rattle.cl_syntax.specs.declared.display_forms.Shape.TheVariants.{WriteText, Newline}
+use Rattle.cl_syntax.specs.declared.statements.Act.{Act}
+use Rattle.cl_syntax.specs.declared.statements.Act.TheVariants.{Setf}
+use Rattle.cl_syntax.specs.declared.declarations.App.{App}
+use Rattle.cl_syntax.specs.declared.declarations.FrameDecl.{FrameDecl}
+use Rattle.cl_syntax.specs.declared.declarations.SlotDecl.{SlotDecl}
+use Rattle.cl_syntax.specs.declared.declarations.PaneDecl.{PaneDecl}
+use Rattle.cl_syntax.specs.declared.declarations.DisplayDecl.{DisplayDecl}
+use Rattle.cl_syntax.specs.declared.declarations.CommandDecl.{CommandDecl}
+use Rattle.cl_load.specs.Tree.{Tree, Trees, number, literal, name, form, none, item, trees_of, spelled_all}
+use Rattle.cl_load.specs.Spelled.{lexemes}
+
+infixl 10 ◌>>=◌
+abbrev pub ◌>>=◌ : {A B : Type 0} → Option A → (A → Option B) → Option B
+None >>= f = None
+Some x >>= f = f x
+
+abbrev pub parts_of : Trees → List Tree
+parts_of none = []
+parts_of (item t ts) = t ∷ parts_of ts
+
+-- ---- names and numbers
+
+-- a constant, `*` and a `'` are no names
+abbrev pub is_constant : List ℕ → Bool
+is_constant bytes =
+    bytes_eq bytes (codes "true") || bytes_eq bytes (codes "false") || bytes_eq bytes (codes "null") || bytes_eq bytes (codes "*") || bytes_eq bytes (codes "'")
+
+-- a symbol of at most 64 bytes that is no key, which begins with `:`, and no constant
+abbrev pub is_name : List ℕ → Bool
+is_name bytes = nat_le (length bytes) 64 && not (starts_with nat_eq bytes (codes ":")) && not (is_constant bytes)
+
+abbrev pub some_if : {A : Type 0} → Bool → A → Option A
+some_if true x = Some x
+some_if false x = None
+
+abbrev pub name_in : Tree → Option (List ℕ)
+name_in (name bytes at) = some_if (is_name bytes) bytes
+name_in (number z at) = None
+name_in (literal s at) = None
+name_in (form ts at) = None
+
+-- a number from a low one to a high one
+abbrev pub number_in : ℕ → ℕ → Tree → Option ℕ
+number_in low high (number (pos n) at) = some_if (nat_le low n && nat_le n high) n
+number_in low high t = None
+
+abbrev pub is_word : List ℕ → Tree → Bool
+is_word word (name bytes at) = bytes_eq bytes word
+is_word word (number z at) = false
+is_word word (literal s at) = false
+is_word word (form ts at) = false
+
+-- ---- expressions, over the one slot
+
+-- a part of a form: as it stands, and as the expression that it is
+pub record Sub : Type 0 where
+  pub shape : Tree
+  pub term : Option Term
+
+-- `(slot NAME)`
+abbrev pub slot_row : List ℕ → List Sub → Option Term
+slot_row x (a ∷ []) = some_if (is_word x a.shape) (slot x)
+slot_row x parts = None
+
+-- `(text E)`
+abbrev pub text_row : List Sub → Option Term
+text_row (a ∷ []) = a.term >>= λ t. Some (text t)
+text_row parts = None
+
+-- `(+ E E)`
+abbrev pub sum_row : List Sub → Option Term
+sum_row (a ∷ b ∷ []) = a.term >>= λ s. b.term >>= λ t. Some (arithmetic Add s t)
+sum_row parts = None
+
+abbrev pub row_of : List ℕ → List Sub → Option Term
+row_of x [] = None
+row_of x (head ∷ parts) =
+    if is_word (codes "slot") head.shape then slot_row x parts
+    else (if is_word (codes "text") head.shape then text_row parts
+    else (if is_word (codes "+") head.shape then sum_row parts else None))
+
+abbrev mutual
+  pub term_in : List ℕ → Tree → Option Term
+  term_in x (number z at) = Some (constant (int z))
+  term_in x (literal s at) = None
+  term_in x (name s at) = None
+  term_in x (form ts at) = row_of x (subs x ts)
+
+  pub subs : List ℕ → Trees → List Sub
+  subs x none = []
+  subs x (item t ts) = record { shape = t; term = term_in x t } ∷ subs x ts
+
+-- ---- display forms and statements
+
+-- the parts of a form
+abbrev pub list_in : Tree → Option (List Tree)
+list_in (form ts at) = Some (parts_of ts)
+list_in (number z at) = None
+list_in (literal s at) = None
+list_in (name s at) = None
+
+-- `(write-text E)` or `(newline)`
+abbrev pub shape_row : List ℕ → List Tree → Option Shape
+shape_row x [] = None
+shape_row x (head ∷ []) = if is_word (codes "newline") head then Some Newline else None
+shape_row x (head ∷ a ∷ []) = if is_word (codes "write-text") head then (term_in x a >>= λ t. Some (WriteText t)) else None
+shape_row x (head ∷ a ∷ b ∷ rest) = None
+
+abbrev pub shape_in : List ℕ → Tree → Option Shape
+shape_in x t = list_in t >>= shape_row x
+
+abbrev pub shapes_in : List ℕ → List Tree → Option (List Shape)
+shapes_in x [] = Some []
+shapes_in x (t ∷ ts) = shape_in x t >>= λ f. shapes_in x ts >>= λ fs. Some (f ∷ fs)
+
+-- `(slot NAME)` as a place
+abbrev pub place_row : List ℕ → List Tree → Bool
+place_row x (head ∷ a ∷ []) = is_word (codes "slot") head && is_word x a
+place_row x parts = false
+
+abbrev pub is_place : List ℕ → Tree → Bool
+is_place x (form ts at) = place_row x (parts_of ts)
+is_place x (number z at) = false
+is_place x (literal s at) = false
+is_place x (name s at) = false
+
+-- `(setf (slot NAME) E)`
+abbrev pub act_row : List ℕ → List Tree → Option Act
+act_row x (head ∷ place ∷ a ∷ []) =
+    if is_word (codes "setf") head && is_place x place then (term_in x a >>= λ t. Some (Setf x t)) else None
+act_row x parts = None
+
+-- ---- declarations
+
+pub record Size : Type 0 where
+  pub width : ℕ
+  pub height : ℕ
+
+-- `(:size WIDTH HEIGHT)`
+abbrev pub size_row : List Tree → Option Size
+size_row (key ∷ w ∷ h ∷ []) =
+    if is_word (codes ":size") key
+    then (number_in 1 512 w >>= λ width. number_in 1 256 h >>= λ height. Some (record { width = width; height = height }))
+    else None
+size_row parts = None
+
+abbrev pub int_in : Tree → Option ℤ
+int_in (number z at) = Some z
+int_in (literal s at) = None
+int_in (name s at) = None
+int_in (form ts at) = None
+
+-- `(NAME integer OPENING)`
+abbrev pub slot_decl : List Tree → Option SlotDecl
+slot_decl (n ∷ type ∷ o ∷ []) =
+    if is_word (codes "integer") type
+    then (name_in n >>= λ x. int_in o >>= λ z. Some (record { name = x; opening = value.Int z }))
+    else None
+slot_decl parts = None
+
+-- `(:slots SLOT)`
+abbrev pub slots_row : List Tree → Option SlotDecl
+slots_row (key ∷ s ∷ []) = if is_word (codes ":slots") key then (list_in s >>= slot_decl) else None
+slots_row parts = None
+
+-- `(NAME 0 0 WIDTH HEIGHT DISPLAY)`, as large as the frame
+abbrev pub pane_decl : Size → List Tree → Option PaneDecl
+pane_decl size (n ∷ left ∷ top ∷ w ∷ h ∷ d ∷ []) =
+    name_in n >>= λ x. number_in 0 0 left >>= λ _. number_in 0 0 top >>= λ _.
+    number_in size.width size.width w >>= λ _. number_in size.height size.height h >>= λ _. name_in d >>= λ display.
+    Some (record { name = x; x = 0; y = 0; width = size.width; height = size.height; display = display })
+pane_decl size parts = None
+
+-- `(:panes PANE)`
+abbrev pub panes_row : Size → List Tree → Option PaneDecl
+panes_row size (key ∷ p ∷ []) = if is_word (codes ":panes") key then (list_in p >>= pane_decl size) else None
+panes_row size parts = None
+
+-- `(define-application-frame NAME SIZE SLOTS PANES)`
+abbrev pub frame_row : ℕ → List Tree → Option FrameDecl
+frame_row at (head ∷ n ∷ size ∷ slots ∷ panes ∷ []) =
+    if is_word (codes "define-application-frame") head
+    then (name_in n >>= λ x. (list_in size >>= size_row) >>= λ s. (list_in slots >>= slots_row) >>= λ slot.
+      (list_in panes >>= panes_row s) >>= λ pane.
+      Some (record { name = x; width = s.width; height = s.height; slot = slot; pane = pane; at = at }))
+    else None
+frame_row at parts = None
+
+-- the operators of the language, which are no names of displays
+abbrev pub is_operator : List ℕ → Bool
+is_operator bytes =
+    bytes_eq bytes (codes "slot") || bytes_eq bytes (codes "text") || bytes_eq bytes (codes "+")
+    || bytes_eq bytes (codes "write-text") || bytes_eq bytes (codes "newline") || bytes_eq bytes (codes "setf")
+
+abbrev pub is_empty_list : Tree → Bool
+is_empty_list (form none at) = true
+is_empty_list (form (item t ts) at) = false
+is_empty_list (number z at) = false
+is_empty_list (literal s at) = false
+is_empty_list (name s at) = false
+
+-- `(define-display NAME () SHAPE ...)`
+abbrev pub display_row : List ℕ → ℕ → List Tree → Option DisplayDecl
+display_row x at (head ∷ n ∷ parameters ∷ body) =
+    if is_word (codes "define-display") head && is_empty_list parameters
+    then (name_in n >>= λ d. shapes_in x body >>= λ shapes.
+      if is_operator d then None else Some (record { name = d; body = shapes; at = at }))
+    else None
+display_row x at parts = None
+
+abbrev pub upper : ℕ → ℕ
+upper b = if nat_le 97 b && nat_le b 122 then b - 32 else b
+
+-- hyphens become spaces, and the first letter of each word a capital
+abbrev pub words_of : Bool → List ℕ → List ℕ
+words_of first [] = []
+words_of first (b ∷ bs) = (if b == 45 then 32 else (if first then upper b else b)) ∷ words_of (b == 45) bs
+
+-- the command-line name that is made from a symbol: a leading `com-` is dropped
+abbrev pub line_name_of : List ℕ → List ℕ
+line_name_of symbol = words_of true (if starts_with nat_eq symbol (codes "com-") then drop 4 symbol else symbol)
+
+-- `(define-command NAME () (setf (slot SLOT) E))`
+abbrev pub command_row : List ℕ → ℕ → List Tree → Option CommandDecl
+command_row x at (head ∷ n ∷ parameters ∷ body ∷ []) =
+    if is_word (codes "define-command") head && is_empty_list parameters
+    then (name_in n >>= λ c. (list_in body >>= act_row x) >>= λ act.
+      Some (record { name = c; line_name = line_name_of c; body = act ∷ []; at = at }))
+    else None
+command_row x at parts = None
+
+abbrev pub frame_in : Tree → Option FrameDecl
+frame_in (form ts at) = frame_row at (parts_of ts)
+frame_in (number z at) = None
+frame_in (literal s at) = None
+frame_in (name s at) = None
+
+abbrev pub display_in : List ℕ → Tree → Option DisplayDecl
+display_in x (form ts at) = display_row x at (parts_of ts)
+display_in x (number z at) = None
+display_in x (literal s at) = None
+display_in x (name s at) = None
+
+abbrev pub command_in : List ℕ → Tree → Option CommandDecl
+command_in x (form ts at) = command_row x at (parts_of ts)
+command_in x (number z at) = None
+command_in x (literal s at) = None
+command_in x (name s at) = None
+
+-- the pane shows the display
+abbrev pub agreed : FrameDecl → DisplayDecl → CommandDecl → Option App
+agreed frame display command =
+    if bytes_eq frame.pane.display display.name then Some (record { frame = frame; display = display; command = command }) else None
+
+-- the declarations, in this order
+abbrev pub application_in : List Tree → Option App
+application_in (f ∷ d ∷ c ∷ []) =
+    frame_in f >>= λ frame. display_in frame.slot.name d >>= λ display. command_in frame.slot.name c >>= λ command. agreed frame display command
+application_in forms = None
+
+-- the application of a text: the text has tokens, these spell forms, and the forms declare it
+pub record IsApplication (bytes : List ℕ) (app : App) : Type 0 where
+  pub short : length bytes ≤ 1048576
+  pub tokens : List Token
+  pub read : tokens_of bytes ≡ Ok tokens
+  pub forms : List Tree
+  pub spelled : lexemes bytes tokens ≡ spelled_all (trees_of forms)
+  pub declared : application_in forms ≡ Some app

@@ -1,0 +1,4 @@
+pub mod RowLemmas
+pub mod SettlingLemmas
+pub mod WritingLemmas
+pub mod ServingLemmas

@@ -1,0 +1,179 @@
+-- Turns of serving, one after another.
+use Rattle.std.proofs.Common.{◌≡◌, ℕ, ◌+◌, ◌<◌, ◌≤◌, suc, Bool, true, false, Option, List, [], ◌∷◌, ◌++◌, length, refl, sym, ◌∙◌, ap, arith, append_assoc, append-nil, add-zero, length-append}
+use Rattle.std.proofs.KnownBytes.{Appends-nil, Appends-trans, Consumes-nil}
+use Rattle.std.specs.Io.KnownBytes.{Appends}
+use Rattle.cl_outside.specs.Causes.{Rose}
+use Rattle.cl_syntax.specs.declared.declarations.App.{App}
+use Rattle.cl_eval.specs.declared.metering.Limits.{Limits}
+use Rattle.cl_gesture.specs.Lines.{Piece, Lines, Reads, ended}
+use Rattle.cl_gesture.specs.Gesture.{LineKind, idle, bad, does, kind_of}
+use Rattle.cl_gesture.specs.Next.{Progress, Passes, AreIdle, ReadsTo, ReadsToEnd, ReadsToFault, ReadsToLimit, stop_at, most_lines}
+use Rattle.cl_gesture.proofs.Cutting.{Lines-more, Reads-trans, ended-more}
+use Rattle.cl_session.specs.World.{World}
+use Rattle.cl_session.specs.Transcript.{IsTranscript, Went, lost, said_of, world_after}
+use Rattle.cl_session.specs.Writing.{Wrote}
+use Rattle.cl_session.specs.Serving.{Going, Served, Faulted, CutOff, ServesTo}
+
+-- idle pieces are answered by nothing
+pub transcript-idles : (app : App) (limits : Limits) (w : World) (before : ℕ) (idles more : List Piece) (tail : List ℕ) → AreIdle idles
+    → IsTranscript app limits w (before + length idles) more tail → IsTranscript app limits w before (idles ++ more) tail
+transcript-idles app limits w before [] more tail i h = rw add-zero at h
+transcript-idles app limits w before (p ∷ ps) more tail i h =
+    let one : before + suc (length ps) ≡ before + 1 + length ps = omega arith in
+    let rest = transcript-idles app limits w (before + 1) ps more tail i.1 (rw one at h) in
+    rw i.0 (lost, tail, refl, rest)
+
+-- a piece of a kind is answered
+pub transcript-piece : (app : App) (limits : Limits) (w : World) (before : ℕ) (kind : LineKind) (went : Went) (p : Piece) (more : List Piece) (tail : List ℕ)
+    → kind_of p ≡ kind → IsTranscript app limits (world_after app limits w kind went) (before + 1) more tail
+    → IsTranscript app limits w before (p ∷ more) (said_of app limits w before kind went ++ tail)
+transcript-piece app limits w before kind went p more tail k h = rw k (went, tail, refl, h)
+
+-- what is said of a piece behind idle ones
+pub goes-on : (app : App) (limits : Limits) (w : World) (kind : LineKind) (went : Went) (old new : Progress) (r : ReadsTo kind old new)
+    (more : List Piece) (tail : List ℕ) → IsTranscript app limits (world_after app limits w kind went) new.count more tail
+    → IsTranscript app limits w old.count ((r.idles ++ r.piece ∷ []) ++ more) (said_of app limits w (old.count + length r.idles) kind went ++ tail)
+goes-on app limits w kind went old new r more tail h =
+    let count : new.count ≡ old.count + length r.idles + 1 = omega (arith, r.passes.counted, length-append r.idles (r.piece ∷ [])) in
+    let at = rw count at h in
+    rw (append_assoc r.idles (r.piece ∷ []) more)
+      (transcript-idles app limits w old.count r.idles (r.piece ∷ more) (said_of app limits w (old.count + length r.idles) kind went ++ tail) r.idle
+        (transcript-piece app limits w (old.count + length r.idles) kind went r.piece more tail r.says at))
+
+-- one turn
+pub Going-turn : (app : App) (limits : Limits) (w : World) (kind : LineKind) (went : Went) (old new : Progress) (r : ReadsTo kind old new)
+    (taken_old taken_new : Option (List ℕ)) → Appends taken_old taken_new (said_of app limits w (old.count + length r.idles) kind went)
+    → Going app limits w (world_after app limits w kind went) old new taken_old taken_new
+Going-turn app limits w kind went old new r taken_old taken_new a = record {
+    given = r.idles ++ r.piece ∷ [];
+    finished = r.finished;
+    stopped = r.stopped;
+    passes = r.passes;
+    written = said_of app limits w (old.count + length r.idles) kind went;
+    appended = a;
+    goes_on = goes-on app limits w kind went old new r
+  }
+
+-- a turn whose answer was cut off
+pub CutOff-turn : (app : App) (limits : Limits) (w : World) (kind : LineKind) (went : Went) (old new : Progress) (r : ReadsTo kind old new)
+    (taken_old taken_new : Option (List ℕ)) (rest : List ℕ) → Wrote taken_old taken_new (said_of app limits w (old.count + length r.idles) kind went) rest
+    → CutOff app limits w old new taken_old taken_new
+CutOff-turn app limits w kind went old new r taken_old taken_new rest v =
+    let whole = goes-on app limits w kind went old new r [] [] refl in
+    let pieces = rw (append-nil (r.idles ++ r.piece ∷ []), append-nil (said_of app limits w (old.count + length r.idles) kind went)) at whole in
+    record {
+      given = r.idles ++ r.piece ∷ [];
+      finished = r.finished;
+      passes = r.passes;
+      written = v.sent;
+      appended = v.appended;
+      lost = rest;
+      transcript = rw (← v.same) pieces
+    }
+
+idles-alone : (app : App) (limits : Limits) (w : World) (before : ℕ) (idles : List Piece) → AreIdle idles → IsTranscript app limits w before idles []
+idles-alone app limits w before idles i =
+    rw (append-nil idles) at (transcript-idles app limits w before idles [] [] i refl)
+
+pub Served-end : (app : App) (limits : Limits) (w : World) (old new : Progress) (r : ReadsToEnd old new) (taken : Option (List ℕ))
+    → Served app limits w old new true taken taken
+Served-end app limits w old new r taken = record {
+    given = r.idles; passes = r.passes; written = []; appended = Appends-nil taken;
+    transcript = idles-alone app limits w old.count r.idles r.idle }
+
+pub Served-limit : (app : App) (limits : Limits) (w : World) (old new : Progress) (r : ReadsToLimit old new) (taken : Option (List ℕ))
+    → Served app limits w old new false taken taken
+Served-limit app limits w old new r taken = record {
+    given = r.idles; passes = r.passes; written = []; appended = Appends-nil taken;
+    transcript = idles-alone app limits w old.count r.idles r.idle }
+
+pub Faulted-fault : (app : App) (limits : Limits) (w : World) (old new : Progress) (r : ReadsToFault old new) (taken : Option (List ℕ))
+    → Faulted app limits w old new taken taken
+Faulted-fault app limits w old new r taken = record {
+    read = r.read; reads = r.reads; none = r.none; rose = r.rose; written = []; appended = Appends-nil taken;
+    transcript = idles-alone app limits w old.count (ended r.read) r.idle }
+
+nothing-read : (p : Progress) → Reads p.left p.left p.ahead p.ahead []
+nothing-read p = record { handed = []; consumed = Consumes-nil p.left; same = append-nil p.ahead }
+
+nothing-passes : (p : Progress) → Passes p p false []
+nothing-passes p = record {
+    lines = record { read = []; reads = nothing-read p; cut = (refl, refl) };
+    counted = sym (add-zero p.count) }
+
+-- nothing yet
+pub Going-nothing : (app : App) (limits : Limits) (w : World) (p : Progress) (taken : Option (List ℕ)) → p.stop ≡ stop_at false → Going app limits w w p p taken taken
+Going-nothing app limits w p taken s = record {
+    given = []; finished = false; stopped = s; passes = nothing-passes p; written = []; appended = Appends-nil taken; goes_on = λ more tail h. h }
+
+-- pieces, and then pieces
+passes-more : (a b c : Progress) (f : Bool) (ps qs : List Piece) → Passes a b false ps → Passes b c f qs → Passes a c f (ps ++ qs)
+passes-more a b c f ps qs v w = record {
+    lines = Lines-more a.left b.left c.left a.ahead b.ahead c.ahead f ps qs v.lines w.lines;
+    counted = omega (arith, v.counted, w.counted, length-append ps qs) }
+
+open_passes : (a b : Progress) (f : Bool) (ps : List Piece) → f ≡ false → Passes a b f ps → Passes a b false ps
+open_passes a b f ps e p = rw e at p
+
+-- turns behind turns
+pub Going-trans : (app : App) (limits : Limits) (u v w : World) (a b c : Progress) (x y z : Option (List ℕ)) (g : Going app limits u v a b x y)
+    → g.finished ≡ false → Going app limits v w b c y z → Going app limits u w a c x z
+Going-trans app limits u v w a b c x y z g e h = record {
+    given = g.given ++ h.given;
+    finished = h.finished;
+    stopped = h.stopped;
+    passes = passes-more a b c h.finished g.given h.given (open_passes a b g.finished g.given e g.passes) h.passes;
+    written = g.written ++ h.written;
+    appended = Appends-trans x y z g.written h.written g.appended h.appended;
+    goes_on = λ more tail t. rw (append_assoc g.given h.given more, append_assoc g.written h.written tail)
+      (g.goes_on (h.given ++ more) (h.written ++ tail) (h.goes_on more tail t))
+  }
+
+pub Served-after : (app : App) (limits : Limits) (u v : World) (a b c : Progress) (f : Bool) (x y z : Option (List ℕ)) (g : Going app limits u v a b x y)
+    → g.finished ≡ false → Served app limits v b c f y z → Served app limits u a c f x z
+Served-after app limits u v a b c f x y z g e s = record {
+    given = g.given ++ s.given;
+    passes = passes-more a b c f g.given s.given (open_passes a b g.finished g.given e g.passes) s.passes;
+    written = g.written ++ s.written;
+    appended = Appends-trans x y z g.written s.written g.appended s.appended;
+    transcript = g.goes_on s.given s.written s.transcript
+  }
+
+pub CutOff-after : (app : App) (limits : Limits) (u v : World) (a b c : Progress) (x y z : Option (List ℕ)) (g : Going app limits u v a b x y)
+    → g.finished ≡ false → CutOff app limits v b c y z → CutOff app limits u a c x z
+CutOff-after app limits u v a b c x y z g e s = record {
+    given = g.given ++ s.given;
+    finished = s.finished;
+    passes = passes-more a b c s.finished g.given s.given (open_passes a b g.finished g.given e g.passes) s.passes;
+    written = g.written ++ s.written;
+    appended = Appends-trans x y z g.written s.written g.appended s.appended;
+    lost = s.lost;
+    transcript = rw (append_assoc g.written s.written s.lost) (g.goes_on s.given (s.written ++ s.lost) s.transcript)
+  }
+
+pub Faulted-after : (app : App) (limits : Limits) (u v : World) (a b c : Progress) (x y z : Option (List ℕ)) (g : Going app limits u v a b x y)
+    → g.finished ≡ false → a.faults ≤ b.faults → Faulted app limits v b c y z → Faulted app limits u a c x z
+Faulted-after app limits u v a b c x y z g e le s =
+    let before = open_passes a b g.finished g.given e g.passes in
+    let pieces : ended (before.lines.read ++ s.read) ≡ g.given ++ ended s.read =
+      ended-more before.lines.read s.read before.lines.cut.1 ∙ ap (λ ps. ps ++ ended s.read) before.lines.cut.0 in
+    record {
+      read = before.lines.read ++ s.read;
+      reads = Reads-trans a.left b.left c.left a.ahead b.ahead c.ahead before.lines.read s.read before.lines.reads s.reads;
+      none = s.none;
+      rose = omega (arith, le, s.rose);
+      written = g.written ++ s.written;
+      appended = Appends-trans x y z g.written s.written g.appended s.appended;
+      transcript = rw pieces (g.goes_on (ended s.read) s.written s.transcript)
+    }
+
+-- a stream whose last line was answered is served
+pub Served-finished : (app : App) (limits : Limits) (u v : World) (a b : Progress) (x y : Option (List ℕ)) (g : Going app limits u v a b x y)
+    → g.finished ≡ true → Served app limits u a b true x y
+Served-finished app limits u v a b x y g e = record {
+    given = g.given;
+    passes = rw e at g.passes;
+    written = g.written;
+    appended = g.appended;
+    transcript = rw (append-nil g.given, append-nil g.written) at (g.goes_on [] [] refl)
+  }

@@ -1,0 +1,33 @@
+-- What a pane of a session is, and what settling it comes to.
+use Rattle.std.specs.Prelude.{◌≡◌, ℕ, ◌+◌, ◌≤◌, Option, Some, None, List, length}
+use Rattle.cl_eval.specs.Outcome.{Outcome, Gives, Traps}
+use Rattle.cl_raster.specs.Raster.{SameSize}
+use Rattle.cl_redisplay.specs.Paint.{Shows}
+use Rattle.cl_display.specs.declared.drawings.Drawing.{Drawing}
+use Rattle.cl_display.specs.declared.histories.TextItem.{TextItem}
+use Rattle.cl_display.specs.Script.{trap_history}
+use Rattle.cl_session.specs.declared.answers.PaneReport.{PaneReport}
+use Rattle.cl_session.specs.declared.answers.PaneReport.TheVariants as report
+use Rattle.cl_session.specs.declared.panes.Pane.{Pane}
+use Rattle.cl_session.specs.World.{items_in}
+
+-- the cells of a pane are those of its history
+abbrev pub IsPainted : Pane → Type 0
+IsPainted p = Shows p.raster (items_in p.history)
+
+-- the history and the report after settling, by what evaluating the display came to
+abbrev pub SettlesTo : Option (List TextItem) → Option (List TextItem) → Outcome Drawing → PaneReport → Type 0
+SettlesTo old new (Gives s cost deepest) (report.Shown r) =
+    (new ≡ Some s.history) × (r ≡ record { kept = 0; moved = 0; drawn = length s.history; erased = length (items_in old) })
+SettlesTo old new (Gives s cost deepest) (report.Trapped k) = ⊥
+SettlesTo old new (Traps kind cost deepest) (report.Shown r) = ⊥
+SettlesTo old new (Traps kind cost deepest) (report.Trapped k) = (k ≡ kind) × (new ≡ Some (trap_history kind))
+SettlesTo old new shown report.Memory = new ≡ None
+SettlesTo old new shown report.Quiet = ⊥
+
+-- the ledger rises by the cost; where there was no memory, by no more
+abbrev pub Rises : PaneReport → ℕ → ℕ → ℕ → Type 0
+Rises (report.Shown r) old new cost = new ≡ old + cost
+Rises (report.Trapped k) old new cost = new ≡ old + cost
+Rises report.Memory old new cost = old ≤ new
+Rises report.Quiet old new cost = new ≡ old

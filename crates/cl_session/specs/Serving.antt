@@ -1,0 +1,60 @@
+-- What serving a stream of gestures comes to.
+use Rattle.std.specs.Prelude.{◌≡◌, ◌<◌, ◌+◌, ℕ, Bool, true, false, Option, List, [], ◌∷◌, ◌++◌, length}
+use Rattle.std.specs.Io.KnownBytes.{Appends}
+use Rattle.cl_outside.specs.Causes.{Rose}
+use Rattle.cl_syntax.specs.declared.declarations.App.{App}
+use Rattle.cl_eval.specs.declared.metering.Limits.{Limits}
+use Rattle.cl_gesture.specs.Lines.{Piece, Reads, ended}
+use Rattle.cl_gesture.specs.Next.{Progress, Passes, stop_at, most_lines}
+use Rattle.cl_session.specs.declared.serving.End.{End}
+use Rattle.cl_session.specs.declared.serving.End.TheVariants as end
+use Rattle.cl_session.specs.World.{World}
+use Rattle.cl_session.specs.Transcript.{IsTranscript}
+
+-- Pieces were read and answered on the way from one world to another: what is a transcript of more pieces from there on is, behind
+-- what was written, a transcript of them behind these.
+pub record Going (app : App) (limits : Limits) (from to : World) (old new : Progress) (taken_old taken_new : Option (List ℕ)) : Type 0 where
+  pub given : List Piece
+  pub finished : Bool
+  pub stopped : new.stop ≡ stop_at finished
+  pub passes : Passes old new finished given
+  pub written : List ℕ
+  pub appended : Appends taken_old taken_new written
+  pub goes_on : (more : List Piece) (tail : List ℕ) → IsTranscript app limits to new.count more tail
+      → IsTranscript app limits from old.count (given ++ more) (written ++ tail)
+
+-- all pieces up to the source's end were read, and the sink took their transcript
+pub record Served (app : App) (limits : Limits) (from : World) (old new : Progress) (finished : Bool) (taken_old taken_new : Option (List ℕ)) : Type 0 where
+  pub given : List Piece
+  pub passes : Passes old new finished given
+  pub written : List ℕ
+  pub appended : Appends taken_old taken_new written
+  pub transcript : IsTranscript app limits from old.count given written
+
+-- the source failed: the sink took the transcript of the pieces that had ended in what was read
+pub record Faulted (app : App) (limits : Limits) (from : World) (old new : Progress) (taken_old taken_new : Option (List ℕ)) : Type 0 where
+  pub read : List ℕ
+  pub reads : Reads old.left new.left old.ahead new.ahead read
+  pub none : new.ahead ≡ []
+  pub rose : Rose old.faults new.faults
+  pub written : List ℕ
+  pub appended : Appends taken_old taken_new written
+  pub transcript : IsTranscript app limits from old.count (ended read) written
+
+-- the sink failed: it took the first bytes of a transcript of the pieces that were read
+pub record CutOff (app : App) (limits : Limits) (from : World) (old new : Progress) (taken_old taken_new : Option (List ℕ)) : Type 0 where
+  pub given : List Piece
+  pub finished : Bool
+  pub passes : Passes old new finished given
+  pub written : List ℕ
+  pub appended : Appends taken_old taken_new written
+  pub lost : List ℕ
+  pub transcript : IsTranscript app limits from old.count given (written ++ lost)
+
+abbrev pub ServesTo : App → Limits → World → (old new : Progress) → (taken_old taken_new : Option (List ℕ)) → (faults_old faults_new : ℕ) → End → Type 0
+ServesTo app limits from old new taken_old taken_new faults_old faults_new end.Done = Served app limits from old new true taken_old taken_new
+ServesTo app limits from old new taken_old taken_new faults_old faults_new end.ReadFault = Faulted app limits from old new taken_old taken_new
+ServesTo app limits from old new taken_old taken_new faults_old faults_new end.TooMany =
+    Served app limits from old new false taken_old taken_new × (new.count ≡ most_lines) × (0 < length new.ahead)
+ServesTo app limits from old new taken_old taken_new faults_old faults_new end.OutputFault =
+    CutOff app limits from old new taken_old taken_new × Rose faults_old faults_new

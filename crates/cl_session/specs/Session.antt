@@ -1,0 +1,43 @@
+-- What a session is as a world, and when it fits an application and slots.
+use Rattle.std.specs.Prelude.{◌≡◌, ◌⊎◌, ℕ, ◌+◌, ◌≤◌, Bool, ◌||◌, is_none, Option, Some, None, List, []}
+use Rattle.cl_syntax.specs.declared.declarations.App.{App}
+use Rattle.cl_eval.specs.Slots.{Slots}
+use Rattle.cl_eval.specs.declared.metering.Limits.{Limits}
+use Rattle.cl_display.specs.declared.histories.TextItem.{TextItem}
+use Rattle.cl_display.specs.Script.{script}
+use Rattle.cl_gesture.specs.declared.answers.Gesture.{Gesture}
+use Rattle.cl_session.specs.declared.answers.PaneReport.{PaneReport}
+use Rattle.cl_session.specs.declared.answers.Replies.{Replies}
+use Rattle.cl_session.specs.declared.sessions.Session.{Session}
+use Rattle.cl_session.specs.World.{World}
+use Rattle.cl_session.specs.Step.{next, settled_if}
+use Rattle.cl_session.specs.Pane.{IsPainted}
+use Rattle.cl_session.specs.Replies.{lines_of, met_memory, met_of, report_lines}
+
+abbrev pub world_of : Session → Slots → World
+world_of session slots = record { slots = slots; line = session.line; pane = session.pane.history }
+
+-- the history is the script of these slots, unless it is blank
+abbrev pub IsCurrent : App → Limits → Slots → Option (List TextItem) → Type 0
+IsCurrent app limits slots history = (history ≡ None) ⊎ (history ≡ Some (script limits app.display.body slots))
+
+-- A session fits an application and slots: its pane is as large as the frame, its cells are those of its history, its history
+-- is the script of these slots, unless it is blank for want of memory, and no bytes wait to be written.
+pub record Fits (app : App) (slots : Slots) (session : Session) : Type 0 where
+  pub depth : session.limits.depth ≤ 512
+  pub width : session.pane.raster.width ≡ app.frame.width
+  pub height : session.pane.raster.height ≡ app.frame.height
+  pub painted : IsPainted session.pane
+  pub current : IsCurrent app session.limits slots session.pane.history
+  pub none_waits : session.outgoing ≡ []
+
+-- the history and the lines of a pane that is settled where that is due or where it is blank
+pub record SettlesIf (due : Bool) (app : App) (limits : Limits) (slots : Slots) (old new : Option (List TextItem)) (report : PaneReport) : Type 0 where
+  pub history : new ≡ (settled_if (due || is_none old) app limits slots old (met_memory report)).pane
+  pub lines : report_lines app.frame.pane.name report ≡ (settled_if (due || is_none old) app limits slots old (met_memory report)).lines
+
+-- a gesture took the world to the next one, and these are the replies
+pub record Steps (app : App) (old new : Session) (slots_old slots_new : Slots) (gesture : Gesture) (replies : Replies) : Type 0 where
+  pub world : world_of new slots_new ≡ (next app old.limits (world_of old slots_old) gesture (met_of replies)).world
+  pub lines : lines_of app.frame.pane.name replies ≡ (next app old.limits (world_of old slots_old) gesture (met_of replies)).lines
+  pub limits : new.limits ≡ old.limits

@@ -1,0 +1,126 @@
+-- The step of a world by a gesture: the next world and the lines that are said of it.
+use Rattle.std.specs.Prelude.{ℕ, ◌+◌, Bool, true, false, ◌||◌, nat_le, is_none, if◌then◌else◌, List, [], ◌∷◌, ◌++◌, length, Option, Some, None, codes}
+use Rattle.std.specs.Fmt.{decimal}
+use Rattle.cl_syntax.specs.declared.declarations.App.{App}
+use Rattle.cl_eval.specs.declared.metering.Limits.{Limits}
+use Rattle.cl_eval.specs.Outcome.{Outcome, Gives, Traps, cost_of}
+use Rattle.cl_eval.specs.Slots.{Slots}
+use Rattle.cl_eval.specs.Executed.{ran}
+use Rattle.cl_display.specs.declared.drawings.Drawing.{Drawing}
+use Rattle.cl_display.specs.declared.histories.TextItem.{TextItem}
+use Rattle.cl_display.specs.Script.{fresh, history_of, script}
+use Rattle.cl_redisplay.specs.Paint.{shown_rows}
+use Rattle.cl_command.specs.declared.lines.Finished.{Finished}
+use Rattle.cl_command.specs.declared.lines.Finished.TheVariants.{Command, Unknown, Surplus}
+use Rattle.cl_command.specs.Line.{finish_of}
+use Rattle.cl_gesture.specs.declared.answers.Gesture.{Gesture}
+use Rattle.cl_gesture.specs.declared.answers.Gesture.TheVariants as gesture
+use Rattle.cl_session.specs.World.{World, items_in}
+
+-- what met want of memory in a gesture: its handling, and the settling of the pane
+pub record Met : Type 0 where
+  pub handling : Bool
+  pub pane : Bool
+
+-- what the handling of a gesture comes to: its own replies, the slots and the line, whether a command committed, and its cost
+pub record Handled : Type 0 where
+  pub replies : List (List ℕ)
+  pub slots : Slots
+  pub line : List ℕ
+  pub commits : Bool
+  pub cost : ℕ
+
+-- one reply, and nothing changes
+abbrev pub refused : World → ℕ → List ℕ → Handled
+refused w cost reply = record { replies = reply ∷ []; slots = w.slots; line = w.line; commits = false; cost = cost }
+
+abbrev pub typed : World → List ℕ → Handled
+typed w text =
+    if nat_le (length w.line + length text) 256
+    then record { replies = []; slots = w.slots; line = w.line ++ text; commits = false; cost = 0 }
+    else refused w 0 (codes "! full")
+
+-- the run of the command: an end without a trap commits the slots and empties the line, a trap leaves both
+abbrev pub run_of : App → World → Outcome Slots → Handled
+run_of app w (Gives slots cost deepest) =
+    record { replies = (codes "ok " ++ app.command.line_name) ∷ []; slots = slots; line = []; commits = true; cost = cost }
+run_of app w (Traps kind cost deepest) = refused w cost (codes "! trap " ++ decimal kind)
+
+abbrev pub returned : App → Limits → World → Finished → Handled
+returned app limits w Command = run_of app w (ran limits app.command.body w.slots)
+returned app limits w Unknown = refused w 0 (codes "! unknown")
+returned app limits w Surplus = refused w 0 (codes "! surplus")
+
+abbrev pub framed : App → World → Handled
+framed app w = record {
+    replies = shown_rows (items_in w.pane) app.frame.width app.frame.height;
+    slots = w.slots; line = w.line; commits = false; cost = 0 }
+
+abbrev pub handled : App → Limits → World → Gesture → Handled
+handled app limits w (gesture.«Type» text) = typed w text
+handled app limits w gesture.Return = returned app limits w (finish_of app.command.line_name w.line)
+handled app limits w gesture.Frame = framed app w
+
+-- a handling that met want of memory changes nothing
+abbrev pub handled_or_not : App → Limits → World → Gesture → Bool → Handled
+handled_or_not app limits w g true = refused w 0 (codes "! memory")
+handled_or_not app limits w g false = handled app limits w g
+
+-- what becomes of the pane: its history, its line, and the cost
+pub record Settled : Type 0 where
+  pub pane : Option (List TextItem)
+  pub lines : List (List ℕ)
+  pub cost : ℕ
+
+abbrev pub report_head : List ℕ → (kept moved : ℕ) → List ℕ
+report_head name kept moved = codes "pane " ++ name ++ codes " kept " ++ decimal kept ++ codes " moved " ++ decimal moved
+
+abbrev pub report_tail : (drawn erased : ℕ) → List ℕ
+report_tail drawn erased = codes " drawn " ++ decimal drawn ++ codes " erased " ++ decimal erased
+
+-- `pane NAME kept K moved M drawn D erased E`
+abbrev pub report_line : List ℕ → (kept moved drawn erased : ℕ) → List ℕ
+report_line name kept moved drawn erased = report_head name kept moved ++ report_tail drawn erased
+
+abbrev pub trap_line : List ℕ → ℕ → List ℕ
+trap_line name kind = codes "pane " ++ name ++ codes " trap " ++ decimal kind
+
+abbrev pub memory_line : List ℕ → List ℕ
+memory_line name = codes "pane " ++ name ++ codes " memory"
+
+-- the line of a pane whose display was evaluated: nothing is kept, its items are drawn and so many are erased
+abbrev pub pane_line : List ℕ → ℕ → Outcome Drawing → List ℕ
+pane_line name erased (Gives s cost deepest) = report_line name 0 0 (length s.history) erased
+pane_line name erased (Traps kind cost deepest) = trap_line name kind
+
+-- a pane that is settled has its script, or is blank where it met want of memory
+abbrev pub settled : App → Outcome Drawing → List TextItem → Bool → Settled
+settled app shown old true = record { pane = None; lines = memory_line app.frame.pane.name ∷ []; cost = cost_of shown }
+settled app shown old false =
+    record { pane = Some (history_of shown); lines = pane_line app.frame.pane.name (length old) shown ∷ []; cost = cost_of shown }
+
+-- a pane is settled where a command committed, and tried again where it is blank
+abbrev pub settled_if : Bool → App → Limits → Slots → Option (List TextItem) → Bool → Settled
+settled_if true app limits slots pane met = settled app (fresh limits app.display.body slots) (items_in pane) met
+settled_if false app limits slots pane met = record { pane = pane; lines = []; cost = 0 }
+
+pub record Next : Type 0 where
+  pub world : World
+  pub lines : List (List ℕ)
+  pub cost : ℕ
+
+abbrev pub joined : Handled → Settled → Next
+joined h s = record {
+    world = record { slots = h.slots; line = h.line; pane = s.pane };
+    lines = h.replies ++ s.lines;
+    cost = h.cost + s.cost }
+
+abbrev pub after_handling : App → Limits → World → Handled → Bool → Next
+after_handling app limits w h met = joined h (settled_if (h.commits || is_none w.pane) app limits h.slots w.pane met)
+
+abbrev pub next : App → Limits → World → Gesture → Met → Next
+next app limits w g met = after_handling app limits w (handled_or_not app limits w g met.handling) met.pane
+
+-- the world at the opening
+abbrev pub opening : App → Limits → Slots → World
+opening app limits slots = record { slots = slots; line = []; pane = Some (script limits app.display.body slots) }

@@ -1,0 +1,164 @@
+ghost use Rattle.std.specs.Prelude.{◌≡◌, ◌≤◌, ◌++◌, ◌∷◌, [], codes, IfOk};
+ghost use Rattle.std.specs.Fmt.{decimal};
+ghost use Rattle.cl_command.specs.Line.{finish_of};
+ghost use Rattle.cl_eval.specs.Executed.{ran};
+ghost use Rattle.cl_redisplay.specs.Paint.{shown_rows};
+ghost use Rattle.cl_session.specs.World.{items_in};
+ghost use Rattle.cl_session.specs.Step.{handled, returned, run_of, typed};
+ghost use Rattle.cl_session.specs.Pane.{IsPainted};
+ghost use Rattle.cl_session.specs.Handling.{HandlesTo, HandlingRises, IsReply};
+
+use crate::answers::Lines;
+use crate::panes::Pane;
+use cl_command::{Finished, Line, Pushed};
+use cl_eval::{Executed, Limits, Slots, exec};
+use cl_gesture::Gesture;
+use cl_outside::{Ledger, Steps};
+use cl_syntax::App;
+use cl_value::Text;
+use std::alloc::{AllocError, Global};
+
+/// How a gesture was handled.
+#[derive(Drop)]
+pub enum Handling {
+    /// With these replies.
+    Replied(Lines),
+    /// With these replies of a command that committed.
+    Committed(Lines),
+    /// It met want of memory, and nothing is changed.
+    Memory,
+}
+
+/// Handles a gesture: its own replies, and what becomes of the slots and of the line.
+pub fn handle<L: Ledger>(
+    alloc: Global,
+    app: &App,
+    limits: Limits,
+    gesture: &Gesture,
+    pane: &Pane,
+    slots: &mut Slots,
+    line: &mut Line,
+    steps: &mut Steps<L>,
+) -> Handling
+    requires depth { limits.depth ≤ 512 }
+    requires painted { IsPainted pane.now }
+    requires width { pane.now.raster.width ≡ app.now.frame.width }
+    requires height { pane.now.raster.height ≡ app.now.frame.height }
+    ensures handles { HandlesTo (handled app.now limits (record { slots = slots.old; line = line.old; pane = pane.now.history }) gesture.now) result slots.old slots.new line.old line.new }
+    ensures ledger { HandlingRises result steps.old steps.new (handled app.now limits (record { slots = slots.old; line = line.old; pane = pane.now.history }) gesture.now).cost }
+{
+    match gesture {
+        Gesture::Type(text) => type_text(alloc, text.as_slice(), pane, slots, line),
+        Gesture::Return => finish_line(alloc, app, limits, pane, slots, line, steps),
+        Gesture::Frame => match frame_lines(alloc, pane) {
+            Ok(lines) => Handling::Replied(lines),
+            Err(_) => Handling::Memory,
+        },
+    }
+}
+
+fn type_text(alloc: Global, text: &[u8], pane: &Pane, slots: &Slots, line: &mut Line) -> Handling
+    ensures handles { HandlesTo (typed (record { slots = slots.now; line = line.old; pane = pane.now.history }) text.now) result slots.now slots.now line.old line.new }
+    ensures cost { (typed (record { slots = slots.now; line = line.old; pane = pane.now.history }) text.now).cost ≡ 0 }
+{
+    match line.push_text(text) {
+        Pushed::Done => Handling::Replied(Lines::new(alloc)),
+        Pushed::Full => reply(alloc, b"! full"),
+    }
+}
+
+fn finish_line<L: Ledger>(
+    alloc: Global,
+    app: &App,
+    limits: Limits,
+    pane: &Pane,
+    slots: &mut Slots,
+    line: &mut Line,
+    steps: &mut Steps<L>,
+) -> Handling
+    requires { limits.depth ≤ 512 }
+    ensures handles { HandlesTo (returned app.now limits (record { slots = slots.old; line = line.old; pane = pane.now.history }) (finish_of app.now.command.line_name line.old)) result slots.old slots.new line.old line.new }
+    ensures ledger { HandlingRises result steps.old steps.new (returned app.now limits (record { slots = slots.old; line = line.old; pane = pane.now.history }) (finish_of app.now.command.line_name line.old)).cost }
+{
+    match line.finish(app.command.line_name.as_slice()) {
+        Finished::Unknown => reply(alloc, b"! unknown"),
+        Finished::Surplus => reply(alloc, b"! surplus"),
+        Finished::Command => run_command(alloc, app, limits, pane, slots, line, steps),
+    }
+}
+
+fn run_command<L: Ledger>(
+    alloc: Global,
+    app: &App,
+    limits: Limits,
+    pane: &Pane,
+    slots: &mut Slots,
+    line: &mut Line,
+    steps: &mut Steps<L>,
+) -> Handling
+    requires { limits.depth ≤ 512 }
+    ensures handles { HandlesTo (run_of app.now (record { slots = slots.old; line = line.old; pane = pane.now.history }) (ran limits app.now.command.body slots.old)) result slots.old slots.new line.old line.new }
+    ensures ledger { HandlingRises result steps.old steps.new (run_of app.now (record { slots = slots.old; line = line.old; pane = pane.now.history }) (ran limits app.now.command.body slots.old)).cost }
+{
+    match exec(alloc, &app.command.body, slots, limits, steps) {
+        Executed::Done(next) => match ok_line(alloc, app.command.line_name.as_slice()) {
+            Ok(lines) => {
+                *slots = next;
+                line.clear();
+                Handling::Committed(lines)
+            }
+            Err(_) => Handling::Memory,
+        },
+        Executed::Trap(kind) => match trap_line(alloc, kind) {
+            Ok(lines) => Handling::Replied(lines),
+            Err(_) => Handling::Memory,
+        },
+        Executed::Memory => Handling::Memory,
+    }
+}
+
+// One line of replies, where there is memory for it.
+fn reply(alloc: Global, bytes: &[u8]) -> Handling
+    ensures { IsReply bytes.now result }
+{
+    match one_line(alloc, bytes) {
+        Ok(lines) => Handling::Replied(lines),
+        Err(_) => Handling::Memory,
+    }
+}
+
+// One line of replies.
+fn one_line(alloc: Global, bytes: &[u8]) -> Result<Lines, AllocError>
+    ensures { IfOk result (λ l. l ≡ bytes.now ∷ []) }
+{
+    let mut lines = Lines::new(alloc);
+    lines.push(Text::from_slice(alloc, bytes)?)?;
+    Ok(lines)
+}
+
+fn ok_line(alloc: Global, name: &[u8]) -> Result<Lines, AllocError>
+    ensures { IfOk result (λ l. l ≡ (codes "ok " ++ name.now) ∷ []) }
+{
+    let mut bytes = Vec::from_slice(alloc, b"ok ")?;
+    bytes.extend_from_slice(name)?;
+    one_line(alloc, &bytes)
+}
+
+fn trap_line(alloc: Global, kind: u8) -> Result<Lines, AllocError>
+    ensures { IfOk result (λ l. l ≡ (codes "! trap " ++ decimal kind) ∷ []) }
+{
+    let line = format!(in alloc; "! trap {kind}")?;
+    one_line(alloc, line.as_bytes())
+}
+
+// The rows of cells.
+fn frame_lines(alloc: Global, pane: &Pane) -> Result<Lines, AllocError>
+    requires { IsPainted pane.now }
+    ensures { IfOk result (λ l. l ≡ shown_rows (items_in pane.now.history) pane.now.raster.width pane.now.raster.height) }
+{
+    let mut lines = Lines::new(alloc);
+    for y in 0..pane.raster.height() {
+        lines.push(Text::from_slice(alloc, pane.row(y))?)?;
+    }
+    Ok(lines)
+}

@@ -1,0 +1,12 @@
+// A session: an application's frame between gestures, and the step by one gesture.
+#![tactic(auto)]
+
+pub mod answers;
+pub mod handling;
+pub mod panes;
+pub mod serving;
+pub mod sessions;
+pub mod speaking;
+pub mod writing;
+
+pub use answers::{Lines, PaneReport, Replies, Report};

@@ -1,0 +1,103 @@
+ghost use Rattle.std.specs.Prelude.{◌≡◌, ◌≤◌, ◌⊎◌, Some};
+ghost use Rattle.cl_gesture.specs.declared.answers.Stop.TheVariants as stop;
+ghost use Rattle.cl_gesture.specs.Reader.{progress_of, source_of, stop_of};
+ghost use Rattle.cl_session.specs.Session.{Fits, world_of};
+ghost use Rattle.cl_session.specs.Turns.{Turns, end_unless};
+ghost use Rattle.cl_session.specs.Serving.{ServesTo};
+
+use crate::sessions::Session;
+use crate::speaking::{say_bad, say_lost, say_replies};
+use cl_eval::Slots;
+use cl_gesture::{Gestures, Next};
+use cl_load::Loaded;
+use cl_outside::{Ledger, Sink, Source, Steps};
+use std::alloc::Global;
+
+/// One turn reads at least one of at most a million lines, and the last one reads none.
+const MOST_TURNS: u32 = 1_000_001;
+
+/// Why serving ended.
+#[derive(Clone, Copy, PartialEq, Eq, Debug)]
+pub enum End {
+    /// The source's end came.
+    Done,
+    /// The source failed.
+    ReadFault,
+    /// A million lines were read, and a further byte came.
+    TooMany,
+    /// The sink failed.
+    OutputFault,
+}
+
+impl Session {
+    /// Handles the gestures of a stream, one after another, and writes the lines of each before the
+    /// next is read.
+    pub fn serve<G: Source, O: Sink, L: Ledger>(
+        &mut self,
+        alloc: Global,
+        loaded: &Loaded,
+        slots: &mut Slots,
+        gestures: &mut Gestures<G>,
+        out: &mut O,
+        steps: &mut Steps<L>,
+    ) -> End
+        requires fits { Fits loaded.now.app slots.old self.old }
+        requires going { stop_of gestures.old ≡ stop.Going }
+        ensures serves { ServesTo loaded.now.app self.old.limits (world_of self.old slots.old) (progress_of G.left G.faults gestures.old) (progress_of G.left G.faults gestures.new) (O.taken out.old) (O.taken out.new) (O.faults out.old) (O.faults out.new) result }
+        ensures lent { G.lent (source_of gestures.new) ≡ G.lent (source_of gestures.old) }
+        ensures out_lent { O.lent out.new ≡ O.lent out.old }
+        ensures later { G.faults (source_of gestures.old) ≤ G.faults (source_of gestures.new) }
+        ensures out_later { O.faults out.old ≤ O.faults out.new }
+        ensures fits { Fits loaded.now.app slots.new self.new }
+        ensures limits { self.new.limits ≡ self.old.limits }
+    {
+        for _turn in 0..MOST_TURNS {
+            if let Some(end) = self.turn(alloc, loaded, slots, gestures, out, steps) {
+                return end;
+            }
+        }
+        unreachable!()
+    }
+
+    // Answers the next line that is neither empty nor a comment; the end, where there is none.
+    fn turn<G: Source, O: Sink, L: Ledger>(
+        &mut self,
+        alloc: Global,
+        loaded: &Loaded,
+        slots: &mut Slots,
+        gestures: &mut Gestures<G>,
+        out: &mut O,
+        steps: &mut Steps<L>,
+    ) -> Option<End>
+        requires fits { Fits loaded.now.app slots.old self.old }
+        requires open { (stop_of gestures.old ≡ stop.Going) ⊎ (stop_of gestures.old ≡ stop.AtEnd) }
+        ensures turns { stop_of gestures.old ≡ stop.Going → Turns loaded.now.app self.old.limits (world_of self.old slots.old) (world_of self.new slots.new) (progress_of G.left G.faults gestures.old) (progress_of G.left G.faults gestures.new) (O.taken out.old) (O.taken out.new) (O.faults out.old) (O.faults out.new) result }
+        ensures ended { stop_of gestures.old ≡ stop.AtEnd → (result ≡ Some End.Done) × (gestures.new ≡ gestures.old) × (out.new ≡ out.old) }
+        ensures lent { G.lent (source_of gestures.new) ≡ G.lent (source_of gestures.old) }
+        ensures out_lent { O.lent out.new ≡ O.lent out.old }
+        ensures later { G.faults (source_of gestures.old) ≤ G.faults (source_of gestures.new) }
+        ensures out_later { O.faults out.old ≤ O.faults out.new }
+        ensures fits { Fits loaded.now.app slots.new self.new }
+        ensures limits { self.new.limits ≡ self.old.limits }
+    {
+        match gestures.next() {
+            Next::Gesture(gesture) => {
+                let replies = self.step(alloc, loaded, &gesture, slots, steps);
+                let name = loaded.app.frame.pane.name.as_slice();
+                goes_on(say_replies(&mut self.outgoing, out, name, &replies))
+            }
+            Next::Bad(number) => goes_on(say_bad(&mut self.outgoing, out, number)),
+            Next::Memory => goes_on(say_lost(&mut self.outgoing, out)),
+            Next::End => Some(End::Done),
+            Next::ReadFault => Some(End::ReadFault),
+            Next::TooMany => Some(End::TooMany),
+        }
+    }
+}
+
+// The end where the sink failed.
+fn goes_on(written: bool) -> Option<End>
+    ensures { result ≡ end_unless written }
+{
+    if written { None } else { Some(End::OutputFault) }
+}

@@ -1,0 +1,113 @@
+ghost use Rattle.std.specs.Prelude.{◌≡◌, ◌≤◌, false, IfOk};
+ghost use Rattle.cl_raster.specs.Raster.{SameSize};
+ghost use Rattle.cl_session.specs.Pane.{IsPainted};
+ghost use Rattle.cl_session.specs.Step.{opening};
+ghost use Rattle.cl_session.specs.Session.{Fits, IsCurrent, SettlesIf, Steps as StepsTo, world_of};
+
+use crate::answers::{Lines, PaneReport, Replies};
+use crate::handling::{Handling, handle};
+use crate::panes::Pane;
+use crate::writing::Outgoing;
+use cl_command::Line;
+use cl_eval::{Limits, Slots};
+use cl_gesture::Gesture;
+use cl_load::Loaded;
+use cl_outside::{Ledger, Steps};
+use cl_syntax::App;
+use std::alloc::{AllocError, Global};
+
+/// How many forms may be entered and not left.
+pub const DEPTH: u32 = 512;
+
+/// An application's frame between two gestures: its command line, its pane, its limits, and the bytes
+/// of replies that wait to be written, none between two gestures. The slots stand apart.
+#[derive(Drop)]
+pub struct Session {
+    pub line: Line,
+    pub pane: Pane,
+    pub limits: Limits,
+    pub outgoing: Outgoing,
+}
+
+impl Session {
+    /// Opens the frame and settles its pane, with no reply. A pane that meets want of memory here
+    /// makes the whole call answer want of memory.
+    pub fn new<L: Ledger>(
+        alloc: Global,
+        loaded: &Loaded,
+        slots: &Slots,
+        budget: u64,
+        steps: &mut Steps<L>,
+    ) -> Result<Session, AllocError>
+        ensures world { IfOk result (λ s. world_of s slots.now ≡ opening loaded.now.app s.limits slots.now) }
+        ensures limits { IfOk result (λ s. (s.limits.budget ≡ budget) × (s.limits.depth ≡ 512)) }
+        ensures fits { IfOk result (Fits loaded.now.app slots.now) }
+    {
+        let line = Line::new(alloc)?;
+        let outgoing = Outgoing::new(alloc)?;
+        let mut pane = Pane::new(alloc, loaded.app.frame.width, loaded.app.frame.height)?;
+        let limits = Limits { budget, depth: DEPTH };
+        match pane.settle(alloc, &loaded.app.display.body, slots, limits, steps) {
+            PaneReport::Memory => Err(AllocError),
+            _ => Ok(Session { line, pane, limits, outgoing }),
+        }
+    }
+
+    /// Handles one gesture, and settles the pane where a command committed or where it is blank for
+    /// want of memory.
+    pub fn step<L: Ledger>(
+        &mut self,
+        alloc: Global,
+        loaded: &Loaded,
+        gesture: &Gesture,
+        slots: &mut Slots,
+        steps: &mut Steps<L>,
+    ) -> Replies
+        requires { Fits loaded.now.app slots.old self.old }
+        ensures steps { StepsTo loaded.now.app self.old self.new slots.old slots.new gesture.now result }
+        ensures fits { Fits loaded.now.app slots.new self.new }
+    {
+        let app = &loaded.app;
+        match handle(alloc, app, self.limits, gesture, &self.pane, slots, &mut self.line, steps) {
+            Handling::Replied(own) => {
+                let pane = self.settle_if(false, alloc, app, slots, steps);
+                Replies { own, memory: false, pane }
+            }
+            Handling::Committed(own) => {
+                let pane = self.settle_if(true, alloc, app, slots, steps);
+                Replies { own, memory: false, pane }
+            }
+            Handling::Memory => {
+                let pane = self.settle_if(false, alloc, app, slots, steps);
+                Replies { own: Lines::new(alloc), memory: true, pane }
+            }
+        }
+    }
+
+    // Settles the pane where that is due, or where it is blank.
+    fn settle_if<L: Ledger>(
+        &mut self,
+        due: bool,
+        alloc: Global,
+        app: &App,
+        slots: &Slots,
+        steps: &mut Steps<L>,
+    ) -> PaneReport
+        requires depth { self.old.limits.depth ≤ 512 }
+        requires painted { IsPainted self.old.pane }
+        requires current { due ≡ false → IsCurrent app.now self.old.limits slots.now self.old.pane.history }
+        ensures settles { SettlesIf due app.now self.old.limits slots.now self.old.pane.history self.new.pane.history result }
+        ensures painted { IsPainted self.new.pane }
+        ensures size { SameSize self.old.pane.raster self.new.pane.raster }
+        ensures current { IsCurrent app.now self.old.limits slots.now self.new.pane.history }
+        ensures line { self.new.line ≡ self.old.line }
+        ensures limits { self.new.limits ≡ self.old.limits }
+        ensures outgoing { self.new.outgoing ≡ self.old.outgoing }
+    {
+        if due || self.pane.history.is_none() {
+            self.pane.settle(alloc, &app.display.body, slots, self.limits, steps)
+        } else {
+            PaneReport::Quiet
+        }
+    }
+}

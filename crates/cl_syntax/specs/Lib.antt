@@ -1,0 +1,3 @@
+pub mod Term
+pub mod TermCode
+pub mod Expr
