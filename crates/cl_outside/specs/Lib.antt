@@ -1,8 +1,12 @@
+pub mod Adapters
 pub mod Causes
 pub mod Device
 pub mod Lent
+pub mod Memory
+pub mod MemoryDevice
+pub mod MemoryPlace
+pub mod NameTables
+pub mod Named
 pub mod Outside
 pub mod Place
-pub mod Memory
-pub mod Adapters
-pub mod MemoryDevice
+pub mod Told

@@ -1,11 +1,11 @@
 -- What callers see of the objects in memory.
-use Rattle.std.specs.Prelude.{◌≡◌, ℕ, ◌+◌, ◌-◌, ◌^◌, ◌≤◌, ◌<◌, min, List, [], ◌∷◌, length, slice_index, Contains}
+use Rattle.std.specs.Prelude.{◌≡◌, ℕ, ◌+◌, ◌-◌, ◌^◌, ◌≤◌, ◌<◌, min, max, List, [], ◌∷◌, length, slice_index, Contains}
 use Rattle.cl_outside.specs.declared.answers.Took.{Took}
 use Rattle.cl_outside.specs.declared.answers.Took.TheVariants.{Bytes, Failed}
 
 -- one more of a count, which stands still at 2^64 - 1
 abbrev pub one_more : ℕ → ℕ
-one_more n = min (n + 1) (2 ^ 64 - 1)
+one_more n = max n (min (n + 1) (2 ^ 64 - 1))
 
 -- the numbers, from 1, of the calls that are to fail, and how many calls there were
 pub record Plan : Type 0 where

@@ -7,7 +7,7 @@ use crate::answers::Sent;
 use crate::cells::Cell;
 use crate::devices::Device;
 use crate::grid::Grid;
-use crate::plan::FaultPlan;
+use crate::plan::{FaultPlan, raised};
 use std::alloc::{AllocError, Global};
 use std::marker::Model;
 
@@ -75,7 +75,7 @@ impl MemDevice {
         ensures plan { self.new.plan ≡ self.old.plan }
         ensures count { CountsFailure self.old.faults self.new.faults Sent.Failed }
     {
-        self.faults = self.faults.saturating_add(1);
+        self.faults = raised(self.faults);
         self.broken = true;
         Sent::Failed
     }

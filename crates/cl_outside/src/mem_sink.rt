@@ -1,9 +1,10 @@
 ghost use Rattle.std.specs.Prelude.{◌≡◌, ◌↔◌, ◌⊎◌, ℕ, ◌+◌, ◌-◌, ◌≤◌, ◌<◌, min, List, [], length, take, drop, Some, IfOk, All};
 ghost use Rattle.cl_outside.specs.Outside.{WriteTook, FailedRose};
-ghost use Rattle.cl_outside.specs.Memory.{AllPositive, IsToFail, counted, new_plan, CountsFault, WritesPiece, next_piece, later_pieces};
+ghost use Rattle.cl_outside.specs.Memory.{AllPositive, IsToFail, counted, new_plan, CountsFault, WritesPiece};
 
 use crate::answers::Took;
-use crate::plan::FaultPlan;
+use crate::pieces::Pieces;
+use crate::plan::{FaultPlan, raised};
 use crate::sinks::Sink;
 use std::alloc::{AllocError, Global};
 use std::marker::Model;
@@ -82,7 +83,7 @@ impl Sink for MemSink {
         let fails = self.plan.next_fails();
         let room = self.room - self.taken.len();
         if fails || room == 0 {
-            self.faults = self.faults.saturating_add(1);
+            self.faults = raised(self.faults);
             return Took::Failed;
         }
         let n = self.pieces.next(bytes.len()).min(room);
@@ -90,48 +91,5 @@ impl Sink for MemSink {
             unreachable!();
         }
         Took::Bytes(n)
-    }
-}
-
-// The greatest numbers of bytes that the writes to come take.
-#[derive(Drop)]
-struct Pieces {
-    sizes: Vec<usize>,
-    at: usize,
-}
-
-impl Model for Pieces {
-    ghost use Rattle.std.specs.Prelude.{List, ℕ, drop, length, ◌≤◌};
-    ghost use Rattle.cl_outside.specs.Memory.{AllPositive};
-
-    ghost Value = { List ℕ };
-
-    ghost view = { λ p. drop p.at p.sizes.items };
-
-    ghost invariant = { λ p. (p.at ≤ length p.sizes.items) × AllPositive p.sizes.items };
-}
-
-impl Pieces {
-    fn new(sizes: Vec<usize>) -> Pieces
-        requires { AllPositive sizes.items }
-        ensures { result ≡ sizes.items }
-    {
-        Pieces { sizes, at: 0 }
-    }
-
-    // How many of so many bytes the next write takes; the piece is used up.
-    fn next(&mut self, offered: usize) -> usize
-        requires { 0 < offered }
-        ensures amount { result ≡ next_piece self.old offered }
-        ensures some { 0 < result }
-        ensures within { result ≤ offered }
-        ensures later { self.new ≡ later_pieces self.old }
-    {
-        if self.at == self.sizes.len() {
-            return offered;
-        }
-        let size = self.sizes[self.at];
-        self.at += 1;
-        size.min(offered)
     }
 }

@@ -3,7 +3,8 @@ ghost use Rattle.cl_outside.specs.Outside.{ReadTook, FailedRose};
 ghost use Rattle.cl_outside.specs.Memory.{IsToFail, counted, new_plan, CountsFault, ReadsAll};
 
 use crate::answers::Took;
-use crate::plan::FaultPlan;
+use crate::handing::hand_over;
+use crate::plan::{FaultPlan, raised};
 use crate::sources::Source;
 use std::marker::Model;
 
@@ -58,25 +59,11 @@ impl Source for MemSource {
         ensures amount { ReadsAll self.old.left buf.new result }
     {
         if self.plan.next_fails() {
-            self.faults = self.faults.saturating_add(1);
+            self.faults = raised(self.faults);
             return Took::Failed;
         }
         let n = hand_over(self.content.as_slice(), self.at, buf);
         self.at += n;
         Took::Bytes(n)
     }
-}
-
-// Copies as much as there is room for, and says how much that is.
-fn hand_over(content: &[u8], at: usize, buf: &mut [u8]) -> usize
-    requires room { 0 < length buf.old }
-    requires within { at ≤ length content.now }
-    ensures within { at + result ≤ length content.now }
-    ensures bytes { ReadTook (Some (drop at content.now)) (Some (drop (at + result) content.now)) buf.new (Took.Bytes result) }
-    ensures amount { ReadsAll (drop at content.now) buf.new (Took.Bytes result) }
-{
-    let rest = &content[at..];
-    let n = rest.len().min(buf.len());
-    buf[..n].copy_from_slice(&rest[..n]);
-    n
 }

@@ -1,5 +1,5 @@
 ghost use Rattle.std.specs.Prelude.{◌≡◌, ◌↔◌, ℕ, ◌+◌, ◌-◌, ◌≤◌, IsTrue, Contains};
-ghost use Rattle.cl_outside.specs.Memory.{IsToFail, counted, new_plan};
+ghost use Rattle.cl_outside.specs.Memory.{IsToFail, counted, new_plan, one_more};
 
 use std::marker::Model;
 
@@ -31,9 +31,16 @@ impl FaultPlan {
         ensures counted { self.new ≡ counted self.old }
     {
         let fails = is_listed(self.numbers.as_slice(), self.calls);
-        self.calls = self.calls.saturating_add(1);
+        self.calls = raised(self.calls);
         fails
     }
+}
+
+// One more of a count, which stands still at 2^64 - 1.
+pub(crate) fn raised(count: u64) -> u64
+    ensures { result ≡ one_more count }
+{
+    count.saturating_add(1)
 }
 
 // Whether the number after this one is listed.

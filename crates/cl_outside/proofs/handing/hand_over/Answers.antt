@@ -1,6 +1,6 @@
 use Rattle.std.proofs.lemmas.List.{take_rest}
 use Rattle.cl_outside.proofs.Copies.{handed_over}
-use Rattle.cl_outside.proofs.mem_source.hand_over.Goals as goal
+use Rattle.cl_outside.proofs.handing.hand_over.Goals as goal
 
 pub returns-clause-bytes : goal.returns-clause-bytes
 returns-clause-bytes c =
