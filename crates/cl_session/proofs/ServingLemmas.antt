@@ -1,5 +1,6 @@
 -- Turns of serving, one after another.
-use Rattle.std.proofs.Common.{◌≡◌, ℕ, ◌+◌, ◌<◌, ◌≤◌, suc, Bool, true, false, Option, List, [], ◌∷◌, ◌++◌, length, refl, sym, ◌∙◌, ap, arith, append_assoc, append-nil, add-zero, length-append}
+use Rattle.std.proofs.Common.{◌≡◌, ℕ, ◌+◌, ◌<◌, ◌≤◌, suc, Bool, true, false, Option, List, [], ◌∷◌, ◌++◌, length, refl, sym, ◌∙◌, ap, arith, append_assoc, append-nil, add-zero, length-append, Some, None, inl, inr}
+use Rattle.std.specs.Prelude.{◌⊎◌}
 use Rattle.std.proofs.KnownBytes.{Appends-nil, Appends-trans, Consumes-nil}
 use Rattle.std.specs.Io.KnownBytes.{Appends}
 use Rattle.cl_outside.specs.Causes.{Rose}
@@ -11,7 +12,10 @@ use Rattle.cl_gesture.specs.Next.{Progress, Passes, AreIdle, ReadsTo, ReadsToEnd
 use Rattle.cl_gesture.proofs.Cutting.{Lines-more, Reads-trans, ended-more}
 use Rattle.cl_session.specs.World.{World}
 use Rattle.cl_session.specs.Transcript.{IsTranscript, Went, lost, said_of, world_after}
-use Rattle.cl_session.specs.Writing.{Wrote}
+use Rattle.cl_session.specs.Writing.{Wrote, Says}
+use Rattle.cl_session.specs.Turns.{Turns, end_unless}
+use Rattle.cl_session.specs.declared.serving.End.{End}
+use Rattle.cl_session.specs.declared.serving.End.TheVariants as end
 use Rattle.cl_session.specs.Serving.{Going, Served, Faulted, CutOff, ServesTo}
 
 -- idle pieces are answered by nothing
@@ -177,3 +181,64 @@ Served-finished app limits u v a b x y g e = record {
     appended = g.appended;
     transcript = rw (append-nil g.given, append-nil g.written) at (g.goes_on [] [] refl)
   }
+
+counted-up : (kind : LineKind) (old new : Progress) (r : ReadsTo kind old new) → old.count < new.count
+counted-up kind old new r = omega (arith, r.passes.counted, length-append r.idles (r.piece ∷ []))
+
+-- a turn, by what was said of its piece
+pub turn-said : (done : Bool) (app : App) (limits : Limits) (w to : World) (kind : LineKind) (went : Went) (old new : Progress) (r : ReadsTo kind old new)
+    (taken_old taken_new : Option (List ℕ)) (bytes : List ℕ) (faults_old faults_new : ℕ)
+    → bytes ≡ said_of app limits w (old.count + length r.idles) kind went → to ≡ world_after app limits w kind went
+    → Says done taken_old taken_new bytes faults_old faults_new
+    → Turns app limits w to old new taken_old taken_new faults_old faults_new (end_unless done)
+turn-said true app limits w to kind went old new r taken_old taken_new bytes faults_old faults_new e f s =
+    (rw f (Going-turn app limits w kind went old new r taken_old taken_new (rw (← e) s)), counted-up kind old new r)
+turn-said false app limits w to kind went old new r taken_old taken_new bytes faults_old faults_new e f s =
+    (CutOff-turn app limits w kind went old new r taken_old taken_new s.0.0 (rw (← e) s.0.1), s.1)
+
+-- a turn behind turns
+going-by : (app : App) (limits : Limits) (u v w : World) (a b c : Progress) (x y z : Option (List ℕ)) (m n : ℕ) (g : Going app limits u v a b x y)
+    (f : Bool) → g.finished ≡ f → (b.stop ≡ stop_at false → Turns app limits v w b c y z m n None)
+    → (b.stop ≡ stop_at true → None ≡ Some end.Done) → Going app limits u w a c x z × (b.count < c.count)
+going-by app limits u v w a b c x y z m n g false e turns ended =
+    let t = turns (g.stopped ∙ ap stop_at e) in
+    (Going-trans app limits u v w a b c x y z g e t.0, t.1)
+going-by app limits u v w a b c x y z m n g true e turns ended =
+    let not : None ≡ Some end.Done = ended (g.stopped ∙ ap stop_at e) in cc
+
+pub Going-more : (app : App) (limits : Limits) (u v w : World) (a b c : Progress) (x y z : Option (List ℕ)) (m n : ℕ) (g : Going app limits u v a b x y)
+    → (b.stop ≡ stop_at false → Turns app limits v w b c y z m n None)
+    → (b.stop ≡ stop_at true → None ≡ Some end.Done) → Going app limits u w a c x z × (b.count < c.count)
+Going-more app limits u v w a b c x y z m n g turns ended =
+    going-by app limits u v w a b c x y z m n g g.finished refl turns ended
+
+ServesTo-after : (app : App) (limits : Limits) (u v : World) (a b c : Progress) (x y z : Option (List ℕ)) (l m n : ℕ) (g : Going app limits u v a b x y)
+    → g.finished ≡ false → a.faults ≤ b.faults → l ≤ m → (e : End) → ServesTo app limits v b c y z m n e → ServesTo app limits u a c x z l n e
+ServesTo-after app limits u v a b c x y z l m n g f le lo end.Done h = Served-after app limits u v a b c true x y z g f h
+ServesTo-after app limits u v a b c x y z l m n g f le lo end.ReadFault h = Faulted-after app limits u v a b c x y z g f le h
+ServesTo-after app limits u v a b c x y z l m n g f le lo end.TooMany h = (Served-after app limits u v a b c false x y z g f h.0, h.1, h.2)
+ServesTo-after app limits u v a b c x y z l m n g f le lo end.OutputFault h = (CutOff-after app limits u v a b c x y z g f h.0, omega (arith, lo, h.1))
+
+-- the end behind turns
+serves-by : (app : App) (limits : Limits) (u v : World) (a b c : Progress) (x y z : Option (List ℕ)) (l m n : ℕ) (g : Going app limits u v a b x y)
+    (f : Bool) → g.finished ≡ f → a.faults ≤ b.faults → l ≤ m → (e : End) → (b.stop ≡ stop_at false → ServesTo app limits v b c y z m n e)
+    → (b.stop ≡ stop_at true → (e ≡ end.Done) × (c ≡ b) × (z ≡ y)) → ServesTo app limits u a c x z l n e
+serves-by app limits u v a b c x y z l m n g false s le lo e turns ended =
+    ServesTo-after app limits u v a b c x y z l m n g s le lo e (turns (g.stopped ∙ ap stop_at s))
+serves-by app limits u v a b c x y z l m n g true s le lo e turns ended =
+    let done = ended (g.stopped ∙ ap stop_at s) in
+    rw (done.0, done.1, done.2) (Served-finished app limits u v a b x y g s)
+
+pub ServesTo-end : (app : App) (limits : Limits) (u v : World) (a b c : Progress) (x y z : Option (List ℕ)) (l m n : ℕ) (g : Going app limits u v a b x y)
+    → a.faults ≤ b.faults → l ≤ m → (e : End) → (b.stop ≡ stop_at false → ServesTo app limits v b c y z m n e)
+    → (b.stop ≡ stop_at true → (e ≡ end.Done) × (c ≡ b) × (z ≡ y)) → ServesTo app limits u a c x z l n e
+ServesTo-end app limits u v a b c x y z l m n g le lo e turns ended =
+    serves-by app limits u v a b c x y z l m n g g.finished refl le lo e turns ended
+
+pub stop-open : (app : App) (limits : Limits) (u v : World) (a b : Progress) (x y : Option (List ℕ)) → Going app limits u v a b x y
+    → (b.stop ≡ stop_at false) ⊎ (b.stop ≡ stop_at true)
+stop-open app limits u v a b x y g = by g.finished g.stopped
+  where
+    by : (f : Bool) → b.stop ≡ stop_at f → (b.stop ≡ stop_at false) ⊎ (b.stop ≡ stop_at true)
+    by false e = inl e
+    by true e = inr e

@@ -51,9 +51,10 @@ impl Session {
         ensures fits { Fits loaded.now.app slots.new self.new }
         ensures limits { self.new.limits ≡ self.old.limits }
     {
-        for _turn in 0..MOST_TURNS {
-            if let Some(end) = self.turn(alloc, loaded, slots, gestures, out, steps) {
-                return end;
+        'turns: for _turn in 0..MOST_TURNS {
+            match self.turn(alloc, loaded, slots, gestures, out, steps) {
+                None => {}
+                Some(end) => return end,
             }
         }
         unreachable!()

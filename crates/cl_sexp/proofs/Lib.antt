@@ -1,3 +1,4 @@
 pub mod Forward
 pub mod Decimals
 pub mod Lying
+pub mod Reading

@@ -197,7 +197,7 @@ lies_of text ts e = lies_from (length text) 0 0 text ts (omega arith) e
 
 -- ---- the slices
 
-spelled_some : (kind : Kind) (word rest : List ℕ) → Spells kind word rest → 0 < length word
+pub spelled_some : (kind : Kind) (word rest : List ℕ) → Spells kind word rest → 0 < length word
 spelled_some _ _ _ (Lies.opening rest) = omega arith
 spelled_some _ _ _ (Lies.closing rest) = omega arith
 spelled_some _ _ _ (Lies.quote rest) = omega arith

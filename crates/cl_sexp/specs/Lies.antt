@@ -17,7 +17,7 @@ pub data IsBlank : List ℕ → List ℕ → Type 0 where
   space : (b : ℕ) (rest : List ℕ) → IsTrue (is_space b) → IsBlank (b ∷ []) rest
   comment : (bs rest : List ℕ) → IsTrue (list_all in_comment bs) → Stops in_comment rest → IsBlank (59 ∷ bs) rest
 
--- what may stand between two quotes: no control byte, and a quote only behind a `\`, which takes the next byte, whatever it is
+-- what may stand between two quotes: no control byte, and a quote only behind a `\`; a `\` takes the next byte with it
 abbrev pub is_quoted : Bool → List ℕ → Bool
 is_quoted escaped [] = not escaped
 is_quoted escaped (b ∷ bs) = is_text b && (if escaped then is_quoted false bs else (not (b == 34) && is_quoted (b == 92) bs))

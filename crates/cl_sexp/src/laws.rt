@@ -1,6 +1,6 @@
 //! What the definition of the tokens says of a text. The contracts are the laws.
 ghost use Rattle.std.specs.Prelude.{◌≡◌, ℕ, List};
-ghost use Rattle.cl_sexp.specs.Tokens.{tokens_of};
+ghost use Rattle.cl_sexp.specs.Tokens.{tokens_of, Nests};
 ghost use Rattle.cl_sexp.specs.Lies.{Lies, Rises, joined};
 ghost use Rattle.cl_sexp.specs.declared.Token.{Token};
 
@@ -20,4 +20,10 @@ pub fn tokens_join()
 #[tactic(auto, using(crate::proofs::Lying::rises_of))]
 pub fn tokens_rise()
     ensures { (text : List ℕ) (tokens : List Token) → tokens_of text ≡ Ok tokens → Rises 0 tokens }
+{}
+
+/// What lies so in a text, with its forms closed and at most 64 deep, is what is read: there are no other tokens.
+#[tactic(auto, using(crate::proofs::Reading::read_of))]
+pub fn tokens_are_read()
+    ensures { (text : List ℕ) (tokens : List Token) → Lies 0 text tokens → Nests 0 tokens → tokens_of text ≡ Ok tokens }
 {}

@@ -12,9 +12,11 @@ mod begin;
 mod byte;
 mod laws;
 mod quoted;
+#[cfg(test)]
+mod tests;
 mod word;
 
-pub use laws::{tokens_join, tokens_lie, tokens_rise};
+pub use laws::{tokens_are_read, tokens_join, tokens_lie, tokens_rise};
 
 /// A word of an optional `-` and digits is a number; any other word is a symbol.
 #[derive(Clone, Copy, PartialEq, Eq, Debug)]

@@ -1,2 +1,4 @@
 pub mod Parts
 pub mod Same
+pub mod Total
+pub mod Measures

@@ -114,3 +114,9 @@ from_equal Greater h = cc
 -- the test of the order's answer is the test of equality
 pub equal_test : (v w : Value) (r : Ordering) → r ≡ order_of (data_of v) (data_of w) → IsTrue (is_eq r) ↔ (v ≡ w)
 equal_test v w r e = (λ h. same_values v w (sym e ∙ from_equal r h), λ p. rw (e, order_same v w p) refl)
+
+pub order_tells : (v w : Value) → (order_of (data_of v) (data_of w) ≡ Equal) ↔ (v ≡ w)
+order_tells v w = (same_values v w, order_same v w)
+
+pub data_whole : (v w : Value) → data_of v ≡ data_of w → v ≡ w
+data_whole v w p = data_of-inj v w p

@@ -13,8 +13,15 @@ use std::hash::{Hash, Hasher};
 use std::marker::Model;
 use std::rc::Rc;
 
+mod laws;
 mod measure;
 mod order;
+#[cfg(test)]
+mod tests;
+
+pub use laws::{
+    data_tells_values, depth_within_size, measures_agree, order_is_total, order_tells_values,
+};
 
 /// Bytes, seen as their list. A copy shares them.
 #[derive(Drop)]

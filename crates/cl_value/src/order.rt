@@ -38,10 +38,10 @@ impl Value {
             (Value::Symbol(a), Value::Symbol(b)) => a.order(b),
             (Value::Null, Value::Null) => Ordering::Equal,
             (Value::List(a), Value::List(b)) => order_all(a.as_slice(), b.as_slice()),
-            (Value::Record(a, parts), Value::Record(b, others)) => {
-                a.order(b)
-                    .then(order_all(parts.as_slice(), others.as_slice()))
-            }
+            (Value::Record(a, parts), Value::Record(b, others)) => match a.order(b) {
+                Ordering::Equal => order_all(parts.as_slice(), others.as_slice()),
+                unequal => unequal,
+            },
             _ => self.kind().cmp(&other.kind()),
         }
     }

@@ -1,0 +1,95 @@
+-- The order of values is total.
+use Rattle.std.proofs.Common.{◌≡◌, ℕ, ◌<◌, ◌≤◌, refl, sym, ap, arith}
+use Rattle.std.specs.declared.cmp.Ordering.{Ordering}
+use Rattle.std.specs.declared.cmp.Ordering.TheVariants.{Less, Equal, Greater}
+use Rattle.std.specs.Ordering.{nat_cmp, ordering_then, ordering_reverse}
+use Rattle.std.specs.Cmp.Lexicographic.{slice_cmp}
+use Rattle.std.specs.Cmp.{IsTotalOrder, bool_cmp_total, then_flip, nat_cmp_is}
+use Rattle.std.proofs.lemmas.Map.Lookups.{exact_bytes}
+use Rattle.std.proofs.lemmas.Cmp.{int_cmp_total, nat_list_cmp_total, nat_cmp_total, ranked}
+use Rattle.cl_value.specs.Data.{Data, int, bool, text, symbol, null, list, rec, Items, none, item, kind_of, order_of, order_of_items}
+use Rattle.cl_value.proofs.Same.{same_data}
+
+-- ---- the other way round
+
+then_reversed : (a b c d : Ordering) → a ≡ ordering_reverse c → b ≡ ordering_reverse d → ordering_then a b ≡ ordering_reverse (ordering_then c d)
+then_reversed a b c d p q = rw (p, q) (then_flip c d)
+
+mutual
+  reversed : (x y : Data) → order_of x y ≡ ordering_reverse (order_of y x)
+  reversed (int m) (int n) = int_cmp_total.antisymm m n
+  reversed (bool a) (bool b) = bool_cmp_total.antisymm a b
+  reversed (text s) (text t) = nat_list_cmp_total.antisymm s t
+  reversed (symbol s) (symbol t) = nat_list_cmp_total.antisymm s t
+  reversed null null = refl
+  reversed (list ds) (list es) = reversed_items ds es
+  reversed (rec s ds) (rec t es) = then_reversed _ _ _ _ (nat_list_cmp_total.antisymm s t) (reversed_items ds es)
+  reversed x y = nat_cmp_total.antisymm (kind_of x) (kind_of y)
+
+  reversed_items : (ds es : Items) → order_of_items ds es ≡ ordering_reverse (order_of_items es ds)
+  reversed_items none none = refl
+  reversed_items none (item e es) = refl
+  reversed_items (item d ds) none = refl
+  reversed_items (item d ds) (item e es) = then_reversed _ _ _ _ (reversed d e) (reversed_items ds es)
+
+-- ---- along a chain
+
+nat_less : (m n : ℕ) → nat_cmp m n ≡ Less → m < n
+nat_less m n p = ranked m n Less (sym p)
+
+less_nat : (m n : ℕ) → m < n → Less ≡ nat_cmp m n
+less_nat m n h = nat_cmp_is m n Less h
+
+-- a value that comes first is of no later kind
+kinds_rise : (x y : Data) → order_of x y ≡ Less → kind_of x ≤ kind_of y
+kinds_rise (int m) (int n) p = omega arith
+kinds_rise (bool a) (bool b) p = omega arith
+kinds_rise (text s) (text t) p = omega arith
+kinds_rise (symbol s) (symbol t) p = omega arith
+kinds_rise null null p = omega arith
+kinds_rise (list ds) (list es) p = omega arith
+kinds_rise (rec s ds) (rec t es) p = omega arith
+kinds_rise x y p = omega (arith, nat_less (kind_of x) (kind_of y) p)
+
+earlier_kind : (x y : Data) → kind_of x < kind_of y → order_of x y ≡ Less
+earlier_kind (int m) (int n) h = absurd (omega arith)
+earlier_kind (bool a) (bool b) h = absurd (omega arith)
+earlier_kind (text s) (text t) h = absurd (omega arith)
+earlier_kind (symbol s) (symbol t) h = absurd (omega arith)
+earlier_kind null null h = absurd (omega arith)
+earlier_kind (list ds) (list es) h = absurd (omega arith)
+earlier_kind (rec s ds) (rec t es) h = absurd (omega arith)
+earlier_kind x y h = sym (less_nat (kind_of x) (kind_of y) h)
+
+then_chained : (a b c r s t : Ordering) → (a ≡ Less → b ≡ Less → c ≡ Less) → (a ≡ Equal → c ≡ b) → (b ≡ Equal → c ≡ a) → (r ≡ Less → s ≡ Less → t ≡ Less) → ordering_then a r ≡ Less → ordering_then b s ≡ Less → ordering_then c t ≡ Less
+then_chained Less Less c r s t f g h k p q = let e : c ≡ Less = f refl refl in rw e refl
+then_chained Less Equal c r s t f g h k p q = let e : c ≡ Less = h refl in rw e refl
+then_chained Equal Less c r s t f g h k p q = let e : c ≡ Less = g refl in rw e refl
+then_chained Equal Equal c r s t f g h k p q = let e : c ≡ Equal = g refl in rw e (k p q)
+then_chained Greater b c r s t f g h k p q = cc
+then_chained a Greater c r s t f g h k p q = cc
+
+mutual
+  chained : (x y z : Data) → order_of x y ≡ Less → order_of y z ≡ Less → order_of x z ≡ Less
+  chained (int l) (int m) (int n) p q = int_cmp_total.trans l m n p q
+  chained (bool a) (bool b) (bool c) p q = bool_cmp_total.trans a b c p q
+  chained (text s) (text t) (text u) p q = nat_list_cmp_total.trans s t u p q
+  chained (symbol s) (symbol t) (symbol u) p q = nat_list_cmp_total.trans s t u p q
+  chained null null null p q = p
+  chained (list ds) (list es) (list fs) p q = chained_items ds es fs p q
+  chained (rec s ds) (rec t es) (rec u fs) p q =
+      then_chained _ _ _ _ _ _ (nat_list_cmp_total.trans s t u) (λ e. nat_list_cmp_total.congr s t u e) (λ e. ap (λ x. slice_cmp nat_cmp s x) (sym (exact_bytes t u e))) (chained_items ds es fs) p q
+  chained x y z p q = earlier_kind x z (omega (arith, kinds_rise x y p, kinds_rise y z q))
+
+  chained_items : (ds es fs : Items) → order_of_items ds es ≡ Less → order_of_items es fs ≡ Less → order_of_items ds fs ≡ Less
+  chained_items none (item e es) (item f fs) p q = refl
+  chained_items (item d ds) (item e es) (item f fs) p q =
+      then_chained _ _ _ _ _ _ (chained d e f) (λ a. ap (λ x. order_of x f) (same_data d e a)) (λ b. ap (λ x. order_of d x) (sym (same_data e f b))) (chained_items ds es fs) p q
+  chained_items ds es fs p q = cc
+
+pub order_total : IsTotalOrder order_of
+order_total = record {
+  antisymm = reversed;
+  trans = chained;
+  congr = λ x y z p. ap (λ d. order_of d z) (same_data x y p);
+}

@@ -1,0 +1,94 @@
+//! What no clause says: that calls succeed while there is memory, and what is equal hashes alike.
+use super::*;
+use std::collections::HashMap;
+use std::test::Fail;
+
+fn text(alloc: Global, bytes: &[u8]) -> Result<Value, AllocError> {
+    Ok(Value::Text(Text::from_slice(alloc, bytes)?))
+}
+
+fn list(alloc: Global, first: Value, second: Value) -> Result<Values, Fail> {
+    let mut values = Values::new(alloc);
+    values.push(first).map_err(|_| "no memory")?;
+    values.push(second).map_err(|_| "no memory")?;
+    Ok(values)
+}
+
+/// The record `point` of 7 and the list of `ab` and null.
+fn point(alloc: Global) -> Result<Value, Fail> {
+    let inner = list(alloc, text(alloc, b"ab")?, Value::Null)?;
+    let fields = list(alloc, Value::Int(7), Value::List(inner))?;
+    let name = Text::from_vec(alloc, Vec::from_slice(alloc, b"point")?)?;
+    Ok(Value::Record(name, fields))
+}
+
+#[test]
+fn measures_and_copies(rt: HostRuntime) -> Result<(), Fail> {
+    let value = point(rt.alloc())?;
+    assert_eq!(rt;
+        value.size(),
+        1 + 1 + (1 + 3 + 1),
+        "the name counts nothing"
+    );
+    assert_eq!(rt; value.depth(), 3);
+    assert!(rt; value.copy()?.equal(&value));
+    let empty = Value::List(Values::new(rt.alloc()));
+    assert_eq!(rt; (empty.size(), empty.depth()), (1, 1));
+    let symbol = Value::Symbol(Text::from_slice(rt.alloc(), b"long-name")?);
+    assert_eq!(rt; (symbol.size(), symbol.depth()), (1, 1));
+    Ok(())
+}
+
+#[test]
+fn a_shared_list_is_not_changed(rt: HostRuntime) -> Result<(), Fail> {
+    let mut values = list(rt.alloc(), Value::Int(1), Value::Null)?;
+    let before = values.copy()?;
+    values.push(Value::Bool(true)).map_err(|_| "no memory")?;
+    assert_eq!(rt; before.as_slice().len(), 2);
+    assert_eq!(rt; values.as_slice().len(), 3);
+    Ok(())
+}
+
+/// Values in rising order.
+fn rising(alloc: Global, place: usize) -> Result<Value, Fail> {
+    Ok(match place {
+        0 => Value::Int(-3),
+        1 => Value::Int(2),
+        2 => Value::Bool(false),
+        3 => Value::Bool(true),
+        4 => text(alloc, b"")?,
+        5 => text(alloc, b"b")?,
+        6 => text(alloc, b"ba")?,
+        7 => Value::Symbol(Text::from_slice(alloc, b"a")?),
+        8 => Value::Null,
+        9 => Value::List(Values::new(alloc)),
+        _ => point(alloc)?,
+    })
+}
+
+#[test]
+fn kinds_are_ordered(rt: HostRuntime) -> Result<(), Fail> {
+    for i in 0..11usize {
+        for j in 0..11usize {
+            let first = rising(rt.alloc(), i)?;
+            let second = rising(rt.alloc(), j)?;
+            assert_eq!(rt; first.order(&second), i.cmp(&j), "{i} and {j}");
+        }
+    }
+    Ok(())
+}
+
+#[test]
+fn texts_are_keys(rt: HostRuntime) -> Result<(), Fail> {
+    let alloc = rt.alloc();
+    let mut numbers: HashMap<Text, u8> = HashMap::new(alloc);
+    let name = Text::from_slice(alloc, b"name")?;
+    let other = name.copy()?;
+    let _ = numbers.insert(name, 1)?;
+    assert_eq!(rt; numbers.get(&other).copied(), Some(1));
+    assert_eq!(rt;
+        numbers.get(&Text::from_slice(alloc, b"nam")?).copied(),
+        None
+    );
+    Ok(())
+}
