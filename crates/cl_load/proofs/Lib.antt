@@ -1,2 +1,6 @@
 pub mod Reading
 pub mod OneTree
+pub mod Trees
+pub mod Rows
+pub mod Shapes
+pub mod OneApplication

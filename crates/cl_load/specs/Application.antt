@@ -1,7 +1,8 @@
 -- The application that a text declares: a frame with one slot and one pane, its display, and one command.
-use Rattle.std.specs.Prelude.{◌≡◌, ℕ, ◌≤◌, ◌<◌, ◌-◌, ℤ, pos, Bool, true, false, not, ◌&&◌, ◌||◌, ◌==◌, nat_le, if◌then◌else◌, List, [], ◌∷◌, ◌++◌, length, drop, Option, Some, None, Result, Ok, Err, nat_eq, codes}
+use Rattle.std.specs.Prelude.{◌≡◌, ℕ, ◌≤◌, ◌<◌, ◌-◌, ℤ, pos, negsuc, Bool, true, false, not, ◌&&◌, ◌||◌, ◌==◌, nat_le, if◌then◌else◌, List, [], ◌∷◌, ◌++◌, length, drop, Option, Some, None, Result, Ok, Err, nat_eq, codes}
 use Rattle.std.specs.List.{starts_with}
 use Rattle.std.specs.Str.{bytes_eq}
+use Rattle.std.specs.Ordering.{int_eq}
 use Rattle.cl_value.specs.Data.{int}
 use Rattle.cl_value.specs.declared.Value.TheVariants as value
 use Rattle.cl_sexp.specs.Tokens.{tokens_of}
@@ -20,6 +21,7 @@ use Rattle.cl_syntax.specs.declared.declarations.DisplayDecl.{DisplayDecl}
 use Rattle.cl_syntax.specs.declared.declarations.CommandDecl.{CommandDecl}
 use Rattle.cl_load.specs.Tree.{Tree, Trees, number, literal, name, form, none, item, trees_of, spelled_all}
 use Rattle.cl_load.specs.Spelled.{lexemes}
+use Rattle.cl_load.specs.declared.frames.Size.{Size}
 
 infixl 10 ◌>>=◌
 abbrev pub ◌>>=◌ : {A B : Type 0} → Option A → (A → Option B) → Option B
@@ -52,9 +54,15 @@ name_in (literal s at) = None
 name_in (form ts at) = None
 
 -- a number from a low one to a high one
+abbrev pub within : ℕ → ℕ → ℤ → Option ℕ
+within low high (pos n) = some_if (nat_le low n && nat_le n high) n
+within low high (negsuc n) = None
+
 abbrev pub number_in : ℕ → ℕ → Tree → Option ℕ
-number_in low high (number (pos n) at) = some_if (nat_le low n && nat_le n high) n
-number_in low high t = None
+number_in low high (number z at) = within low high z
+number_in low high (literal s at) = None
+number_in low high (name s at) = None
+number_in low high (form ts at) = None
 
 abbrev pub is_word : List ℕ → Tree → Bool
 is_word word (name bytes at) = bytes_eq bytes word
@@ -131,10 +139,7 @@ place_row x (head ∷ a ∷ []) = is_word (codes "slot") head && is_word x a
 place_row x parts = false
 
 abbrev pub is_place : List ℕ → Tree → Bool
-is_place x (form ts at) = place_row x (parts_of ts)
-is_place x (number z at) = false
-is_place x (literal s at) = false
-is_place x (name s at) = false
+is_place x t = elim (list_in t) [ None ↦ false | Some parts ↦ place_row x parts ]
 
 -- `(setf (slot NAME) E)`
 abbrev pub act_row : List ℕ → List Tree → Option Act
@@ -142,11 +147,10 @@ act_row x (head ∷ place ∷ a ∷ []) =
     if is_word (codes "setf") head && is_place x place then (term_in x a >>= λ t. Some (Setf x t)) else None
 act_row x parts = None
 
--- ---- declarations
+abbrev pub act_in : List ℕ → Tree → Option Act
+act_in x t = list_in t >>= act_row x
 
-pub record Size : Type 0 where
-  pub width : ℕ
-  pub height : ℕ
+-- ---- declarations
 
 -- `(:size WIDTH HEIGHT)`
 abbrev pub size_row : List Tree → Option Size
@@ -155,6 +159,13 @@ size_row (key ∷ w ∷ h ∷ []) =
     then (number_in 1 512 w >>= λ width. number_in 1 256 h >>= λ height. Some (record { width = width; height = height }))
     else None
 size_row parts = None
+
+abbrev pub size_in : Tree → Option Size
+size_in t = list_in t >>= size_row
+
+-- the sizes that a frame may have
+abbrev pub IsSize : ℕ → ℕ → Type 0
+IsSize width height = (1 ≤ width) × (width ≤ 512) × (1 ≤ height) × (height ≤ 256)
 
 abbrev pub int_in : Tree → Option ℤ
 int_in (number z at) = Some z
@@ -170,32 +181,58 @@ slot_decl (n ∷ type ∷ o ∷ []) =
     else None
 slot_decl parts = None
 
+abbrev pub slot_in : Tree → Option SlotDecl
+slot_in t = list_in t >>= slot_decl
+
 -- `(:slots SLOT)`
 abbrev pub slots_row : List Tree → Option SlotDecl
-slots_row (key ∷ s ∷ []) = if is_word (codes ":slots") key then (list_in s >>= slot_decl) else None
+slots_row (key ∷ s ∷ []) = if is_word (codes ":slots") key then slot_in s else None
 slots_row parts = None
 
+abbrev pub slots_in : Tree → Option SlotDecl
+slots_in t = list_in t >>= slots_row
+
+abbrev pub is_number : ℕ → Tree → Bool
+is_number n (number z at) = int_eq z (pos n)
+is_number n (literal s at) = false
+is_number n (name s at) = false
+is_number n (form ts at) = false
+
+-- a place is the whole frame of this size
+abbrev pub is_whole : ℕ → ℕ → Tree → Tree → Tree → Tree → Bool
+is_whole width height left top w h = is_number 0 left && is_number 0 top && is_number width w && is_number height h
+
+abbrev pub pane_of : ℕ → ℕ → Tree → Tree → Option PaneDecl
+pane_of width height n d =
+    name_in n >>= λ x. name_in d >>= λ display.
+    Some (record { name = x; x = 0; y = 0; width = width; height = height; display = display })
+
 -- `(NAME 0 0 WIDTH HEIGHT DISPLAY)`, as large as the frame
-abbrev pub pane_decl : Size → List Tree → Option PaneDecl
-pane_decl size (n ∷ left ∷ top ∷ w ∷ h ∷ d ∷ []) =
-    name_in n >>= λ x. number_in 0 0 left >>= λ _. number_in 0 0 top >>= λ _.
-    number_in size.width size.width w >>= λ _. number_in size.height size.height h >>= λ _. name_in d >>= λ display.
-    Some (record { name = x; x = 0; y = 0; width = size.width; height = size.height; display = display })
-pane_decl size parts = None
+abbrev pub pane_decl : ℕ → ℕ → List Tree → Option PaneDecl
+pane_decl width height (n ∷ left ∷ top ∷ w ∷ h ∷ d ∷ []) =
+    if is_whole width height left top w h then pane_of width height n d else None
+pane_decl width height parts = None
+
+abbrev pub pane_in : ℕ → ℕ → Tree → Option PaneDecl
+pane_in width height t = list_in t >>= pane_decl width height
 
 -- `(:panes PANE)`
-abbrev pub panes_row : Size → List Tree → Option PaneDecl
-panes_row size (key ∷ p ∷ []) = if is_word (codes ":panes") key then (list_in p >>= pane_decl size) else None
-panes_row size parts = None
+abbrev pub panes_row : ℕ → ℕ → List Tree → Option PaneDecl
+panes_row width height (key ∷ p ∷ []) = if is_word (codes ":panes") key then pane_in width height p else None
+panes_row width height parts = None
+
+abbrev pub panes_in : ℕ → ℕ → Tree → Option PaneDecl
+panes_in width height t = list_in t >>= panes_row width height
+
+abbrev pub frame_of : ℕ → Tree → Tree → Tree → Tree → Option FrameDecl
+frame_of at n size slots panes =
+    name_in n >>= λ x. size_in size >>= λ s. slots_in slots >>= λ slot. panes_in s.width s.height panes >>= λ pane.
+    Some (record { name = x; width = s.width; height = s.height; slot = slot; pane = pane; at = at })
 
 -- `(define-application-frame NAME SIZE SLOTS PANES)`
 abbrev pub frame_row : ℕ → List Tree → Option FrameDecl
 frame_row at (head ∷ n ∷ size ∷ slots ∷ panes ∷ []) =
-    if is_word (codes "define-application-frame") head
-    then (name_in n >>= λ x. (list_in size >>= size_row) >>= λ s. (list_in slots >>= slots_row) >>= λ slot.
-      (list_in panes >>= panes_row s) >>= λ pane.
-      Some (record { name = x; width = s.width; height = s.height; slot = slot; pane = pane; at = at }))
-    else None
+    if is_word (codes "define-application-frame") head then frame_of at n size slots panes else None
 frame_row at parts = None
 
 -- the operators of the language, which are no names of displays
@@ -211,34 +248,41 @@ is_empty_list (number z at) = false
 is_empty_list (literal s at) = false
 is_empty_list (name s at) = false
 
+abbrev pub display_of : List ℕ → ℕ → Tree → List Tree → Option DisplayDecl
+display_of x at n body =
+    name_in n >>= λ d. shapes_in x body >>= λ shapes.
+    if is_operator d then None else Some (record { name = d; body = shapes; at = at })
+
 -- `(define-display NAME () SHAPE ...)`
 abbrev pub display_row : List ℕ → ℕ → List Tree → Option DisplayDecl
 display_row x at (head ∷ n ∷ parameters ∷ body) =
-    if is_word (codes "define-display") head && is_empty_list parameters
-    then (name_in n >>= λ d. shapes_in x body >>= λ shapes.
-      if is_operator d then None else Some (record { name = d; body = shapes; at = at }))
-    else None
+    if is_word (codes "define-display") head && is_empty_list parameters then display_of x at n body else None
 display_row x at parts = None
 
 abbrev pub upper : ℕ → ℕ
 upper b = if nat_le 97 b && nat_le b 122 then b - 32 else b
 
+abbrev pub line_byte : Bool → ℕ → ℕ
+line_byte first b = if b == 45 then 32 else (if first then upper b else b)
+
 -- hyphens become spaces, and the first letter of each word a capital
 abbrev pub words_of : Bool → List ℕ → List ℕ
 words_of first [] = []
-words_of first (b ∷ bs) = (if b == 45 then 32 else (if first then upper b else b)) ∷ words_of (b == 45) bs
+words_of first (b ∷ bs) = line_byte first b ∷ words_of (b == 45) bs
 
 -- the command-line name that is made from a symbol: a leading `com-` is dropped
 abbrev pub line_name_of : List ℕ → List ℕ
 line_name_of symbol = words_of true (if starts_with nat_eq symbol (codes "com-") then drop 4 symbol else symbol)
 
+abbrev pub command_of : List ℕ → ℕ → Tree → Tree → Option CommandDecl
+command_of x at n body =
+    name_in n >>= λ c. act_in x body >>= λ act.
+    Some (record { name = c; line_name = line_name_of c; body = act ∷ []; at = at })
+
 -- `(define-command NAME () (setf (slot SLOT) E))`
 abbrev pub command_row : List ℕ → ℕ → List Tree → Option CommandDecl
 command_row x at (head ∷ n ∷ parameters ∷ body ∷ []) =
-    if is_word (codes "define-command") head && is_empty_list parameters
-    then (name_in n >>= λ c. (list_in body >>= act_row x) >>= λ act.
-      Some (record { name = c; line_name = line_name_of c; body = act ∷ []; at = at }))
-    else None
+    if is_word (codes "define-command") head && is_empty_list parameters then command_of x at n body else None
 command_row x at parts = None
 
 abbrev pub frame_in : Tree → Option FrameDecl
@@ -264,10 +308,12 @@ abbrev pub agreed : FrameDecl → DisplayDecl → CommandDecl → Option App
 agreed frame display command =
     if bytes_eq frame.pane.display display.name then Some (record { frame = frame; display = display; command = command }) else None
 
+abbrev pub declared_by : FrameDecl → Tree → Tree → Option App
+declared_by frame d c = display_in frame.slot.name d >>= λ display. command_in frame.slot.name c >>= λ command. agreed frame display command
+
 -- the declarations, in this order
 abbrev pub application_in : List Tree → Option App
-application_in (f ∷ d ∷ c ∷ []) =
-    frame_in f >>= λ frame. display_in frame.slot.name d >>= λ display. command_in frame.slot.name c >>= λ command. agreed frame display command
+application_in (f ∷ d ∷ c ∷ []) = frame_in f >>= λ frame. declared_by frame d c
 application_in forms = None
 
 -- the application of a text: the text has tokens, these spell forms, and the forms declare it

@@ -1,0 +1,9 @@
+-- What a step of the decoding answers, against what the definition says. Want of memory answers nothing.
+use Rattle.std.specs.Prelude.{◌≡◌, Option, Some, None, Result, Ok, Err}
+use Rattle.cl_load.specs.declared.decoding.Stop.{Stop}
+use Rattle.cl_load.specs.declared.decoding.Stop.TheVariants.{Refused, Memory}
+
+abbrev pub Decodes : {A : Type 0} → Result A Stop → Option A → Type 0
+Decodes (Ok x) o = o ≡ Some x
+Decodes (Err Refused) o = o ≡ None
+Decodes (Err Memory) o = Unit {0}
