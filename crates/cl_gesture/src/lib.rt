@@ -15,6 +15,7 @@ mod grammar;
 mod laws;
 mod reader;
 
+pub use ahead::Ahead;
 pub use answers::{Gesture, Next, Stop};
 pub use laws::{
     cutting_keeps_the_bytes, gestures_are_spelled, pieces_are_well_cut, there_is_one_cut,

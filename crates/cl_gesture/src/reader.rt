@@ -36,14 +36,26 @@ impl<G: Source> Gestures<G> {
         ensures count { IfOk result (λ s. count_of s ≡ 0) }
         ensures stop { IfOk result (λ s. stop_of s ≡ stop.Going) }
     {
-        let ahead = Ahead::new(alloc)?;
-        Ok(Gestures {
+        let room = Ahead::new(alloc)?;
+        Ok(Gestures::with_room(alloc, room, source))
+    }
+
+    /// A reader at the first line of what the source has left, over room that was taken before. It
+    /// takes no memory, so no source is given up.
+    pub fn with_room(alloc: Global, room: Ahead, source: G) -> Gestures<G>
+        requires { room ≡ [] }
+        ensures source { source_of result ≡ source }
+        ensures ahead { ahead_of result ≡ [] }
+        ensures count { count_of result ≡ 0 }
+        ensures stop { stop_of result ≡ stop.Going }
+    {
+        Gestures {
             source,
-            ahead,
+            ahead: room,
             count: 0,
             stop: Stop::Going,
             alloc,
-        })
+        }
     }
 
     /// The next gesture or bad line, or why there is none. Empty lines and comments are counted and

@@ -1,0 +1,35 @@
+ghost use Rattle.std.specs.Prelude.{◌≡◌, ◌≤◌};
+ghost use Rattle.cl_session.specs.Writing.{Says};
+ghost use Rattle.clim_run.specs.Command.{refusal_line, usage_line};
+
+use cl_outside::Sink;
+use cl_session::writing::write_all;
+use itoa::Buffer;
+
+/// The line that is said of words that are no command.
+const USAGE: &str = "usage: clim_run run APP [--wire NAME] [--budget N] | check APP | bench N\n";
+
+/// Writes the usage line; false where the sink failed.
+pub fn say_usage<O: Sink>(out: &mut O) -> bool
+    ensures lent { O.lent out.new ≡ O.lent out.old }
+    ensures says { Says result (O.taken out.old) (O.taken out.new) usage_line (O.faults out.old) (O.faults out.new) }
+    ensures later { O.faults out.old ≤ O.faults out.new }
+{
+    write_all(out, USAGE.as_bytes())
+}
+
+/// Writes the line of a refusal with this number, at this offset in bytes; false where the sink
+/// failed. It takes no memory.
+pub fn say_refusal<O: Sink>(out: &mut O, number: u8, offset: u32) -> bool
+    ensures lent { O.lent out.new ≡ O.lent out.old }
+    ensures says { Says result (O.taken out.old) (O.taken out.new) (refusal_line number offset) (O.faults out.old) (O.faults out.new) }
+    ensures later { O.faults out.old ≤ O.faults out.new }
+{
+    let mut number_digits = Buffer::new();
+    let mut offset_digits = Buffer::new();
+    write_all(out, b"refused ")
+        && write_all(out, number_digits.format(number).as_bytes())
+        && write_all(out, b" at ")
+        && write_all(out, offset_digits.format(offset).as_bytes())
+        && write_all(out, b"\n")
+}
