@@ -11,11 +11,15 @@ use Rattle.clim_run.specs.declared.texts.TextRead.TheVariants as text
 abbrev pub most_bytes : ℕ
 most_bytes = 1048577
 
--- the text of a file, where the file is told: all its bytes, or the first 1,048,577 of them
+-- all bytes of a file, or the first 1,048,577 of them
+unfoldable pub first_bytes : List ℕ → List ℕ
+first_bytes bytes = take most_bytes bytes
+
+-- the text of a file, where the file is told
 abbrev pub IsTextOf : Option (Option (List ℕ)) → List ℕ → Type 0
 IsTextOf None text = ⊤
 IsTextOf (Some None) text = ⊥
-IsTextOf (Some (Some bytes)) text = text ≡ take most_bytes bytes
+IsTextOf (Some (Some bytes)) text = text ≡ first_bytes bytes
 
 -- one read: more bytes behind those that were read before, at least one, or the end
 pub record Grows (left_old left_new : Option (List ℕ)) (old new : List ℕ) : Type 0 where

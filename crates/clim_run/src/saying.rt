@@ -1,5 +1,5 @@
-ghost use Rattle.std.specs.Prelude.{◌≡◌, ◌≤◌};
-ghost use Rattle.cl_session.specs.Writing.{Says};
+ghost use Rattle.std.specs.Prelude.{◌≡◌, ◌≤◌, [], map};
+ghost use Rattle.cl_session.specs.Writing.{Puts, Says, joined};
 ghost use Rattle.clim_run.specs.Command.{refusal_line, usage_line};
 
 use cl_outside::Sink;
@@ -27,9 +27,28 @@ pub fn say_refusal<O: Sink>(out: &mut O, number: u8, offset: u32) -> bool
 {
     let mut number_digits = Buffer::new();
     let mut offset_digits = Buffer::new();
-    write_all(out, b"refused ")
-        && write_all(out, number_digits.format(number).as_bytes())
-        && write_all(out, b" at ")
-        && write_all(out, offset_digits.format(offset).as_bytes())
-        && write_all(out, b"\n")
+    write_pieces(
+        out,
+        &[
+            b"refused ",
+            number_digits.format(number).as_bytes(),
+            b" at ",
+            offset_digits.format(offset).as_bytes(),
+            b"\n",
+        ],
+    )
+}
+
+// Writes pieces, one after another.
+fn write_pieces<O: Sink>(out: &mut O, pieces: &[&[u8]]) -> bool
+    ensures lent { O.lent out.new ≡ O.lent out.old }
+    ensures puts { Puts result (O.taken out.old) (O.taken out.new) (joined (map (λ p. p.now) pieces.now)) [] (O.faults out.old) (O.faults out.new) }
+    ensures later { O.faults out.old ≤ O.faults out.new }
+{
+    for piece in pieces {
+        if !write_all(out, piece) {
+            return false;
+        }
+    }
+    true
 }
