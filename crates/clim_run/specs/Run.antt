@@ -10,10 +10,12 @@ use Rattle.cl_load.specs.Opening.{opening_slots}
 use Rattle.cl_session.specs.Step.{opening}
 use Rattle.cl_session.specs.Transcript.{IsTranscript}
 use Rattle.cl_session.specs.Writing.{Says}
+use Rattle.cl_session.specs.Session.{Fits, world_of}
 use Rattle.cl_session.specs.declared.serving.End.{End}
 use Rattle.cl_session.specs.declared.serving.End.TheVariants as end
 use Rattle.clim_run.specs.Command.{IsRun, IsNoCommand, usage_line, refusal_line}
-use Rattle.clim_run.specs.Texts.{IsTextOf, most_bytes}
+use Rattle.clim_run.specs.Texts.{IsTextOf}
+use Rattle.clim_run.specs.declared.running.Opening.{Opening}
 use Rattle.clim_run.specs.declared.running.How.{How}
 use Rattle.clim_run.specs.declared.running.How.TheVariants as how
 
@@ -46,13 +48,19 @@ pub record Opens (words : List (List ℕ)) (file : List ℕ → Option (Option (
   pub of_file : IsTextOf (file name) text
   pub declared : IsApplication text app
 
+abbrev pub IsCommand : List (List ℕ) → Type 0
+IsCommand words = (name : List ℕ) × IsRun words name
+
+abbrev pub IsNoApplication : List ℕ → Type 0
+IsNoApplication text = (app : App) → IsApplication text app → ⊥
+
 -- the words name a file, and its text declares no application
 pub record IsRefused (words : List (List ℕ)) (file : List ℕ → Option (Option (List ℕ))) : Type 0 where
   pub name : List ℕ
   pub command : IsRun words name
   pub text : List ℕ
   pub of_file : IsTextOf (file name) text
-  pub none : (app : App) → IsApplication text app → ⊥
+  pub none : IsNoApplication text
 
 -- the words name a file, with which the place failed
 pub record AppFaultRose (words : List (List ℕ)) (faults_old faults_new : List ℕ → ℕ) : Type 0 where
@@ -128,18 +136,49 @@ pub record Serves (words : List (List ℕ)) (file : List ℕ → Option (Option 
 abbrev pub IsUnread : Streams → Streams → Type 0
 IsUnread old new = (new.left ≡ old.left) × (new.gesture_faults ≡ old.gesture_faults)
 
--- the line was written whole, or cut where the output failed
+-- the line was written whole; or the output failed behind its first bytes
 abbrev pub SaysWhole : Streams → Streams → List ℕ → Type 0
-SaysWhole old new line = Says true old.taken new.taken line old.output_faults new.output_faults
+SaysWhole old new line = IsUnread old new × Says true old.taken new.taken line old.output_faults new.output_faults
 
 abbrev pub SaysCut : Streams → Streams → List ℕ → Type 0
-SaysCut old new line = Says false old.taken new.taken line old.output_faults new.output_faults
+SaysCut old new line = IsUnread old new × Says false old.taken new.taken line old.output_faults new.output_faults
 
+-- a run of these words
 abbrev pub Ran : List (List ℕ) → (List ℕ → Option (Option (List ℕ))) → (List ℕ → ℕ) → (List ℕ → ℕ) → Streams → Streams → How → Type 0
-Ran words file faults_old faults_new old new how.Usage = IsNoCommand words × IsUnread old new × SaysWhole old new usage_line
-Ran words file faults_old faults_new old new how.UsageCut = IsNoCommand words × IsUnread old new × SaysCut old new usage_line
-Ran words file faults_old faults_new old new how.AppFault = AppFaultRose words faults_old faults_new × IsUnread old new × (new.taken ≡ old.taken)
-Ran words file faults_old faults_new old new how.Refused = IsRefused words file × IsUnread old new × SaysWhole old new (refusal_line 0 0)
-Ran words file faults_old faults_new old new how.RefusalCut = IsRefused words file × IsUnread old new × SaysCut old new (refusal_line 0 0)
-Ran words file faults_old faults_new old new how.Memory = ((name : List ℕ) × IsRun words name) × IsUnread old new × (new.taken ≡ old.taken)
+Ran words file faults_old faults_new old new how.Usage = IsNoCommand words × SaysWhole old new usage_line
+Ran words file faults_old faults_new old new how.UsageCut = IsNoCommand words × SaysCut old new usage_line
+Ran words file faults_old faults_new old new how.AppFault = AppFaultRose words faults_old faults_new × (new ≡ old)
+Ran words file faults_old faults_new old new how.Refused = IsRefused words file × SaysWhole old new (refusal_line 0 0)
+Ran words file faults_old faults_new old new how.RefusalCut = IsRefused words file × SaysCut old new (refusal_line 0 0)
+Ran words file faults_old faults_new old new how.Memory = IsCommand words × (new ≡ old)
 Ran words file faults_old faults_new old new (how.Ended end) = Serves words file old new end
+
+-- a run of the application that a text declares
+abbrev pub RanText : List ℕ → Streams → Streams → How → Type 0
+RanText text old new how.Usage = ⊥
+RanText text old new how.UsageCut = ⊥
+RanText text old new how.AppFault = ⊥
+RanText text old new how.Refused = IsNoApplication text × SaysWhole old new (refusal_line 0 0)
+RanText text old new how.RefusalCut = IsNoApplication text × SaysCut old new (refusal_line 0 0)
+RanText text old new how.Memory = new ≡ old
+RanText text old new (how.Ended end) = (app : App) × IsApplication text app × EndsAs app old new end
+
+-- a run of an application
+abbrev pub RanLoaded : App → Streams → Streams → How → Type 0
+RanLoaded app old new how.Usage = ⊥
+RanLoaded app old new how.UsageCut = ⊥
+RanLoaded app old new how.AppFault = ⊥
+RanLoaded app old new how.Refused = ⊥
+RanLoaded app old new how.RefusalCut = ⊥
+RanLoaded app old new how.Memory = new ≡ old
+RanLoaded app old new (how.Ended end) = EndsAs app old new end
+
+-- ---- the opening
+
+-- a frame that was just opened for an application
+pub record IsOpening (app : App) (o : Opening) : Type 0 where
+  pub same : o.loaded.app ≡ app
+  pub limits : o.session.limits ≡ run_limits
+  pub world : world_of o.session o.slots ≡ opening app run_limits (opening_slots app)
+  pub fits : Fits app o.slots o.session
+  pub none_ahead : o.room ≡ []

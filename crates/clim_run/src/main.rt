@@ -2,6 +2,7 @@
 //! replies to standard output.
 #![tactic(auto)]
 
+mod running;
 mod saying;
 mod texts;
 mod words;
