@@ -58,6 +58,14 @@ impl<G: Source> Gestures<G> {
         }
     }
 
+    /// The source, behind the bytes that it has handed over.
+    pub fn into_source(self) -> G
+        ensures { result ≡ source_of self }
+    {
+        let Gestures { source, .. } = self;
+        source
+    }
+
     /// The next gesture or bad line, or why there is none. Empty lines and comments are counted and
     /// passed over. The source is read only where each line that has ended in the bytes ahead is
     /// idle, so that no answer waits for a further byte.

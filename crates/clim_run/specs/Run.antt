@@ -181,4 +181,3 @@ pub record IsOpening (app : App) (o : Opening) : Type 0 where
   pub limits : o.session.limits ≡ run_limits
   pub world : world_of o.session o.slots ≡ opening app run_limits (opening_slots app)
   pub fits : Fits app o.slots o.session
-  pub none_ahead : o.room ≡ []

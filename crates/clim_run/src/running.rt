@@ -1,4 +1,4 @@
-ghost use Rattle.std.specs.Prelude.{◌≡◌, ◌≤◌, ℕ, List, IfOk, map};
+ghost use Rattle.std.specs.Prelude.{◌≡◌, ◌≤◌, ℕ, List, [], IfOk, map};
 ghost use Rattle.clim_run.specs.Run.{EndsAs, IsOpening, Ran, RanLoaded, RanText, streams};
 
 use crate::saying::{say_refusal, say_usage};
@@ -40,7 +40,6 @@ struct Opening {
     loaded: Loaded,
     session: Session,
     slots: Slots,
-    room: Ahead,
 }
 
 /// Runs the program on these words.
@@ -107,8 +106,11 @@ fn run_loaded<G: Source, O: Sink, L: Ledger>(
     ensures later { G.faults gestures.old ≤ G.faults gestures.new }
     ensures out_later { O.faults out.old ≤ O.faults out.new }
 {
+    let Ok(room) = Ahead::new(alloc) else {
+        return How::Memory;
+    };
     match open(alloc, loaded, steps) {
-        Ok(opening) => How::Ended(serve(alloc, opening, gestures, out, steps)),
+        Ok(mut opening) => How::Ended(serve(alloc, &mut opening, room, gestures, out, steps)),
         Err(AllocError) => How::Memory,
     }
 }
@@ -121,36 +123,40 @@ fn open<L: Ledger>(
 ) -> Result<Opening, AllocError>
     ensures { IfOk result (IsOpening loaded.app) }
 {
-    let room = Ahead::new(alloc)?;
     let slots = loaded.slots.copy(alloc)?;
     let session = Session::new(alloc, &loaded, &slots, BUDGET, steps)?;
     Ok(Opening {
         loaded,
         session,
         slots,
-        room,
     })
 }
 
 // Serves the gestures.
 fn serve<G: Source, O: Sink, L: Ledger>(
     alloc: Global,
-    opening: Opening,
+    opening: &mut Opening,
+    room: Ahead,
     gestures: &mut G,
     out: &mut O,
     steps: &mut Steps<L>,
 ) -> End
-    requires { IsOpening opening.loaded.app opening }
-    ensures ended { EndsAs opening.loaded.app (streams (G.left gestures.old) (G.faults gestures.old) (O.taken out.old) (O.faults out.old)) (streams (G.left gestures.new) (G.faults gestures.new) (O.taken out.new) (O.faults out.new)) result }
+    requires opening { IsOpening opening.old.loaded.app opening.old }
+    requires none_ahead { room ≡ [] }
+    ensures ended { EndsAs opening.old.loaded.app (streams (G.left gestures.old) (G.faults gestures.old) (O.taken out.old) (O.faults out.old)) (streams (G.left gestures.new) (G.faults gestures.new) (O.taken out.new) (O.faults out.new)) result }
     ensures later { G.faults gestures.old ≤ G.faults gestures.new }
     ensures out_later { O.faults out.old ≤ O.faults out.new }
 {
-    let Opening {
-        loaded,
-        mut session,
-        mut slots,
-        room,
-    } = opening;
     let mut reader = Gestures::with_room(alloc, room, LentSource::new(gestures));
-    session.serve(alloc, &loaded, &mut slots, &mut reader, out, steps)
+    let end = opening.session.serve(
+        alloc,
+        &opening.loaded,
+        &mut opening.slots,
+        &mut reader,
+        out,
+        steps,
+    );
+    let lent = reader.into_source();
+    let _source = lent.source;
+    end
 }
