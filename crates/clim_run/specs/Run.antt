@@ -70,11 +70,12 @@ pub record AppFaultRose (words : List (List ℕ)) (faults_old faults_new : List 
 
 -- ---- how the gestures went
 
--- all gestures were read up to the source's end, and the output took their transcript
+-- all gestures were read up to the source's end, at most a million lines, and the output took their transcript
 pub record ReadToEnd (app : App) (old new : Streams) : Type 0 where
   pub read : List ℕ
   pub consumed : Consumes old.left new.left read
   pub at_end : IsAtEnd new.left
+  pub few : length (pieces read) ≤ 1000000
   pub written : List ℕ
   pub appended : Appends old.taken new.taken written
   pub transcript : IsTranscriptOf app (pieces read) written
@@ -112,6 +113,7 @@ pub record WrittenToFault (app : App) (old new : Streams) : Type 0 where
   pub consumed : Consumes old.left new.left (read ++ further)
   pub given : List Piece
   pub first : AreFirst new.left read further given
+  pub few : length given ≤ 1000000
   pub rose : Rose old.output_faults new.output_faults
   pub written : List ℕ
   pub lost : List ℕ
