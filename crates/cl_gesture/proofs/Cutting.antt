@@ -1,11 +1,13 @@
 -- Lemmas on how bytes are cut into lines.
-use Rattle.std.proofs.Common.{◌≡◌, ◌≢◌, ◌||◌, ◌≤◌, ◌<◌, ◌+◌, ℕ, Bool, true, false, List, [], ◌∷◌, ◌++◌, length, Option, All, cond, length-append, eqb, refl, sym, ap, ◌∙◌, append_assoc, append-nil, arith}
+use Rattle.std.proofs.Common.{◌≡◌, ◌≢◌, ◌||◌, ◌≤◌, ◌<◌, ◌+◌, ℕ, Bool, true, false, List, [], ◌∷◌, ◌++◌, length, take, get_or, Option, Some, subst, All, cond, length-append, eqb, refl, sym, ap, ◌∙◌, append_assoc, append-nil, arith}
 use Rattle.std.specs.List.{flat_map}
 use Rattle.std.proofs.KnownBytes.{Consumes-trans}
-use Rattle.std.proofs.lemmas.List.Elements.{All-append, All-head, All-tail, All-nil, All-cons, All-push}
+use Rattle.std.proofs.lemmas.List.Elements.{All-append, All-head, All-tail, All-nil, All-cons, All-push, All-pop}
+use Rattle.std.proofs.Math.Seq.{take-length}
+use Rattle.std.proofs.lemmas.List.{take_more, length-take-le}
 use Rattle.std.proofs.lemmas.Grind.{flat_map-append}
 use Rattle.std.proofs.lemmas.Bool.{eqb-true, eqb-false, eq-eqb, ne_eqb}
-use Rattle.cl_gesture.specs.Lines.{Piece, line, long, ended_at, held_after, ended_from, held_from, ended, last_line, pieces, Reads, AreCut, Lines, bytes_of, IsNoFeed, IsPiece, AreTheBytes, AreWellCut}
+use Rattle.cl_gesture.specs.Lines.{Piece, line, long, ended_at, held_after, ended_from, held_from, ended, last_line, pieces, Reads, AreCut, Lines, bytes_of, IsNoFeed, IsPiece, AreTheBytes, AreWellCut, IsTheOnlyCut}
 
 pub ended_from-append : (held xs ys : List ℕ) → ended_from held (xs ++ ys) ≡ ended_from held xs ++ ended_from (held_from held xs) ys
 ended_from-append held [] ys = refl
@@ -151,6 +153,15 @@ ended-long xs byte none other full =
       held_from-append [] xs (byte ∷ []) ∙ ap (λ held. held_from held (byte ∷ [])) plain.1 ∙ cut.1,
     )
 
+pub ended-whole : (xs : List ℕ) → All IsNoFeed xs → length xs ≡ 4097 → (ended xs ≡ long xs ∷ []) × (held_from [] xs ≡ [])
+ended-whole xs none full =
+    let y = get_or xs 4096 0 in let front = take 4096 xs in
+    let within : 4096 < length xs = omega arith in
+    let split : xs ≡ front ++ y ∷ [] = sym (take-length xs) ∙ ap (λ n. take n xs) full ∙ take_more xs 4096 0 within in
+    let parts = All-pop IsNoFeed xs front (Some y) split none in
+    let P : List ℕ → Type 0 = λ zs. (ended zs ≡ long zs ∷ []) × (held_from [] zs ≡ []) in
+    subst P (sym split) (ended-long front y parts.0 parts.1 (length-take-le 4096 xs (omega arith)))
+
 -- the last line, which no line feed ends
 pub pieces-last : (byte : ℕ) (xs : List ℕ) → All IsNoFeed (byte ∷ xs) → length (byte ∷ xs) ≤ 4096 → pieces (byte ∷ xs) ≡ line (byte ∷ xs) ∷ []
 pieces-last byte xs none short =
@@ -167,3 +178,18 @@ pub pieces-further : (xs : List ℕ) (byte : ℕ) (ys : List ℕ) → held_from 
 pieces-further xs byte ys none =
     let some = some_piece (ended (byte ∷ ys)) (held_from [] (byte ∷ ys)) byte ys (joined_from [] (byte ∷ ys)) in
     rw (pieces-more xs (byte ∷ ys) none) (omega (arith, length-append (ended xs) (pieces (byte ∷ ys))))
+
+-- ---- there is no other way to cut
+
+whole_piece : (p : Piece) → IsPiece p → (ended (bytes_of p) ≡ p ∷ []) × (held_from [] (bytes_of p) ≡ [])
+whole_piece (line bytes) ok = ended-line bytes ok.1 ok.0
+whole_piece (long bytes) ok = ended-whole bytes ok.1 ok.0
+
+pub is_the_only_cut : IsTheOnlyCut
+is_the_only_cut [] held ok end = ended-plain held end.1 end.0
+is_the_only_cut (p ∷ ps) held ok end =
+    let here = whole_piece p (All-head IsPiece p ps ok) in let rest = is_the_only_cut ps held (All-tail IsPiece p ps ok) end in
+    let first = bytes_of p in let others = flat_map bytes_of ps in let split = append_assoc first others held in (
+      ap ended split ∙ ended-more first (others ++ held) here.1 ∙ ap (λ l. l ++ ended (others ++ held)) here.0 ∙ ap (λ l. p ∷ l) rest.0,
+      ap (held_from []) split ∙ held-more first (others ++ held) here.1 ∙ rest.1,
+    )

@@ -1,9 +1,9 @@
 -- Lemmas on where the first piece of some bytes ends.
-use Rattle.std.proofs.Common.{◌≡◌, ◌⊎◌, inl, inr, ◌≤◌, ◌<◌, ◌+◌, ℕ, List, [], ◌∷◌, ◌++◌, length, take, drop, get_or, Option, Some, All, append-nil, length-append, refl, sym, ap, subst, ◌∙◌, arith}
+use Rattle.std.proofs.Common.{◌≡◌, ◌⊎◌, inl, inr, ◌≤◌, ◌<◌, ◌+◌, ℕ, List, [], ◌∷◌, ◌++◌, length, take, drop, get_or, Option, All, append-nil, length-append, refl, sym, ap, subst, ◌∙◌, arith}
 use Rattle.std.proofs.KnownBytes.{Consumes-nil, Consumes-kept}
-use Rattle.std.proofs.Math.Seq.{take-length, take-append_seam}
+use Rattle.std.proofs.Math.Seq.{take-append_seam}
 use Rattle.std.proofs.lemmas.List.{take_more, length-take-le, take-append-drop, nil_from_length}
-use Rattle.std.proofs.lemmas.List.Elements.{All-pop, All-nil}
+use Rattle.std.proofs.lemmas.List.Elements.{All-nil}
 use Rattle.std.specs.Io.KnownBytes.{IsAtEnd}
 use Rattle.cl_outside.specs.Causes.{Rose}
 use Rattle.cl_outside.specs.declared.answers.Took.TheVariants.{Bytes, Failed}
@@ -12,16 +12,7 @@ use Rattle.cl_gesture.specs.declared.cut.Found.TheVariants as found
 use Rattle.cl_gesture.specs.declared.cut.Cut.TheVariants as cut
 use Rattle.cl_gesture.specs.Lines.{Piece, line, long, ended, held_from, IsNoFeed, Reads}
 use Rattle.cl_gesture.specs.Cut.{FoundIn, CutOf}
-use Rattle.cl_gesture.proofs.Cutting.{ended-line, ended-long, ended-plain, ended-more, pieces-last, Reads-trans}
-
-ended-whole : (xs : List ℕ) → All IsNoFeed xs → length xs ≡ 4097 → (ended xs ≡ long xs ∷ []) × (held_from [] xs ≡ [])
-ended-whole xs none full =
-    let y = get_or xs 4096 0 in let front = take 4096 xs in
-    let within : 4096 < length xs = omega arith in
-    let split : xs ≡ front ++ y ∷ [] = sym (take-length xs) ∙ ap (λ n. take n xs) full ∙ take_more xs 4096 0 within in
-    let parts = All-pop IsNoFeed xs front (Some y) split none in
-    let P : List ℕ → Type 0 = λ zs. (ended zs ≡ long zs ∷ []) × (held_from [] zs ≡ []) in
-    subst P (sym split) (ended-long front y parts.0 parts.1 (length-take-le 4096 xs (omega arith)))
+use Rattle.cl_gesture.proofs.Cutting.{ended-line, ended-whole, ended-plain, ended-more, pieces-last, Reads-trans}
 
 -- a line feed at a place, and none before it
 pub FoundIn-line : (bytes : List ℕ) (at : ℕ) → at < length bytes → at ≤ 4096 → All IsNoFeed (take at bytes) → get_or bytes at 0 ≡ 10 → FoundIn bytes (found.Line at)

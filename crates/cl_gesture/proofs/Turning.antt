@@ -58,7 +58,7 @@ TurnOf-long old new bytes passes going = (ReadsTo-one bad old new false (long by
 
 -- ---- idle lines, and then an answer
 
-AreIdle-append : (ps qs : List Piece) → AreIdle ps → AreIdle qs → AreIdle (ps ++ qs)
+pub AreIdle-append : (ps qs : List Piece) → AreIdle ps → AreIdle qs → AreIdle (ps ++ qs)
 AreIdle-append [] qs p q = q
 AreIdle-append (x ∷ ps) qs p q = (p.0, AreIdle-append ps qs p.1 q)
 

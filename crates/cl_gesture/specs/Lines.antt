@@ -87,3 +87,9 @@ AreTheBytes = (bytes : List ℕ) → flat_map bytes_of (ended bytes) ++ held_fro
 -- each piece is a line without a line feed that is short enough, or a long piece of exactly 4,097 bytes
 abbrev pub AreWellCut : Type 0
 AreWellCut = (bytes : List ℕ) → All IsPiece (pieces bytes)
+
+-- there is no other way to cut: well-cut pieces, joined, and then bytes that a line may hold, are cut into these pieces again
+abbrev pub IsTheOnlyCut : Type 0
+IsTheOnlyCut =
+    (ps : List Piece) (held : List ℕ) → All IsPiece ps → IsPiece (line held)
+    → (ended (flat_map bytes_of ps ++ held) ≡ ps) × (held_from [] (flat_map bytes_of ps ++ held) ≡ held)

@@ -93,7 +93,8 @@ fn read_behind<G: Source>(source: &mut G, bytes: &mut [u8], start: usize, end: u
     requires room { end - start < length bytes.old }
     ensures kept { take (end - start) bytes.new ≡ take (end - start) (drop start bytes.old) }
     ensures lent { G.lent source.new ≡ G.lent source.old }
-    ensures bytes { ReadTook (G.left source.old) (G.left source.new) (drop (end - start) bytes.new) result }
+    ensures bytes { ReadTook (G.left source.old) (G.left source.new)
+        (drop (end - start) bytes.new) result }
     ensures cause { FailedRose (G.faults source.old) (G.faults source.new) result }
 {
     bytes.copy_within(start..end, 0);

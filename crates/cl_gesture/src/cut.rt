@@ -56,7 +56,8 @@ pub fn next_cut<G: Source>(ahead: &mut Ahead, source: &mut G) -> Cut
     ensures lent { G.lent source.new ≡ G.lent source.old }
     ensures later { G.faults source.old ≤ G.faults source.new }
     ensures unread { UnreadCut source.old source.new ahead.old ahead.new result }
-    ensures cut { CutOf (G.left source.old) (G.left source.new) ahead.old ahead.new (G.faults source.old) (G.faults source.new) result }
+    ensures cut { CutOf (G.left source.old) (G.left source.new) ahead.old ahead.new
+        (G.faults source.old) (G.faults source.new) result }
 {
     let mut seen = 0;
     loop {

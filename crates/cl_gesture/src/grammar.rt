@@ -59,7 +59,8 @@ fn is_typable(text: &[u8]) -> bool
 
 /// The text of a line `type TEXT`.
 fn typed_text(line: &[u8]) -> Option<&[u8]>
-    ensures { MatchOption result (typed_text line.now ≡ None) (λ text. typed_text line.now ≡ Some text.now) }
+    ensures { MatchOption result (typed_text line.now ≡ None)
+        (λ text. typed_text line.now ≡ Some text.now) }
 {
     line.strip_prefix(b"type ").filter(|text| is_typable(text))
 }

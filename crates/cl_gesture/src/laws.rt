@@ -1,19 +1,26 @@
-ghost use Rattle.cl_gesture.specs.Lines.{AreTheBytes, AreWellCut};
+ghost use Rattle.cl_gesture.specs.Lines.{AreTheBytes, AreWellCut, IsTheOnlyCut};
 ghost use Rattle.cl_gesture.specs.Gesture.{AreSpelled};
 
-/// Cutting loses no byte and puts none in: the pieces that end in some bytes, each with its line feed, and then what is held
-/// of a line without one, are these bytes.
+/// Cutting loses no byte and puts none in: the pieces that end in some bytes, each with its line
+/// feed, and then what is held of a line without one, are these bytes.
 pub fn cutting_keeps_the_bytes()
     ensures { AreTheBytes }
 {}
 
-/// A line holds no line feed and at most 4,096 bytes, and a long piece 4,097 bytes without a line feed. With the bytes kept
-/// there is so but one way to cut.
+/// A line holds no line feed and at most 4,096 bytes, and a long piece 4,097 bytes without a line
+/// feed.
 pub fn pieces_are_well_cut()
     ensures { AreWellCut }
 {}
 
-/// A line does a gesture exactly where it is that gesture's spelling, and a text that is typed is 1 or more bytes from 32 to 126.
+/// Bytes that are such pieces, each with its line feed, and then at most 4,096 bytes without one,
+/// are cut into just these pieces: there is one way to cut.
+pub fn there_is_one_cut()
+    ensures { IsTheOnlyCut }
+{}
+
+/// A line does a gesture exactly where it is that gesture's spelling, and a text that is typed is
+/// 1 or more bytes from 32 to 126.
 pub fn gestures_are_spelled()
     ensures { AreSpelled }
 {}

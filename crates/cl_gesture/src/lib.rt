@@ -1,4 +1,11 @@
-//! Gestures, and the reader of their lines.
+//! Gestures, and the reader of their lines. The format is this project's own.
+//!
+//! A line ends with a line feed; the last one of a stream may lack it. A line that reaches 4,097
+//! bytes without one is cut there and is bad, and the next byte begins the next line. One carriage
+//! return at a line's end is dropped. An empty line and a line that begins with `#` do nothing, but
+//! they are counted. `type TEXT` types TEXT, 1 or more bytes from 32 to 126, which begins right
+//! behind the one space; `return` and `frame` stand alone. Any other line is bad. A reader reads at
+//! most 1,000,000 lines.
 #![tactic(auto)]
 
 mod ahead;
@@ -8,8 +15,11 @@ mod grammar;
 mod laws;
 mod reader;
 
+pub use ahead::Ahead;
 pub use answers::{Gesture, Next, Stop};
-pub use laws::{cutting_keeps_the_bytes, gestures_are_spelled, pieces_are_well_cut};
+pub use laws::{
+    cutting_keeps_the_bytes, gestures_are_spelled, pieces_are_well_cut, there_is_one_cut,
+};
 pub use reader::Gestures;
 
 #[cfg(test)]

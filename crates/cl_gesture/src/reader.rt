@@ -36,25 +36,47 @@ impl<G: Source> Gestures<G> {
         ensures count { IfOk result (λ s. count_of s ≡ 0) }
         ensures stop { IfOk result (λ s. stop_of s ≡ stop.Going) }
     {
-        let ahead = Ahead::new(alloc)?;
-        Ok(Gestures {
+        let room = Ahead::new(alloc)?;
+        Ok(Gestures::with_room(alloc, room, source))
+    }
+
+    /// A reader at the first line of what the source has left, over room that was taken before. It
+    /// takes no memory, so no source is given up.
+    pub fn with_room(alloc: Global, room: Ahead, source: G) -> Gestures<G>
+        requires { room ≡ [] }
+        ensures source { source_of result ≡ source }
+        ensures ahead { ahead_of result ≡ [] }
+        ensures count { count_of result ≡ 0 }
+        ensures stop { stop_of result ≡ stop.Going }
+    {
+        Gestures {
             source,
-            ahead,
+            ahead: room,
             count: 0,
             stop: Stop::Going,
             alloc,
-        })
+        }
     }
 
-    /// The next gesture or bad line, or why there is none. Empty lines and comments are counted and passed over.
-    /// The source is read only where each line that has ended in the bytes ahead is idle, so that no answer waits for a
-    /// further byte.
+    /// The source, behind the bytes that it has handed over.
+    pub fn into_source(self) -> G
+        ensures { result ≡ source_of self }
+    {
+        let Gestures { source, .. } = self;
+        source
+    }
+
+    /// The next gesture or bad line, or why there is none. Empty lines and comments are counted and
+    /// passed over. The source is read only where each line that has ended in the bytes ahead is
+    /// idle, so that no answer waits for a further byte.
     pub fn next(&mut self) -> Next
         ensures lent { G.lent (source_of self.new) ≡ G.lent (source_of self.old) }
         ensures later { G.faults (source_of self.old) ≤ G.faults (source_of self.new) }
-        ensures unread { AreIdle (ended (ahead_of self.old)) ⊎ (source_of self.new ≡ source_of self.old) }
+        ensures unread { AreIdle (ended (ahead_of self.old))
+            ⊎ (source_of self.new ≡ source_of self.old) }
         ensures again { Again (stop_of self.old) self.old self.new result }
-        ensures next { stop_of self.old ≡ stop.Going → NextOf (progress_of G.left G.faults self.old) (progress_of G.left G.faults self.new) result }
+        ensures next { stop_of self.old ≡ stop.Going →
+            NextOf (progress_of G.left G.faults self.old) (progress_of G.left G.faults self.new) result }
     {
         match self.stop {
             Stop::Going => {}
@@ -77,8 +99,10 @@ impl<G: Source> Gestures<G> {
         requires going { stop_of self.old ≡ stop.Going }
         ensures lent { G.lent (source_of self.new) ≡ G.lent (source_of self.old) }
         ensures later { G.faults (source_of self.old) ≤ G.faults (source_of self.new) }
-        ensures unread { UnreadTurn (source_of self.old) (source_of self.new) (ahead_of self.old) (ahead_of self.new) result }
-        ensures turn { TurnOf (progress_of G.left G.faults self.old) (progress_of G.left G.faults self.new) result }
+        ensures unread { UnreadTurn (source_of self.old) (source_of self.new)
+            (ahead_of self.old) (ahead_of self.new) result }
+        ensures turn { TurnOf (progress_of G.left G.faults self.old)
+            (progress_of G.left G.faults self.new) result }
     {
         match next_cut(&mut self.ahead, &mut self.source) {
             Cut::Line(length) => {
@@ -117,8 +141,10 @@ impl<G: Source> Gestures<G> {
         requires going { stop_of self.old ≡ stop.Going }
         ensures lent { G.lent (source_of self.new) ≡ G.lent (source_of self.old) }
         ensures later { G.faults (source_of self.old) ≤ G.faults (source_of self.new) }
-        ensures unread { (ended (ahead_of self.old) ≡ []) ⊎ (source_of self.new ≡ source_of self.old) }
-        ensures next { NextOf (progress_of G.left G.faults self.old) (progress_of G.left G.faults self.new) result }
+        ensures unread { (ended (ahead_of self.old) ≡ [])
+            ⊎ (source_of self.new ≡ source_of self.old) }
+        ensures next { NextOf (progress_of G.left G.faults self.old)
+            (progress_of G.left G.faults self.new) result }
     {
         if self.ahead.len() > 0 {
             self.stop = Stop::AtLimit;

@@ -100,8 +100,8 @@ impl Outgoing {
     }
 }
 
-// Writes bytes by repeated writes; false where the sink failed.
-fn write_all<O: Sink>(out: &mut O, bytes: &[u8]) -> bool
+/// Writes bytes by repeated writes; false where the sink failed. It takes no memory.
+pub fn write_all<O: Sink>(out: &mut O, bytes: &[u8]) -> bool
     ensures lent { O.lent out.new ≡ O.lent out.old }
     ensures puts { Puts result (O.taken out.old) (O.taken out.new) bytes.now [] (O.faults out.old) (O.faults out.new) }
     ensures later { O.faults out.old ≤ O.faults out.new }

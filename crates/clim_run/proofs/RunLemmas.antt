@@ -1,0 +1,158 @@
+-- How serving ended, as what a run comes to.
+use Rattle.std.proofs.Common.{◌≡◌, ◌<◌, ◌≤◌, ℕ, ◌+◌, List, [], ◌∷◌, ◌++◌, length, refl, sym, ◌∙◌, ap, arith, append-nil, Some, None, Option, Bool, true, false, inl, inr}
+use Rattle.std.specs.Io.KnownBytes.{Consumes}
+use Rattle.cl_outside.specs.Causes.{Rose}
+use Rattle.cl_syntax.specs.declared.declarations.App.{App}
+use Rattle.cl_eval.specs.declared.metering.Limits.{Limits}
+use Rattle.cl_gesture.specs.Lines.{Piece, Lines, Reads, AreCut, ended, pieces, held_from}
+use Rattle.cl_gesture.specs.Next.{Progress, Passes, most_lines}
+use Rattle.cl_load.specs.Opening.{opening_slots}
+use Rattle.cl_session.specs.World.{World}
+use Rattle.cl_session.specs.Step.{opening}
+use Rattle.cl_session.specs.Transcript.{IsTranscript}
+use Rattle.cl_session.specs.Serving.{Served, Faulted, CutOff, ServesTo}
+use Rattle.cl_session.specs.declared.serving.End.{End}
+use Rattle.cl_session.specs.declared.serving.End.TheVariants as end
+use Rattle.clim_run.specs.Command.{IsRun}
+use Rattle.clim_run.specs.Texts.{IsTextOf}
+use Rattle.clim_run.specs.declared.running.How.{How}
+use Rattle.clim_run.specs.declared.running.How.TheVariants as how
+use Rattle.clim_run.specs.Run.{Ran, RanText, EndsAs, ReadToEnd, ReadToFault, ReadToLimit, WrittenToFault, AreFirst, IsTranscriptOf, Streams, streams, run_limits}
+
+-- the limits of a run, by their fields
+pub limits_are : (limits : Limits) → limits.budget ≡ 1000000 → limits.depth ≡ 512 → limits ≡ run_limits
+limits_are limits budget depth =
+    let of_budget : ℕ → Limits = λ n. record { budget = n; depth = limits.depth } in
+    let of_depth : ℕ → Limits = λ n. record { budget = 1000000; depth = n } in
+    ap of_budget budget ∙ ap of_depth depth
+
+-- what a reader at the first line has read, with what is ahead of it
+read_so_far : (old new : Option (List ℕ)) (ahead_old ahead_new read : List ℕ) → ahead_old ≡ [] → Reads old new ahead_old ahead_new read
+    → Consumes old new (read ++ ahead_new)
+read_so_far old new ahead_old ahead_new read none r =
+    let same : r.handed ≡ read ++ ahead_new = ap (λ xs. xs ++ r.handed) (sym none) ∙ r.same in
+    rw same at r.consumed
+
+-- nothing is ahead of it
+read_all : (old new : Option (List ℕ)) (ahead_old ahead_new read : List ℕ) → ahead_old ≡ [] → ahead_new ≡ [] → Reads old new ahead_old ahead_new read
+    → Consumes old new read
+read_all old new ahead_old ahead_new read none ends r =
+    let same : read ++ ahead_new ≡ read = ap (λ xs. read ++ xs) ends ∙ append-nil read in
+    rw same at (read_so_far old new ahead_old ahead_new read none r)
+
+-- a transcript from a world that is the opening
+from_opening : (app : App) (limits : Limits) (w : World) (count : ℕ) (ps : List Piece) (bytes : List ℕ) (i j : ℕ) → limits ≡ run_limits
+    → w ≡ opening app run_limits (opening_slots app) → count ≡ 0 → IsTranscript app limits w count ps bytes i j → IsTranscriptOf app ps bytes
+from_opening app limits w count ps bytes i j l e c t = (i, j, rw (l, e, c) at t)
+
+to_end : (app : App) (old new : Progress) (taken_old taken_new : Option (List ℕ)) (x y i j : ℕ) → old.ahead ≡ [] → old.count ≡ 0 → new.count ≤ most_lines
+    → (limits : Limits) (w : World) → limits ≡ run_limits → w ≡ opening app run_limits (opening_slots app)
+    → Served app limits w old new true taken_old taken_new i j
+    → ReadToEnd app (streams old.left old.faults taken_old x) (streams new.left new.faults taken_new y)
+to_end app old new taken_old taken_new x y i j none zero most limits w l e s =
+    let lines = s.passes.lines in
+    let cut : AreCut true new.left new.ahead lines.read s.given = lines.cut in
+    let few_given : length (pieces lines.read) ≤ 1000000 = omega (arith, s.passes.counted, zero, most, ap length cut.0) in
+    record {
+      read = lines.read;
+      consumed = read_all old.left new.left old.ahead new.ahead lines.read none cut.2 lines.reads;
+      at_end = cut.1;
+      few = few_given;
+      written = s.written;
+      appended = s.appended;
+      transcript =
+        let t : IsTranscriptOf app s.given s.written = from_opening app limits w old.count s.given s.written i j l e zero s.transcript in
+        rw (sym cut.0) at t
+    }
+
+to_fault : (app : App) (old new : Progress) (taken_old taken_new : Option (List ℕ)) (x y i j : ℕ) → old.ahead ≡ [] → old.count ≡ 0 → new.count ≤ most_lines
+    → (limits : Limits) (w : World) → limits ≡ run_limits → w ≡ opening app run_limits (opening_slots app)
+    → Faulted app limits w old new taken_old taken_new i j
+    → ReadToFault app (streams old.left old.faults taken_old x) (streams new.left new.faults taken_new y)
+to_fault app old new taken_old taken_new x y i j none zero most limits w l e s = record {
+    read = s.read;
+    consumed = read_all old.left new.left old.ahead new.ahead s.read none s.none s.reads;
+    rose = s.rose;
+    written = s.written;
+    appended = s.appended;
+    transcript = from_opening app limits w old.count (ended s.read) s.written i j l e zero s.transcript
+  }
+
+to_limit : (app : App) (old new : Progress) (taken_old taken_new : Option (List ℕ)) (x y i j : ℕ) → old.ahead ≡ [] → old.count ≡ 0 → new.count ≤ most_lines
+    → (limits : Limits) (w : World) → limits ≡ run_limits → w ≡ opening app run_limits (opening_slots app)
+    → Served app limits w old new false taken_old taken_new i j → new.count ≡ most_lines → 0 < length new.ahead
+    → ReadToLimit app (streams old.left old.faults taken_old x) (streams new.left new.faults taken_new y)
+to_limit app old new taken_old taken_new x y i j none zero most limits w l e s full more =
+    let lines = s.passes.lines in
+    let cut : AreCut false new.left new.ahead lines.read s.given = lines.cut in
+    let count : length s.given ≡ most_lines = omega (arith, s.passes.counted, zero, full) in
+    record {
+      read = lines.read;
+      further = new.ahead;
+      consumed = read_so_far old.left new.left old.ahead new.ahead lines.read none lines.reads;
+      whole = cut.1;
+      lines = ap length cut.0 ∙ count;
+      more = more;
+      written = s.written;
+      appended = s.appended;
+      transcript =
+        let t : IsTranscriptOf app s.given s.written = from_opening app limits w old.count s.given s.written i j l e zero s.transcript in
+        rw (sym cut.0) at t
+    }
+
+first_of_cut : (finished : Bool) (left : Option (List ℕ)) (ahead read : List ℕ) (ps : List Piece) → AreCut finished left ahead read ps → AreFirst left read ahead ps
+first_of_cut false left ahead read ps c = inl (sym c.0, c.1)
+first_of_cut true left ahead read ps c = inr (sym c.0, c.2, c.1)
+
+written_to_fault : (app : App) (old new : Progress) (taken_old taken_new : Option (List ℕ)) (x y i j : ℕ) → old.ahead ≡ [] → old.count ≡ 0 → new.count ≤ most_lines
+    → (limits : Limits) (w : World) → limits ≡ run_limits → w ≡ opening app run_limits (opening_slots app)
+    → CutOff app limits w old new taken_old taken_new i j → Rose x y
+    → WrittenToFault app (streams old.left old.faults taken_old x) (streams new.left new.faults taken_new y)
+written_to_fault app old new taken_old taken_new x y i j none zero most limits w l e s rose =
+    let lines = s.passes.lines in
+    record {
+      read = lines.read;
+      further = new.ahead;
+      consumed = read_so_far old.left new.left old.ahead new.ahead lines.read none lines.reads;
+      given = s.given;
+      first = first_of_cut s.finished new.left new.ahead lines.read s.given lines.cut;
+      few = omega (arith, s.passes.counted, zero, most);
+      rose = rose;
+      written = s.written;
+      lost = s.lost;
+      appended = s.appended;
+      transcript = from_opening app limits w old.count s.given (s.written ++ s.lost) i j l e zero s.transcript
+    }
+
+served : (app : App) (limits : Limits) (w : World) (old new : Progress) (taken_old taken_new : Option (List ℕ)) (x y i j : ℕ) (how : End)
+    → limits ≡ run_limits → w ≡ opening app run_limits (opening_slots app) → old.ahead ≡ [] → old.count ≡ 0 → new.count ≤ most_lines
+    → ServesTo app limits w old new taken_old taken_new i j x y how
+    → EndsAs app (streams old.left old.faults taken_old x) (streams new.left new.faults taken_new y) how
+served app limits w old new taken_old taken_new x y i j end.Done l e none zero most s = to_end app old new taken_old taken_new x y i j none zero most limits w l e s
+served app limits w old new taken_old taken_new x y i j end.ReadFault l e none zero most s = to_fault app old new taken_old taken_new x y i j none zero most limits w l e s
+served app limits w old new taken_old taken_new x y i j end.TooMany l e none zero most s = to_limit app old new taken_old taken_new x y i j none zero most limits w l e s.0 s.1 s.2
+served app limits w old new taken_old taken_new x y i j end.OutputFault l e none zero most s = written_to_fault app old new taken_old taken_new x y i j none zero most limits w l e s.0 s.1
+
+-- the same, where what is told of the source is named otherwise
+pub EndsAs-served : (app : App) (limits : Limits) (w : World) (old new : Progress) (taken_old taken_new : Option (List ℕ)) (x y i j : ℕ) (how : End)
+    → limits ≡ run_limits → w ≡ opening app run_limits (opening_slots app) → old.ahead ≡ [] → old.count ≡ 0 → new.count ≤ most_lines
+    → ServesTo app limits w old new taken_old taken_new i j x y how
+    → (left_old left_new : Option (List ℕ)) (faults_old faults_new : ℕ) → left_old ≡ old.left → left_new ≡ new.left
+    → faults_old ≡ old.faults → faults_new ≡ new.faults
+    → EndsAs app (streams left_old faults_old taken_old x) (streams left_new faults_new taken_new y) how
+EndsAs-served app limits w old new taken_old taken_new x y i j i j how l e none zero most s left_old left_new faults_old faults_new a b c d =
+    rw (a, b, c, d) (served app limits w old new taken_old taken_new x y i j how l e none zero most s)
+
+-- a run of a text that the words name
+pub Ran-text : (words : List (List ℕ)) (file : List ℕ → Option (Option (List ℕ))) (faults_old faults_new : List ℕ → ℕ) (old new : Streams)
+    (name text : List ℕ) (how : How) → IsRun words name → IsTextOf (file name) text → RanText text old new how → Ran words file faults_old faults_new old new how
+Ran-text words file faults_old faults_new old new name text how.Usage run of r = absurd r
+Ran-text words file faults_old faults_new old new name text how.UsageCut run of r = absurd r
+Ran-text words file faults_old faults_new old new name text how.AppFault run of r = absurd r
+Ran-text words file faults_old faults_new old new name text how.Refused run of r =
+    (record { name = name; command = run; text = text; of_file = of; none = r.0 }, r.1)
+Ran-text words file faults_old faults_new old new name text how.RefusalCut run of r =
+    (record { name = name; command = run; text = text; of_file = of; none = r.0 }, r.1)
+Ran-text words file faults_old faults_new old new name text how.Memory run of r = ((name, run), r)
+Ran-text words file faults_old faults_new old new name text (how.Ended end) run of r =
+    record { app = r.0; opened = record { name = name; command = run; text = text; of_file = of; declared = r.1 }; ended = r.2 }

@@ -1,0 +1,19 @@
+use Rattle.std.proofs.Common.{◌≡◌, ◌∙◌, refl, ap, sym}
+use Rattle.cl_session.specs.Step.{opening}
+use Rattle.cl_session.specs.Session.{world_of}
+use Rattle.cl_load.specs.Opening.{opening_slots}
+use Rattle.clim_run.specs.Run.{run_limits}
+use Rattle.clim_run.proofs.RunLemmas.{limits_are}
+use Rattle.clim_run.proofs.running.open.Goals as goal
+
+pub returns : goal.returns
+returns g c =
+    let limits : c.in_ok-session.session.limits ≡ run_limits = limits_are c.in_ok-session.session.limits c.in_ok-session.ensures.limits.0 c.in_ok-session.ensures.limits.1 in
+    let slots : c.in_ok-slots.slots ≡ opening_slots c.args.loaded.app = c.in_ok-slots.ensures ∙ c.args.loaded.opening in
+    record {
+      same = refl;
+      limits = limits;
+      world = c.in_ok-session.ensures.world
+        ∙ (ap (λ l. opening c.args.loaded.app l c.in_ok-slots.slots) limits ∙ ap (λ s. opening c.args.loaded.app run_limits s) slots);
+      fits = c.in_ok-session.ensures.fits
+    }

@@ -1,0 +1,4 @@
+pub mod Command
+pub mod Texts
+pub mod Run
+pub mod Statuses

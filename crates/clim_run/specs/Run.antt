@@ -1,0 +1,186 @@
+-- What a run of the program comes to.
+use Rattle.std.specs.Prelude.{◌≡◌, ◌<◌, ◌≤◌, ◌⊎◌, ℕ, List, [], ◌∷◌, ◌++◌, length, Option, None, Some, Contains, true, false}
+use Rattle.std.specs.Io.KnownBytes.{Appends, Consumes, IsAtEnd}
+use Rattle.cl_outside.specs.Causes.{Rose}
+use Rattle.cl_syntax.specs.declared.declarations.App.{App}
+use Rattle.cl_eval.specs.declared.metering.Limits.{Limits}
+use Rattle.cl_gesture.specs.Lines.{Piece, pieces, ended, held_from}
+use Rattle.cl_load.specs.Application.{IsApplication}
+use Rattle.cl_load.specs.Opening.{opening_slots}
+use Rattle.cl_session.specs.Step.{opening}
+use Rattle.cl_session.specs.Transcript.{IsTranscript}
+use Rattle.cl_session.specs.Writing.{Says}
+use Rattle.cl_session.specs.Session.{Fits, world_of}
+use Rattle.cl_session.specs.declared.serving.End.{End}
+use Rattle.cl_session.specs.declared.serving.End.TheVariants as end
+use Rattle.clim_run.specs.Command.{IsRun, IsNoCommand, usage_line, refusal_line}
+use Rattle.clim_run.specs.Texts.{IsTextOf}
+use Rattle.clim_run.specs.declared.running.Opening.{Opening}
+use Rattle.clim_run.specs.declared.running.How.{How}
+use Rattle.clim_run.specs.declared.running.How.TheVariants as how
+
+-- the limits of a display and of a command
+abbrev pub run_limits : Limits
+run_limits = record { budget = 1000000; depth = 512 }
+
+-- these bytes are a transcript of the pieces, from the opening of the application on, whatever the ledger stood at
+abbrev pub IsTranscriptOf : App → List Piece → List ℕ → Type 0
+IsTranscriptOf app ps bytes =
+    (spent_old : ℕ) × (spent_new : ℕ) × IsTranscript app run_limits (opening app run_limits (opening_slots app)) 0 ps bytes spent_old spent_new
+
+-- what is told of the gestures and of the output, with their counts of faults
+pub record Streams : Type 0 where
+  pub left : Option (List ℕ)
+  pub gesture_faults : ℕ
+  pub taken : Option (List ℕ)
+  pub output_faults : ℕ
+
+abbrev pub streams : Option (List ℕ) → ℕ → Option (List ℕ) → ℕ → Streams
+streams left gesture_faults taken output_faults =
+    record { left = left; gesture_faults = gesture_faults; taken = taken; output_faults = output_faults }
+
+-- ---- the application
+
+-- the words name a file, and its text declares this application
+pub record Opens (words : List (List ℕ)) (file : List ℕ → Option (Option (List ℕ))) (app : App) : Type 0 where
+  pub name : List ℕ
+  pub command : IsRun words name
+  pub text : List ℕ
+  pub of_file : IsTextOf (file name) text
+  pub declared : IsApplication text app
+
+abbrev pub IsCommand : List (List ℕ) → Type 0
+IsCommand words = (name : List ℕ) × IsRun words name
+
+abbrev pub IsNoApplication : List ℕ → Type 0
+IsNoApplication text = (app : App) → IsApplication text app → ⊥
+
+-- the words name a file, and its text declares no application
+pub record IsRefused (words : List (List ℕ)) (file : List ℕ → Option (Option (List ℕ))) : Type 0 where
+  pub name : List ℕ
+  pub command : IsRun words name
+  pub text : List ℕ
+  pub of_file : IsTextOf (file name) text
+  pub none : IsNoApplication text
+
+-- the words name a file, with which the place failed
+pub record AppFaultRose (words : List (List ℕ)) (faults_old faults_new : List ℕ → ℕ) : Type 0 where
+  pub name : List ℕ
+  pub command : IsRun words name
+  pub rose : Rose (faults_old name) (faults_new name)
+
+-- ---- how the gestures went
+
+-- all gestures were read up to the source's end, at most a million lines, and the output took their transcript
+pub record ReadToEnd (app : App) (old new : Streams) : Type 0 where
+  pub read : List ℕ
+  pub consumed : Consumes old.left new.left read
+  pub at_end : IsAtEnd new.left
+  pub few : length (pieces read) ≤ 1000000
+  pub written : List ℕ
+  pub appended : Appends old.taken new.taken written
+  pub transcript : IsTranscriptOf app (pieces read) written
+
+-- the source failed: the output took the transcript of the pieces that had ended in what was read
+pub record ReadToFault (app : App) (old new : Streams) : Type 0 where
+  pub read : List ℕ
+  pub consumed : Consumes old.left new.left read
+  pub rose : Rose old.gesture_faults new.gesture_faults
+  pub written : List ℕ
+  pub appended : Appends old.taken new.taken written
+  pub transcript : IsTranscriptOf app (ended read) written
+
+-- a million lines were read, and then a further byte; the output took the transcript of these lines
+pub record ReadToLimit (app : App) (old new : Streams) : Type 0 where
+  pub read : List ℕ
+  pub further : List ℕ
+  pub consumed : Consumes old.left new.left (read ++ further)
+  pub whole : held_from [] read ≡ []
+  pub lines : length (ended read) ≡ 1000000
+  pub more : 0 < length further
+  pub written : List ℕ
+  pub appended : Appends old.taken new.taken written
+  pub transcript : IsTranscriptOf app (ended read) written
+
+-- these are the first pieces of a stream of bytes that were read: those that ended in some of its first bytes, or all of them,
+-- where the source's end came
+abbrev pub AreFirst : Option (List ℕ) → List ℕ → List ℕ → List Piece → Type 0
+AreFirst left read further ps = ((ps ≡ ended read) × (held_from [] read ≡ [])) ⊎ ((ps ≡ pieces read) × (further ≡ []) × IsAtEnd left)
+
+-- the output failed: it took the first bytes of a transcript of the first pieces that were read
+pub record WrittenToFault (app : App) (old new : Streams) : Type 0 where
+  pub read : List ℕ
+  pub further : List ℕ
+  pub consumed : Consumes old.left new.left (read ++ further)
+  pub given : List Piece
+  pub first : AreFirst new.left read further given
+  pub few : length given ≤ 1000000
+  pub rose : Rose old.output_faults new.output_faults
+  pub written : List ℕ
+  pub lost : List ℕ
+  pub appended : Appends old.taken new.taken written
+  pub transcript : IsTranscriptOf app given (written ++ lost)
+
+abbrev pub EndsAs : App → Streams → Streams → End → Type 0
+EndsAs app old new end.Done = ReadToEnd app old new
+EndsAs app old new end.ReadFault = ReadToFault app old new
+EndsAs app old new end.TooMany = ReadToLimit app old new
+EndsAs app old new end.OutputFault = WrittenToFault app old new
+
+-- an application was opened, and its gestures went so
+pub record Serves (words : List (List ℕ)) (file : List ℕ → Option (Option (List ℕ))) (old new : Streams) (how : End) : Type 0 where
+  pub app : App
+  pub opened : Opens words file app
+  pub ended : EndsAs app old new how
+
+-- ---- how a run ended
+
+-- no gesture was read
+abbrev pub IsUnread : Streams → Streams → Type 0
+IsUnread old new = (new.left ≡ old.left) × (new.gesture_faults ≡ old.gesture_faults)
+
+-- the line was written whole; or the output failed behind its first bytes
+abbrev pub SaysWhole : Streams → Streams → List ℕ → Type 0
+SaysWhole old new line = IsUnread old new × Says true old.taken new.taken line old.output_faults new.output_faults
+
+abbrev pub SaysCut : Streams → Streams → List ℕ → Type 0
+SaysCut old new line = IsUnread old new × Says false old.taken new.taken line old.output_faults new.output_faults
+
+-- a run of these words
+abbrev pub Ran : List (List ℕ) → (List ℕ → Option (Option (List ℕ))) → (List ℕ → ℕ) → (List ℕ → ℕ) → Streams → Streams → How → Type 0
+Ran words file faults_old faults_new old new how.Usage = IsNoCommand words × SaysWhole old new usage_line
+Ran words file faults_old faults_new old new how.UsageCut = IsNoCommand words × SaysCut old new usage_line
+Ran words file faults_old faults_new old new how.AppFault = AppFaultRose words faults_old faults_new × (new ≡ old)
+Ran words file faults_old faults_new old new how.Refused = IsRefused words file × SaysWhole old new (refusal_line 0 0)
+Ran words file faults_old faults_new old new how.RefusalCut = IsRefused words file × SaysCut old new (refusal_line 0 0)
+Ran words file faults_old faults_new old new how.Memory = IsCommand words × (new ≡ old)
+Ran words file faults_old faults_new old new (how.Ended end) = Serves words file old new end
+
+-- a run of the application that a text declares
+abbrev pub RanText : List ℕ → Streams → Streams → How → Type 0
+RanText text old new how.Usage = ⊥
+RanText text old new how.UsageCut = ⊥
+RanText text old new how.AppFault = ⊥
+RanText text old new how.Refused = IsNoApplication text × SaysWhole old new (refusal_line 0 0)
+RanText text old new how.RefusalCut = IsNoApplication text × SaysCut old new (refusal_line 0 0)
+RanText text old new how.Memory = new ≡ old
+RanText text old new (how.Ended end) = (app : App) × IsApplication text app × EndsAs app old new end
+
+-- a run of an application
+abbrev pub RanLoaded : App → Streams → Streams → How → Type 0
+RanLoaded app old new how.Usage = ⊥
+RanLoaded app old new how.UsageCut = ⊥
+RanLoaded app old new how.AppFault = ⊥
+RanLoaded app old new how.Refused = ⊥
+RanLoaded app old new how.RefusalCut = ⊥
+RanLoaded app old new how.Memory = new ≡ old
+RanLoaded app old new (how.Ended end) = EndsAs app old new end
+
+-- ---- the opening
+
+-- a frame that was just opened for an application
+pub record IsOpening (app : App) (o : Opening) : Type 0 where
+  pub same : o.loaded.app ≡ app
+  pub limits : o.session.limits ≡ run_limits
+  pub world : world_of o.session o.slots ≡ opening app run_limits (opening_slots app)
+  pub fits : Fits app o.slots o.session
