@@ -4,13 +4,16 @@ ghost use Rattle.cl_outside.specs.MemoryDevice.{picture_of};
 
 use super::*;
 use std::alloc::{AllocError, Global};
-use std::env;
-use std::fs;
-use std::process;
 use std::test::Fail;
+use std::{env, fs, process};
 
 // What some reads answer: the bytes in brackets, or `F`.
-fn reads<S: Source>(alloc: Global, source: &mut S, room: usize, calls: usize) -> Result<String, AllocError> {
+fn reads<S: Source>(
+    alloc: Global,
+    source: &mut S,
+    room: usize,
+    calls: usize,
+) -> Result<String, AllocError> {
     let mut said = String::new(alloc);
     let mut buf = [0u8; 8];
     for _ in 0..calls {
@@ -86,7 +89,10 @@ fn sinks_in_memory(rt: HostRuntime) -> Result<(), Fail> {
     ];
     for (room, pieces, fails, said, taken) in table {
         let mut sink = MemSink::new(alloc, room, positive(alloc, pieces)?, fails.to_vec(alloc)?)?;
-        assert_eq!(rt; writes(alloc, &mut sink, &["abc", "defg", "hijk"])?.as_str(), said);
+        assert_eq!(rt;
+            writes(alloc, &mut sink, &["abc", "defg", "hijk"])?.as_str(),
+            said
+        );
         assert_eq!(rt; sink.taken(), taken.as_bytes());
     }
     let mut null = NullSink::new();
@@ -95,7 +101,12 @@ fn sinks_in_memory(rt: HostRuntime) -> Result<(), Fail> {
 }
 
 // Opens the file of this name and reads it in pieces of four bytes, or says what the opening answers.
-fn read_through<P: Place>(alloc: Global, place: &mut P, name: &str, calls: usize) -> Result<String, AllocError> {
+fn read_through<P: Place>(
+    alloc: Global,
+    place: &mut P,
+    name: &str,
+    calls: usize,
+) -> Result<String, AllocError> {
     match place.open_source(name) {
         Opened::Failed => return String::from_str(alloc, "failed"),
         Opened::Memory => return String::from_str(alloc, "memory"),
@@ -118,7 +129,12 @@ fn read_through<P: Place>(alloc: Global, place: &mut P, name: &str, calls: usize
 }
 
 // Makes the file of this name and writes these texts, or says what the making answers.
-fn write_through<P: Place>(alloc: Global, place: &mut P, name: &str, texts: &[&str]) -> Result<String, AllocError> {
+fn write_through<P: Place>(
+    alloc: Global,
+    place: &mut P,
+    name: &str,
+    texts: &[&str],
+) -> Result<String, AllocError> {
     match place.make_sink(name) {
         Opened::Failed => String::from_str(alloc, "failed"),
         Opened::Memory => String::from_str(alloc, "memory"),
@@ -127,7 +143,10 @@ fn write_through<P: Place>(alloc: Global, place: &mut P, name: &str, texts: &[&s
 }
 
 fn file(alloc: Global, name: &str, content: &str) -> Result<(String, Vec<u8>), AllocError> {
-    Ok((String::from_str(alloc, name)?, content.as_bytes().to_vec(alloc)?))
+    Ok((
+        String::from_str(alloc, name)?,
+        content.as_bytes().to_vec(alloc)?,
+    ))
 }
 
 #[test]
@@ -138,15 +157,36 @@ fn places_in_memory(rt: HostRuntime) -> Result<(), Fail> {
     let fails = [4, 9].to_vec(alloc)?;
     let mut place = MemPlace::new(alloc, files, 7, pieces, fails);
     // calls 1 to 5, of which the fourth fails; then call 6, of a file that is not there
-    assert_eq!(rt; read_through(alloc, &mut place, "a", 4)?.as_str(), "abcd|ef|F|");
+    assert_eq!(rt;
+        read_through(alloc, &mut place, "a", 4)?.as_str(),
+        "abcd|ef|F|"
+    );
     assert_eq!(rt; read_through(alloc, &mut place, "c", 4)?.as_str(), "failed");
     // calls 7 to 11: the ninth fails, and the room of seven bytes is full at the last
-    assert_eq!(rt; write_through(alloc, &mut place, "c", &["hijk", "lmn", "opqrst", "u"])?.as_str(), "2 F 5 F ");
-    assert_eq!(rt; read_through(alloc, &mut place, "c", 3)?.as_str(), "hiop|qrs||");
+    assert_eq!(rt;
+        write_through(alloc, &mut place, "c", &["hijk", "lmn", "opqrst", "u"])?.as_str(),
+        "2 F 5 F "
+    );
+    assert_eq!(rt;
+        read_through(alloc, &mut place, "c", 3)?.as_str(),
+        "hiop|qrs||"
+    );
     // a file that is there is made empty
-    assert_eq!(rt; write_through(alloc, &mut place, "b", &["z"])?.as_str(), "1 ");
-    for (name, content) in [("a", Some("abcdef")), ("b", Some("z")), ("c", Some("hiopqrs")), ("d", None)] {
-        assert_eq!(rt; place.file(name), content.map(|text| text.as_bytes()), "of {name}");
+    assert_eq!(rt;
+        write_through(alloc, &mut place, "b", &["z"])?.as_str(),
+        "1 "
+    );
+    for (name, content) in [
+        ("a", Some("abcdef")),
+        ("b", Some("z")),
+        ("c", Some("hiopqrs")),
+        ("d", None),
+    ] {
+        assert_eq!(rt;
+            place.file(name),
+            content.map(|text| text.as_bytes()),
+            "of {name}"
+        );
     }
     Ok(())
 }
@@ -199,14 +239,28 @@ fn steps_in_a_ledger(rt: HostRuntime) {
 fn adapters_over_files(rt: HostRuntime) -> Result<(), Fail> {
     let alloc = rt.alloc();
     let name = format!(in alloc; "cl_outside_test_{}", process::id(rt.process()))?;
-    let path = env::temp_dir(&rt)?.join(alloc, name.as_str())?.into_string();
+    let path = env::temp_dir(&rt)?
+        .join(alloc, name.as_str())?
+        .into_string();
     let path = path.as_str();
 
     let mut place = FilePlace::new(rt.clone()?);
-    assert_eq!(rt; read_through(alloc, &mut place, path, 1)?.as_str(), "failed");
-    assert_eq!(rt; write_through(alloc, &mut place, path, &["abc", "defg"])?.as_str(), "3 4 ");
-    assert_eq!(rt; read_through(alloc, &mut place, path, 3)?.as_str(), "abcd|efg||");
-    assert_eq!(rt; write_through(alloc, &mut place, "/", &["abc"])?.as_str(), "failed");
+    assert_eq!(rt;
+        read_through(alloc, &mut place, path, 1)?.as_str(),
+        "failed"
+    );
+    assert_eq!(rt;
+        write_through(alloc, &mut place, path, &["abc", "defg"])?.as_str(),
+        "3 4 "
+    );
+    assert_eq!(rt;
+        read_through(alloc, &mut place, path, 3)?.as_str(),
+        "abcd|efg||"
+    );
+    assert_eq!(rt;
+        write_through(alloc, &mut place, "/", &["abc"])?.as_str(),
+        "failed"
+    );
     // a folder can be opened and not read
     assert_eq!(rt; read_through(alloc, &mut place, "/", 2)?.as_str(), "FF");
 
