@@ -1,5 +1,5 @@
 -- From a list of the program to a list of things by name.
-use Rattle.std.proofs.Common.{◌≡◌, ℕ, ◌<◌, ◌≤◌, ◌⊎◌, Bool, true, false, cond, not, List, [], ◌∷◌, Option, Some, None, length, map, get_or, set, ◌++◌, ltb, refl, sym, ap, ◌∙◌, subst, inl, inr, ⊎_elim, arith, MatchOption}
+use Rattle.std.proofs.Common.{◌≡◌, ℕ, ◌<◌, ◌≤◌, true, false, List, [], ◌∷◌, Some, length, map, get_or, set, ◌++◌, ltb, refl, sym, ap, ◌∙◌, ⊎_elim, arith, MatchOption}
 use Rattle.std.proofs.lemmas.Bool.{cases_Bool, cases_lt}
 use Rattle.std.proofs.lemmas.Bool.Decides.{nat_tests}
 use Rattle.std.proofs.lemmas.List.{get_or-map, length-map, map-set, map_push, get_or-set_same}

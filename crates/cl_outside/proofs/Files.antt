@@ -1,8 +1,8 @@
 -- What a write behind a file's bytes needs and does.
-use Rattle.std.proofs.Common.{◌≡◌, ℕ, ◌+◌, ◌<◌, ◌≤◌, List, ◌++◌, length, get_or, set, refl, sym, ap, ◌∙◌, arith, Result, Ok, Err, true, false, cond, vec_len, vec_capacity, Vec, String}
+use Rattle.std.proofs.Common.{◌≡◌, ℕ, ◌+◌, ◌≤◌, List, ◌++◌, length, get_or, set, refl, sym, ap, ◌∙◌, arith, Result, Ok, Err, true, false, cond, vec_len, vec_capacity, Vec, String}
 use Rattle.std.specs.Prelude.{IsOk, is_ok, is_err, slice_index}
 use Rattle.std.specs.declared.alloc.Global.{Global}
-use Rattle.cl_outside.specs.Named.{found, name_at, updated, bytes_of, IsFirst}
+use Rattle.cl_outside.specs.Named.{name_at, updated, bytes_of, IsFirst}
 use Rattle.cl_outside.specs.NameTables.{entries_of, rooms_of, entry_of, room_of}
 use Rattle.cl_outside.proofs.Entries.{found_read, first_below, entries-set, number_read, number_written}
 

@@ -1,12 +1,11 @@
 -- What the calls of a place in memory leave of its counts, files and open source.
-use Rattle.std.proofs.Common.{◌≡◌, ℕ, ◌+◌, ◌-◌, ◌^◌, ◌<◌, ◌≤◌, ◌⊎◌, min, max, List, [], ◌++◌, Bool, true, false, Option, Some, None, length, take, drop, refl, sym, ap, ◌∙◌, subst, arith, unwrap_or, ⊎_elim, IsSome}
+use Rattle.std.proofs.Common.{◌≡◌, ℕ, ◌≤◌, List, ◌++◌, true, false, Option, Some, None, take, refl, sym, subst, arith, ⊎_elim, IsSome}
 use Rattle.std.proofs.lemmas.Bool.{cases_Bool}
 use Rattle.std.specs.Str.{bytes_eq}
 use Rattle.cl_outside.specs.Causes.{Rose}
-use Rattle.cl_outside.specs.Outside.{FailedRose}
 use Rattle.cl_outside.specs.declared.answers.Took.TheVariants as took
 use Rattle.cl_outside.specs.Memory.{one_more}
-use Rattle.cl_outside.specs.Named.{found, updated, bytes_of, count_of}
+use Rattle.cl_outside.specs.Named.{updated, bytes_of, count_of}
 use Rattle.cl_outside.specs.MemoryPlace.{MemoryPlace, OpenSource, left_in, Reads, other_file, ReadStep, WriteStep}
 use Rattle.cl_outside.proofs.Tables.{same_name, bytes_eq-refl, found-updated, found-updated_same, found-updated_other}
 

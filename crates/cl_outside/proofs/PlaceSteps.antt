@@ -1,5 +1,5 @@
 -- The invariant and the view of a place in memory over a change of its tables.
-use Rattle.std.proofs.Common.{◌≡◌, ℕ, ◌+◌, ◌-◌, ◌<◌, ◌≤◌, min, List, [], ◌∷◌, ◌++◌, Option, Some, None, length, take, drop, refl, sym, ap, ◌∙◌, subst, arith, unwrap_or, length-append}
+use Rattle.std.proofs.Common.{◌≡◌, ℕ, ◌+◌, ◌-◌, ◌≤◌, min, List, ◌++◌, Option, Some, None, length, take, refl, sym, ap, ◌∙◌, arith, unwrap_or, length-append}
 use Rattle.std.specs.Prelude.{slice_index}
 use Rattle.cl_outside.specs.declared.reading.Reading.{Reading}
 use Rattle.cl_outside.specs.declared.mem_place.MemPlace.TheInside.{Inside}

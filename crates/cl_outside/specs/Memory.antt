@@ -1,5 +1,5 @@
 -- What callers see of the objects in memory.
-use Rattle.std.specs.Prelude.{◌≡◌, ℕ, ◌+◌, ◌-◌, ◌^◌, ◌≤◌, ◌<◌, min, max, List, [], ◌∷◌, length, slice_index, Contains}
+use Rattle.std.specs.Prelude.{◌≡◌, ℕ, ◌+◌, ◌-◌, ◌^◌, ◌<◌, min, max, List, [], ◌∷◌, length, slice_index, Contains}
 use Rattle.cl_outside.specs.declared.answers.Took.{Took}
 use Rattle.cl_outside.specs.declared.answers.Took.TheVariants.{Bytes, Failed}
 

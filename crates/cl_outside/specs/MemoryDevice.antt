@@ -1,7 +1,7 @@
 -- What callers see of a device in memory: its rows lie one behind the other, 512 cells each.
-use Rattle.std.specs.Prelude.{◌≡◌, ℕ, ◌+◌, ◌-◌, ◌*◌, ◌≤◌, ◌<◌, ◌⊎◌, Bool, true, false, List, Option, None, Some, length, slice_index}
+use Rattle.std.specs.Prelude.{◌≡◌, ℕ, ◌+◌, ◌*◌, ◌≤◌, ◌<◌, ◌⊎◌, Bool, true, false, List, Option, None, Some, length, slice_index}
 use Rattle.cl_outside.specs.Device.{Picture, IsGlyph}
-use Rattle.cl_outside.specs.Memory.{Plan, IsToFail, one_more}
+use Rattle.cl_outside.specs.Memory.{Plan, one_more}
 use Rattle.cl_outside.specs.declared.answers.Sent.{Sent}
 use Rattle.cl_outside.specs.declared.answers.Sent.TheVariants.{Done, Failed}
 

@@ -1,12 +1,12 @@
 -- What callers see of a place in memory, and what its calls do to it.
-use Rattle.std.specs.Prelude.{◌≡◌, ℕ, ◌+◌, ◌-◌, ◌≤◌, min, List, [], ◌++◌, length, take, drop, slice_index, Option, None, Some, if◌then◌else◌, IfSome, IsSome, ◌⊎◌}
+use Rattle.std.specs.Prelude.{◌≡◌, ℕ, ◌+◌, ◌-◌, ◌≤◌, min, List, [], ◌++◌, length, take, drop, slice_index, Option, None, Some, if◌then◌else◌, IfSome}
 use Rattle.std.specs.Str.{bytes_eq}
 use Rattle.cl_outside.specs.declared.answers.Opened.{Opened}
 use Rattle.cl_outside.specs.declared.answers.Opened.TheVariants.{Done, Failed, Memory}
 use Rattle.cl_outside.specs.declared.answers.Took.{Took}
 use Rattle.cl_outside.specs.declared.answers.Took.TheVariants as took
 use Rattle.cl_outside.specs.declared.reading.Reading.{Reading}
-use Rattle.cl_outside.specs.Memory.{Plan, IsToFail, counted, one_more, next_piece, later_pieces, ReadsAll}
+use Rattle.cl_outside.specs.Memory.{Plan, counted, one_more, next_piece, later_pieces, ReadsAll}
 use Rattle.cl_outside.specs.Named.{found, name_at, IsFirst, updated, bytes_of, count_of}
 use Rattle.cl_outside.specs.NameTables.{Files}
 

@@ -1,5 +1,5 @@
 -- Lists of things by name. Of two of one name the first counts.
-use Rattle.std.specs.Prelude.{◌≡◌, ℕ, ◌+◌, ◌<◌, zero, suc, Bool, List, [], ◌∷◌, Option, None, Some, length, if◌then◌else◌, unwrap_or}
+use Rattle.std.specs.Prelude.{◌≡◌, ℕ, ◌<◌, zero, suc, List, [], ◌∷◌, Option, None, Some, length, if◌then◌else◌, unwrap_or}
 use Rattle.std.specs.Str.{bytes_eq}
 
 -- the thing of this name

@@ -1,4 +1,4 @@
-ghost use Rattle.std.specs.Prelude.{◌≡◌, ◌≤◌};
+ghost use Rattle.std.specs.Prelude.{◌≤◌};
 
 /// One character cell: a glyph, a byte from 32 to 126, and one of eight inks, 0 to 7.
 #[derive(Clone, Copy, PartialEq, Eq, Debug)]

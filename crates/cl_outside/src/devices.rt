@@ -1,4 +1,4 @@
-ghost use Rattle.std.specs.Prelude.{◌≡◌, ℕ, ◌≤◌, ◌<◌, List, Option, length, Bool, false};
+ghost use Rattle.std.specs.Prelude.{◌≡◌, ℕ, ◌≤◌, Option, Bool, false};
 ghost use Rattle.cl_outside.specs.Device.{Picture, IsSpan, ClearSent, SpanSent, SentRose};
 ghost use Rattle.cl_outside.specs.Lent.{Lent, nothing_lent};
 

@@ -1,4 +1,5 @@
-ghost use Rattle.std.specs.Prelude.{◌≡◌, ℕ, None, true, false};
+ghost use Rattle.std.specs.Prelude.{◌≡◌, None, true, false};
+ghost use Rattle.cl_outside.specs.Place.{OnDone, OnMemory, OpenedRose};
 
 use crate::answers::{Opened, Took};
 use crate::places::Place;
@@ -72,7 +73,14 @@ impl<R: Files + Drop> Place for FilePlace<R> {
 
     ghost told = { λ _ _. tt };
 
-    fn open_source(&mut self, name: &str) -> Opened {
+    fn open_source(&mut self, name: &str) -> Opened
+        ensures made { self.new.made ≡ self.old.made }
+        ensures making { self.new.making_faults ≡ self.old.making_faults }
+        ensures writing { self.new.writing_faults ≡ self.old.writing_faults }
+        ensures opened { OnDone result (self.new.opened ≡ true) }
+        ensures cause { OpenedRose self.old.app_faults self.new.app_faults result }
+        ensures no_memory { OnMemory result ⊥ }
+    {
         match fs::open(&self.rt, name) {
             Ok(file) => {
                 self.source = Some(file);
@@ -98,7 +106,14 @@ impl<R: Files + Drop> Place for FilePlace<R> {
         }
     }
 
-    fn make_sink(&mut self, name: &str) -> Opened {
+    fn make_sink(&mut self, name: &str) -> Opened
+        ensures opened { self.new.opened ≡ self.old.opened }
+        ensures app_faults { self.new.app_faults ≡ self.old.app_faults }
+        ensures writing { self.new.writing_faults ≡ self.old.writing_faults }
+        ensures made { OnDone result (self.new.made ≡ true) }
+        ensures cause { OpenedRose self.old.making_faults self.new.making_faults result }
+        ensures no_memory { OnMemory result ⊥ }
+    {
         match fs::create(&self.rt, name) {
             Ok(file) => {
                 self.sink = Some(file);

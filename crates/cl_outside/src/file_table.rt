@@ -1,4 +1,4 @@
-ghost use Rattle.std.specs.Prelude.{◌≡◌, ℕ, ◌+◌, ◌≤◌, ◌<◌, [], ◌++◌, length, slice_index, MatchOption, IfOk, OnErr, OnOk, Some, vec_capacity};
+ghost use Rattle.std.specs.Prelude.{◌≡◌, ◌+◌, ◌≤◌, ◌<◌, [], ◌++◌, length, slice_index, MatchOption, IfOk, OnErr, OnOk, Some, vec_capacity};
 ghost use Rattle.std.specs.List.{position};
 ghost use Rattle.std.specs.Option.{option_copied};
 ghost use Rattle.cl_outside.specs.NameTables.{is_named};
@@ -22,7 +22,7 @@ impl Model for FileTable {
 }
 
 impl FileTable {
-    ghost use Rattle.cl_outside.specs.NameTables.{entries_of, rooms_of};
+    ghost use Rattle.cl_outside.specs.NameTables.{entries_of};
 
     pub(crate) fn new(list: Vec<(String, Vec<u8>)>) -> FileTable
         ensures entries { result.entries ≡ entries_of list.items }

@@ -1,4 +1,4 @@
-ghost use Rattle.std.specs.Prelude.{◌≡◌, ℕ, ◌+◌, ◌≤◌, ◌<◌, length, drop, Some};
+ghost use Rattle.std.specs.Prelude.{◌+◌, ◌≤◌, ◌<◌, length, drop, Some};
 ghost use Rattle.cl_outside.specs.Outside.{ReadTook};
 ghost use Rattle.cl_outside.specs.declared.answers.Took.{Took};
 ghost use Rattle.cl_outside.specs.Memory.{ReadsAll};

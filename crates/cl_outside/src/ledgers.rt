@@ -1,4 +1,4 @@
-ghost use Rattle.std.specs.Prelude.{◌≡◌, ℕ, ◌+◌};
+ghost use Rattle.std.specs.Prelude.{◌≡◌, ℕ, ◌+◌, ◌-◌, ◌^◌, min};
 
 use std::marker::Model;
 
@@ -73,17 +73,38 @@ impl Tally {
     {}
 }
 
-/// A ledger of this crate, which stands in proofs alone and costs nothing.
+/// A ledger of this crate. A clause sees its count, which has no bound; `seen` can be looked at.
 #[derive(Drop)]
 pub struct OwnLedger {
     tally: Tally,
+    seen: u64,
+}
+
+impl Model for OwnLedger {
+    ghost use Rattle.std.specs.Prelude.{◌≡◌, ℕ, ◌-◌, ◌^◌, min};
+
+    ghost Value = { ℕ };
+
+    ghost view = { λ l. l.tally.count };
+
+    ghost invariant = { λ l. l.seen ≡ min l.tally.count (2 ^ 64 - 1) };
+}
+
+impl OwnLedger {
+    /// The count, which is given as 2^64 - 1 where it is greater.
+    pub fn seen(&self) -> u64
+        ensures { result ≡ min self.now (2 ^ 64 - 1) }
+    {
+        self.seen
+    }
 }
 
 impl Ledger for OwnLedger {
-    ghost count = { λ l. l.tally.count };
+    ghost count = { λ l. l };
 
     fn add_one(&mut self) {
         self.tally.up();
+        self.seen = self.seen.saturating_add(1);
     }
 }
 
@@ -93,5 +114,6 @@ pub fn own_steps() -> Steps<OwnLedger>
 {
     Steps::new(OwnLedger {
         tally: Tally::new(),
+        seen: 0,
     })
 }

@@ -1,4 +1,4 @@
-ghost use Rattle.std.specs.Prelude.{◌≡◌, ◌↔◌, ℕ, ◌+◌, ◌*◌, ◌≤◌, ◌<◌, List, length, Bool, true, false, IfOk};
+ghost use Rattle.std.specs.Prelude.{◌≡◌, ◌↔◌, ◌≤◌, ◌<◌, true, false, IfOk};
 ghost use Rattle.cl_outside.specs.Device.{IsBlank, IsSpan, ClearSent, SpanSent, SentRose};
 ghost use Rattle.cl_outside.specs.Memory.{IsToFail, counted, new_plan};
 ghost use Rattle.cl_outside.specs.MemoryDevice.{picture_of, told_picture, CountsFailure};

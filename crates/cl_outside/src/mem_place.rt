@@ -1,4 +1,4 @@
-ghost use Rattle.std.specs.Prelude.{◌≡◌, ◌↔◌, ◌⊎◌, ℕ, ◌+◌, ◌-◌, ◌≤◌, ◌<◌, List, [], length, None, Some, IfSome, IsSome};
+ghost use Rattle.std.specs.Prelude.{◌≡◌, ◌↔◌, ◌⊎◌, ◌+◌, ◌-◌, ◌<◌, [], length, None, Some, IsSome};
 ghost use Rattle.cl_outside.specs.Memory.{AllPositive, IsToFail, new_plan};
 ghost use Rattle.cl_outside.specs.NameTables.{entries_of};
 ghost use Rattle.std.specs.Option.{option_copied};
@@ -88,6 +88,8 @@ impl MemPlace {
         self.files.get(name)
     }
 
+    // A call of `open_source`. The name is listed among the faults, also that of a missing file, so
+    // that no read needs memory to count a fault.
     pub(crate) fn open(&mut self, name: &str) -> Opened
         ensures step { OpenStep self.old self.new name.now result }
         ensures fails { FailsWhere result (IsToFail self.old.plan ⊎ (found self.old.files name.now ≡ None)) }
@@ -112,6 +114,7 @@ impl MemPlace {
         }
     }
 
+    // A call of `make_sink`.
     pub(crate) fn make(&mut self, name: &str) -> Opened
         ensures step { MakeStep self.old self.new name.now result }
         ensures fails { FailsWhere result (IsToFail self.old.plan) }
@@ -129,6 +132,7 @@ impl MemPlace {
         }
     }
 
+    // A call of `read_source`. The file may have been made anew since it was opened, and be shorter.
     pub(crate) fn read(&mut self, buf: &mut [u8]) -> Took
         requires open { IsSome self.old.source }
         requires room { 0 < length buf.old }
@@ -155,6 +159,7 @@ impl MemPlace {
         Took::Bytes(n)
     }
 
+    // A call of `write_sink`.
     pub(crate) fn write(&mut self, bytes: &[u8]) -> Took
         requires made { IsSome self.old.sink }
         requires some { 0 < length bytes.now }

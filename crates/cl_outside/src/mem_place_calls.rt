@@ -1,6 +1,6 @@
-ghost use Rattle.std.specs.Prelude.{◌≡◌, ◌≢◌, ◌↔◌, ◌⊎◌, ℕ, ◌≤◌, ◌<◌, List, length, Bool, true, None, Some, Option, IsSome, is_some};
+ghost use Rattle.std.specs.Prelude.{◌≡◌, ◌≢◌, ◌↔◌, ◌⊎◌, ℕ, ◌≤◌, ◌<◌, List, length, true, None, Some, Option, IsSome, is_some};
 ghost use Rattle.cl_outside.specs.Outside.{ReadTook, WriteTook, FailedRose};
-ghost use Rattle.cl_outside.specs.Place.{HasBytes, IsEmptyFile, IsTold, OnDone, OnMemory, OpenedRose};
+ghost use Rattle.cl_outside.specs.Place.{HasBytes, IsEmptyFile, OnDone, OnMemory, OpenedRose};
 ghost use Rattle.cl_outside.specs.Memory.{IsToFail};
 ghost use Rattle.cl_outside.specs.Named.{found, count_of};
 ghost use Rattle.cl_outside.specs.MemoryPlace.{left_in, Reads, taken_in, other_file, sink_bytes, FailsWhere, ReadsAllOf, OpenStep, MakeStep, ReadStep, WriteStep};

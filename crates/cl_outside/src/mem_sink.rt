@@ -1,4 +1,4 @@
-ghost use Rattle.std.specs.Prelude.{◌≡◌, ◌↔◌, ◌⊎◌, ℕ, ◌+◌, ◌-◌, ◌≤◌, ◌<◌, min, List, [], length, take, drop, Some, IfOk, All};
+ghost use Rattle.std.specs.Prelude.{◌≡◌, ◌↔◌, ◌⊎◌, ◌-◌, ◌≤◌, ◌<◌, [], length, Some, IfOk};
 ghost use Rattle.cl_outside.specs.Outside.{WriteTook, FailedRose};
 ghost use Rattle.cl_outside.specs.Memory.{AllPositive, IsToFail, counted, new_plan, CountsFault, WritesPiece};
 

@@ -1,4 +1,4 @@
-ghost use Rattle.std.specs.Prelude.{◌≡◌, ◌↔◌, ℕ, ◌+◌, ◌-◌, ◌≤◌, ◌<◌, List, length, take, drop, Some};
+ghost use Rattle.std.specs.Prelude.{◌≡◌, ◌↔◌, ◌+◌, ◌-◌, ◌≤◌, ◌<◌, length, drop, Some};
 ghost use Rattle.cl_outside.specs.Outside.{ReadTook, FailedRose};
 ghost use Rattle.cl_outside.specs.Memory.{IsToFail, counted, new_plan, CountsFault, ReadsAll};
 

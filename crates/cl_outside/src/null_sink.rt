@@ -8,7 +8,9 @@ use crate::sinks::Sink;
 pub struct NullSink;
 
 impl NullSink {
-    pub fn new() -> NullSink {
+    pub fn new() -> NullSink
+        ensures { result ≡ record {} }
+    {
         NullSink
     }
 }

@@ -25,8 +25,6 @@ impl<'a, P: Place> PlaceSink<'a, P> {
 }
 
 impl<'a, P: Place> Sink for PlaceSink<'a, P> {
-    ghost use Rattle.cl_outside.specs.Lent.{Lent};
-
     ghost taken = { λ s. P.taken s.place.now };
 
     ghost faults = { λ s. P.writing_faults s.place.now };

@@ -1,4 +1,4 @@
-ghost use Rattle.std.specs.Prelude.{◌≡◌, ℕ, ◌≤◌, ◌<◌, List, Option, length};
+ghost use Rattle.std.specs.Prelude.{◌≡◌, ℕ, ◌<◌, List, Option, length};
 ghost use Rattle.cl_outside.specs.Lent.{Lent, nothing_lent};
 ghost use Rattle.cl_outside.specs.Outside.{WriteTook, FailedRose};
 

@@ -1,3 +1,4 @@
 pub mod TextLemmas
 pub mod WordLemmas
 pub mod RunLemmas
+pub mod StatusLemmas

@@ -1,6 +1,6 @@
 use Rattle.std.proofs.Common.{◌≡◌, ◌<◌, length, sym, ap, ◌∙◌, arith, unwrap_or}
 use Rattle.std.proofs.lemmas.List.{length-map}
-use Rattle.cl_outside.specs.Named.{place_in, updated, count_of}
+use Rattle.cl_outside.specs.Named.{place_in, updated}
 use Rattle.cl_outside.specs.NameTables.{count_entry, counts_of}
 use Rattle.cl_outside.proofs.Tables.{updated_found, found-none, first_updated}
 use Rattle.cl_outside.proofs.count_table.CountTable.ready.Goals as goal

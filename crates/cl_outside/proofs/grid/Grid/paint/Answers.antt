@@ -1,4 +1,4 @@
-use Rattle.std.proofs.Common.{◌≡◌, List, ℕ, length, drop, sym, ◌∙◌, subst}
+use Rattle.std.proofs.Common.{List, ℕ, length, drop, ◌∙◌, subst}
 use Rattle.std.proofs.lemmas.List.{take_at}
 use Rattle.cl_outside.specs.MemoryDevice.{IsPut, IsFilled}
 use Rattle.cl_outside.proofs.Grids.{IsCells-painted}

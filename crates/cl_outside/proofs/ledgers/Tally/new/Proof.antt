@@ -1,7 +1,6 @@
 -- `new` picks the number 0.
 use Rattle.std.proofs.Common.{[], ◌∷◌, refl}
 use Rattle.std.proofs.raw_atomic.Walks.{proved}
-use contract.Running.{tables}
 use types.Kit.{‵, raw, ◌$◌, ◌∵◌, !, qed, drop, fjoin, suffices, done}
 use types.Part.{agg}
 use types.Run.{enter, returns, no_more}

@@ -1,7 +1,6 @@
 -- `up` picks one more than the number that was there.
 use Rattle.std.proofs.Common.{[], ◌∷◌, ◌+◌, refl}
 use Rattle.std.proofs.raw_atomic.Walks.{proved}
-use contract.Running.{tables}
 use base.Fml.{ftrue, flft}
 use mir.Syntax.{named}
 use mir.Val.{vunit}

@@ -1,4 +1,4 @@
-use Rattle.std.proofs.Common.{◌≡◌, refl, inl, inr, ⊎_elim, ap, ◌∙◌, sym, None, false, true}
+use Rattle.std.proofs.Common.{◌≡◌, refl, inr, ⊎_elim, ap, ◌∙◌, None, true}
 use Rattle.cl_outside.specs.Memory.{IsToFail}
 use Rattle.cl_outside.specs.Named.{found}
 use Rattle.cl_outside.proofs.Tables.{found-none, found_first}

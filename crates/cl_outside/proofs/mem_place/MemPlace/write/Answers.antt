@@ -1,4 +1,4 @@
-use Rattle.std.proofs.Common.{ℕ, ◌≤◌, take, subst, sym, ap, ◌∙◌, arith, length, length-take}
+use Rattle.std.proofs.Common.{take, subst, ap, arith, length, length-take}
 use Rattle.cl_outside.specs.declared.answers.Took.TheVariants as took
 use Rattle.cl_outside.specs.contracts.mem_place.MemPlace.{the_view}
 use Rattle.cl_outside.specs.MemoryPlace.{MemoryPlace, WriteStep}

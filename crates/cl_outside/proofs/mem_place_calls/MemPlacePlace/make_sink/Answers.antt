@@ -1,4 +1,4 @@
-use Rattle.std.proofs.Common.{[], refl, sym, ap, Some}
+use Rattle.std.proofs.Common.{[], refl, sym}
 use Rattle.cl_outside.proofs.Tables.{found-updated_same, found-updated_other}
 use Rattle.cl_outside.proofs.PlaceFrames.{left_in-other}
 use Rattle.cl_outside.proofs.mem_place_calls.MemPlacePlace.make_sink.Goals as goal

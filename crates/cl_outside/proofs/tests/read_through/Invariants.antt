@@ -1,0 +1,5 @@
+use Rattle.std.proofs.Common.{◌≡◌, true}
+use Rattle.cl_outside.proofs.tests.read_through.Given as goal
+
+abbrev pub invariant-loop : goal.invariant-loop
+invariant-loop g l = g.P.Place.opened l.place ≡ true

@@ -1,0 +1,26 @@
+use Rattle.std.proofs.Common.{map, List, ℕ}
+use denote.Bor.{Bor}
+use Rattle.clim_run.specs.Run.{streams}
+use Rattle.clim_run.proofs.StatusLemmas.{refused_declares, served_declares, limit_passed}
+use Rattle.clim_run.proofs.statuses.clim_main.Goals as goal
+
+pub returns-in-Refused-clause-complete : goal.returns-in-Refused-clause-complete
+returns-in-Refused-clause-complete g c = λ name run place_fault gesture_fault output_fault declares few.
+    absurd (refused_declares (map (λ (w : Bor (List ℕ)). w.now) c.args.words.now) (g.P.Place.file c.args.place.now) name c.in-Refused.ensures.ran.0 run declares)
+
+pub returns-in-Ended-Done-clause-refusal_due : goal.returns-in-Ended-Done-clause-refusal_due
+returns-in-Ended-Done-clause-refusal_due g c = λ name run place_fault declares.
+    absurd (served_declares (map (λ (w : Bor (List ℕ)). w.now) c.args.words.now) (g.P.Place.file c.args.place.now) _ _ _ name c.in-Ended-Done.ensures.ran run declares)
+
+pub returns-in-Ended-ReadFault-clause-refusal_due : goal.returns-in-Ended-ReadFault-clause-refusal_due
+returns-in-Ended-ReadFault-clause-refusal_due g c = λ name run place_fault declares.
+    absurd (served_declares (map (λ (w : Bor (List ℕ)). w.now) c.args.words.now) (g.P.Place.file c.args.place.now) _ _ _ name c.in-Ended-ReadFault.ensures.ran run declares)
+
+pub returns-in-Ended-TooMany-clause-refusal_due : goal.returns-in-Ended-TooMany-clause-refusal_due
+returns-in-Ended-TooMany-clause-refusal_due g c = λ name run place_fault declares.
+    absurd (served_declares (map (λ (w : Bor (List ℕ)). w.now) c.args.words.now) (g.P.Place.file c.args.place.now) _ _ _ name c.in-Ended-TooMany.ensures.ran run declares)
+
+pub returns-in-Ended-TooMany-clause-complete : goal.returns-in-Ended-TooMany-clause-complete
+returns-in-Ended-TooMany-clause-complete g c = λ name run place_fault gesture_fault output_fault declares few.
+    absurd (limit_passed (map (λ (w : Bor (List ℕ)). w.now) c.args.words.now) (g.P.Place.file c.args.place.now) _ _ c.in-Ended-TooMany.field-0
+      c.in-Ended-TooMany.field-0-is c.in-Ended-TooMany.ensures.ran few)
