@@ -1,7 +1,7 @@
 -- A row of a number of parts is no row of another number.
 use Rattle.std.proofs.Common.{◌≡◌, ◌≤◌, ◌<◌, ℕ, if◌then◌else◌, length, map, get_or, List, [], ◌∷◌, refl, arith}
-use Rattle.std.specs.Prelude.{Option, None}
-use Rattle.cl_load.specs.Tree.{Tree, trees_of}
+use Rattle.std.specs.Prelude.{None}
+use Rattle.cl_load.specs.Tree.{trees_of}
 use Rattle.cl_load.specs.Form.{tree_of}
 use Rattle.cl_load.specs.declared.form.Form.{Form}
 use Rattle.cl_load.specs.Application.{subs, slot_row, text_row, sum_row, is_whole, pane_of, pane_decl, panes_row, frame_row, command_row, frame_in, declared_by, application_in, ◌>>=◌}

@@ -1,5 +1,5 @@
 -- The display forms so far, with those that follow.
-use Rattle.std.proofs.Common.{◌≡◌, List, [], ◌∷◌, ◌++◌, refl}
+use Rattle.std.proofs.Common.{List, ◌++◌}
 use Rattle.std.specs.Prelude.{Option, None, Some}
 use Rattle.cl_syntax.specs.declared.display_forms.Shape.{Shape}
 

@@ -1,4 +1,4 @@
-use Rattle.std.proofs.Common.{arith, sym}
+use Rattle.std.proofs.Common.{arith}
 use Rattle.cl_load.proofs.Rows.{application_counts, application_parts}
 use Rattle.cl_load.proofs.declarations.application_in.Goals as goal
 use Rattle.cl_load.proofs.declarations.application_in.Goals.{in_default-via-then-forms-lt3, in_default-via-else-forms-lt3+else-forms-lt4}
