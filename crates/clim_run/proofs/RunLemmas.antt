@@ -41,15 +41,15 @@ read_all old new ahead_old ahead_new read none ends r =
     rw same at (read_so_far old new ahead_old ahead_new read none r)
 
 -- a transcript from a world that is the opening
-from_opening : (app : App) (limits : Limits) (w : World) (count : ℕ) (ps : List Piece) (bytes : List ℕ) → limits ≡ run_limits
-    → w ≡ opening app run_limits (opening_slots app) → count ≡ 0 → IsTranscript app limits w count ps bytes → IsTranscriptOf app ps bytes
-from_opening app limits w count ps bytes l e c t = rw (l, e, c) at t
+from_opening : (app : App) (limits : Limits) (w : World) (count : ℕ) (ps : List Piece) (bytes : List ℕ) (i j : ℕ) → limits ≡ run_limits
+    → w ≡ opening app run_limits (opening_slots app) → count ≡ 0 → IsTranscript app limits w count ps bytes i j → IsTranscriptOf app ps bytes
+from_opening app limits w count ps bytes i j l e c t = (i, j, rw (l, e, c) at t)
 
-to_end : (app : App) (old new : Progress) (taken_old taken_new : Option (List ℕ)) (x y : ℕ) → old.ahead ≡ [] → old.count ≡ 0 → new.count ≤ most_lines
+to_end : (app : App) (old new : Progress) (taken_old taken_new : Option (List ℕ)) (x y i j : ℕ) → old.ahead ≡ [] → old.count ≡ 0 → new.count ≤ most_lines
     → (limits : Limits) (w : World) → limits ≡ run_limits → w ≡ opening app run_limits (opening_slots app)
-    → Served app limits w old new true taken_old taken_new
+    → Served app limits w old new true taken_old taken_new i j
     → ReadToEnd app (streams old.left old.faults taken_old x) (streams new.left new.faults taken_new y)
-to_end app old new taken_old taken_new x y none zero most limits w l e s =
+to_end app old new taken_old taken_new x y i j none zero most limits w l e s =
     let lines = s.passes.lines in
     let cut : AreCut true new.left new.ahead lines.read s.given = lines.cut in
     let few_given : length (pieces lines.read) ≤ 1000000 = omega (arith, s.passes.counted, zero, most, ap length cut.0) in
@@ -61,28 +61,28 @@ to_end app old new taken_old taken_new x y none zero most limits w l e s =
       written = s.written;
       appended = s.appended;
       transcript =
-        let t : IsTranscriptOf app s.given s.written = from_opening app limits w old.count s.given s.written l e zero s.transcript in
+        let t : IsTranscriptOf app s.given s.written = from_opening app limits w old.count s.given s.written i j l e zero s.transcript in
         rw (sym cut.0) at t
     }
 
-to_fault : (app : App) (old new : Progress) (taken_old taken_new : Option (List ℕ)) (x y : ℕ) → old.ahead ≡ [] → old.count ≡ 0 → new.count ≤ most_lines
+to_fault : (app : App) (old new : Progress) (taken_old taken_new : Option (List ℕ)) (x y i j : ℕ) → old.ahead ≡ [] → old.count ≡ 0 → new.count ≤ most_lines
     → (limits : Limits) (w : World) → limits ≡ run_limits → w ≡ opening app run_limits (opening_slots app)
-    → Faulted app limits w old new taken_old taken_new
+    → Faulted app limits w old new taken_old taken_new i j
     → ReadToFault app (streams old.left old.faults taken_old x) (streams new.left new.faults taken_new y)
-to_fault app old new taken_old taken_new x y none zero most limits w l e s = record {
+to_fault app old new taken_old taken_new x y i j none zero most limits w l e s = record {
     read = s.read;
     consumed = read_all old.left new.left old.ahead new.ahead s.read none s.none s.reads;
     rose = s.rose;
     written = s.written;
     appended = s.appended;
-    transcript = from_opening app limits w old.count (ended s.read) s.written l e zero s.transcript
+    transcript = from_opening app limits w old.count (ended s.read) s.written i j l e zero s.transcript
   }
 
-to_limit : (app : App) (old new : Progress) (taken_old taken_new : Option (List ℕ)) (x y : ℕ) → old.ahead ≡ [] → old.count ≡ 0 → new.count ≤ most_lines
+to_limit : (app : App) (old new : Progress) (taken_old taken_new : Option (List ℕ)) (x y i j : ℕ) → old.ahead ≡ [] → old.count ≡ 0 → new.count ≤ most_lines
     → (limits : Limits) (w : World) → limits ≡ run_limits → w ≡ opening app run_limits (opening_slots app)
-    → Served app limits w old new false taken_old taken_new → new.count ≡ most_lines → 0 < length new.ahead
+    → Served app limits w old new false taken_old taken_new i j → new.count ≡ most_lines → 0 < length new.ahead
     → ReadToLimit app (streams old.left old.faults taken_old x) (streams new.left new.faults taken_new y)
-to_limit app old new taken_old taken_new x y none zero most limits w l e s full more =
+to_limit app old new taken_old taken_new x y i j none zero most limits w l e s full more =
     let lines = s.passes.lines in
     let cut : AreCut false new.left new.ahead lines.read s.given = lines.cut in
     let count : length s.given ≡ most_lines = omega (arith, s.passes.counted, zero, full) in
@@ -96,7 +96,7 @@ to_limit app old new taken_old taken_new x y none zero most limits w l e s full 
       written = s.written;
       appended = s.appended;
       transcript =
-        let t : IsTranscriptOf app s.given s.written = from_opening app limits w old.count s.given s.written l e zero s.transcript in
+        let t : IsTranscriptOf app s.given s.written = from_opening app limits w old.count s.given s.written i j l e zero s.transcript in
         rw (sym cut.0) at t
     }
 
@@ -104,11 +104,11 @@ first_of_cut : (finished : Bool) (left : Option (List ℕ)) (ahead read : List �
 first_of_cut false left ahead read ps c = inl (sym c.0, c.1)
 first_of_cut true left ahead read ps c = inr (sym c.0, c.2, c.1)
 
-written_to_fault : (app : App) (old new : Progress) (taken_old taken_new : Option (List ℕ)) (x y : ℕ) → old.ahead ≡ [] → old.count ≡ 0 → new.count ≤ most_lines
+written_to_fault : (app : App) (old new : Progress) (taken_old taken_new : Option (List ℕ)) (x y i j : ℕ) → old.ahead ≡ [] → old.count ≡ 0 → new.count ≤ most_lines
     → (limits : Limits) (w : World) → limits ≡ run_limits → w ≡ opening app run_limits (opening_slots app)
-    → CutOff app limits w old new taken_old taken_new → Rose x y
+    → CutOff app limits w old new taken_old taken_new i j → Rose x y
     → WrittenToFault app (streams old.left old.faults taken_old x) (streams new.left new.faults taken_new y)
-written_to_fault app old new taken_old taken_new x y none zero most limits w l e s rose =
+written_to_fault app old new taken_old taken_new x y i j none zero most limits w l e s rose =
     let lines = s.passes.lines in
     record {
       read = lines.read;
@@ -121,27 +121,27 @@ written_to_fault app old new taken_old taken_new x y none zero most limits w l e
       written = s.written;
       lost = s.lost;
       appended = s.appended;
-      transcript = from_opening app limits w old.count s.given (s.written ++ s.lost) l e zero s.transcript
+      transcript = from_opening app limits w old.count s.given (s.written ++ s.lost) i j l e zero s.transcript
     }
 
-served : (app : App) (limits : Limits) (w : World) (old new : Progress) (taken_old taken_new : Option (List ℕ)) (x y : ℕ) (how : End)
+served : (app : App) (limits : Limits) (w : World) (old new : Progress) (taken_old taken_new : Option (List ℕ)) (x y i j : ℕ) (how : End)
     → limits ≡ run_limits → w ≡ opening app run_limits (opening_slots app) → old.ahead ≡ [] → old.count ≡ 0 → new.count ≤ most_lines
-    → ServesTo app limits w old new taken_old taken_new x y how
+    → ServesTo app limits w old new taken_old taken_new i j x y how
     → EndsAs app (streams old.left old.faults taken_old x) (streams new.left new.faults taken_new y) how
-served app limits w old new taken_old taken_new x y end.Done l e none zero most s = to_end app old new taken_old taken_new x y none zero most limits w l e s
-served app limits w old new taken_old taken_new x y end.ReadFault l e none zero most s = to_fault app old new taken_old taken_new x y none zero most limits w l e s
-served app limits w old new taken_old taken_new x y end.TooMany l e none zero most s = to_limit app old new taken_old taken_new x y none zero most limits w l e s.0 s.1 s.2
-served app limits w old new taken_old taken_new x y end.OutputFault l e none zero most s = written_to_fault app old new taken_old taken_new x y none zero most limits w l e s.0 s.1
+served app limits w old new taken_old taken_new x y i j end.Done l e none zero most s = to_end app old new taken_old taken_new x y i j none zero most limits w l e s
+served app limits w old new taken_old taken_new x y i j end.ReadFault l e none zero most s = to_fault app old new taken_old taken_new x y i j none zero most limits w l e s
+served app limits w old new taken_old taken_new x y i j end.TooMany l e none zero most s = to_limit app old new taken_old taken_new x y i j none zero most limits w l e s.0 s.1 s.2
+served app limits w old new taken_old taken_new x y i j end.OutputFault l e none zero most s = written_to_fault app old new taken_old taken_new x y i j none zero most limits w l e s.0 s.1
 
 -- the same, where what is told of the source is named otherwise
-pub EndsAs-served : (app : App) (limits : Limits) (w : World) (old new : Progress) (taken_old taken_new : Option (List ℕ)) (x y : ℕ) (how : End)
+pub EndsAs-served : (app : App) (limits : Limits) (w : World) (old new : Progress) (taken_old taken_new : Option (List ℕ)) (x y i j : ℕ) (how : End)
     → limits ≡ run_limits → w ≡ opening app run_limits (opening_slots app) → old.ahead ≡ [] → old.count ≡ 0 → new.count ≤ most_lines
-    → ServesTo app limits w old new taken_old taken_new x y how
+    → ServesTo app limits w old new taken_old taken_new i j x y how
     → (left_old left_new : Option (List ℕ)) (faults_old faults_new : ℕ) → left_old ≡ old.left → left_new ≡ new.left
     → faults_old ≡ old.faults → faults_new ≡ new.faults
     → EndsAs app (streams left_old faults_old taken_old x) (streams left_new faults_new taken_new y) how
-EndsAs-served app limits w old new taken_old taken_new x y how l e none zero most s left_old left_new faults_old faults_new a b c d =
-    rw (a, b, c, d) (served app limits w old new taken_old taken_new x y how l e none zero most s)
+EndsAs-served app limits w old new taken_old taken_new x y i j how l e none zero most s left_old left_new faults_old faults_new a b c d =
+    rw (a, b, c, d) (served app limits w old new taken_old taken_new x y i j how l e none zero most s)
 
 -- a run of a text that the words name
 pub Ran-text : (words : List (List ℕ)) (file : List ℕ → Option (Option (List ℕ))) (faults_old faults_new : List ℕ → ℕ) (old new : Streams)

@@ -23,9 +23,10 @@ use Rattle.clim_run.specs.declared.running.How.TheVariants as how
 abbrev pub run_limits : Limits
 run_limits = record { budget = 1000000; depth = 512 }
 
--- these bytes are a transcript of the pieces, from the opening of the application on
+-- these bytes are a transcript of the pieces, from the opening of the application on, whatever the ledger stood at
 abbrev pub IsTranscriptOf : App → List Piece → List ℕ → Type 0
-IsTranscriptOf app ps bytes = IsTranscript app run_limits (opening app run_limits (opening_slots app)) 0 ps bytes
+IsTranscriptOf app ps bytes =
+    (spent_old : ℕ) × (spent_new : ℕ) × IsTranscript app run_limits (opening app run_limits (opening_slots app)) 0 ps bytes spent_old spent_new
 
 -- what is told of the gestures and of the output, with their counts of faults
 pub record Streams : Type 0 where
