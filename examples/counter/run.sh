@@ -1,7 +1,9 @@
 #!/usr/bin/env bash
-# Builds what is needed and runs the counter: examples/counter/counter.clim with the gestures of gestures.txt.
+# Builds what is needed and runs the counter: counter.clim with the gestures of gestures.txt. It writes the transcript, which is
+# transcript.txt.
 set -euo pipefail
 here=$(cd "$(dirname "$0")" && pwd)
 cd "$here/../../crates/clim_run"
-echo "counter: proving and building clim_run where that is not done yet; a first build takes some minutes" >&2
-rt run -- run "$here/counter.clim" <"$here/gestures.txt" 2>/tmp/clim_run_build.$$ || { cat /tmp/clim_run_build.$$ >&2; exit 1; }
+echo "counter: proving and building clim_run where that is not done yet; the first build takes some minutes" >&2
+rt run >/dev/null 2>&1 || { echo "counter: the build failed; see: cd crates/clim_run && rt run" >&2; exit 1; }
+exec out/clim_run run "$here/counter.clim" <"$here/gestures.txt"

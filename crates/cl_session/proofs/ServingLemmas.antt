@@ -42,8 +42,8 @@ goes-on app limits w kind went old new r spent_old spent_new s more tail last h 
     let count : new.count ≡ old.count + length r.idles + 1 = omega (arith, r.passes.counted, length-append r.idles (r.piece ∷ [])) in
     let at = rw count at h in
     rw (append_assoc r.idles (r.piece ∷ []) more)
-      (transcript-idles app limits w old.count r.idles (r.piece ∷ more) (said_of app limits w (old.count + length r.idles) kind went ++ tail) spent_old last r.idle
-        (transcript-piece app limits w (old.count + length r.idles) kind went r.piece more tail spent_old spent_new last r.says s at))
+    (transcript-idles app limits w old.count r.idles (r.piece ∷ more) (said_of app limits w (old.count + length r.idles) kind went ++ tail) spent_old last r.idle
+    (transcript-piece app limits w (old.count + length r.idles) kind went r.piece more tail spent_old spent_new last r.says s at))
 
 -- one turn
 pub Going-turn : (app : App) (limits : Limits) (w : World) (kind : LineKind) (went : Went) (old new : Progress) (r : ReadsTo kind old new)
@@ -51,14 +51,14 @@ pub Going-turn : (app : App) (limits : Limits) (w : World) (kind : LineKind) (we
     → Appends taken_old taken_new (said_of app limits w (old.count + length r.idles) kind went)
     → Going app limits w (world_after app limits w kind went) old new taken_old taken_new spent_old spent_new
 Going-turn app limits w kind went old new r taken_old taken_new spent_old spent_new s a = record {
-    given = r.idles ++ r.piece ∷ [];
-    finished = r.finished;
-    stopped = r.stopped;
-    passes = r.passes;
-    written = said_of app limits w (old.count + length r.idles) kind went;
-    appended = a;
-    goes_on = goes-on app limits w kind went old new r spent_old spent_new s
-  }
+  given = r.idles ++ r.piece ∷ [];
+  finished = r.finished;
+  stopped = r.stopped;
+  passes = r.passes;
+  written = said_of app limits w (old.count + length r.idles) kind went;
+  appended = a;
+  goes_on = goes-on app limits w kind went old new r spent_old spent_new s;
+}
 
 -- a turn whose answer was cut off
 pub CutOff-turn : (app : App) (limits : Limits) (w : World) (kind : LineKind) (went : Went) (old new : Progress) (r : ReadsTo kind old new)
@@ -75,7 +75,7 @@ CutOff-turn app limits w kind went old new r taken_old taken_new spent_old spent
       written = v.sent;
       appended = v.appended;
       lost = rest;
-      transcript = rw (← v.same) pieces
+      transcript = rw (← v.same) pieces;
     }
 
 idles-alone : (app : App) (limits : Limits) (w : World) (before : ℕ) (idles : List Piece) (spent : ℕ) → AreIdle idles
@@ -86,40 +86,63 @@ idles-alone app limits w before idles spent i =
 pub Served-end : (app : App) (limits : Limits) (w : World) (old new : Progress) (r : ReadsToEnd old new) (taken : Option (List ℕ)) (spent : ℕ)
     → Served app limits w old new true taken taken spent spent
 Served-end app limits w old new r taken spent = record {
-    given = r.idles; passes = r.passes; written = []; appended = Appends-nil taken;
-    transcript = idles-alone app limits w old.count r.idles spent r.idle }
+  given = r.idles;
+  passes = r.passes;
+  written = [];
+  appended = Appends-nil taken;
+  transcript = idles-alone app limits w old.count r.idles spent r.idle;
+}
 
 pub Served-limit : (app : App) (limits : Limits) (w : World) (old new : Progress) (r : ReadsToLimit old new) (taken : Option (List ℕ)) (spent : ℕ)
     → Served app limits w old new false taken taken spent spent
 Served-limit app limits w old new r taken spent = record {
-    given = r.idles; passes = r.passes; written = []; appended = Appends-nil taken;
-    transcript = idles-alone app limits w old.count r.idles spent r.idle }
+  given = r.idles;
+  passes = r.passes;
+  written = [];
+  appended = Appends-nil taken;
+  transcript = idles-alone app limits w old.count r.idles spent r.idle;
+}
 
 pub Faulted-fault : (app : App) (limits : Limits) (w : World) (old new : Progress) (r : ReadsToFault old new) (taken : Option (List ℕ)) (spent : ℕ)
     → Faulted app limits w old new taken taken spent spent
 Faulted-fault app limits w old new r taken spent = record {
-    read = r.read; reads = r.reads; none = r.none; rose = r.rose; written = []; appended = Appends-nil taken;
-    transcript = idles-alone app limits w old.count (ended r.read) spent r.idle }
+  read = r.read;
+  reads = r.reads;
+  none = r.none;
+  rose = r.rose;
+  written = [];
+  appended = Appends-nil taken;
+  transcript = idles-alone app limits w old.count (ended r.read) spent r.idle;
+}
 
 nothing-read : (p : Progress) → Reads p.left p.left p.ahead p.ahead []
 nothing-read p = record { handed = []; consumed = Consumes-nil p.left; same = append-nil p.ahead }
 
 nothing-passes : (p : Progress) → Passes p p false []
 nothing-passes p = record {
-    lines = record { read = []; reads = nothing-read p; cut = (refl, refl) };
-    counted = sym (add-zero p.count) }
+  lines = record { read = []; reads = nothing-read p; cut = (refl, refl) };
+  counted = sym (add-zero p.count);
+}
 
 -- nothing yet
 pub Going-nothing : (app : App) (limits : Limits) (w : World) (p : Progress) (taken : Option (List ℕ)) (spent : ℕ) → p.stop ≡ stop_at false
     → Going app limits w w p p taken taken spent spent
 Going-nothing app limits w p taken spent s = record {
-    given = []; finished = false; stopped = s; passes = nothing-passes p; written = []; appended = Appends-nil taken; goes_on = λ more tail last h. h }
+  given = [];
+  finished = false;
+  stopped = s;
+  passes = nothing-passes p;
+  written = [];
+  appended = Appends-nil taken;
+  goes_on = λ more tail last h. h;
+}
 
 -- pieces, and then pieces
 passes-more : (a b c : Progress) (f : Bool) (ps qs : List Piece) → Passes a b false ps → Passes b c f qs → Passes a c f (ps ++ qs)
 passes-more a b c f ps qs v w = record {
-    lines = Lines-more a.left b.left c.left a.ahead b.ahead c.ahead f ps qs v.lines w.lines;
-    counted = omega (arith, v.counted, w.counted, length-append ps qs) }
+  lines = Lines-more a.left b.left c.left a.ahead b.ahead c.ahead f ps qs v.lines w.lines;
+  counted = omega (arith, v.counted, w.counted, length-append ps qs);
+}
 
 open_passes : (a b : Progress) (f : Bool) (ps : List Piece) → f ≡ false → Passes a b f ps → Passes a b false ps
 open_passes a b f ps e p = rw e at p
@@ -128,44 +151,44 @@ open_passes a b f ps e p = rw e at p
 pub Going-trans : (app : App) (limits : Limits) (u v w : World) (a b c : Progress) (x y z : Option (List ℕ)) (i j k : ℕ) (g : Going app limits u v a b x y i j)
     → g.finished ≡ false → Going app limits v w b c y z j k → Going app limits u w a c x z i k
 Going-trans app limits u v w a b c x y z i j k g e h = record {
-    given = g.given ++ h.given;
-    finished = h.finished;
-    stopped = h.stopped;
-    passes = passes-more a b c h.finished g.given h.given (open_passes a b g.finished g.given e g.passes) h.passes;
-    written = g.written ++ h.written;
-    appended = Appends-trans x y z g.written h.written g.appended h.appended;
-    goes_on = λ more tail last t. rw (append_assoc g.given h.given more, append_assoc g.written h.written tail)
-      (g.goes_on (h.given ++ more) (h.written ++ tail) last (h.goes_on more tail last t))
-  }
+  given = g.given ++ h.given;
+  finished = h.finished;
+  stopped = h.stopped;
+  passes = passes-more a b c h.finished g.given h.given (open_passes a b g.finished g.given e g.passes) h.passes;
+  written = g.written ++ h.written;
+  appended = Appends-trans x y z g.written h.written g.appended h.appended;
+  goes_on = λ more tail last t. rw (append_assoc g.given h.given more, append_assoc g.written h.written tail)
+      (g.goes_on (h.given ++ more) (h.written ++ tail) last (h.goes_on more tail last t));
+}
 
 pub Served-after : (app : App) (limits : Limits) (u v : World) (a b c : Progress) (f : Bool) (x y z : Option (List ℕ)) (i j k : ℕ) (g : Going app limits u v a b x y i j)
     → g.finished ≡ false → Served app limits v b c f y z j k → Served app limits u a c f x z i k
 Served-after app limits u v a b c f x y z i j k g e s = record {
-    given = g.given ++ s.given;
-    passes = passes-more a b c f g.given s.given (open_passes a b g.finished g.given e g.passes) s.passes;
-    written = g.written ++ s.written;
-    appended = Appends-trans x y z g.written s.written g.appended s.appended;
-    transcript = g.goes_on s.given s.written k s.transcript
-  }
+  given = g.given ++ s.given;
+  passes = passes-more a b c f g.given s.given (open_passes a b g.finished g.given e g.passes) s.passes;
+  written = g.written ++ s.written;
+  appended = Appends-trans x y z g.written s.written g.appended s.appended;
+  transcript = g.goes_on s.given s.written k s.transcript;
+}
 
 pub CutOff-after : (app : App) (limits : Limits) (u v : World) (a b c : Progress) (x y z : Option (List ℕ)) (i j k : ℕ) (g : Going app limits u v a b x y i j)
     → g.finished ≡ false → CutOff app limits v b c y z j k → CutOff app limits u a c x z i k
 CutOff-after app limits u v a b c x y z i j k g e s = record {
-    given = g.given ++ s.given;
-    finished = s.finished;
-    passes = passes-more a b c s.finished g.given s.given (open_passes a b g.finished g.given e g.passes) s.passes;
-    written = g.written ++ s.written;
-    appended = Appends-trans x y z g.written s.written g.appended s.appended;
-    lost = s.lost;
-    transcript = rw (append_assoc g.written s.written s.lost) (g.goes_on s.given (s.written ++ s.lost) k s.transcript)
-  }
+  given = g.given ++ s.given;
+  finished = s.finished;
+  passes = passes-more a b c s.finished g.given s.given (open_passes a b g.finished g.given e g.passes) s.passes;
+  written = g.written ++ s.written;
+  appended = Appends-trans x y z g.written s.written g.appended s.appended;
+  lost = s.lost;
+  transcript = rw (append_assoc g.written s.written s.lost) (g.goes_on s.given (s.written ++ s.lost) k s.transcript);
+}
 
 pub Faulted-after : (app : App) (limits : Limits) (u v : World) (a b c : Progress) (x y z : Option (List ℕ)) (i j k : ℕ) (g : Going app limits u v a b x y i j)
     → g.finished ≡ false → a.faults ≤ b.faults → Faulted app limits v b c y z j k → Faulted app limits u a c x z i k
 Faulted-after app limits u v a b c x y z i j k g e le s =
     let before = open_passes a b g.finished g.given e g.passes in
     let pieces : ended (before.lines.read ++ s.read) ≡ g.given ++ ended s.read =
-      ended-more before.lines.read s.read before.lines.cut.1 ∙ ap (λ ps. ps ++ ended s.read) before.lines.cut.0 in
+    ended-more before.lines.read s.read before.lines.cut.1 ∙ ap (λ ps. ps ++ ended s.read) before.lines.cut.0 in
     record {
       read = before.lines.read ++ s.read;
       reads = Reads-trans a.left b.left c.left a.ahead b.ahead c.ahead before.lines.read s.read before.lines.reads s.reads;
@@ -173,19 +196,19 @@ Faulted-after app limits u v a b c x y z i j k g e le s =
       rose = omega (arith, le, s.rose);
       written = g.written ++ s.written;
       appended = Appends-trans x y z g.written s.written g.appended s.appended;
-      transcript = rw pieces (g.goes_on (ended s.read) s.written k s.transcript)
+      transcript = rw pieces (g.goes_on (ended s.read) s.written k s.transcript);
     }
 
 -- a stream whose last line was answered is served
 pub Served-finished : (app : App) (limits : Limits) (u v : World) (a b : Progress) (x y : Option (List ℕ)) (i j : ℕ) (g : Going app limits u v a b x y i j)
     → g.finished ≡ true → Served app limits u a b true x y i j
 Served-finished app limits u v a b x y i j g e = record {
-    given = g.given;
-    passes = rw e at g.passes;
-    written = g.written;
-    appended = g.appended;
-    transcript = rw (append-nil g.given, append-nil g.written) at (g.goes_on [] [] j (refl, refl))
-  }
+  given = g.given;
+  passes = rw e at g.passes;
+  written = g.written;
+  appended = g.appended;
+  transcript = rw (append-nil g.given, append-nil g.written) at (g.goes_on [] [] j (refl, refl));
+}
 
 counted-up : (kind : LineKind) (old new : Progress) (r : ReadsTo kind old new) → old.count < new.count
 counted-up kind old new r = omega (arith, r.passes.counted, length-append r.idles (r.piece ∷ []))

@@ -61,8 +61,8 @@ to_end app old new taken_old taken_new x y i j none zero most limits w l e s =
       written = s.written;
       appended = s.appended;
       transcript =
-        let t : IsTranscriptOf app s.given s.written = from_opening app limits w old.count s.given s.written i j l e zero s.transcript in
-        rw (sym cut.0) at t
+          let t : IsTranscriptOf app s.given s.written = from_opening app limits w old.count s.given s.written i j l e zero s.transcript in
+          rw (sym cut.0) at t;
     }
 
 to_fault : (app : App) (old new : Progress) (taken_old taken_new : Option (List ℕ)) (x y i j : ℕ) → old.ahead ≡ [] → old.count ≡ 0 → new.count ≤ most_lines
@@ -70,13 +70,13 @@ to_fault : (app : App) (old new : Progress) (taken_old taken_new : Option (List 
     → Faulted app limits w old new taken_old taken_new i j
     → ReadToFault app (streams old.left old.faults taken_old x) (streams new.left new.faults taken_new y)
 to_fault app old new taken_old taken_new x y i j none zero most limits w l e s = record {
-    read = s.read;
-    consumed = read_all old.left new.left old.ahead new.ahead s.read none s.none s.reads;
-    rose = s.rose;
-    written = s.written;
-    appended = s.appended;
-    transcript = from_opening app limits w old.count (ended s.read) s.written i j l e zero s.transcript
-  }
+  read = s.read;
+  consumed = read_all old.left new.left old.ahead new.ahead s.read none s.none s.reads;
+  rose = s.rose;
+  written = s.written;
+  appended = s.appended;
+  transcript = from_opening app limits w old.count (ended s.read) s.written i j l e zero s.transcript;
+}
 
 to_limit : (app : App) (old new : Progress) (taken_old taken_new : Option (List ℕ)) (x y i j : ℕ) → old.ahead ≡ [] → old.count ≡ 0 → new.count ≤ most_lines
     → (limits : Limits) (w : World) → limits ≡ run_limits → w ≡ opening app run_limits (opening_slots app)
@@ -96,8 +96,8 @@ to_limit app old new taken_old taken_new x y i j none zero most limits w l e s f
       written = s.written;
       appended = s.appended;
       transcript =
-        let t : IsTranscriptOf app s.given s.written = from_opening app limits w old.count s.given s.written i j l e zero s.transcript in
-        rw (sym cut.0) at t
+          let t : IsTranscriptOf app s.given s.written = from_opening app limits w old.count s.given s.written i j l e zero s.transcript in
+          rw (sym cut.0) at t;
     }
 
 first_of_cut : (finished : Bool) (left : Option (List ℕ)) (ahead read : List ℕ) (ps : List Piece) → AreCut finished left ahead read ps → AreFirst left read ahead ps
@@ -121,7 +121,7 @@ written_to_fault app old new taken_old taken_new x y i j none zero most limits w
       written = s.written;
       lost = s.lost;
       appended = s.appended;
-      transcript = from_opening app limits w old.count s.given (s.written ++ s.lost) i j l e zero s.transcript
+      transcript = from_opening app limits w old.count s.given (s.written ++ s.lost) i j l e zero s.transcript;
     }
 
 served : (app : App) (limits : Limits) (w : World) (old new : Progress) (taken_old taken_new : Option (List ℕ)) (x y i j : ℕ) (how : End)

@@ -10,9 +10,8 @@ mod words;
 
 use crate::statuses::{Status, clim_main};
 use cl_outside::{FilePlace, ReaderSource, WriterSink, own_steps};
-use std::env;
-use std::io;
 use std::process::ExitCode;
+use std::{env, io};
 
 /// Ends with the status of a run on the words behind the program's name, over the system's files,
 /// standard input and standard output. A word that is not UTF-8 makes the words no command.

@@ -14,6 +14,6 @@ returns g c =
       same = refl;
       limits = limits;
       world = c.in_ok-session.ensures.world
-        ∙ (ap (λ l. opening c.args.loaded.app l c.in_ok-slots.slots) limits ∙ ap (λ s. opening c.args.loaded.app run_limits s) slots);
-      fits = c.in_ok-session.ensures.fits
+          ∙ (ap (λ l. opening c.args.loaded.app l c.in_ok-slots.slots) limits ∙ ap (λ s. opening c.args.loaded.app run_limits s) slots);
+      fits = c.in_ok-session.ensures.fits;
     }

@@ -7,5 +7,5 @@ invariant-loop-piece g l = record {
   lent : g.O.Sink.lent l.out ≡ g.O.Sink.lent l.initial.out;
   wrote : Wrote (g.O.Sink.taken l.initial.out) (g.O.Sink.taken l.out)
       (joined (map (λ p. p.now) l.pieces)) (joined (map (λ p. p.now) (drop l.piece-index l.pieces)));
-  later : g.O.Sink.faults l.initial.out ≤ g.O.Sink.faults l.out
+  later : g.O.Sink.faults l.initial.out ≤ g.O.Sink.faults l.out;
 }

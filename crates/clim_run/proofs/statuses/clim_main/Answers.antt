@@ -23,4 +23,4 @@ returns-in-Ended-TooMany-clause-refusal_due g c = λ name run place_fault declar
 pub returns-in-Ended-TooMany-clause-complete : goal.returns-in-Ended-TooMany-clause-complete
 returns-in-Ended-TooMany-clause-complete g c = λ name run place_fault gesture_fault output_fault declares few.
     absurd (limit_passed (map (λ (w : Bor (List ℕ)). w.now) c.args.words.now) (g.P.Place.file c.args.place.now) _ _ c.in-Ended-TooMany.field-0
-      c.in-Ended-TooMany.field-0-is c.in-Ended-TooMany.ensures.ran few)
+    c.in-Ended-TooMany.field-0-is c.in-Ended-TooMany.ensures.ran few)

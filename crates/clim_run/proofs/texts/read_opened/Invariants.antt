@@ -11,7 +11,7 @@ invariant-pieces g l = record {
   reads : (name : List ℕ) → g.P.Place.reads l.initial.place name → g.P.Place.reads l.place name;
   files : (other : List ℕ) → g.P.Place.file l.place other ≡ g.P.Place.file l.initial.place other;
   later : (other : List ℕ) → g.P.Place.app_faults l.initial.place other ≤ g.P.Place.app_faults l.place other;
-  lent : g.P.Place.lent l.place ≡ g.P.Place.lent l.initial.place
+  lent : g.P.Place.lent l.place ≡ g.P.Place.lent l.initial.place;
 }
 
 abbrev pub decreases-pieces : goal.decreases-pieces
