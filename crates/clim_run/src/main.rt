@@ -57,3 +57,6 @@ fn run(rt: HostRuntime, words: &[String]) -> ExitCode {
     );
     ExitCode::from(code)
 }
+
+#[cfg(test)]
+mod tests;
