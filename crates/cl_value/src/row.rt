@@ -103,11 +103,11 @@ impl Row {
         Ok(())
     }
 
-    /// The same values, each with one owner more.
+    /// The same values, each with one owner more, and room for one behind them.
     pub(crate) fn copy(&self, alloc: Global) -> Result<Row, AllocError>
         ensures { IfOk result (λ row. row ≡ self.now) }
     {
-        let mut values = Vec::new(alloc);
+        let mut values = Vec::with_capacity(alloc, self.values.len().saturating_add(1))?;
         for value in self.values.as_slice() {
             values.push(value.copy()?)?;
         }
