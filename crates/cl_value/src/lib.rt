@@ -226,6 +226,7 @@ impl Values {
         };
         match Rc::get_mut(&mut row) {
             Some(own) => own.push(value)?,
+            // A new row has one owner, so this does not come.
             None => return Err(value),
         }
         self.row = Some(row);
