@@ -1,7 +1,8 @@
 #!/usr/bin/env bash
-# Two application texts of 1,048,576 bytes, the most that is read, through the built program: user and system processor time
+# Three application texts of 1,048,576 bytes, the most that is read, through the built program: user and system processor time
 # of each run, beside the bound of 200 ms. The program is built where it is not yet.
 #   lists: comments and long lists of words, numbers and texts, which declare nothing and so are refused
+#   brackets: empty lists, so that each byte is a token; refused as well
 #   counter: the counter, made as long by a comment; it opens
 set -euo pipefail
 cd "$(dirname "$0")/.."
@@ -10,7 +11,7 @@ length=1048576
 bound=200
 if [ ! -x "$program" ]; then
     echo "bench: building; this takes minutes" >&2
-    (cd crates/clim_run && rt run) >&2
+    (counter=$PWD/examples/counter/counter.clim; cd crates/clim_run && rt run -- run "$counter" </dev/null) >&2
 fi
 texts=$(mktemp -d)
 trap 'rm -rf "$texts"' EXIT
@@ -44,8 +45,11 @@ awk -v room="$((length - 1000))" 'BEGIN {
     }
 }' >"$texts/lists"
 pad "$texts/lists"
+awk -v pairs="$(((length - 1000) / 2))" 'BEGIN { while (pairs-- > 0) printf "()" }' >"$texts/brackets"
+pad "$texts/brackets"
 cp examples/counter/counter.clim "$texts/counter"
 pad "$texts/counter"
 
 measure lists 1
+measure brackets 1
 measure counter 0
