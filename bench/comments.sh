@@ -7,6 +7,6 @@ program=crates/clim_run/out/clim_run
 [ -x "$program" ] || { echo "bench: build first: (cd crates/clim_run && rt run)" >&2; exit 1; }
 stream=$(mktemp)
 trap 'rm -f "$stream"' EXIT
-yes '# a comment that says nothing' | head -n 1000000 >"$stream"
+head -n 1000000 < <(yes '# a comment that says nothing') >"$stream"
 TIMEFORMAT='%U user %S system'
 time "$program" run examples/counter/counter.clim <"$stream"
