@@ -10,4 +10,5 @@ returns-then-column-from c = record {
       let left : x < c.loop-byte.column = omega (arith, c.loop-byte.invariant.size.width) in
       sym (with_bytes-left (drop c.loop-byte.byte-index c.args.bytes.now) c.loop-byte.column c.args.y x y (glyph_at c.loop-byte.raster x y) left)
       ∙ c.loop-byte.invariant.glyphs x y less;
+  inks = c.loop-byte.invariant.inks;
 }
