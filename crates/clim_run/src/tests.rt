@@ -77,14 +77,7 @@ impl<'a> Memory<'a> {
         let pieces = pieces_of(alloc, self.piece)?;
         let mut out = MemSink::new(alloc, self.room, pieces, Vec::new(alloc))?;
         let words = self.words;
-        let Status(code) = clim_main(
-            alloc,
-            words,
-            &mut place,
-            &mut gestures,
-            &mut out,
-            steps,
-        );
+        let Status(code) = clim_main(alloc, words, &mut place, &mut gestures, &mut out, steps);
         Ok((code, String::from_utf8(out.taken().to_vec(alloc)?)?))
     }
 }
