@@ -1,5 +1,5 @@
 -- How serving ended, as what a run comes to.
-use Rattle.std.proofs.Common.{◌≡◌, ◌<◌, ◌≤◌, ℕ, ◌+◌, List, [], ◌∷◌, ◌++◌, length, refl, sym, ◌∙◌, ap, arith, append-nil, Some, None, Option, Bool, true, false, inl, inr}
+use Rattle.std.proofs.Common.{◌≡◌, ◌<◌, ◌≤◌, ℕ, ◌+◌, List, [], ◌++◌, length, sym, ◌∙◌, ap, arith, append-nil, Option, Bool, true, false, inl, inr}
 use Rattle.std.specs.Io.KnownBytes.{Consumes}
 use Rattle.cl_outside.specs.Causes.{Rose}
 use Rattle.cl_syntax.specs.declared.declarations.App.{App}
@@ -7,8 +7,8 @@ use Rattle.cl_display.specs.Script.{fresh}
 use Rattle.cl_eval.specs.declared.metering.Limits.{Limits}
 use Rattle.cl_eval.specs.Outcome.{cost_of}
 use Rattle.cl_eval.specs.Slots.{Slots}
-use Rattle.cl_gesture.specs.Lines.{Piece, Lines, Reads, AreCut, ended, pieces, held_from}
-use Rattle.cl_gesture.specs.Next.{Progress, Passes, most_lines}
+use Rattle.cl_gesture.specs.Lines.{Piece, Reads, AreCut, ended, pieces}
+use Rattle.cl_gesture.specs.Next.{Progress, most_lines}
 use Rattle.cl_load.specs.Opening.{opening_slots}
 use Rattle.cl_session.specs.World.{World}
 use Rattle.cl_session.specs.Step.{opening}

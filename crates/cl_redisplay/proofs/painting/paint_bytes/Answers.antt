@@ -1,4 +1,4 @@
-use Rattle.std.proofs.Common.{◌≡◌, ◌<◌, ◌∙◌, sym, drop, arith}
+use Rattle.std.proofs.Common.{◌<◌, ◌∙◌, sym, drop, arith}
 use Rattle.cl_raster.specs.Raster.{glyph_at}
 use Rattle.cl_redisplay.proofs.PaintLemmas.{with_bytes-left}
 use Rattle.cl_redisplay.proofs.painting.paint_bytes.Goals as goal

@@ -1,6 +1,5 @@
-use Rattle.std.proofs.Common.{◌≡◌, ◌+◌, ◌∙◌, refl, ap, sym}
+use Rattle.std.proofs.Common.{◌≡◌, ◌+◌, ◌∙◌, refl, ap}
 use Rattle.cl_session.specs.Step.{opening}
-use Rattle.cl_session.specs.Session.{world_of}
 use Rattle.cl_load.specs.Opening.{opening_slots}
 use Rattle.clim_run.specs.Run.{run_limits}
 use Rattle.clim_run.proofs.RunLemmas.{cost-opening, limits_are}

@@ -1,6 +1,6 @@
-use Rattle.std.proofs.Common.{◌≡◌, map, List, ℕ, subst, sym, ◌∙◌}
+use Rattle.std.proofs.Common.{map, List, ℕ}
 use denote.Bor.{Bor}
-use Rattle.clim_run.specs.Run.{streams, RanText}
+use Rattle.clim_run.specs.Run.{streams}
 use Rattle.clim_run.proofs.RunLemmas.{Ran-text}
 use Rattle.clim_run.proofs.running.run_words.Goals as goal
 

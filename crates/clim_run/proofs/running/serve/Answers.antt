@@ -1,4 +1,4 @@
-use Rattle.std.proofs.Common.{arith, rules, ◌≡◌}
+use Rattle.std.proofs.Common.{rules}
 use Rattle.clim_run.proofs.RunLemmas.{EndsAs-served}
 use Rattle.clim_run.proofs.running.serve.Goals as goal
 
