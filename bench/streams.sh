@@ -23,8 +23,7 @@ esac
 program=crates/clim_run/out/clim_run
 if [ ! -x "$program" ]; then
     echo 'bench: building the program' >&2
-    (cd crates/clim_run && rt run >/dev/null) || true
-    [ -x "$program" ] || { echo 'bench: no program was built' >&2; exit 1; }
+    (cd crates/clim_run && rt run -- run ../../examples/counter/counter.clim </dev/null >/dev/null)
 fi
 TIMEFORMAT="${1}: %U s user, %S s system ($bound)"
 time "$program" run examples/counter/counter.clim <"$stream" >/dev/null
