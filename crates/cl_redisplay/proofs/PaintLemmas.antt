@@ -1,7 +1,7 @@
 -- Bytes paint no place to the left of their first column, and none in another row.
-use Rattle.std.proofs.Common.{◌≡◌, ℕ, ◌+◌, ◌<◌, ◌==◌, ◌&&◌, Bool, true, false, if◌then◌else◌, List, [], ◌∷◌, refl, arith}
+use Rattle.std.proofs.Common.{◌≡◌, ℕ, ◌+◌, ◌<◌, ◌==◌, ◌&&◌, Bool, true, false, List, [], ◌∷◌, refl, arith}
 use Rattle.std.proofs.lemmas.Bool.Decides.{nat_tests}
-use Rattle.cl_redisplay.specs.Paint.{with_bytes, glyph_of}
+use Rattle.cl_redisplay.specs.Paint.{with_bytes}
 
 not_both : (b : Bool) → b && false ≡ false
 not_both true = refl

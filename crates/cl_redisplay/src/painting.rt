@@ -6,8 +6,8 @@ use cl_display::{History, TextItem};
 use cl_outside::Cell;
 use cl_raster::Raster;
 
-/// Gives each place the glyph of the last item that paints it, else a space. What lies outside the
-/// raster is dropped.
+/// Gives each place the glyph of the last item that paints it, else a space, all with ink 0. What
+/// lies outside the raster is dropped.
 pub fn paint(raster: &mut Raster, history: &History)
     ensures size { SameSize raster.old raster.new }
     ensures shows { Shows raster.new history.now }

@@ -28,7 +28,7 @@ row-shown_row items p y row shows less is count =
     let cells = rw wide at is in
     let counted : length (take p.width (drop (y * p.width) p.glyphs)) ≡ p.width = sym (ap length cells) ∙ count in
     cells ∙ take-row_from items p.glyphs y (y * p.width) 0 p.width counted
-    (λ i within. rw zero-add (shows i y within less))
+    (λ i within. rw zero-add (shows.glyphs i y within less))
 
 pub rows_from-next : (items : List TextItem) (width y end : ℕ) → y < end
     → rows_from items width y (end - y) ≡ shown_row items width y ∷ rows_from items width (y + 1) (end - (y + 1))

@@ -1,5 +1,5 @@
 -- What serving a stream of gestures comes to.
-use Rattle.std.specs.Prelude.{◌≡◌, ◌<◌, ℕ, Bool, true, false, Option, List, [], ◌++◌, length}
+use Rattle.std.specs.Prelude.{◌≡◌, ◌<◌, ◌+◌, ℕ, Bool, true, false, Option, List, [], ◌++◌, length}
 use Rattle.std.specs.Io.KnownBytes.{Appends}
 use Rattle.cl_outside.specs.Causes.{Rose}
 use Rattle.cl_syntax.specs.declared.declarations.App.{App}
@@ -36,6 +36,7 @@ pub record Faulted (app : App) (limits : Limits) (from : World) (old new : Progr
   pub read : List ℕ
   pub reads : Reads old.left new.left old.ahead new.ahead read
   pub none : new.ahead ≡ []
+  pub counted : new.count ≡ old.count + length (ended read)
   pub rose : Rose old.faults new.faults
   pub written : List ℕ
   pub appended : Appends taken_old taken_new written

@@ -81,6 +81,7 @@ impl Pane {
         ensures painted { IsPainted self.new }
         ensures size { SameSize self.old.raster self.new.raster }
         ensures ledger { Rises result steps.old steps.new (cost_of (fresh limits forms.now slots.now)) }
+        ensures later { steps.old ≤ steps.new }
     {
         let erased = self.count();
         match display(alloc, forms, slots, limits, steps) {

@@ -48,6 +48,7 @@ impl Session {
         ensures out_lent { O.lent out.new ≡ O.lent out.old }
         ensures later { G.faults (source_of gestures.old) ≤ G.faults (source_of gestures.new) }
         ensures out_later { O.faults out.old ≤ O.faults out.new }
+        ensures steps_later { steps.old ≤ steps.new }
         ensures fits { Fits loaded.now.app slots.new self.new }
         ensures limits { self.new.limits ≡ self.old.limits }
     {
@@ -78,6 +79,7 @@ impl Session {
         ensures out_lent { O.lent out.new ≡ O.lent out.old }
         ensures later { G.faults (source_of gestures.old) ≤ G.faults (source_of gestures.new) }
         ensures out_later { O.faults out.old ≤ O.faults out.new }
+        ensures steps_later { steps.old ≤ steps.new }
         ensures fits { Fits loaded.now.app slots.new self.new }
         ensures limits { self.new.limits ≡ self.old.limits }
     {

@@ -46,6 +46,7 @@ impl Session {
         ensures limits { IfOk result (λ s. (s.limits.budget ≡ budget) × (s.limits.depth ≡ 512)) }
         ensures ledger { IfOk result (λ s. steps.new ≡ steps.old + cost_of (fresh s.limits loaded.now.app.display.body slots.now)) }
         ensures later { steps.old ≤ steps.new }
+        ensures at_most { steps.new ≤ steps.old + cost_of (fresh (record { budget = budget; depth = 512 }) loaded.now.app.display.body slots.now) }
         ensures fits { IfOk result (Fits loaded.now.app slots.now) }
     {
         let line = Line::new(alloc)?;
@@ -79,6 +80,7 @@ impl Session {
         requires { Fits loaded.now.app slots.old self.old }
         ensures steps { StepsTo loaded.now.app self.old self.new slots.old slots.new gesture.now result }
         ensures ledger { Spends loaded.now.app self.old.limits (world_of self.old slots.old) gesture.now (met_of result) steps.old steps.new }
+        ensures later { steps.old ≤ steps.new }
         ensures fits { Fits loaded.now.app slots.new self.new }
     {
         let app = &loaded.app;
@@ -139,6 +141,7 @@ impl Session {
         ensures limits { self.new.limits ≡ self.old.limits }
         ensures outgoing { self.new.outgoing ≡ self.old.outgoing }
         ensures ledger { RisesBy (met_memory result) steps.old steps.new (settled_if (due || is_none self.old.pane.history) app.now self.old.limits slots.now self.old.pane.history (met_memory result)).cost }
+        ensures later { steps.old ≤ steps.new }
     {
         if due || self.pane.history.is_none() {
             self.pane

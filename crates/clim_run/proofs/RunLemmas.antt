@@ -1,11 +1,14 @@
 -- How serving ended, as what a run comes to.
-use Rattle.std.proofs.Common.{◌≡◌, ◌<◌, ◌≤◌, ℕ, ◌+◌, List, [], ◌∷◌, ◌++◌, length, refl, sym, ◌∙◌, ap, arith, append-nil, Some, None, Option, Bool, true, false, inl, inr}
+use Rattle.std.proofs.Common.{◌≡◌, ◌<◌, ◌≤◌, ℕ, ◌+◌, List, [], ◌++◌, length, sym, ◌∙◌, ap, arith, append-nil, Option, Bool, true, false, inl, inr}
 use Rattle.std.specs.Io.KnownBytes.{Consumes}
 use Rattle.cl_outside.specs.Causes.{Rose}
 use Rattle.cl_syntax.specs.declared.declarations.App.{App}
+use Rattle.cl_display.specs.Script.{fresh}
 use Rattle.cl_eval.specs.declared.metering.Limits.{Limits}
-use Rattle.cl_gesture.specs.Lines.{Piece, Lines, Reads, AreCut, ended, pieces, held_from}
-use Rattle.cl_gesture.specs.Next.{Progress, Passes, most_lines}
+use Rattle.cl_eval.specs.Outcome.{cost_of}
+use Rattle.cl_eval.specs.Slots.{Slots}
+use Rattle.cl_gesture.specs.Lines.{Piece, Reads, AreCut, ended, pieces}
+use Rattle.cl_gesture.specs.Next.{Progress, most_lines}
 use Rattle.cl_load.specs.Opening.{opening_slots}
 use Rattle.cl_session.specs.World.{World}
 use Rattle.cl_session.specs.Step.{opening}
@@ -17,7 +20,7 @@ use Rattle.clim_run.specs.Command.{IsRun}
 use Rattle.clim_run.specs.Texts.{IsTextOf}
 use Rattle.clim_run.specs.declared.running.How.{How}
 use Rattle.clim_run.specs.declared.running.How.TheVariants as how
-use Rattle.clim_run.specs.Run.{Ran, RanText, EndsAs, ReadToEnd, ReadToFault, ReadToLimit, WrittenToFault, AreFirst, IsTranscriptOf, Streams, streams, run_limits}
+use Rattle.clim_run.specs.Run.{Ran, RanText, RanOutServing, EndsAs, ReadToEnd, ReadToFault, ReadToLimit, WrittenToFault, AreFirst, IsTranscriptOf, Streams, streams, run_limits, opening_cost}
 
 -- the limits of a run, by their fields
 pub limits_are : (limits : Limits) → limits.budget ≡ 1000000 → limits.depth ≡ 512 → limits ≡ run_limits
@@ -25,6 +28,12 @@ limits_are limits budget depth =
     let of_budget : ℕ → Limits = λ n. record { budget = n; depth = limits.depth } in
     let of_depth : ℕ → Limits = λ n. record { budget = 1000000; depth = n } in
     ap of_budget budget ∙ ap of_depth depth
+
+-- what the display costs at the opening
+pub cost-opening : (app : App) (limits : Limits) (slots : Slots) → limits ≡ run_limits → slots ≡ opening_slots app
+    → cost_of (fresh limits app.display.body slots) ≡ opening_cost app
+cost-opening app limits slots l s =
+    ap (λ x. cost_of (fresh x app.display.body slots)) l ∙ ap (λ x. cost_of (fresh run_limits app.display.body x)) s
 
 -- what a reader at the first line has read, with what is ahead of it
 read_so_far : (old new : Option (List ℕ)) (ahead_old ahead_new read : List ℕ) → ahead_old ≡ [] → Reads old new ahead_old ahead_new read
@@ -40,16 +49,17 @@ read_all old new ahead_old ahead_new read none ends r =
     let same : read ++ ahead_new ≡ read = ap (λ xs. read ++ xs) ends ∙ append-nil read in
     rw same at (read_so_far old new ahead_old ahead_new read none r)
 
--- a transcript from a world that is the opening
-from_opening : (app : App) (limits : Limits) (w : World) (count : ℕ) (ps : List Piece) (bytes : List ℕ) (i j : ℕ) → limits ≡ run_limits
-    → w ≡ opening app run_limits (opening_slots app) → count ≡ 0 → IsTranscript app limits w count ps bytes i j → IsTranscriptOf app ps bytes
-from_opening app limits w count ps bytes i j l e c t = (i, j, rw (l, e, c) at t)
+-- a transcript from a world that is the opening, where the ledger had risen by what the opening costs
+from_opening : (app : App) (limits : Limits) (w : World) (count : ℕ) (ps : List Piece) (bytes : List ℕ) (h i j : ℕ) → limits ≡ run_limits
+    → w ≡ opening app run_limits (opening_slots app) → i ≡ h + opening_cost app → count ≡ 0 → IsTranscript app limits w count ps bytes i j
+    → IsTranscriptOf app ps bytes h j
+from_opening app limits w count ps bytes h i j l e o c t = rw (l, e, o, c) at t
 
-to_end : (app : App) (old new : Progress) (taken_old taken_new : Option (List ℕ)) (x y i j : ℕ) → old.ahead ≡ [] → old.count ≡ 0 → new.count ≤ most_lines
-    → (limits : Limits) (w : World) → limits ≡ run_limits → w ≡ opening app run_limits (opening_slots app)
+to_end : (app : App) (old new : Progress) (taken_old taken_new : Option (List ℕ)) (x y h i j : ℕ) → old.ahead ≡ [] → old.count ≡ 0 → new.count ≤ most_lines
+    → (limits : Limits) (w : World) → limits ≡ run_limits → w ≡ opening app run_limits (opening_slots app) → i ≡ h + opening_cost app
     → Served app limits w old new true taken_old taken_new i j
-    → ReadToEnd app (streams old.left old.faults taken_old x) (streams new.left new.faults taken_new y)
-to_end app old new taken_old taken_new x y i j none zero most limits w l e s =
+    → ReadToEnd app (streams old.left old.faults taken_old x h) (streams new.left new.faults taken_new y j)
+to_end app old new taken_old taken_new x y h i j none zero most limits w l e o s =
     let lines = s.passes.lines in
     let cut : AreCut true new.left new.ahead lines.read s.given = lines.cut in
     let few_given : length (pieces lines.read) ≤ 1000000 = omega (arith, s.passes.counted, zero, most, ap length cut.0) in
@@ -61,28 +71,29 @@ to_end app old new taken_old taken_new x y i j none zero most limits w l e s =
       written = s.written;
       appended = s.appended;
       transcript =
-          let t : IsTranscriptOf app s.given s.written = from_opening app limits w old.count s.given s.written i j l e zero s.transcript in
+          let t : IsTranscriptOf app s.given s.written h j = from_opening app limits w old.count s.given s.written h i j l e o zero s.transcript in
           rw (sym cut.0) at t;
     }
 
-to_fault : (app : App) (old new : Progress) (taken_old taken_new : Option (List ℕ)) (x y i j : ℕ) → old.ahead ≡ [] → old.count ≡ 0 → new.count ≤ most_lines
-    → (limits : Limits) (w : World) → limits ≡ run_limits → w ≡ opening app run_limits (opening_slots app)
+to_fault : (app : App) (old new : Progress) (taken_old taken_new : Option (List ℕ)) (x y h i j : ℕ) → old.ahead ≡ [] → old.count ≡ 0 → new.count ≤ most_lines
+    → (limits : Limits) (w : World) → limits ≡ run_limits → w ≡ opening app run_limits (opening_slots app) → i ≡ h + opening_cost app
     → Faulted app limits w old new taken_old taken_new i j
-    → ReadToFault app (streams old.left old.faults taken_old x) (streams new.left new.faults taken_new y)
-to_fault app old new taken_old taken_new x y i j none zero most limits w l e s = record {
+    → ReadToFault app (streams old.left old.faults taken_old x h) (streams new.left new.faults taken_new y j)
+to_fault app old new taken_old taken_new x y h i j none zero most limits w l e o s = record {
   read = s.read;
   consumed = read_all old.left new.left old.ahead new.ahead s.read none s.none s.reads;
+  few = omega (arith, s.counted, zero, most);
   rose = s.rose;
   written = s.written;
   appended = s.appended;
-  transcript = from_opening app limits w old.count (ended s.read) s.written i j l e zero s.transcript;
+  transcript = from_opening app limits w old.count (ended s.read) s.written h i j l e o zero s.transcript;
 }
 
-to_limit : (app : App) (old new : Progress) (taken_old taken_new : Option (List ℕ)) (x y i j : ℕ) → old.ahead ≡ [] → old.count ≡ 0 → new.count ≤ most_lines
-    → (limits : Limits) (w : World) → limits ≡ run_limits → w ≡ opening app run_limits (opening_slots app)
+to_limit : (app : App) (old new : Progress) (taken_old taken_new : Option (List ℕ)) (x y h i j : ℕ) → old.ahead ≡ [] → old.count ≡ 0 → new.count ≤ most_lines
+    → (limits : Limits) (w : World) → limits ≡ run_limits → w ≡ opening app run_limits (opening_slots app) → i ≡ h + opening_cost app
     → Served app limits w old new false taken_old taken_new i j → new.count ≡ most_lines → 0 < length new.ahead
-    → ReadToLimit app (streams old.left old.faults taken_old x) (streams new.left new.faults taken_new y)
-to_limit app old new taken_old taken_new x y i j none zero most limits w l e s full more =
+    → ReadToLimit app (streams old.left old.faults taken_old x h) (streams new.left new.faults taken_new y j)
+to_limit app old new taken_old taken_new x y h i j none zero most limits w l e o s full more =
     let lines = s.passes.lines in
     let cut : AreCut false new.left new.ahead lines.read s.given = lines.cut in
     let count : length s.given ≡ most_lines = omega (arith, s.passes.counted, zero, full) in
@@ -96,7 +107,7 @@ to_limit app old new taken_old taken_new x y i j none zero most limits w l e s f
       written = s.written;
       appended = s.appended;
       transcript =
-          let t : IsTranscriptOf app s.given s.written = from_opening app limits w old.count s.given s.written i j l e zero s.transcript in
+          let t : IsTranscriptOf app s.given s.written h j = from_opening app limits w old.count s.given s.written h i j l e o zero s.transcript in
           rw (sym cut.0) at t;
     }
 
@@ -104,11 +115,11 @@ first_of_cut : (finished : Bool) (left : Option (List ℕ)) (ahead read : List �
 first_of_cut false left ahead read ps c = inl (sym c.0, c.1)
 first_of_cut true left ahead read ps c = inr (sym c.0, c.2, c.1)
 
-written_to_fault : (app : App) (old new : Progress) (taken_old taken_new : Option (List ℕ)) (x y i j : ℕ) → old.ahead ≡ [] → old.count ≡ 0 → new.count ≤ most_lines
-    → (limits : Limits) (w : World) → limits ≡ run_limits → w ≡ opening app run_limits (opening_slots app)
+written_to_fault : (app : App) (old new : Progress) (taken_old taken_new : Option (List ℕ)) (x y h i j : ℕ) → old.ahead ≡ [] → old.count ≡ 0 → new.count ≤ most_lines
+    → (limits : Limits) (w : World) → limits ≡ run_limits → w ≡ opening app run_limits (opening_slots app) → i ≡ h + opening_cost app
     → CutOff app limits w old new taken_old taken_new i j → Rose x y
-    → WrittenToFault app (streams old.left old.faults taken_old x) (streams new.left new.faults taken_new y)
-written_to_fault app old new taken_old taken_new x y i j none zero most limits w l e s rose =
+    → WrittenToFault app (streams old.left old.faults taken_old x h) (streams new.left new.faults taken_new y j)
+written_to_fault app old new taken_old taken_new x y h i j none zero most limits w l e o s rose =
     let lines = s.passes.lines in
     record {
       read = lines.read;
@@ -121,27 +132,29 @@ written_to_fault app old new taken_old taken_new x y i j none zero most limits w
       written = s.written;
       lost = s.lost;
       appended = s.appended;
-      transcript = from_opening app limits w old.count s.given (s.written ++ s.lost) i j l e zero s.transcript;
+      transcript = from_opening app limits w old.count s.given (s.written ++ s.lost) h i j l e o zero s.transcript;
     }
 
-served : (app : App) (limits : Limits) (w : World) (old new : Progress) (taken_old taken_new : Option (List ℕ)) (x y i j : ℕ) (how : End)
-    → limits ≡ run_limits → w ≡ opening app run_limits (opening_slots app) → old.ahead ≡ [] → old.count ≡ 0 → new.count ≤ most_lines
-    → ServesTo app limits w old new taken_old taken_new i j x y how
-    → EndsAs app (streams old.left old.faults taken_old x) (streams new.left new.faults taken_new y) how
-served app limits w old new taken_old taken_new x y i j end.Done l e none zero most s = to_end app old new taken_old taken_new x y i j none zero most limits w l e s
-served app limits w old new taken_old taken_new x y i j end.ReadFault l e none zero most s = to_fault app old new taken_old taken_new x y i j none zero most limits w l e s
-served app limits w old new taken_old taken_new x y i j end.TooMany l e none zero most s = to_limit app old new taken_old taken_new x y i j none zero most limits w l e s.0 s.1 s.2
-served app limits w old new taken_old taken_new x y i j end.OutputFault l e none zero most s = written_to_fault app old new taken_old taken_new x y i j none zero most limits w l e s.0 s.1
+served : (app : App) (limits : Limits) (w : World) (old new : Progress) (taken_old taken_new : Option (List ℕ)) (x y h i j : ℕ) (how : End)
+    → limits ≡ run_limits → w ≡ opening app run_limits (opening_slots app) → i ≡ h + opening_cost app → old.ahead ≡ [] → old.count ≡ 0
+    → new.count ≤ most_lines → ServesTo app limits w old new taken_old taken_new i j x y how
+    → EndsAs app (streams old.left old.faults taken_old x h) (streams new.left new.faults taken_new y j) how
+served app limits w old new taken_old taken_new x y h i j end.Done l e o none zero most s = to_end app old new taken_old taken_new x y h i j none zero most limits w l e o s
+served app limits w old new taken_old taken_new x y h i j end.ReadFault l e o none zero most s = to_fault app old new taken_old taken_new x y h i j none zero most limits w l e o s
+served app limits w old new taken_old taken_new x y h i j end.TooMany l e o none zero most s =
+    to_limit app old new taken_old taken_new x y h i j none zero most limits w l e o s.0 s.1 s.2
+served app limits w old new taken_old taken_new x y h i j end.OutputFault l e o none zero most s =
+    written_to_fault app old new taken_old taken_new x y h i j none zero most limits w l e o s.0 s.1
 
 -- the same, where what is told of the source is named otherwise
-pub EndsAs-served : (app : App) (limits : Limits) (w : World) (old new : Progress) (taken_old taken_new : Option (List ℕ)) (x y i j : ℕ) (how : End)
-    → limits ≡ run_limits → w ≡ opening app run_limits (opening_slots app) → old.ahead ≡ [] → old.count ≡ 0 → new.count ≤ most_lines
-    → ServesTo app limits w old new taken_old taken_new i j x y how
+pub EndsAs-served : (app : App) (limits : Limits) (w : World) (old new : Progress) (taken_old taken_new : Option (List ℕ)) (x y h i j : ℕ) (how : End)
+    → limits ≡ run_limits → w ≡ opening app run_limits (opening_slots app) → i ≡ h + opening_cost app → old.ahead ≡ [] → old.count ≡ 0
+    → new.count ≤ most_lines → ServesTo app limits w old new taken_old taken_new i j x y how
     → (left_old left_new : Option (List ℕ)) (faults_old faults_new : ℕ) → left_old ≡ old.left → left_new ≡ new.left
     → faults_old ≡ old.faults → faults_new ≡ new.faults
-    → EndsAs app (streams left_old faults_old taken_old x) (streams left_new faults_new taken_new y) how
-EndsAs-served app limits w old new taken_old taken_new x y i j how l e none zero most s left_old left_new faults_old faults_new a b c d =
-    rw (a, b, c, d) (served app limits w old new taken_old taken_new x y i j how l e none zero most s)
+    → EndsAs app (streams left_old faults_old taken_old x h) (streams left_new faults_new taken_new y j) how
+EndsAs-served app limits w old new taken_old taken_new x y h i j how l e o none zero most s left_old left_new faults_old faults_new a b c d =
+    rw (a, b, c, d) (served app limits w old new taken_old taken_new x y h i j how l e o none zero most s)
 
 -- a run of a text that the words name
 pub Ran-text : (words : List (List ℕ)) (file : List ℕ → Option (Option (List ℕ))) (faults_old faults_new : List ℕ → ℕ) (old new : Streams)
@@ -153,6 +166,10 @@ Ran-text words file faults_old faults_new old new name text how.Refused run of r
     (record { name = name; command = run; text = text; of_file = of; none = r.0 }, r.1)
 Ran-text words file faults_old faults_new old new name text how.RefusalCut run of r =
     (record { name = name; command = run; text = text; of_file = of; none = r.0 }, r.1)
-Ran-text words file faults_old faults_new old new name text how.Memory run of r = ((name, run), r)
+Ran-text words file faults_old faults_new old new name text how.Memory run of (inl same) = ((name, run), inl same)
+Ran-text words file faults_old faults_new old new name text how.Memory run of (inr r) =
+    let serving : RanOutServing words file old new =
+    record { app = r.app; opened = record { name = name; command = run; text = text; of_file = of; declared = r.declared }; ran_out = r.ran_out } in
+    ((name, run), inr serving)
 Ran-text words file faults_old faults_new old new name text (how.Ended end) run of r =
     record { app = r.0; opened = record { name = name; command = run; text = text; of_file = of; declared = r.1 }; ended = r.2 }

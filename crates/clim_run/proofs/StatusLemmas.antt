@@ -1,5 +1,5 @@
 -- When a status is due.
-use Rattle.std.proofs.Common.{◌≡◌, ◌<◌, ◌≤◌, ℕ, ◌+◌, List, [], ◌∷◌, ◌++◌, length, refl, sym, ◌∙◌, ap, arith, append_assoc, Some, None, Option, subst}
+use Rattle.std.proofs.Common.{◌≡◌, ◌<◌, ◌≤◌, ℕ, List, [], ◌∷◌, ◌++◌, length, sym, ◌∙◌, arith, append_assoc, Some, None, Option, subst}
 use Rattle.std.specs.Prelude.{codes}
 use Rattle.std.specs.Io.KnownBytes.{Consumes}
 use Rattle.cl_syntax.specs.declared.declarations.App.{App}
@@ -9,8 +9,8 @@ use Rattle.cl_load.specs.Application.{IsApplication}
 use Rattle.cl_session.specs.declared.serving.End.{End}
 use Rattle.cl_session.specs.declared.serving.End.TheVariants as end
 use Rattle.clim_run.specs.Command.{IsRun}
-use Rattle.clim_run.specs.Texts.{IsTextOf, first_bytes}
-use Rattle.clim_run.specs.Run.{Streams, Opens, IsRefused, IsNoApplication, ReadToLimit, Serves, EndsAs}
+use Rattle.clim_run.specs.Texts.{IsTextOf}
+use Rattle.clim_run.specs.Run.{Streams, IsRefused, IsNoApplication, ReadToLimit, Serves}
 use Rattle.clim_run.specs.Statuses.{DeclaresApplication, DeclaresNone, HasFewLines}
 
 -- words name one file at most

@@ -1,10 +1,10 @@
 -- A text that was read of a file.
-use Rattle.std.proofs.Common.{◌≡◌, ◌≤◌, ℕ, Bool, List, [], ◌∷◌, ◌++◌, length, take, refl, sym, ◌∙◌, ap, arith, append-nil, None, Some, Option, slice_index_or, map, subst}
-use Rattle.std.specs.Prelude.{◌⊎◌, IsTrue, codes}
+use Rattle.std.proofs.Common.{◌≡◌, ◌≤◌, ℕ, List, [], ◌++◌, length, take, sym, ◌∙◌, ap, append-nil, None, Some, Option, subst}
+use Rattle.std.specs.Prelude.{◌⊎◌}
 use Rattle.std.proofs.Common.{inl, inr}
 use Rattle.std.proofs.lemmas.List.{take_at, take_all}
 use Rattle.std.proofs.KnownBytes.{Consumes-trans}
-use Rattle.std.specs.Io.KnownBytes.{Consumes, IsAtEnd}
+use Rattle.std.specs.Io.KnownBytes.{Consumes}
 use Rattle.cl_outside.specs.Place.{HasBytes}
 use Rattle.clim_run.specs.Texts.{IsTextOf, ReadsAll, ReadsOpened, ReadsText, Grows, first_bytes, most_bytes}
 use Rattle.clim_run.specs.declared.texts.TextRead.{TextRead}

@@ -1,6 +1,6 @@
 -- The words of a command.
-use Rattle.std.proofs.Common.{◌≡◌, ◌≤◌, ℕ, Bool, true, List, [], ◌∷◌, length, refl, sym, ◌∙◌, ap, arith, slice_index_or, map, subst}
-use Rattle.std.specs.Prelude.{IsTrue, codes}
+use Rattle.std.proofs.Common.{◌≡◌, ℕ, true, List, [], ◌∷◌, length, ap, arith, slice_index_or, map}
+use Rattle.std.specs.Prelude.{codes}
 use Rattle.std.specs.Str.{bytes_eq}
 use Rattle.cl_outside.proofs.Tables.{same_name}
 use denote.Bor.{Bor}

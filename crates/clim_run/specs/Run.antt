@@ -1,9 +1,11 @@
 -- What a run of the program comes to.
-use Rattle.std.specs.Prelude.{◌≡◌, ◌<◌, ◌≤◌, ◌⊎◌, ℕ, List, [], ◌∷◌, ◌++◌, length, Option, None, Some, Contains, true, false}
+use Rattle.std.specs.Prelude.{◌≡◌, ◌<◌, ◌≤◌, ◌⊎◌, ◌+◌, ℕ, List, [], ◌++◌, length, Option, true, false}
 use Rattle.std.specs.Io.KnownBytes.{Appends, Consumes, IsAtEnd}
 use Rattle.cl_outside.specs.Causes.{Rose}
 use Rattle.cl_syntax.specs.declared.declarations.App.{App}
+use Rattle.cl_display.specs.Script.{fresh}
 use Rattle.cl_eval.specs.declared.metering.Limits.{Limits}
+use Rattle.cl_eval.specs.Outcome.{cost_of}
 use Rattle.cl_gesture.specs.Lines.{Piece, pieces, ended, held_from}
 use Rattle.cl_load.specs.Application.{IsApplication}
 use Rattle.cl_load.specs.Opening.{opening_slots}
@@ -23,21 +25,27 @@ use Rattle.clim_run.specs.declared.running.How.TheVariants as how
 abbrev pub run_limits : Limits
 run_limits = record { budget = 1000000; depth = 512 }
 
--- these bytes are a transcript of the pieces, from the opening of the application on, whatever the ledger stood at
-abbrev pub IsTranscriptOf : App → List Piece → List ℕ → Type 0
-IsTranscriptOf app ps bytes =
-    (spent_old : ℕ) × (spent_new : ℕ) × IsTranscript app run_limits (opening app run_limits (opening_slots app)) 0 ps bytes spent_old spent_new
+-- what the display costs at the opening
+abbrev pub opening_cost : App → ℕ
+opening_cost app = cost_of (fresh run_limits app.display.body (opening_slots app))
 
--- what is told of the gestures and of the output, with their counts of faults
+-- these bytes are a transcript of the pieces, from the opening of the application on, and the ledger rose by what the opening costs
+-- and then by what the commands and displays of the transcript cost
+abbrev pub IsTranscriptOf : App → List Piece → List ℕ → (spent_old spent_new : ℕ) → Type 0
+IsTranscriptOf app ps bytes spent_old spent_new =
+    IsTranscript app run_limits (opening app run_limits (opening_slots app)) 0 ps bytes (spent_old + opening_cost app) spent_new
+
+-- what is told of the gestures and of the output, with their counts of faults, and what the ledger stands at
 pub record Streams : Type 0 where
   pub left : Option (List ℕ)
   pub gesture_faults : ℕ
   pub taken : Option (List ℕ)
   pub output_faults : ℕ
+  pub spent : ℕ
 
-abbrev pub streams : Option (List ℕ) → ℕ → Option (List ℕ) → ℕ → Streams
-streams left gesture_faults taken output_faults =
-    record { left = left; gesture_faults = gesture_faults; taken = taken; output_faults = output_faults }
+abbrev pub streams : Option (List ℕ) → ℕ → Option (List ℕ) → ℕ → ℕ → Streams
+streams left gesture_faults taken output_faults spent =
+    record { left = left; gesture_faults = gesture_faults; taken = taken; output_faults = output_faults; spent = spent }
 
 -- ---- the application
 
@@ -79,16 +87,17 @@ pub record ReadToEnd (app : App) (old new : Streams) : Type 0 where
   pub few : length (pieces read) ≤ 1000000
   pub written : List ℕ
   pub appended : Appends old.taken new.taken written
-  pub transcript : IsTranscriptOf app (pieces read) written
+  pub transcript : IsTranscriptOf app (pieces read) written old.spent new.spent
 
--- the source failed: the output took the transcript of the pieces that had ended in what was read
+-- the source failed: the output took the transcript of the pieces that had ended in what was read, at most a million
 pub record ReadToFault (app : App) (old new : Streams) : Type 0 where
   pub read : List ℕ
   pub consumed : Consumes old.left new.left read
+  pub few : length (ended read) ≤ 1000000
   pub rose : Rose old.gesture_faults new.gesture_faults
   pub written : List ℕ
   pub appended : Appends old.taken new.taken written
-  pub transcript : IsTranscriptOf app (ended read) written
+  pub transcript : IsTranscriptOf app (ended read) written old.spent new.spent
 
 -- a million lines were read, and then a further byte; the output took the transcript of these lines
 pub record ReadToLimit (app : App) (old new : Streams) : Type 0 where
@@ -100,7 +109,7 @@ pub record ReadToLimit (app : App) (old new : Streams) : Type 0 where
   pub more : 0 < length further
   pub written : List ℕ
   pub appended : Appends old.taken new.taken written
-  pub transcript : IsTranscriptOf app (ended read) written
+  pub transcript : IsTranscriptOf app (ended read) written old.spent new.spent
 
 -- these are the first pieces of a stream of bytes that were read: those that ended in some of its first bytes, or all of them,
 -- where the source's end came
@@ -119,7 +128,7 @@ pub record WrittenToFault (app : App) (old new : Streams) : Type 0 where
   pub written : List ℕ
   pub lost : List ℕ
   pub appended : Appends old.taken new.taken written
-  pub transcript : IsTranscriptOf app given (written ++ lost)
+  pub transcript : IsTranscriptOf app given (written ++ lost) old.spent new.spent
 
 abbrev pub EndsAs : App → Streams → Streams → End → Type 0
 EndsAs app old new end.Done = ReadToEnd app old new
@@ -135,9 +144,28 @@ pub record Serves (words : List (List ℕ)) (file : List ℕ → Option (Option 
 
 -- ---- how a run ended
 
--- no gesture was read
+-- no gesture was read, and nothing was spent
 abbrev pub IsUnread : Streams → Streams → Type 0
-IsUnread old new = (new.left ≡ old.left) × (new.gesture_faults ≡ old.gesture_faults)
+IsUnread old new = (new.left ≡ old.left) × (new.gesture_faults ≡ old.gesture_faults) × (new.spent ≡ old.spent)
+
+-- want of memory before the first gesture of an application: nothing was read or written, and the ledger rose by no more than the
+-- opening costs
+pub record RanOut (app : App) (old new : Streams) : Type 0 where
+  pub same : new ≡ record old { spent = new.spent }
+  pub later : old.spent ≤ new.spent
+  pub at_most : new.spent ≤ old.spent + opening_cost app
+
+-- the same, of the application that a text declares
+pub record RanOutOpening (text : List ℕ) (old new : Streams) : Type 0 where
+  pub app : App
+  pub declared : IsApplication text app
+  pub ran_out : RanOut app old new
+
+-- the same, of the application that the words open
+pub record RanOutServing (words : List (List ℕ)) (file : List ℕ → Option (Option (List ℕ))) (old new : Streams) : Type 0 where
+  pub app : App
+  pub opened : Opens words file app
+  pub ran_out : RanOut app old new
 
 -- the line was written whole; or the output failed behind its first bytes
 abbrev pub SaysWhole : Streams → Streams → List ℕ → Type 0
@@ -146,6 +174,10 @@ SaysWhole old new line = IsUnread old new × Says true old.taken new.taken line 
 abbrev pub SaysCut : Streams → Streams → List ℕ → Type 0
 SaysCut old new line = IsUnread old new × Says false old.taken new.taken line old.output_faults new.output_faults
 
+-- want of memory before the first gesture: the ledger stays, or the opening of an application met it
+abbrev pub RanOutOfMemory : List (List ℕ) → (List ℕ → Option (Option (List ℕ))) → Streams → Streams → Type 0
+RanOutOfMemory words file old new = IsCommand words × ((new ≡ old) ⊎ RanOutServing words file old new)
+
 -- a run of these words
 abbrev pub Ran : List (List ℕ) → (List ℕ → Option (Option (List ℕ))) → (List ℕ → ℕ) → (List ℕ → ℕ) → Streams → Streams → How → Type 0
 Ran words file faults_old faults_new old new how.Usage = IsNoCommand words × SaysWhole old new usage_line
@@ -153,7 +185,7 @@ Ran words file faults_old faults_new old new how.UsageCut = IsNoCommand words ×
 Ran words file faults_old faults_new old new how.AppFault = AppFaultRose words faults_old faults_new × (new ≡ old)
 Ran words file faults_old faults_new old new how.Refused = IsRefused words file × SaysWhole old new (refusal_line 0 0)
 Ran words file faults_old faults_new old new how.RefusalCut = IsRefused words file × SaysCut old new (refusal_line 0 0)
-Ran words file faults_old faults_new old new how.Memory = IsCommand words × (new ≡ old)
+Ran words file faults_old faults_new old new how.Memory = RanOutOfMemory words file old new
 Ran words file faults_old faults_new old new (how.Ended end) = Serves words file old new end
 
 -- a run of the application that a text declares
@@ -163,7 +195,7 @@ RanText text old new how.UsageCut = ⊥
 RanText text old new how.AppFault = ⊥
 RanText text old new how.Refused = IsNoApplication text × SaysWhole old new (refusal_line 0 0)
 RanText text old new how.RefusalCut = IsNoApplication text × SaysCut old new (refusal_line 0 0)
-RanText text old new how.Memory = new ≡ old
+RanText text old new how.Memory = (new ≡ old) ⊎ RanOutOpening text old new
 RanText text old new (how.Ended end) = (app : App) × IsApplication text app × EndsAs app old new end
 
 -- a run of an application
@@ -173,7 +205,7 @@ RanLoaded app old new how.UsageCut = ⊥
 RanLoaded app old new how.AppFault = ⊥
 RanLoaded app old new how.Refused = ⊥
 RanLoaded app old new how.RefusalCut = ⊥
-RanLoaded app old new how.Memory = new ≡ old
+RanLoaded app old new how.Memory = RanOut app old new
 RanLoaded app old new (how.Ended end) = EndsAs app old new end
 
 -- ---- the opening

@@ -1,5 +1,5 @@
-ghost use Rattle.std.specs.Prelude.{◌≡◌, ◌≤◌, ℕ, List, [], IfOk, map};
-ghost use Rattle.clim_run.specs.Run.{EndsAs, IsOpening, Ran, RanLoaded, RanText, streams};
+ghost use Rattle.std.specs.Prelude.{◌≡◌, ◌≤◌, ◌+◌, ℕ, List, [], IfOk, map};
+ghost use Rattle.clim_run.specs.Run.{EndsAs, IsOpening, Ran, RanLoaded, RanText, opening_cost, streams};
 
 use crate::saying::{say_refusal, say_usage};
 use crate::texts::{TextRead, read_text};
@@ -51,11 +51,12 @@ pub fn run_words<P: Place, G: Source, O: Sink, L: Ledger>(
     out: &mut O,
     steps: &mut Steps<L>,
 ) -> How
-    ensures ran { Ran (map (λ w. w.now) words.now) (P.file place.old) (P.app_faults place.old) (P.app_faults place.new) (streams (G.left gestures.old) (G.faults gestures.old) (O.taken out.old) (O.faults out.old)) (streams (G.left gestures.new) (G.faults gestures.new) (O.taken out.new) (O.faults out.new)) result }
+    ensures ran { Ran (map (λ w. w.now) words.now) (P.file place.old) (P.app_faults place.old) (P.app_faults place.new) (streams (G.left gestures.old) (G.faults gestures.old) (O.taken out.old) (O.faults out.old) steps.old) (streams (G.left gestures.new) (G.faults gestures.new) (O.taken out.new) (O.faults out.new) steps.new) result }
     ensures files { (name : List ℕ) → P.file place.new name ≡ P.file place.old name }
     ensures place_later { (name : List ℕ) → P.app_faults place.old name ≤ P.app_faults place.new name }
     ensures later { G.faults gestures.old ≤ G.faults gestures.new }
     ensures out_later { O.faults out.old ≤ O.faults out.new }
+    ensures steps_later { steps.old ≤ steps.new }
 {
     let Some(name) = application_name(words) else {
         if say_usage(out) {
@@ -78,9 +79,10 @@ fn run_text<G: Source, O: Sink, L: Ledger>(
     out: &mut O,
     steps: &mut Steps<L>,
 ) -> How
-    ensures ran { RanText text.now (streams (G.left gestures.old) (G.faults gestures.old) (O.taken out.old) (O.faults out.old)) (streams (G.left gestures.new) (G.faults gestures.new) (O.taken out.new) (O.faults out.new)) result }
+    ensures ran { RanText text.now (streams (G.left gestures.old) (G.faults gestures.old) (O.taken out.old) (O.faults out.old) steps.old) (streams (G.left gestures.new) (G.faults gestures.new) (O.taken out.new) (O.faults out.new) steps.new) result }
     ensures later { G.faults gestures.old ≤ G.faults gestures.new }
     ensures out_later { O.faults out.old ≤ O.faults out.new }
+    ensures steps_later { steps.old ≤ steps.new }
 {
     match load(alloc, text) {
         Ok(loaded) => run_loaded(alloc, loaded, gestures, out, steps),
@@ -102,9 +104,10 @@ fn run_loaded<G: Source, O: Sink, L: Ledger>(
     out: &mut O,
     steps: &mut Steps<L>,
 ) -> How
-    ensures ran { RanLoaded loaded.app (streams (G.left gestures.old) (G.faults gestures.old) (O.taken out.old) (O.faults out.old)) (streams (G.left gestures.new) (G.faults gestures.new) (O.taken out.new) (O.faults out.new)) result }
+    ensures ran { RanLoaded loaded.app (streams (G.left gestures.old) (G.faults gestures.old) (O.taken out.old) (O.faults out.old) steps.old) (streams (G.left gestures.new) (G.faults gestures.new) (O.taken out.new) (O.faults out.new) steps.new) result }
     ensures later { G.faults gestures.old ≤ G.faults gestures.new }
     ensures out_later { O.faults out.old ≤ O.faults out.new }
+    ensures steps_later { steps.old ≤ steps.new }
 {
     let Ok(room) = Ahead::new(alloc) else {
         return How::Memory;
@@ -121,7 +124,10 @@ fn open<L: Ledger>(
     loaded: Loaded,
     steps: &mut Steps<L>,
 ) -> Result<Opening, AllocError>
-    ensures { IfOk result (IsOpening loaded.app) }
+    ensures opening { IfOk result (IsOpening loaded.app) }
+    ensures ledger { IfOk result (λ _. steps.new ≡ steps.old + opening_cost loaded.app) }
+    ensures later { steps.old ≤ steps.new }
+    ensures at_most { steps.new ≤ steps.old + opening_cost loaded.app }
 {
     let slots = loaded.slots.copy(alloc)?;
     let session = Session::new(alloc, &loaded, &slots, BUDGET, steps)?;
@@ -143,9 +149,10 @@ fn serve<G: Source, O: Sink, L: Ledger>(
 ) -> End
     requires opening { IsOpening opening.old.loaded.app opening.old }
     requires none_ahead { room ≡ [] }
-    ensures ended { EndsAs opening.old.loaded.app (streams (G.left gestures.old) (G.faults gestures.old) (O.taken out.old) (O.faults out.old)) (streams (G.left gestures.new) (G.faults gestures.new) (O.taken out.new) (O.faults out.new)) result }
+    ensures ended { (spent : ℕ) → steps.old ≡ spent + opening_cost opening.old.loaded.app → EndsAs opening.old.loaded.app (streams (G.left gestures.old) (G.faults gestures.old) (O.taken out.old) (O.faults out.old) spent) (streams (G.left gestures.new) (G.faults gestures.new) (O.taken out.new) (O.faults out.new) steps.new) result }
     ensures later { G.faults gestures.old ≤ G.faults gestures.new }
     ensures out_later { O.faults out.old ≤ O.faults out.new }
+    ensures steps_later { steps.old ≤ steps.new }
 {
     let mut reader = Gestures::with_room(alloc, room, LentSource::new(gestures));
     let end = opening.session.serve(

@@ -2,7 +2,7 @@ ghost use Rattle.std.specs.Prelude.{◌≡◌, ◌≤◌, ◌⊎◌, ℕ, List, 
 ghost use Rattle.cl_outside.specs.Causes.{Rose};
 ghost use Rattle.cl_session.specs.declared.serving.End.TheVariants as end;
 ghost use Rattle.clim_run.specs.Command.{IsNoCommand, IsRun, refusal_line, usage_line};
-ghost use Rattle.clim_run.specs.Run.{AppFaultRose, IsCommand, IsRefused, SaysWhole, Serves, streams};
+ghost use Rattle.clim_run.specs.Run.{AppFaultRose, IsRefused, RanOutOfMemory, SaysWhole, Serves, streams};
 ghost use Rattle.clim_run.specs.Statuses.{DeclaresApplication, DeclaresNone, HasFewLines, IsStatus, OutputFailed};
 
 use crate::running::{How, run_words};
@@ -31,14 +31,14 @@ pub fn clim_main<P: Place, G: Source, O: Sink, L: Ledger>(
     steps: &mut Steps<L>,
 ) -> Status
     // What each status says.
-    ensures status_0 { result.0 ≡ 0 → Serves (map (λ w. w.now) words.now) (P.file place.old) (streams (G.left gestures.old) (G.faults gestures.old) (O.taken out.old) (O.faults out.old)) (streams (G.left gestures.new) (G.faults gestures.new) (O.taken out.new) (O.faults out.new)) end.Done }
-    ensures status_1 { result.0 ≡ 1 → IsRefused (map (λ w. w.now) words.now) (P.file place.old) × SaysWhole (streams (G.left gestures.old) (G.faults gestures.old) (O.taken out.old) (O.faults out.old)) (streams (G.left gestures.new) (G.faults gestures.new) (O.taken out.new) (O.faults out.new)) (refusal_line 0 0) }
-    ensures status_2 { result.0 ≡ 2 → IsNoCommand (map (λ w. w.now) words.now) × SaysWhole (streams (G.left gestures.old) (G.faults gestures.old) (O.taken out.old) (O.faults out.old)) (streams (G.left gestures.new) (G.faults gestures.new) (O.taken out.new) (O.faults out.new)) usage_line }
-    ensures status_3 { result.0 ≡ 3 → AppFaultRose (map (λ w. w.now) words.now) (P.app_faults place.old) (P.app_faults place.new) × (streams (G.left gestures.new) (G.faults gestures.new) (O.taken out.new) (O.faults out.new) ≡ streams (G.left gestures.old) (G.faults gestures.old) (O.taken out.old) (O.faults out.old)) }
-    ensures status_4 { result.0 ≡ 4 → Serves (map (λ w. w.now) words.now) (P.file place.old) (streams (G.left gestures.old) (G.faults gestures.old) (O.taken out.old) (O.faults out.old)) (streams (G.left gestures.new) (G.faults gestures.new) (O.taken out.new) (O.faults out.new)) end.ReadFault }
-    ensures status_5 { result.0 ≡ 5 → OutputFailed (map (λ w. w.now) words.now) (P.file place.old) (streams (G.left gestures.old) (G.faults gestures.old) (O.taken out.old) (O.faults out.old)) (streams (G.left gestures.new) (G.faults gestures.new) (O.taken out.new) (O.faults out.new)) }
-    ensures status_7 { result.0 ≡ 7 → IsCommand (map (λ w. w.now) words.now) × (streams (G.left gestures.new) (G.faults gestures.new) (O.taken out.new) (O.faults out.new) ≡ streams (G.left gestures.old) (G.faults gestures.old) (O.taken out.old) (O.faults out.old)) }
-    ensures status_8 { result.0 ≡ 8 → Serves (map (λ w. w.now) words.now) (P.file place.old) (streams (G.left gestures.old) (G.faults gestures.old) (O.taken out.old) (O.faults out.old)) (streams (G.left gestures.new) (G.faults gestures.new) (O.taken out.new) (O.faults out.new)) end.TooMany }
+    ensures status_0 { result.0 ≡ 0 → Serves (map (λ w. w.now) words.now) (P.file place.old) (streams (G.left gestures.old) (G.faults gestures.old) (O.taken out.old) (O.faults out.old) steps.old) (streams (G.left gestures.new) (G.faults gestures.new) (O.taken out.new) (O.faults out.new) steps.new) end.Done }
+    ensures status_1 { result.0 ≡ 1 → IsRefused (map (λ w. w.now) words.now) (P.file place.old) × SaysWhole (streams (G.left gestures.old) (G.faults gestures.old) (O.taken out.old) (O.faults out.old) steps.old) (streams (G.left gestures.new) (G.faults gestures.new) (O.taken out.new) (O.faults out.new) steps.new) (refusal_line 0 0) }
+    ensures status_2 { result.0 ≡ 2 → IsNoCommand (map (λ w. w.now) words.now) × SaysWhole (streams (G.left gestures.old) (G.faults gestures.old) (O.taken out.old) (O.faults out.old) steps.old) (streams (G.left gestures.new) (G.faults gestures.new) (O.taken out.new) (O.faults out.new) steps.new) usage_line }
+    ensures status_3 { result.0 ≡ 3 → AppFaultRose (map (λ w. w.now) words.now) (P.app_faults place.old) (P.app_faults place.new) × (streams (G.left gestures.new) (G.faults gestures.new) (O.taken out.new) (O.faults out.new) steps.new ≡ streams (G.left gestures.old) (G.faults gestures.old) (O.taken out.old) (O.faults out.old) steps.old) }
+    ensures status_4 { result.0 ≡ 4 → Serves (map (λ w. w.now) words.now) (P.file place.old) (streams (G.left gestures.old) (G.faults gestures.old) (O.taken out.old) (O.faults out.old) steps.old) (streams (G.left gestures.new) (G.faults gestures.new) (O.taken out.new) (O.faults out.new) steps.new) end.ReadFault }
+    ensures status_5 { result.0 ≡ 5 → OutputFailed (map (λ w. w.now) words.now) (P.file place.old) (streams (G.left gestures.old) (G.faults gestures.old) (O.taken out.old) (O.faults out.old) steps.old) (streams (G.left gestures.new) (G.faults gestures.new) (O.taken out.new) (O.faults out.new) steps.new) }
+    ensures status_7 { result.0 ≡ 7 → RanOutOfMemory (map (λ w. w.now) words.now) (P.file place.old) (streams (G.left gestures.old) (G.faults gestures.old) (O.taken out.old) (O.faults out.old) steps.old) (streams (G.left gestures.new) (G.faults gestures.new) (O.taken out.new) (O.faults out.new) steps.new) }
+    ensures status_8 { result.0 ≡ 8 → Serves (map (λ w. w.now) words.now) (P.file place.old) (streams (G.left gestures.old) (G.faults gestures.old) (O.taken out.old) (O.faults out.old) steps.old) (streams (G.left gestures.new) (G.faults gestures.new) (O.taken out.new) (O.faults out.new) steps.new) end.TooMany }
     ensures no_other { IsStatus result.0 }
 
     // When they are due.
@@ -53,6 +53,7 @@ pub fn clim_main<P: Place, G: Source, O: Sink, L: Ledger>(
     ensures place_later { (name : List ℕ) → P.app_faults place.old name ≤ P.app_faults place.new name }
     ensures later { G.faults gestures.old ≤ G.faults gestures.new }
     ensures out_later { O.faults out.old ≤ O.faults out.new }
+    ensures steps_later { steps.old ≤ steps.new }
 {
     match run_words(alloc, words, place, gestures, out, steps) {
         How::Usage => Status(2),

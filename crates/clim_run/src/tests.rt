@@ -2,7 +2,11 @@ ghost use Rattle.std.specs.Prelude.{IfOk};
 ghost use Rattle.cl_outside.specs.Memory.{AllPositive};
 
 use super::*;
-use cl_outside::{MemPlace, MemSink, MemSource};
+use cl_gesture::Gesture;
+use cl_load::load;
+use cl_outside::{MemPlace, MemSink, MemSource, OwnLedger, Steps};
+use cl_session::sessions::Session;
+use cl_value::Text;
 use std::alloc::{AllocError, Global};
 use std::process::Abort;
 use std::test::Fail;
@@ -61,8 +65,8 @@ impl<'a> Memory<'a> {
         }
     }
 
-    // The status, and what was written.
-    fn run(&self, alloc: Global) -> Result<(u8, String), Fail> {
+    // The status, and what was written; the steps are counted on.
+    fn run(&self, alloc: Global, steps: &mut Steps<OwnLedger>) -> Result<(u8, String), Fail> {
         let mut files = Vec::new(alloc);
         let name = String::from_str(alloc, "app")?;
         files.push((name, self.text.as_bytes().to_vec(alloc)?))?;
@@ -72,16 +76,8 @@ impl<'a> Memory<'a> {
         let mut gestures = MemSource::new(gestures, self.gesture_fails.to_vec(alloc)?);
         let pieces = pieces_of(alloc, self.piece)?;
         let mut out = MemSink::new(alloc, self.room, pieces, Vec::new(alloc))?;
-        let mut steps = own_steps();
         let words = self.words;
-        let Status(code) = clim_main(
-            alloc,
-            words,
-            &mut place,
-            &mut gestures,
-            &mut out,
-            &mut steps,
-        );
+        let Status(code) = clim_main(alloc, words, &mut place, &mut gestures, &mut out, steps);
         Ok((code, String::from_utf8(out.taken().to_vec(alloc)?)?))
     }
 }
@@ -104,7 +100,7 @@ fn expect_run(
     status: u8,
     written: &str,
 ) -> Result<(), Fail> {
-    let (code, took) = run.run(rt.alloc())?;
+    let (code, took) = run.run(rt.alloc(), &mut own_steps())?;
     assert_eq!(rt; took.as_str(), written);
     assert_eq!(rt; code, status);
     Ok(())
@@ -126,6 +122,45 @@ fn counter_run_and_empty_stream(rt: HostRuntime) -> Result<(), Fail> {
         0,
         "! unknown\n! surplus\n",
     )
+}
+
+// The run counts so many steps.
+fn expect_steps(
+    rt: &(impl Abort + AllocGlobal),
+    text: &str,
+    gestures: &str,
+    count: u64,
+) -> Result<(), Fail> {
+    let mut steps = own_steps();
+    let _ran = Memory::new(text, gestures).run(rt.alloc(), &mut steps)?;
+    assert_eq!(rt; steps.ledger().seen(), count);
+    Ok(())
+}
+
+// 3 at the opening, 4 for the command, which may trap, and 3 for the display.
+#[test]
+fn steps_of_a_run(rt: HostRuntime) -> Result<(), Fail> {
+    let highest = COUNTER.replace(rt.alloc(), "integer 0", "integer 9223372036854775807")?;
+    expect_steps(&rt, COUNTER, "", 3)?;
+    expect_steps(&rt, COUNTER, "type Add\nreturn\nframe\n", 10)?;
+    expect_steps(&rt, highest.as_str(), "type Add\nreturn\nframe\n", 7)?;
+    expect_steps(&rt, "", "type Add\nreturn\n", 0)
+}
+
+#[test]
+fn steps_of_an_opening_and_of_gestures(rt: HostRuntime) -> Result<(), Fail> {
+    let alloc = rt.alloc();
+    let loaded = load(alloc, COUNTER.as_bytes())?;
+    let mut slots = loaded.slots.copy(alloc)?;
+    let mut steps = own_steps();
+    let mut session = Session::new(alloc, &loaded, &slots, 1_000_000, &mut steps)?;
+    assert_eq!(rt; steps.ledger().seen(), 3);
+    let typed = Gesture::Type(Text::from_slice(alloc, b"Add")?);
+    let _typed = session.step(alloc, &loaded, &typed, &mut slots, &mut steps);
+    assert_eq!(rt; steps.ledger().seen(), 3);
+    let _returned = session.step(alloc, &loaded, &Gesture::Return, &mut slots, &mut steps);
+    assert_eq!(rt; steps.ledger().seen(), 10);
+    Ok(())
 }
 
 #[test]

@@ -1,4 +1,4 @@
-use Rattle.std.proofs.Common.{◌≡◌, ◌<◌, ◌∙◌, sym, drop, arith}
+use Rattle.std.proofs.Common.{◌<◌, ◌∙◌, sym, drop, arith}
 use Rattle.cl_raster.specs.Raster.{glyph_at}
 use Rattle.cl_redisplay.proofs.PaintLemmas.{with_bytes-left}
 use Rattle.cl_redisplay.proofs.painting.paint_bytes.Goals as goal
@@ -10,4 +10,5 @@ returns-then-column-from c = record {
       let left : x < c.loop-byte.column = omega (arith, c.loop-byte.invariant.size.width) in
       sym (with_bytes-left (drop c.loop-byte.byte-index c.args.bytes.now) c.loop-byte.column c.args.y x y (glyph_at c.loop-byte.raster x y) left)
       ∙ c.loop-byte.invariant.glyphs x y less;
+  inks = c.loop-byte.invariant.inks;
 }

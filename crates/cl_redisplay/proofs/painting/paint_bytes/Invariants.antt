@@ -1,5 +1,5 @@
 use Rattle.std.proofs.Common.{◌≡◌, ◌<◌, ℕ, drop}
-use Rattle.cl_raster.specs.Raster.{SameSize, glyph_at}
+use Rattle.cl_raster.specs.Raster.{SameSize, glyph_at, ink_at}
 use Rattle.cl_redisplay.specs.Paint.{with_bytes}
 use Rattle.cl_redisplay.proofs.painting.paint_bytes.Given as goal
 
@@ -8,4 +8,5 @@ invariant-loop-byte l = record {
   size : SameSize l.initial.raster l.raster;
   glyphs : (x y : ℕ) → x < l.initial.raster.width →
       with_bytes (drop l.byte-index l.bytes) l.column l.y x y (glyph_at l.raster x y) ≡ with_bytes l.bytes l.x l.y x y (glyph_at l.initial.raster x y);
+  inks : (x y : ℕ) → x < l.initial.raster.width → ink_at l.initial.raster x y ≡ 0 → ink_at l.raster x y ≡ 0;
 }

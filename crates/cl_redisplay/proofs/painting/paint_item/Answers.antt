@@ -9,4 +9,5 @@ returns-else-item-from c = record {
   glyphs = λ x y less below.
       let above : y < c.args.item.now.y = omega arith in
       sym (with_bytes-other_row c.args.item.now.text c.args.item.now.x c.args.item.now.y x y (glyph_at c.args.raster.now x y) above);
+  inks = λ x y less below h. h;
 }

@@ -1,6 +1,5 @@
 use Rattle.std.proofs.Common.{map, List, ℕ}
 use denote.Bor.{Bor}
-use Rattle.clim_run.specs.Run.{streams}
 use Rattle.clim_run.proofs.StatusLemmas.{refused_declares, served_declares, limit_passed}
 use Rattle.clim_run.proofs.statuses.clim_main.Goals as goal
 

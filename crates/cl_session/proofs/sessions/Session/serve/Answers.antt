@@ -14,6 +14,7 @@ turns-init g c = record {
   out_lent = refl;
   later = omega arith;
   out_later = omega arith;
+  steps_later = omega arith;
   fits = c.requires.fits;
   limits = refl;
 }
@@ -41,6 +42,7 @@ turns-preserved g c =
       out_lent = c.in-None.ensures.out_lent ∙ c.turns.invariant.out_lent;
       later = omega (arith, c.turns.invariant.later, c.in-None.ensures.later);
       out_later = omega (arith, c.turns.invariant.out_later, c.in-None.ensures.out_later);
+      steps_later = omega (arith, c.turns.invariant.steps_later, c.in-None.ensures.steps_later);
       fits = c.in-None.ensures.fits;
       limits = c.in-None.ensures.limits ∙ c.turns.invariant.limits;
     }

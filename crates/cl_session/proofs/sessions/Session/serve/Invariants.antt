@@ -14,6 +14,7 @@ invariant-turns g l = record {
   out_lent : g.O.Sink.lent l.out ≡ g.O.Sink.lent l.initial.out;
   later : g.G.Source.faults (source_of l.initial.gestures) ≤ g.G.Source.faults (source_of l.gestures);
   out_later : g.O.Sink.faults l.initial.out ≤ g.O.Sink.faults l.out;
+  steps_later : l.initial.steps ≤ l.steps;
   fits : Fits l.loaded.app l.slots l.self;
   limits : l.self.limits ≡ l.initial.self.limits;
 }
