@@ -1,5 +1,5 @@
 -- A display form as a tree.
-use Rattle.std.specs.Prelude.{ℕ, List, [], ◌∷◌}
+use Rattle.std.specs.Prelude.{ℕ, ◌+◌, List, [], ◌∷◌}
 use Rattle.cl_syntax.specs.Term.{Term, Terms, Bindings}
 
 mutual
@@ -27,3 +27,19 @@ mutual
 abbrev pub forms_of : List Form → Forms
 forms_of [] = none
 forms_of (f ∷ fs) = form f (forms_of fs)
+
+-- a size that is greater than that of each part
+abbrev mutual
+  pub nodes : Form → ℕ
+  nodes (write_text t) = 1
+  nodes newline = 1
+  nodes (choice t f g) = nodes f + nodes g + 1
+  nodes (when t fs) = nodes_all fs + 1
+  nodes (bind bs fs) = nodes_all fs + 1
+  nodes (each x t fs) = nodes_all fs + 1
+  nodes (sequence fs) = nodes_all fs + 1
+  nodes (call d ts) = 1
+
+  pub nodes_all : Forms → ℕ
+  nodes_all none = 0
+  nodes_all (form f fs) = nodes f + 1 + nodes_all fs

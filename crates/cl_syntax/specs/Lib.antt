@@ -4,4 +4,10 @@ pub mod TermCode
 pub mod Expr
 pub mod ExprFalls
 pub mod Form
+pub mod FormCode
+pub mod Shape
+pub mod ShapeFalls
 pub mod Statement
+pub mod StatementCode
+pub mod Act
+pub mod ActFalls

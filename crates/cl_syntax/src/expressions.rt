@@ -99,12 +99,7 @@ impl Expr {
         }
     }
 
-    pub fn choice(
-        alloc: Global,
-        test: Expr,
-        then: Expr,
-        other: Expr,
-    ) -> Result<Expr, AllocError>
+    pub fn choice(alloc: Global, test: Expr, then: Expr, other: Expr) -> Result<Expr, AllocError>
         ensures { IfOk result (λ e. e ≡ term.choice test then other) }
     {
         Ok(Expr {
