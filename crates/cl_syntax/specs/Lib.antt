@@ -1,3 +1,4 @@
+pub mod Names
 pub mod Code
 pub mod Term
 pub mod TermCode
@@ -11,3 +12,4 @@ pub mod Statement
 pub mod StatementCode
 pub mod Act
 pub mod ActFalls
+pub mod App
