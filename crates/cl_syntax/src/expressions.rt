@@ -75,6 +75,7 @@ impl Model for Expr {
 }
 
 impl Expr {
+    /// A number, a text, `true`, `false`, `null` or a quoted name.
     pub fn constant(value: Value) -> Expr
         ensures { result ≡ term.constant (data_of value) }
     {
@@ -83,6 +84,7 @@ impl Expr {
         }
     }
 
+    /// A variable.
     pub fn variable(name: Text) -> Expr
         ensures { result ≡ term.variable name }
     {
@@ -91,6 +93,7 @@ impl Expr {
         }
     }
 
+    /// `(slot NAME)`
     pub fn slot(name: Text) -> Expr
         ensures { result ≡ term.slot name }
     {
@@ -99,18 +102,19 @@ impl Expr {
         }
     }
 
+    /// `(if TEST THEN ELSE)`
     pub fn choice(alloc: Global, test: Expr, then: Expr, other: Expr) -> Result<Expr, AllocError>
         ensures { IfOk result (λ e. e ≡ term.choice test then other) }
     {
+        let test = Box::new(alloc, test)?;
+        let then = Box::new(alloc, then)?;
+        let other = Box::new(alloc, other)?;
         Ok(Expr {
-            kind: ExprKind::If(
-                Box::new(alloc, test)?,
-                Box::new(alloc, then)?,
-                Box::new(alloc, other)?,
-            ),
+            kind: ExprKind::If(test, then, other),
         })
     }
 
+    /// `(let ((NAME E) ...) BODY)`: each binding sees the earlier ones.
     pub fn bind(alloc: Global, bindings: Vec<Binding>, body: Expr) -> Result<Expr, AllocError>
         ensures { IfOk result (λ e. e ≡ term.bind (bindings_of bindings.items) body) }
     {
@@ -119,6 +123,7 @@ impl Expr {
         })
     }
 
+    /// `(and E ...)`
     pub fn every(parts: Vec<Expr>) -> Expr
         ensures { result ≡ term.every (term.terms_of parts.items) }
     {
@@ -127,6 +132,7 @@ impl Expr {
         }
     }
 
+    /// `(or E ...)`
     pub fn some(parts: Vec<Expr>) -> Expr
         ensures { result ≡ term.some (term.terms_of parts.items) }
     {
@@ -135,6 +141,7 @@ impl Expr {
         }
     }
 
+    /// `(map NAME LIST BODY)`
     pub fn map(alloc: Global, name: Text, list: Expr, body: Expr) -> Result<Expr, AllocError>
         ensures { IfOk result (λ e. e ≡ term.map name list body) }
     {
@@ -143,6 +150,7 @@ impl Expr {
         })
     }
 
+    /// `(filter NAME LIST BODY)`
     pub fn filter(alloc: Global, name: Text, list: Expr, body: Expr) -> Result<Expr, AllocError>
         ensures { IfOk result (λ e. e ≡ term.filter name list body) }
     {
@@ -151,6 +159,7 @@ impl Expr {
         })
     }
 
+    /// `(fold NAME LIST ACCUMULATOR OPENING BODY)`
     pub fn fold(
         alloc: Global,
         name: Text,
@@ -161,17 +170,15 @@ impl Expr {
     ) -> Result<Expr, AllocError>
         ensures { IfOk result (λ e. e ≡ term.fold name list accumulator opening body) }
     {
+        let list = Box::new(alloc, list)?;
+        let opening = Box::new(alloc, opening)?;
+        let body = Box::new(alloc, body)?;
         Ok(Expr {
-            kind: ExprKind::Fold(
-                name,
-                Box::new(alloc, list)?,
-                accumulator,
-                Box::new(alloc, opening)?,
-                Box::new(alloc, body)?,
-            ),
+            kind: ExprKind::Fold(name, list, accumulator, opening, body),
         })
     }
 
+    /// An operator over the values of its parts.
     pub fn operation(operator: Operator, parts: Vec<Expr>) -> Expr
         ensures { result ≡ term.operation operator (term.terms_of parts.items) }
     {
@@ -180,6 +187,7 @@ impl Expr {
         }
     }
 
+    /// `(FUNCTION E ...)`
     pub fn call(name: Text, parts: Vec<Expr>) -> Expr
         ensures { result ≡ term.call name (term.terms_of parts.items) }
     {
