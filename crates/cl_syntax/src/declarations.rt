@@ -1,17 +1,83 @@
+//! What an application text declares. In each declaration `at` is its offset in the text in bytes.
 use crate::display_forms::Shapes;
+use crate::expressions::Expr;
+use crate::names::Names;
 use crate::statements::Acts;
+use crate::tables::{Declared, Table};
+use crate::type_specs::TypeSpec;
 use cl_value::{Text, Value};
 
-/// An application: what its text declares.
+/// `(define-record NAME FIELD ...)`
 #[derive(Drop)]
-pub struct App {
-    pub frame: FrameDecl,
-    pub display: DisplayDecl,
-    pub command: CommandDecl,
+pub struct RecordDecl {
+    pub name: Text,
+    pub fields: Names,
+    pub at: u32,
+}
+
+/// `(define-function NAME (PARAMETER ...) BODY)`
+#[derive(Drop)]
+pub struct FunctionDecl {
+    pub name: Text,
+    pub parameters: Names,
+    pub body: Expr,
+    pub at: u32,
+}
+
+/// `(define-display NAME (PARAMETER ...) FORM ...)`
+#[derive(Drop)]
+pub struct DisplayDecl {
+    pub name: Text,
+    pub parameters: Names,
+    pub body: Shapes,
+    pub at: u32,
+}
+
+/// The records of an application by name.
+pub type Records = Table<RecordDecl>;
+
+/// The functions of an application by name.
+pub type Functions = Table<FunctionDecl>;
+
+/// The displays of an application by name.
+pub type Displays = Table<DisplayDecl>;
+
+impl Declared for RecordDecl {
+    ghost own_name = { λ d. d.name };
+
+    fn name(&self) -> &Text {
+        &self.name
+    }
+}
+
+impl Declared for FunctionDecl {
+    ghost own_name = { λ d. d.name };
+
+    fn name(&self) -> &Text {
+        &self.name
+    }
+}
+
+impl Declared for DisplayDecl {
+    ghost own_name = { λ d. d.name };
+
+    fn name(&self) -> &Text {
+        &self.name
+    }
+}
+
+/// `(define-command NAME () STATEMENT ...)`. The command-line name is made from the symbol: a leading
+/// `com-` is dropped, hyphens become spaces, and the first letter of each word becomes a capital.
+#[derive(Drop)]
+pub struct CommandDecl {
+    pub name: Text,
+    pub line_name: Text,
+    pub body: Acts,
+    pub at: u32,
 }
 
 /// `(define-application-frame NAME (:size WIDTH HEIGHT) (:slots SLOT) (:panes PANE))`, sizes in
-/// cells, `at` the offset of the declaration in bytes.
+/// cells.
 #[derive(Drop)]
 pub struct FrameDecl {
     pub name: Text,
@@ -22,10 +88,11 @@ pub struct FrameDecl {
     pub at: u32,
 }
 
-/// `(NAME integer OPENING)`
+/// `(NAME TYPE OPENING)`
 #[derive(Drop)]
 pub struct SlotDecl {
     pub name: Text,
+    pub spec: TypeSpec,
     pub opening: Value,
 }
 
@@ -38,22 +105,4 @@ pub struct PaneDecl {
     pub width: u16,
     pub height: u16,
     pub display: Text,
-}
-
-/// `(define-display NAME () BODY)`
-#[derive(Drop)]
-pub struct DisplayDecl {
-    pub name: Text,
-    pub body: Shapes,
-    pub at: u32,
-}
-
-/// `(define-command NAME () BODY)`. The command-line name is made from the symbol: a leading `com-`
-/// is dropped, hyphens become spaces, and the first letter of each word becomes a capital.
-#[derive(Drop)]
-pub struct CommandDecl {
-    pub name: Text,
-    pub line_name: Text,
-    pub body: Acts,
-    pub at: u32,
 }

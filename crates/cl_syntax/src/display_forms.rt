@@ -1,38 +1,167 @@
-ghost use Rattle.std.specs.Prelude.{◌≡◌, [], ◌∷◌, ◌++◌, OnOk, OnErr};
+//! Display forms of the application language, which is our own profile's.
+ghost use Rattle.std.specs.Prelude.{◌≡◌, [], ◌∷◌, ◌++◌, IfOk, OnOk, OnErr};
+ghost use Rattle.cl_syntax.specs.Expr.{bindings_of};
+ghost use Rattle.cl_syntax.specs.Form as form;
+ghost use Rattle.cl_syntax.specs.Term.{terms_of};
 
-use crate::expressions::Expr;
+use crate::expressions::{Binding, Expr};
+use cl_value::Text;
 use std::alloc::{AllocError, Global};
 use std::marker::Model;
 
-/// A display form: a row of the table of display forms, with its parts.
+/// A display form, which contracts see as its tree, a `Form`.
+#[cycle(shape)]
 #[derive(Drop)]
-pub enum Shape {
+pub struct Shape {
+    pub kind: ShapeKind,
+}
+
+/// The rows of the table of display forms, each with its parts.
+#[cycle(shape)]
+#[derive(Drop)]
+pub enum ShapeKind {
     /// `(write-text E)`
     WriteText(Expr),
     /// `(newline)`
     Newline,
+    /// `(if TEST THEN ELSE)`
+    If(Expr, Box<Shape>, Box<Shape>),
+    /// `(when TEST FORM ...)`
+    When(Expr, Shapes),
+    /// `(let ((NAME E) ...) FORM ...)`
+    Let(Vec<Binding>, Shapes),
+    /// `(dolist (NAME LIST) FORM ...)`
+    Dolist(Text, Expr, Shapes),
+    /// `(progn FORM ...)`
+    Progn(Shapes),
+    /// `(DISPLAY E ...)`
+    Call(Text, Vec<Expr>),
 }
 
-/// Display forms in order, which contracts see as their list.
+/// Display forms in order, which contracts see as the list of their trees.
+#[cycle(shape)]
 #[derive(Drop)]
 pub struct Shapes {
     items: Vec<Shape>,
 }
 
+impl Model for Shape {
+    ghost use Rattle.cl_syntax.specs.Form.{Form};
+    ghost use Rattle.cl_syntax.specs.FormCode.{coded_form};
+
+    ghost Value = { Form };
+
+    ghost coded = { coded_form };
+
+    ghost use Rattle.cl_syntax.specs.Form.{nodes};
+    ghost use Rattle.cl_syntax.specs.Shape.{form_of};
+
+    ghost view = { λ s. form_of s.kind };
+
+    ghost size = { nodes };
+
+    ghost use Rattle.std.proofs.Common.{arith};
+    ghost use Rattle.cl_syntax.specs.ShapeFalls.{kind-nodes};
+
+    ghost size_decreases = { λ s h. Prim.omega (arith, kind-nodes s.kind) };
+}
+
 impl Model for Shapes {
     ghost use Rattle.std.specs.Prelude.{List};
     ghost use Rattle.std.specs.Coded.{coded_list};
-    ghost use Rattle.cl_syntax.specs.declared.display_forms.Shape.{Shape};
-    ghost use Rattle.cl_syntax.specs.contracts.display_forms.Shape as row;
+    ghost use Rattle.cl_syntax.specs.Form.{Form, forms_of, nodes_all};
+    ghost use Rattle.cl_syntax.specs.FormCode.{coded_form};
 
-    ghost Value = { List Shape };
+    ghost Value = { List Form };
 
-    ghost coded = { coded_list row.the_row.coded };
+    ghost coded = { coded_list coded_form };
 
     ghost view = { λ s. s.items.items };
+
+    ghost size = { λ fs. nodes_all (forms_of fs) };
+
+    ghost use Rattle.std.proofs.Common.{arith};
+    ghost use Rattle.cl_syntax.specs.ShapeFalls.{most-nodes};
+
+    ghost size_decreases = { λ s h. Prim.omega (arith, most-nodes s.items.items) };
+}
+
+impl Shape {
+    /// `(write-text E)`
+    pub fn write_text(part: Expr) -> Shape
+        ensures { result ≡ form.write_text part }
+    {
+        Shape {
+            kind: ShapeKind::WriteText(part),
+        }
+    }
+
+    /// `(newline)`
+    pub fn newline() -> Shape
+        ensures { result ≡ form.newline }
+    {
+        Shape {
+            kind: ShapeKind::Newline,
+        }
+    }
+
+    /// `(if TEST THEN ELSE)`
+    pub fn choice(alloc: Global, test: Expr, then: Shape, other: Shape) -> Result<Shape, AllocError>
+        ensures { IfOk result (λ s. s ≡ form.choice test then other) }
+    {
+        Ok(Shape {
+            kind: ShapeKind::If(test, Box::new(alloc, then)?, Box::new(alloc, other)?),
+        })
+    }
+
+    /// `(when TEST FORM ...)`
+    pub fn when(test: Expr, body: Shapes) -> Shape
+        ensures { result ≡ form.when test (form.forms_of body) }
+    {
+        Shape {
+            kind: ShapeKind::When(test, body),
+        }
+    }
+
+    /// `(let ((NAME E) ...) FORM ...)`: each binding sees the earlier ones.
+    pub fn bind(bindings: Vec<Binding>, body: Shapes) -> Shape
+        ensures { result ≡ form.bind (bindings_of bindings.items) (form.forms_of body) }
+    {
+        Shape {
+            kind: ShapeKind::Let(bindings, body),
+        }
+    }
+
+    /// `(dolist (NAME LIST) FORM ...)`
+    pub fn each(name: Text, list: Expr, body: Shapes) -> Shape
+        ensures { result ≡ form.each name list (form.forms_of body) }
+    {
+        Shape {
+            kind: ShapeKind::Dolist(name, list, body),
+        }
+    }
+
+    /// `(progn FORM ...)`
+    pub fn sequence(body: Shapes) -> Shape
+        ensures { result ≡ form.sequence (form.forms_of body) }
+    {
+        Shape {
+            kind: ShapeKind::Progn(body),
+        }
+    }
+
+    /// `(DISPLAY E ...)`
+    pub fn call(name: Text, parts: Vec<Expr>) -> Shape
+        ensures { result ≡ form.call name (terms_of parts.items) }
+    {
+        Shape {
+            kind: ShapeKind::Call(name, parts),
+        }
+    }
 }
 
 impl Shapes {
+    /// No forms, which takes no memory.
     pub fn new(alloc: Global) -> Shapes
         ensures { result ≡ [] }
     {
@@ -41,6 +170,7 @@ impl Shapes {
         }
     }
 
+    /// Puts a form behind the others.
     pub fn push(&mut self, shape: Shape) -> Result<(), AllocError>
         ensures ok { OnOk result (self.new ≡ self.old ++ shape ∷ []) }
         ensures err { OnErr result (self.new ≡ self.old) }
@@ -49,6 +179,7 @@ impl Shapes {
         Ok(())
     }
 
+    /// The forms in their order.
     pub fn as_slice(&self) -> &[Shape]
         ensures { result.now ≡ self.now }
     {
