@@ -1,59 +1,95 @@
-use crate::display_forms::Shapes;
-use crate::statements::Acts;
-use cl_value::{Text, Value};
+ghost use Rattle.std.specs.Prelude.{◌≡◌, option_map, length};
+ghost use Rattle.cl_syntax.specs.App.{function_named, record_named, slot_type};
 
-/// An application: what its text declares.
+use crate::expressions::Expr;
+use crate::types::TypeSpec;
+use cl_value::{Text, Value};
+use std::marker::Model;
+
 #[derive(Drop)]
-pub struct App {
-    pub frame: FrameDecl,
-    pub display: DisplayDecl,
-    pub command: CommandDecl,
+pub struct Names {
+    items: Vec<Text>,
 }
 
-/// `(define-application-frame NAME (:size WIDTH HEIGHT) (:slots SLOT) (:panes PANE))`, sizes in
-/// cells, `at` the offset of the declaration in bytes.
+impl Model for Names {
+    ghost use Rattle.std.specs.Prelude.{ℕ, List};
+
+    ghost Value = { List (List ℕ) };
+
+    ghost view = { λ l. l.items.items };
+}
+
+impl Names {
+    pub fn as_slice(&self) -> &[Text]
+        ensures { result.now ≡ self.now }
+    {
+        self.items.as_slice()
+    }
+
+    pub fn len(&self) -> usize
+        ensures { result ≡ length self.now }
+    {
+        self.items.len()
+    }
+}
+
 #[derive(Drop)]
-pub struct FrameDecl {
+pub struct RecordDecl {
     pub name: Text,
-    pub width: u16,
-    pub height: u16,
-    pub slot: SlotDecl,
-    pub pane: PaneDecl,
+    pub fields: Names,
     pub at: u32,
 }
 
-/// `(NAME integer OPENING)`
+#[derive(Drop)]
+pub struct FunctionDecl {
+    pub name: Text,
+    pub parameters: Names,
+    pub body: Expr,
+    pub at: u32,
+}
+
 #[derive(Drop)]
 pub struct SlotDecl {
     pub name: Text,
+    pub spec: TypeSpec,
     pub opening: Value,
 }
 
-/// `(NAME X Y WIDTH HEIGHT DISPLAY)`, in cells of the frame.
 #[derive(Drop)]
-pub struct PaneDecl {
-    pub name: Text,
-    pub x: u16,
-    pub y: u16,
-    pub width: u16,
-    pub height: u16,
-    pub display: Text,
+pub struct App {
+    pub record: RecordDecl,
+    pub function: FunctionDecl,
+    pub slot: SlotDecl,
 }
 
-/// `(define-display NAME () BODY)`
-#[derive(Drop)]
-pub struct DisplayDecl {
-    pub name: Text,
-    pub body: Shapes,
-    pub at: u32,
-}
+impl App {
+    pub fn function(&self, name: &Text) -> Option<&FunctionDecl>
+        ensures { option_map (λ d. d.now) result ≡ function_named name.now self.now }
+    {
+        if self.function.name.as_slice() == name.as_slice() {
+            Some(&self.function)
+        } else {
+            None
+        }
+    }
 
-/// `(define-command NAME () BODY)`. The command-line name is made from the symbol: a leading `com-`
-/// is dropped, hyphens become spaces, and the first letter of each word becomes a capital.
-#[derive(Drop)]
-pub struct CommandDecl {
-    pub name: Text,
-    pub line_name: Text,
-    pub body: Acts,
-    pub at: u32,
+    pub fn record(&self, name: &Text) -> Option<&RecordDecl>
+        ensures { option_map (λ d. d.now) result ≡ record_named name.now self.now }
+    {
+        if self.record.name.as_slice() == name.as_slice() {
+            Some(&self.record)
+        } else {
+            None
+        }
+    }
+
+    pub fn slot_spec(&self, name: &Text) -> Option<&TypeSpec>
+        ensures { option_map (λ d. d.now) result ≡ slot_type name.now self.now }
+    {
+        if self.slot.name.as_slice() == name.as_slice() {
+            Some(&self.slot.spec)
+        } else {
+            None
+        }
+    }
 }

@@ -1,19 +1,15 @@
+//! Expressions of the application language, which is our own profile's.
 ghost use Rattle.std.specs.Prelude.{◌≡◌, IfOk};
 ghost use Rattle.cl_value.specs.Value.{data_of};
-ghost use Rattle.cl_syntax.specs.Term.{constant, slot, text, arithmetic};
+ghost use Rattle.cl_syntax.specs.Term as term;
+ghost use Rattle.cl_syntax.specs.Expr.{bindings_of};
 
+use crate::operators::Operator;
 use cl_value::{Text, Value};
 use std::alloc::{AllocError, Global};
 use std::marker::Model;
 
-/// The arithmetic of two numbers.
-#[derive(Clone, Copy, PartialEq, Eq, Debug)]
-pub enum Arithmetic {
-    Add,
-}
-
-/// An expression, which contracts see as its tree, a `Term`. The application language is our own
-/// profile's.
+/// An expression, which contracts see as its tree, a `Term`.
 #[cycle(expr)]
 #[derive(Drop)]
 pub struct Expr {
@@ -24,14 +20,37 @@ pub struct Expr {
 #[cycle(expr)]
 #[derive(Drop)]
 pub enum ExprKind {
-    /// A number or a text.
+    /// A number, a text, `true`, `false`, `null` or a quoted name.
     Constant(Value),
+    Variable(Text),
     /// `(slot NAME)`
     Slot(Text),
-    /// `(text E)`
-    Text(Box<Expr>),
-    /// `(+ E E)`
-    Arithmetic(Arithmetic, Box<Expr>, Box<Expr>),
+    /// `(if TEST THEN ELSE)`
+    If(Box<Expr>, Box<Expr>, Box<Expr>),
+    /// `(let ((NAME E) ...) BODY)`
+    Let(Vec<Binding>, Box<Expr>),
+    /// `(and E ...)`
+    And(Vec<Expr>),
+    /// `(or E ...)`
+    Or(Vec<Expr>),
+    /// `(map (NAME LIST) BODY)`
+    Map(Text, Box<Expr>, Box<Expr>),
+    /// `(filter (NAME LIST) BODY)`
+    Filter(Text, Box<Expr>, Box<Expr>),
+    /// The name and its list, the accumulator and its opening value, the body.
+    Fold(Text, Box<Expr>, Text, Box<Expr>, Box<Expr>),
+    /// An operator over the values of its parts.
+    Operation(Operator, Vec<Expr>),
+    /// `(FUNCTION E ...)`
+    Call(Text, Vec<Expr>),
+}
+
+/// A name, and the expression that it is bound to.
+#[cycle(expr)]
+#[derive(Drop)]
+pub struct Binding {
+    pub name: Text,
+    pub value: Expr,
 }
 
 impl Model for Expr {
@@ -48,43 +67,129 @@ impl Model for Expr {
     ghost view = { λ e. term_of e.kind };
 
     ghost size = { nodes };
+
+    ghost use Rattle.std.proofs.Common.{arith};
+    ghost use Rattle.cl_syntax.specs.ExprFalls.{kind-nodes};
+
+    ghost size_decreases = { λ e h. Prim.omega (arith, kind-nodes e.kind) };
 }
 
 impl Expr {
     pub fn constant(value: Value) -> Expr
-        ensures { result ≡ constant (data_of value) }
+        ensures { result ≡ term.constant (data_of value) }
     {
         Expr {
             kind: ExprKind::Constant(value),
         }
     }
 
+    pub fn variable(name: Text) -> Expr
+        ensures { result ≡ term.variable name }
+    {
+        Expr {
+            kind: ExprKind::Variable(name),
+        }
+    }
+
     pub fn slot(name: Text) -> Expr
-        ensures { result ≡ slot name }
+        ensures { result ≡ term.slot name }
     {
         Expr {
             kind: ExprKind::Slot(name),
         }
     }
 
-    pub fn text(alloc: Global, part: Expr) -> Result<Expr, AllocError>
-        ensures { IfOk result (λ e. e ≡ text part) }
+    pub fn choice(
+        alloc: Global,
+        test: Expr,
+        then: Expr,
+        other: Expr,
+    ) -> Result<Expr, AllocError>
+        ensures { IfOk result (λ e. e ≡ term.choice test then other) }
     {
         Ok(Expr {
-            kind: ExprKind::Text(Box::new(alloc, part)?),
+            kind: ExprKind::If(
+                Box::new(alloc, test)?,
+                Box::new(alloc, then)?,
+                Box::new(alloc, other)?,
+            ),
         })
     }
 
-    pub fn arithmetic(
-        alloc: Global,
-        operator: Arithmetic,
-        first: Expr,
-        second: Expr,
-    ) -> Result<Expr, AllocError>
-        ensures { IfOk result (λ e. e ≡ arithmetic operator first second) }
+    pub fn bind(alloc: Global, bindings: Vec<Binding>, body: Expr) -> Result<Expr, AllocError>
+        ensures { IfOk result (λ e. e ≡ term.bind (bindings_of bindings.items) body) }
     {
         Ok(Expr {
-            kind: ExprKind::Arithmetic(operator, Box::new(alloc, first)?, Box::new(alloc, second)?),
+            kind: ExprKind::Let(bindings, Box::new(alloc, body)?),
         })
+    }
+
+    pub fn every(parts: Vec<Expr>) -> Expr
+        ensures { result ≡ term.every (term.terms_of parts.items) }
+    {
+        Expr {
+            kind: ExprKind::And(parts),
+        }
+    }
+
+    pub fn some(parts: Vec<Expr>) -> Expr
+        ensures { result ≡ term.some (term.terms_of parts.items) }
+    {
+        Expr {
+            kind: ExprKind::Or(parts),
+        }
+    }
+
+    pub fn map(alloc: Global, name: Text, list: Expr, body: Expr) -> Result<Expr, AllocError>
+        ensures { IfOk result (λ e. e ≡ term.map name list body) }
+    {
+        Ok(Expr {
+            kind: ExprKind::Map(name, Box::new(alloc, list)?, Box::new(alloc, body)?),
+        })
+    }
+
+    pub fn filter(alloc: Global, name: Text, list: Expr, body: Expr) -> Result<Expr, AllocError>
+        ensures { IfOk result (λ e. e ≡ term.filter name list body) }
+    {
+        Ok(Expr {
+            kind: ExprKind::Filter(name, Box::new(alloc, list)?, Box::new(alloc, body)?),
+        })
+    }
+
+    pub fn fold(
+        alloc: Global,
+        name: Text,
+        list: Expr,
+        accumulator: Text,
+        opening: Expr,
+        body: Expr,
+    ) -> Result<Expr, AllocError>
+        ensures { IfOk result (λ e. e ≡ term.fold name list accumulator opening body) }
+    {
+        Ok(Expr {
+            kind: ExprKind::Fold(
+                name,
+                Box::new(alloc, list)?,
+                accumulator,
+                Box::new(alloc, opening)?,
+                Box::new(alloc, body)?,
+            ),
+        })
+    }
+
+    pub fn operation(operator: Operator, parts: Vec<Expr>) -> Expr
+        ensures { result ≡ term.operation operator (term.terms_of parts.items) }
+    {
+        Expr {
+            kind: ExprKind::Operation(operator, parts),
+        }
+    }
+
+    pub fn call(name: Text, parts: Vec<Expr>) -> Expr
+        ensures { result ≡ term.call name (term.terms_of parts.items) }
+    {
+        Expr {
+            kind: ExprKind::Call(name, parts),
+        }
     }
 }

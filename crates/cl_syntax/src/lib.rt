@@ -1,12 +1,12 @@
-// The trees of the application language.
+//! The trees of the application language.
 #![tactic(auto)]
 
 pub mod declarations;
-pub mod display_forms;
 pub mod expressions;
-pub mod statements;
+pub mod operators;
+pub mod types;
 
-pub use declarations::{App, CommandDecl, DisplayDecl, FrameDecl, PaneDecl, SlotDecl};
-pub use display_forms::{Shape, Shapes};
-pub use expressions::{Arithmetic, Expr, ExprKind};
-pub use statements::{Act, Acts};
+pub use declarations::{App, FunctionDecl, Names, RecordDecl, SlotDecl};
+pub use expressions::{Binding, Expr, ExprKind};
+pub use operators::{Arithmetic, Comparison, ListOperator, Operator, RecordOperator, TextOperator};
+pub use types::TypeSpec;

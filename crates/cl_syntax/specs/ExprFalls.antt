@@ -1,0 +1,32 @@
+-- An expression's parts have fewer forms than it has, by which a recursion over expressions ends.
+use Rattle.std.specs.Prelude.{◌≤◌, ◌+◌, ◌<◌, List, [], ◌∷◌}
+use Rattle.std.proofs.Common.{arith}
+use Rattle.cl_syntax.specs.Term.{Term, constant, variable, slot, choice, bind, every, some, map, filter, fold, operation, call, terms_of, nodes, nodes_all, nodes_bound}
+use Rattle.cl_syntax.specs.Expr.{term_of, bindings_of}
+use Rattle.cl_syntax.specs.declared.expressions.Binding.{Binding}
+use Rattle.cl_syntax.specs.declared.expressions.ExprKind.{ExprKind}
+use Rattle.cl_syntax.specs.declared.expressions.ExprKind.TheVariants as kind
+use Rattle.cl_syntax.specs.declared.expressions.Expr.TheDeep.{deep-Binding, deep-ExprKind}
+use denote.Param.Weighed.{most}
+
+pub most-nodes : (ts : List Term) → most (λ t. nodes t + 1) ts ≤ nodes_all (terms_of ts) + 1
+most-nodes [] = omega arith
+most-nodes (t ∷ ts) = omega (arith, most-nodes ts)
+
+pub most-bound : (bs : List Binding) → most deep-Binding bs ≤ nodes_bound (bindings_of bs) + 1
+most-bound [] = omega arith
+most-bound (b ∷ bs) = omega (arith, most-bound bs)
+
+pub kind-nodes : (k : ExprKind) → deep-ExprKind k ≤ nodes (term_of k)
+kind-nodes (kind.Constant v) = omega arith
+kind-nodes (kind.Variable x) = omega arith
+kind-nodes (kind.Slot x) = omega arith
+kind-nodes (kind.If t u v) = omega arith
+kind-nodes (kind.Let bs t) = omega (arith, most-bound bs.items)
+kind-nodes (kind.And ts) = omega (arith, most-nodes ts.items)
+kind-nodes (kind.Or ts) = omega (arith, most-nodes ts.items)
+kind-nodes (kind.Map x t u) = omega arith
+kind-nodes (kind.Filter x t u) = omega arith
+kind-nodes (kind.Fold x t a u v) = omega arith
+kind-nodes (kind.Operation o ts) = omega (arith, most-nodes ts.items)
+kind-nodes (kind.Call f ts) = omega (arith, most-nodes ts.items)
