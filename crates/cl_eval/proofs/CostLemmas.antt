@@ -5,7 +5,7 @@ use Rattle.cl_value.specs.Data.{Data, bool, list, items_of}
 use Rattle.cl_syntax.specs.Term as term
 use Rattle.cl_syntax.specs.Term.{Term, Terms, Bindings, none, part, unbound, binding}
 use Rattle.cl_syntax.specs.App.{function_named}
-use Rattle.cl_syntax.specs.declared.declarations.App.{App}
+use Rattle.cl_syntax.specs.declared.applications.App.{App}
 use Rattle.cl_syntax.specs.declared.declarations.FunctionDecl.{FunctionDecl}
 use Rattle.cl_eval.specs.declared.metering.Meter.{Meter}
 use Rattle.cl_eval.specs.declared.metering.Stop.{Stop}
@@ -58,18 +58,18 @@ pub grows-listed : (go : Go) → GoGrows go → (level : ℕ) (env : Env) (t : T
 grows-listed go g level env t = grows-then (go level env t) (λ d. lift (elements d)) (g level env t) (λ d. grows-lift (elements d))
 
 pub grows-each : (go : Go) → GoGrows go → (level : ℕ) (env : Env) (ts : Terms) (ds : List Data) → Grows (each go level env ts ds)
-grows-each go g level env none ds c d = omega arith
+grows-each go g level env none ds = grows-give ds
 grows-each go g level env (part t ts) ds =
     grows-then (go level env t) (λ d. each go level env ts (ds ++ d ∷ [])) (g level env t) (λ d. grows-each go g level env ts (ds ++ d ∷ []))
 
 pub grows-every : (go : Go) → GoGrows go → (level : ℕ) (env : Env) (ts : Terms) → Grows (every go level env ts)
-grows-every go g level env none c d = omega arith
+grows-every go g level env none = grows-give (bool true)
 grows-every go g level env (part t ts) =
     grows-then (tested go level env t) (λ b. if b then every go level env ts else give (bool false)) (grows-tested go g level env t)
     (λ b. grows-choice b (every go level env ts) (give (bool false)) (grows-every go g level env ts) (grows-give (bool false)))
 
 pub grows-some : (go : Go) → GoGrows go → (level : ℕ) (env : Env) (ts : Terms) → Grows (some go level env ts)
-grows-some go g level env none c d = omega arith
+grows-some go g level env none = grows-give (bool false)
 grows-some go g level env (part t ts) =
     grows-then (tested go level env t) (λ b. if b then give (bool true) else some go level env ts) (grows-tested go g level env t)
     (λ b. grows-choice b (give (bool true)) (some go level env ts) (grows-give (bool true)) (grows-some go g level env ts))
@@ -80,25 +80,25 @@ grows-let_in go g level (binding x s bs) t env =
     grows-then (go level env s) (λ d. let_in go level bs t ((x, d) ∷ env)) (g level env s) (λ d. grows-let_in go g level bs t ((x, d) ∷ env))
 
 pub grows-mapped : (go : Go) → GoGrows go → (level : ℕ) (env : Env) (x : List ℕ) (t : Term) (ds es : List Data) → Grows (mapped go level env x t ds es)
-grows-mapped go g level env x t [] es c d = omega arith
+grows-mapped go g level env x t [] es = grows-give es
 grows-mapped go g level env x t (a ∷ ds) es =
     grows-then (go level ((x, a) ∷ env) t) (λ e. mapped go level env x t ds (es ++ e ∷ [])) (g level ((x, a) ∷ env) t)
     (λ e. grows-mapped go g level env x t ds (es ++ e ∷ []))
 
 pub grows-filtered : (go : Go) → GoGrows go → (level : ℕ) (env : Env) (x : List ℕ) (t : Term) (ds es : List Data) → Grows (filtered go level env x t ds es)
-grows-filtered go g level env x t [] es c d = omega arith
+grows-filtered go g level env x t [] es = grows-give es
 grows-filtered go g level env x t (a ∷ ds) es =
     grows-then (tested go level ((x, a) ∷ env) t) (λ b. filtered go level env x t ds (if b then es ++ a ∷ [] else es)) (grows-tested go g level ((x, a) ∷ env) t)
     (λ b. grows-filtered go g level env x t ds (if b then es ++ a ∷ [] else es))
 
 pub grows-folded : (go : Go) → GoGrows go → (level : ℕ) (env : Env) (x y : List ℕ) (t : Term) (ds : List Data) (a : Data) → Grows (folded go level env x y t ds a)
-grows-folded go g level env x y t [] a c d = omega arith
+grows-folded go g level env x y t [] a = grows-give a
 grows-folded go g level env x y t (e ∷ ds) a =
     grows-then (go level ((y, a) ∷ (x, e) ∷ env) t) (λ b. folded go level env x y t ds b) (g level ((y, a) ∷ (x, e) ∷ env) t)
     (λ b. grows-folded go g level env x y t ds b)
 
 pub grows-called : (go : Go) → GoGrows go → (level : ℕ) (f : Option FunctionDecl) (ds : List Data) → Grows (called go level f ds)
-grows-called go g level None ds c d = omega arith
+grows-called go g level None ds = λ c d. omega arith
 grows-called go g level (Some f) ds =
     grows-choice (length ds == length f.parameters) (go level (given f.parameters ds) f.body) (trap 1) (g level (given f.parameters ds) f.body) (λ c d. omega arith)
 
@@ -131,7 +131,7 @@ grows-then_opening go g level env x y opening t d =
     (λ a. grows-then_fold go g level env x y t d a)
 
 grows-parts : (app : App) (slots : Slots) (go : Go) → GoGrows go → (level : ℕ) (env : Env) (t : Term) → Grows (parts app slots go level env t)
-grows-parts app slots go g level env (term.constant x) c d = omega arith
+grows-parts app slots go g level env (term.constant x) = grows-give x
 grows-parts app slots go g level env (term.variable x) = grows-lift (or_trap 1 (found x env))
 grows-parts app slots go g level env (term.slot x) = grows-lift (or_trap 1 (found x slots))
 grows-parts app slots go g level env (term.choice t u v) =

@@ -2,7 +2,7 @@
 use Rattle.std.proofs.Common.{◌≡◌, ℕ, zero, suc, ◌+◌, ◌-◌, Bool, true, false, if◌then◌else◌, nat_le, refl, arith, ap}
 use Rattle.cl_value.specs.Data.{Data}
 use Rattle.cl_syntax.specs.Term.{Term}
-use Rattle.cl_syntax.specs.declared.declarations.App.{App}
+use Rattle.cl_syntax.specs.declared.applications.App.{App}
 use Rattle.cl_eval.specs.Outcome.{Outcome, Gives, Traps, Run, after}
 use Rattle.cl_eval.specs.Slots.{Slots, Env}
 use Rattle.cl_eval.specs.Meaning.{entering, parts, means}

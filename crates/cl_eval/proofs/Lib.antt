@@ -1,3 +1,4 @@
 pub mod EnteringLemmas
 pub mod SlotLemmas
 pub mod CostLemmas
+pub mod StopLemmas

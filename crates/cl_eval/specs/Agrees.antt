@@ -1,6 +1,6 @@
 -- What a step of the evaluator answers, against what the definition says. Want of memory is no outcome; it comes before the
 -- cost of the outcome is passed.
-use Rattle.std.specs.Prelude.{◌≡◌, ◌≤◌, ℕ, Result, Ok, Err, List, map}
+use Rattle.std.specs.Prelude.{◌≡◌, ◌≤◌, ℕ, Result, Ok, Err, List, Vec, map}
 use Rattle.cl_eval.specs.declared.metering.Meter.{Meter}
 use Rattle.cl_eval.specs.declared.metering.Stop.{Stop}
 use Rattle.cl_eval.specs.declared.metering.Stop.TheVariants.{Trap, Memory}
@@ -8,7 +8,7 @@ use Rattle.cl_eval.specs.Outcome.{Outcome, Gives, Traps, cost_of}
 use Rattle.cl_value.specs.Data.{Data}
 use Rattle.cl_value.specs.Value.{data_of}
 use Rattle.cl_value.specs.declared.Value.{Value}
-use Rattle.smallvec.specs.SmallVec.{SmallVec}
+use Rattle.std.specs.declared.alloc.Global.{Global}
 
 abbrev pub Agrees : {A B : Type 0} → (A → B) → Result A Stop → Meter → Outcome B → Type 0
 Agrees f (Ok x) m o = o ≡ Gives (f x) m.cost m.deepest
@@ -30,6 +30,6 @@ Entered (Err Memory) m o = ⊥
 abbrev pub itself : {A : Type 0} → A → A
 itself x = x
 
--- the values in a small row
-abbrev pub items_are : SmallVec Value → List Data
+-- the values in a row
+abbrev pub items_are : Vec Value Global → List Data
 items_are v = map data_of v.items

@@ -7,5 +7,5 @@ use Rattle.cl_eval.specs.declared.variables.Scope.TheVariants as scope
 
 abbrev pub variables_of : Scope → Env
 variables_of (scope.Given e) = e.now
-variables_of (scope.Bound x v s) = (x.now, data_of v.now) ∷ variables_of s.now
+variables_of (scope.Bound' x v p s) = (x.now, data_of v.now) ∷ variables_of s
 variables_of (scope.Parameters xs vs) = given xs.now (map data_of vs.now)

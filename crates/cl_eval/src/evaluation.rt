@@ -9,13 +9,12 @@ ghost use Rattle.cl_eval.specs.Meaning.{called, each, every, filtered, folded, l
 ghost use Rattle.cl_eval.specs.Agrees.{Agrees, itself, items_are};
 
 use crate::metering::{Meter, Stop};
-use crate::operators::{elements, find_value, limit, operate, truth};
+use crate::operators::{add, add_if, elements, find_value, limit, operate, truth};
 use crate::slot_table::Slots;
 use crate::variables::Scope;
 use cl_outside::{Ledger, Steps};
 use cl_syntax::{App, Binding, Expr, ExprKind};
 use cl_value::{Text, Value, Values};
-use smallvec::SmallVec;
 use std::alloc::Global;
 
 /// What an expression is evaluated in: the application, the slots, and how many forms may be entered in all.
@@ -162,7 +161,7 @@ fn evaluate_let<L: Ledger>(
         [] => evaluate(context, body, scope, left, level, meter, steps),
         [first, rest @ ..] => {
             let value = evaluate(context, &first.value, scope, left, level, meter, steps)?;
-            let inner = Scope::Bound(&first.name, &value, scope);
+            let inner = Scope::Bound(&first.name, &value, &*scope);
             evaluate_let(context, rest, body, &inner, left, level, meter, steps)
         }
     }
@@ -178,12 +177,12 @@ pub fn evaluate_each<L: Ledger>(
     level: u32,
     meter: &mut Meter,
     steps: &mut Steps<L>,
-) -> Result<SmallVec<Value, 3>, Stop>
+) -> Result<Vec<Value>, Stop>
     requires { level + left < 2 ^ 32 }
     ensures meaning { Agrees items_are result meter.new (each (means left context.now.budget context.now.app.now context.now.slots.now) level (variables_of scope.now) (terms_of parts.now) [] meter.old.cost meter.old.deepest) }
     ensures ledger { steps.new + meter.old.cost ≡ steps.old + meter.new.cost }
 {
-    let mut values = SmallVec::new(context.alloc);
+    let mut values = Vec::new(context.alloc);
     for part in parts {
         let value = evaluate(context, part, scope, left, level, meter, steps)?;
         values.push(value)?;
@@ -258,7 +257,7 @@ fn map_over<L: Ledger>(
 {
     let mut values = Values::new(context.alloc);
     for item in list {
-        let inner = Scope::Bound(name, item, scope);
+        let inner = Scope::Bound(&*name, item, &*scope);
         let value = evaluate(context, body, &inner, left, level, meter, steps)?;
         add(&mut values, value)?;
     }
@@ -284,7 +283,7 @@ fn filter_over<L: Ledger>(
 {
     let mut values = Values::new(context.alloc);
     for item in list {
-        let inner = Scope::Bound(name, item, scope);
+        let inner = Scope::Bound(&*name, item, &*scope);
         let kept = evaluate_test(context, body, &inner, left, level, meter, steps)?;
         add_if(kept, &mut values, item)?;
     }
@@ -312,8 +311,8 @@ fn fold_over<L: Ledger>(
 {
     let mut value = opening;
     for item in list {
-        let element = Scope::Bound(name, item, scope);
-        let inner = Scope::Bound(accumulator, &value, &element);
+        let element = Scope::Bound(&*name, item, &*scope);
+        let inner = Scope::Bound(&*accumulator, &value, &element);
         let next = evaluate(context, body, &inner, left, level, meter, steps)?;
         value = next;
     }
@@ -337,7 +336,7 @@ fn call<L: Ledger>(
 {
     match context.app.function(name) {
         Some(function) if function.parameters.len() == values.len() => {
-            let inner = Scope::Parameters(&function.parameters, values);
+            let inner = Scope::Parameters(&function.parameters, &*values);
             evaluate(context, &function.body, &inner, left, level, meter, steps)
         }
         _ => Err(Stop::Trap(1)),

@@ -1,7 +1,7 @@
 //! Variables: those that a caller gives, and those that forms bind.
-ghost use Rattle.std.specs.Prelude.{◌≡◌, [], ◌∷◌, OnOk, OnErr, option_map, length, map};
+ghost use Rattle.std.specs.Prelude.{◌≡◌, [], ◌∷◌, OnOk, OnErr, option_map, reverse, map};
 ghost use Rattle.cl_value.specs.Value.{data_of};
-ghost use Rattle.cl_eval.specs.Slots.{found, given};
+ghost use Rattle.cl_eval.specs.Slots.{entry_of, found, given};
 ghost use Rattle.cl_eval.specs.Scope.{variables_of};
 
 use cl_syntax::Names;
@@ -52,12 +52,23 @@ impl Env {
     pub fn get(&self, name: &[u8]) -> Option<&Value>
         ensures { option_map (λ v. data_of v.now) result ≡ found name.now self.now }
     {
-        for variable in self.variables.iter().rev() {
-            if variable.0.as_slice() == name {
-                return Some(&variable.1);
+        newest(self.variables.as_slice(), name)
+    }
+}
+
+// The value of the last variable of that name.
+fn newest<'a>(variables: &'a [(Text, Value)], name: &[u8]) -> Option<&'a Value>
+    ensures { option_map (λ v. data_of v.now) result ≡ found name.now (reverse (map entry_of variables.now)) }
+{
+    match variables.split_last() {
+        Some((last, rest)) => {
+            if last.0.as_slice() == name {
+                Some(&last.1)
+            } else {
+                newest(rest, name)
             }
         }
-        None
+        None => None,
     }
 }
 
@@ -95,14 +106,17 @@ impl Scope<'_> {
 fn find<'a>(names: &[Text], values: &'a [Value], name: &[u8]) -> Option<&'a Value>
     ensures { option_map (λ v. data_of v.now) result ≡ found name.now (given names.now (map data_of values.now)) }
 {
-    match (names, values) {
-        ([first, names @ ..], [value, values @ ..]) => {
-            if first.as_slice() == name {
-                Some(value)
-            } else {
-                find(names, values, name)
+    match names.split_first() {
+        Some((first, names)) => match values.split_first() {
+            Some((value, values)) => {
+                if first.as_slice() == name {
+                    Some(value)
+                } else {
+                    find(names, values, name)
+                }
             }
-        }
-        _ => None,
+            None => None,
+        },
+        None => None,
     }
 }

@@ -1,15 +1,31 @@
-use Rattle.std.specs.Prelude.{ℕ, List, Option, Some, None, if◌then◌else◌, ◌==◌}
+-- What is found in an application.
+use Rattle.std.specs.Prelude.{ℕ, ◌==◌, List, [], Option, Some, None, if◌then◌else◌}
 use Rattle.std.specs.Cmp.Lexicographic.{pointwise}
-use Rattle.cl_syntax.specs.declared.declarations.App.{App}
+use Rattle.cl_syntax.specs.Form.{Form}
+use Rattle.cl_syntax.specs.Names.{named}
+use Rattle.cl_syntax.specs.declared.applications.App.{App}
 use Rattle.cl_syntax.specs.declared.declarations.RecordDecl.{RecordDecl}
 use Rattle.cl_syntax.specs.declared.declarations.FunctionDecl.{FunctionDecl}
-use Rattle.cl_syntax.specs.declared.types.TypeSpec.{TypeSpec}
-
-abbrev pub function_named : List ℕ → App → Option FunctionDecl
-function_named x app = if pointwise ◌==◌ app.function.name x then Some app.function else None
+use Rattle.cl_syntax.specs.declared.declarations.DisplayDecl.{DisplayDecl}
+use Rattle.cl_syntax.specs.declared.type_specs.TypeSpec.{TypeSpec}
 
 abbrev pub record_named : List ℕ → App → Option RecordDecl
-record_named x app = if pointwise ◌==◌ app.record.name x then Some app.record else None
+record_named x app = named x app.records
 
+abbrev pub function_named : List ℕ → App → Option FunctionDecl
+function_named x app = named x app.functions
+
+abbrev pub display_named : List ℕ → App → Option DisplayDecl
+display_named x app = named x app.displays
+
+-- the type of the slot of that name; None where there is no such slot
 abbrev pub slot_type : List ℕ → App → Option TypeSpec
-slot_type x app = if pointwise ◌==◌ app.slot.name x then Some app.slot.spec else None
+slot_type x app = if pointwise ◌==◌ x app.frame.slot.name then Some app.frame.slot.spec else None
+
+abbrev pub body_of : Option DisplayDecl → List Form
+body_of None = []
+body_of (Some d) = d.body
+
+-- the forms of the display that the pane names; none where there is no such display
+abbrev pub pane_forms : App → List Form
+pane_forms app = body_of (display_named app.frame.pane.display app)

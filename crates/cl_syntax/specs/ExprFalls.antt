@@ -1,7 +1,7 @@
 -- An expression's parts have fewer forms than it has, by which a recursion over expressions ends.
-use Rattle.std.specs.Prelude.{◌≤◌, ◌+◌, ◌<◌, List, [], ◌∷◌}
+use Rattle.std.specs.Prelude.{◌≤◌, ◌+◌, List, [], ◌∷◌}
 use Rattle.std.proofs.Common.{arith}
-use Rattle.cl_syntax.specs.Term.{Term, constant, variable, slot, choice, bind, every, some, map, filter, fold, operation, call, terms_of, nodes, nodes_all, nodes_bound}
+use Rattle.cl_syntax.specs.Term.{Term, terms_of, nodes, nodes_all, nodes_bound}
 use Rattle.cl_syntax.specs.Expr.{term_of, bindings_of}
 use Rattle.cl_syntax.specs.declared.expressions.Binding.{Binding}
 use Rattle.cl_syntax.specs.declared.expressions.ExprKind.{ExprKind}

@@ -1,8 +1,15 @@
+pub mod Names
 pub mod Code
 pub mod Term
 pub mod TermCode
 pub mod Expr
 pub mod ExprFalls
-
-
+pub mod Form
+pub mod FormCode
+pub mod Shape
+pub mod ShapeFalls
+pub mod Statement
+pub mod StatementCode
+pub mod Act
+pub mod ActFalls
 pub mod App

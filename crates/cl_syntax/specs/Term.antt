@@ -42,7 +42,7 @@ abbrev pub terms_of : List Term → Terms
 terms_of [] = none
 terms_of (t ∷ ts) = part t (terms_of ts)
 
--- how many forms it has
+-- a size that is greater than that of each part: the number of its forms
 abbrev mutual
   pub nodes : Term → ℕ
   nodes (constant d) = 1

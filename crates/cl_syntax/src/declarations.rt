@@ -1,38 +1,13 @@
-ghost use Rattle.std.specs.Prelude.{◌≡◌, option_map, length};
-ghost use Rattle.cl_syntax.specs.App.{function_named, record_named, slot_type};
-
+//! What an application text declares. In each declaration `at` is its offset in the text in bytes.
+use crate::display_forms::Shapes;
 use crate::expressions::Expr;
-use crate::types::TypeSpec;
+use crate::names::Names;
+use crate::statements::Acts;
+use crate::tables::{Declared, Table};
+use crate::type_specs::TypeSpec;
 use cl_value::{Text, Value};
-use std::marker::Model;
 
-#[derive(Drop)]
-pub struct Names {
-    items: Vec<Text>,
-}
-
-impl Model for Names {
-    ghost use Rattle.std.specs.Prelude.{ℕ, List};
-
-    ghost Value = { List (List ℕ) };
-
-    ghost view = { λ l. l.items.items };
-}
-
-impl Names {
-    pub fn as_slice(&self) -> &[Text]
-        ensures { result.now ≡ self.now }
-    {
-        self.items.as_slice()
-    }
-
-    pub fn len(&self) -> usize
-        ensures { result ≡ length self.now }
-    {
-        self.items.len()
-    }
-}
-
+/// `(define-record NAME FIELD ...)`
 #[derive(Drop)]
 pub struct RecordDecl {
     pub name: Text,
@@ -40,6 +15,7 @@ pub struct RecordDecl {
     pub at: u32,
 }
 
+/// `(define-function NAME (PARAMETER ...) BODY)`
 #[derive(Drop)]
 pub struct FunctionDecl {
     pub name: Text,
@@ -48,6 +24,71 @@ pub struct FunctionDecl {
     pub at: u32,
 }
 
+/// `(define-display NAME (PARAMETER ...) FORM ...)`
+#[derive(Drop)]
+pub struct DisplayDecl {
+    pub name: Text,
+    pub parameters: Names,
+    pub body: Shapes,
+    pub at: u32,
+}
+
+/// The records of an application by name.
+pub type Records = Table<RecordDecl>;
+
+/// The functions of an application by name.
+pub type Functions = Table<FunctionDecl>;
+
+/// The displays of an application by name.
+pub type Displays = Table<DisplayDecl>;
+
+impl Declared for RecordDecl {
+    ghost own_name = { λ d. d.name };
+
+    fn name(&self) -> &Text {
+        &self.name
+    }
+}
+
+impl Declared for FunctionDecl {
+    ghost own_name = { λ d. d.name };
+
+    fn name(&self) -> &Text {
+        &self.name
+    }
+}
+
+impl Declared for DisplayDecl {
+    ghost own_name = { λ d. d.name };
+
+    fn name(&self) -> &Text {
+        &self.name
+    }
+}
+
+/// `(define-command NAME () STATEMENT ...)`. The command-line name is made from the symbol: a leading
+/// `com-` is dropped, hyphens become spaces, and the first letter of each word becomes a capital.
+#[derive(Drop)]
+pub struct CommandDecl {
+    pub name: Text,
+    pub line_name: Text,
+    pub body: Acts,
+    pub at: u32,
+}
+
+/// `(define-application-frame NAME (:size WIDTH HEIGHT) (:slots SLOT) (:panes PANE))`, sizes in
+/// cells.
+#[derive(Drop)]
+pub struct FrameDecl {
+    pub name: Text,
+    pub width: u16,
+    pub height: u16,
+    pub slot: SlotDecl,
+    pub pane: PaneDecl,
+    pub at: u32,
+}
+
+/// `(NAME TYPE OPENING)`
 #[derive(Drop)]
 pub struct SlotDecl {
     pub name: Text,
@@ -55,41 +96,13 @@ pub struct SlotDecl {
     pub opening: Value,
 }
 
+/// `(NAME X Y WIDTH HEIGHT DISPLAY)`, in cells of the frame.
 #[derive(Drop)]
-pub struct App {
-    pub record: RecordDecl,
-    pub function: FunctionDecl,
-    pub slot: SlotDecl,
-}
-
-impl App {
-    pub fn function(&self, name: &Text) -> Option<&FunctionDecl>
-        ensures { option_map (λ d. d.now) result ≡ function_named name.now self.now }
-    {
-        if self.function.name.as_slice() == name.as_slice() {
-            Some(&self.function)
-        } else {
-            None
-        }
-    }
-
-    pub fn record(&self, name: &Text) -> Option<&RecordDecl>
-        ensures { option_map (λ d. d.now) result ≡ record_named name.now self.now }
-    {
-        if self.record.name.as_slice() == name.as_slice() {
-            Some(&self.record)
-        } else {
-            None
-        }
-    }
-
-    pub fn slot_spec(&self, name: &Text) -> Option<&TypeSpec>
-        ensures { option_map (λ d. d.now) result ≡ slot_type name.now self.now }
-    {
-        if self.slot.name.as_slice() == name.as_slice() {
-            Some(&self.slot.spec)
-        } else {
-            None
-        }
-    }
+pub struct PaneDecl {
+    pub name: Text,
+    pub x: u16,
+    pub y: u16,
+    pub width: u16,
+    pub height: u16,
+    pub display: Text,
 }

@@ -33,11 +33,11 @@ pub enum ExprKind {
     And(Vec<Expr>),
     /// `(or E ...)`
     Or(Vec<Expr>),
-    /// `(map (NAME LIST) BODY)`
+    /// `(map NAME LIST BODY)`
     Map(Text, Box<Expr>, Box<Expr>),
-    /// `(filter (NAME LIST) BODY)`
+    /// `(filter NAME LIST BODY)`
     Filter(Text, Box<Expr>, Box<Expr>),
-    /// The name and its list, the accumulator and its opening value, the body.
+    /// `(fold NAME LIST ACCUMULATOR OPENING BODY)`
     Fold(Text, Box<Expr>, Text, Box<Expr>, Box<Expr>),
     /// An operator over the values of its parts.
     Operation(Operator, Vec<Expr>),
@@ -99,12 +99,7 @@ impl Expr {
         }
     }
 
-    pub fn choice(
-        alloc: Global,
-        test: Expr,
-        then: Expr,
-        other: Expr,
-    ) -> Result<Expr, AllocError>
+    pub fn choice(alloc: Global, test: Expr, then: Expr, other: Expr) -> Result<Expr, AllocError>
         ensures { IfOk result (λ e. e ≡ term.choice test then other) }
     {
         Ok(Expr {

@@ -1,12 +1,25 @@
-//! The trees of the application language.
+// The trees of the application language.
 #![tactic(auto)]
 
+pub mod applications;
 pub mod declarations;
+pub mod display_forms;
 pub mod expressions;
+pub mod names;
 pub mod operators;
-pub mod types;
+pub mod statements;
+pub mod tables;
+pub mod type_specs;
 
-pub use declarations::{App, FunctionDecl, Names, RecordDecl, SlotDecl};
+pub use applications::App;
+pub use declarations::{
+    CommandDecl, DisplayDecl, Displays, FrameDecl, FunctionDecl, Functions, PaneDecl, RecordDecl,
+    Records, SlotDecl,
+};
+pub use display_forms::{Shape, ShapeKind, Shapes};
 pub use expressions::{Binding, Expr, ExprKind};
+pub use names::Names;
 pub use operators::{Arithmetic, Comparison, ListOperator, Operator, RecordOperator, TextOperator};
-pub use types::TypeSpec;
+pub use statements::{Act, ActKind, Acts};
+pub use tables::{Declared, Table};
+pub use type_specs::TypeSpec;

@@ -1,6 +1,7 @@
+//! Specifiers of presentation types.
 use cl_value::Text;
 
-/// A type's name.
+/// A specifier: the name of a type.
 #[derive(Drop)]
 pub struct TypeSpec {
     pub name: Text,

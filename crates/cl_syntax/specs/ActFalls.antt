@@ -1,0 +1,22 @@
+-- A statement's parts have fewer statements than it has, by which a recursion over statements ends.
+use Rattle.std.specs.Prelude.{◌≤◌, ◌+◌, List, [], ◌∷◌}
+use Rattle.std.proofs.Common.{arith}
+use Rattle.cl_syntax.specs.Statement.{Statement, statements_of, nodes, nodes_all}
+use Rattle.cl_syntax.specs.Act.{statement_of}
+use Rattle.cl_syntax.specs.declared.statements.ActKind.{ActKind}
+use Rattle.cl_syntax.specs.declared.statements.ActKind.TheVariants as kind
+use Rattle.cl_syntax.specs.declared.statements.Act.TheDeep.{deep-ActKind}
+use denote.Param.Weighed.{most}
+
+pub most-nodes : (ss : List Statement) → most (λ s. nodes s + 1) ss ≤ nodes_all (statements_of ss)
+most-nodes [] = omega arith
+most-nodes (s ∷ ss) = omega (arith, most-nodes ss)
+
+pub kind-nodes : (k : ActKind) → deep-ActKind k ≤ nodes (statement_of k)
+kind-nodes (kind.Setf x t) = omega arith
+kind-nodes (kind.Reply t) = omega arith
+kind-nodes (kind.If t r s) = omega arith
+kind-nodes (kind.When t ss) = omega arith
+kind-nodes (kind.Let bs ss) = omega arith
+kind-nodes (kind.Dolist x t ss) = omega arith
+kind-nodes (kind.Progn ss) = omega arith

@@ -1,0 +1,166 @@
+//! Statements of the application language, which is our own profile's.
+ghost use Rattle.std.specs.Prelude.{◌≡◌, [], ◌∷◌, ◌++◌, IfOk, OnOk, OnErr};
+ghost use Rattle.cl_syntax.specs.Expr.{bindings_of};
+ghost use Rattle.cl_syntax.specs.Statement as statement;
+
+use crate::expressions::{Binding, Expr};
+use cl_value::Text;
+use std::alloc::{AllocError, Global};
+use std::marker::Model;
+
+/// A statement, which contracts see as its tree, a `Statement`.
+#[cycle(act)]
+#[derive(Drop)]
+pub struct Act {
+    pub kind: ActKind,
+}
+
+/// The rows of the table of statements, each with its parts.
+#[cycle(act)]
+#[derive(Drop)]
+pub enum ActKind {
+    /// `(setf (slot NAME) E)`
+    Setf(Text, Expr),
+    /// `(reply E)`
+    Reply(Expr),
+    /// `(if TEST THEN ELSE)`
+    If(Expr, Box<Act>, Box<Act>),
+    /// `(when TEST STATEMENT ...)`
+    When(Expr, Acts),
+    /// `(let ((NAME E) ...) STATEMENT ...)`
+    Let(Vec<Binding>, Acts),
+    /// `(dolist (NAME LIST) STATEMENT ...)`
+    Dolist(Text, Expr, Acts),
+    /// `(progn STATEMENT ...)`
+    Progn(Acts),
+}
+
+/// Statements in order, which contracts see as the list of their trees.
+#[cycle(act)]
+#[derive(Drop)]
+pub struct Acts {
+    items: Vec<Act>,
+}
+
+impl Model for Act {
+    ghost use Rattle.cl_syntax.specs.Statement.{Statement};
+    ghost use Rattle.cl_syntax.specs.StatementCode.{coded_statement};
+
+    ghost Value = { Statement };
+
+    ghost coded = { coded_statement };
+
+    ghost use Rattle.cl_syntax.specs.Statement.{nodes};
+    ghost use Rattle.cl_syntax.specs.Act.{statement_of};
+
+    ghost view = { λ a. statement_of a.kind };
+
+    ghost size = { nodes };
+
+    ghost use Rattle.std.proofs.Common.{arith};
+    ghost use Rattle.cl_syntax.specs.ActFalls.{kind-nodes};
+
+    ghost size_decreases = { λ a h. Prim.omega (arith, kind-nodes a.kind) };
+}
+
+impl Model for Acts {
+    ghost use Rattle.std.specs.Prelude.{List};
+    ghost use Rattle.std.specs.Coded.{coded_list};
+    ghost use Rattle.cl_syntax.specs.Statement.{Statement, statements_of, nodes_all};
+    ghost use Rattle.cl_syntax.specs.StatementCode.{coded_statement};
+
+    ghost Value = { List Statement };
+
+    ghost coded = { coded_list coded_statement };
+
+    ghost view = { λ a. a.items.items };
+
+    ghost size = { λ ss. nodes_all (statements_of ss) };
+
+    ghost use Rattle.std.proofs.Common.{arith};
+    ghost use Rattle.cl_syntax.specs.ActFalls.{most-nodes};
+
+    ghost size_decreases = { λ a h. Prim.omega (arith, most-nodes a.items.items) };
+}
+
+impl Act {
+    pub fn setf(name: Text, part: Expr) -> Act
+        ensures { result ≡ statement.setf name part }
+    {
+        Act {
+            kind: ActKind::Setf(name, part),
+        }
+    }
+
+    pub fn reply(part: Expr) -> Act
+        ensures { result ≡ statement.reply part }
+    {
+        Act {
+            kind: ActKind::Reply(part),
+        }
+    }
+
+    pub fn choice(alloc: Global, test: Expr, then: Act, other: Act) -> Result<Act, AllocError>
+        ensures { IfOk result (λ a. a ≡ statement.choice test then other) }
+    {
+        Ok(Act {
+            kind: ActKind::If(test, Box::new(alloc, then)?, Box::new(alloc, other)?),
+        })
+    }
+
+    pub fn when(test: Expr, body: Acts) -> Act
+        ensures { result ≡ statement.when test (statement.statements_of body) }
+    {
+        Act {
+            kind: ActKind::When(test, body),
+        }
+    }
+
+    pub fn bind(bindings: Vec<Binding>, body: Acts) -> Act
+        ensures { result ≡ statement.bind (bindings_of bindings.items) (statement.statements_of body) }
+    {
+        Act {
+            kind: ActKind::Let(bindings, body),
+        }
+    }
+
+    pub fn each(name: Text, list: Expr, body: Acts) -> Act
+        ensures { result ≡ statement.each name list (statement.statements_of body) }
+    {
+        Act {
+            kind: ActKind::Dolist(name, list, body),
+        }
+    }
+
+    pub fn sequence(body: Acts) -> Act
+        ensures { result ≡ statement.sequence (statement.statements_of body) }
+    {
+        Act {
+            kind: ActKind::Progn(body),
+        }
+    }
+}
+
+impl Acts {
+    pub fn new(alloc: Global) -> Acts
+        ensures { result ≡ [] }
+    {
+        Acts {
+            items: Vec::new(alloc),
+        }
+    }
+
+    pub fn push(&mut self, act: Act) -> Result<(), AllocError>
+        ensures ok { OnOk result (self.new ≡ self.old ++ act ∷ []) }
+        ensures err { OnErr result (self.new ≡ self.old) }
+    {
+        self.items.push(act)?;
+        Ok(())
+    }
+
+    pub fn as_slice(&self) -> &[Act]
+        ensures { result.now ≡ self.now }
+    {
+        self.items.as_slice()
+    }
+}

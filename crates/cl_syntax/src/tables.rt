@@ -1,0 +1,78 @@
+//! Tables of declarations.
+ghost use Rattle.std.specs.Prelude.{◌≡◌, ◌↔◌, [], ◌∷◌, ◌++◌, length, None, OnOk, OnErr, IfErr, IsTrue, option_map};
+ghost use Rattle.cl_syntax.specs.Names.{named};
+
+use cl_value::Text;
+use indexmap::IndexMap;
+use std::alloc::Global;
+use std::marker::Model;
+
+/// What is declared under a name.
+pub trait Declared: Drop {
+    ghost use Rattle.std.specs.Prelude.{ℕ, List};
+
+    ghost own_name: { Self → List ℕ };
+
+    fn name(&self) -> &Text
+        ensures { result.now ≡ own_name self.now };
+}
+
+/// Declarations by name, seen as the list of the names with their declarations, in order of declaration.
+#[derive(Drop)]
+pub struct Table<D> {
+    entries: IndexMap<Text, D>,
+}
+
+impl<D> Model for Table<D> {
+    ghost use Rattle.std.specs.Prelude.{ℕ, List};
+
+    ghost Value = { List (List ℕ × D) };
+
+    ghost view = { λ t. t.entries.entries };
+}
+
+impl<D: Declared> Table<D> {
+    /// A table without declarations, which takes no memory.
+    pub fn new(alloc: Global) -> Table<D>
+        ensures { result ≡ [] }
+    {
+        Table {
+            entries: IndexMap::new(alloc),
+        }
+    }
+
+    /// The declaration of that name.
+    pub fn get(&self, name: &Text) -> Option<&D>
+        ensures { option_map (λ d. d.now) result ≡ named name.now self.now }
+    {
+        self.entries.get(name)
+    }
+
+    /// Puts a declaration behind the others. Where memory is wanting, it hands it back.
+    pub fn add(&mut self, declaration: D) -> Result<(), D>
+        requires { named (D.own_name declaration) self.old ≡ None }
+        ensures ok { OnOk result (self.new ≡ self.old ++ (D.own_name declaration, declaration) ∷ []) }
+        ensures err { OnErr result (self.new ≡ self.old) }
+        ensures handed_back { IfErr result (λ d. d ≡ declaration) }
+    {
+        let Ok(name) = declaration.name().copy() else {
+            return Err(declaration);
+        };
+        match self.entries.insert(name, declaration) {
+            Ok(_) => Ok(()),
+            Err(failed) => Err(failed.value.1),
+        }
+    }
+
+    pub fn len(&self) -> usize
+        ensures { result ≡ length self.now }
+    {
+        self.entries.len()
+    }
+
+    pub fn is_empty(&self) -> bool
+        ensures { IsTrue result ↔ (self.now ≡ []) }
+    {
+        self.entries.is_empty()
+    }
+}
