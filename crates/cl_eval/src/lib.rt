@@ -1,13 +1,19 @@
 //! The evaluator of expressions and statements.
 #![tactic(auto)]
 
-pub mod evaluation;
-pub mod metering;
-pub mod operators;
-pub mod slot_table;
-pub mod variables;
+mod evaluation;
+mod laws;
+mod lists;
+mod metering;
+mod numbers;
+mod operators;
+mod records;
+mod slot_table;
+mod texts;
+mod variables;
 
-pub use evaluation::{Context, evaluate};
+pub use evaluation::{Context, evaluate, evaluate_each, evaluate_list, evaluate_test};
+pub use laws::quotient_is_rounded_down;
 pub use metering::{Limits, Meter, Stop};
 pub use slot_table::Slots;
 pub use variables::{Env, Scope};

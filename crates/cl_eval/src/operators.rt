@@ -1,57 +1,151 @@
-//! Stub.
-ghost use Rattle.std.specs.Prelude.{◌≡◌, Ok, ◌++◌, ◌∷◌, [], map, option_map, if◌then◌else◌};
+//! The operators, over the values of their parts.
+ghost use Rattle.std.specs.Prelude.{◌≡◌, Ok, pos, ◌++◌, ◌∷◌, [], map, option_map, if◌then◌else◌, IfOk};
 ghost use Rattle.cl_value.specs.Value.{data_of};
-ghost use Rattle.cl_eval.specs.Operators.{elements, limited, operated, or_trap, truth};
+ghost use Rattle.cl_eval.specs.Operators.{elements, equal_of, is_null_of, length_of, limited, not_of, number, operated, or_trap, truth};
 ghost use Rattle.cl_eval.specs.Agrees.{Comes, itself};
 
+use crate::lists::list_operation;
 use crate::metering::Stop;
+use crate::numbers::{arithmetic, comparison};
+use crate::records::record_operation;
+use crate::texts::text_operation;
 use cl_syntax::{App, Operator};
 use cl_value::{Value, Values};
 use std::alloc::Global;
 
+/// The greatest size of a value, and its greatest depth.
+pub const MOST_SIZE: u64 = 65_536;
+const MOST_DEPTH: u64 = 64;
+
+/// The value of an operator over the values of its parts. A wrong kind or count of parts traps with 1.
 pub fn operate(
-    _alloc: Global,
-    _app: &App,
-    _operator: &Operator,
-    _values: &[Value],
+    alloc: Global,
+    app: &App,
+    operator: &Operator,
+    values: &[Value],
 ) -> Result<Value, Stop>
-    ensures { Comes data_of result (operated _app.now _operator.now (map data_of _values.now)) }
+    ensures { Comes data_of result (operated app.now operator.now (map data_of values.now)) }
 {
-    Err(Stop::Memory)
+    match operator {
+        Operator::Arithmetic(operator) => arithmetic(*operator, values),
+        Operator::Comparison(operator) => comparison(*operator, values),
+        Operator::List(operator) => list_operation(alloc, *operator, values),
+        Operator::Text(operator) => text_operation(alloc, *operator, values),
+        Operator::Record(operator) => record_operation(alloc, app, operator, values),
+        Operator::Not => not(values),
+        Operator::Equal => equal(values),
+        Operator::Length => length(values),
+        Operator::IsNull => is_null(values),
+    }
 }
 
-pub fn limit(_value: Value) -> Result<Value, Stop>
-    ensures { Comes data_of result (limited (data_of _value)) }
+/// The value where it is within its limits.
+pub fn limit(value: Value) -> Result<Value, Stop>
+    ensures { Comes data_of result (limited (data_of value)) }
 {
-    Err(Stop::Memory)
+    if value.size() <= MOST_SIZE && value.depth() <= MOST_DEPTH {
+        Ok(value)
+    } else {
+        Err(Stop::Trap(7))
+    }
 }
 
-pub fn find_value(_value: Option<&Value>) -> Result<Value, Stop>
-    ensures { Comes data_of result (or_trap 1 (option_map (λ v. data_of v.now) _value.entry)) }
+/// A copy of a value that was looked for.
+pub fn find_value(value: Option<&Value>) -> Result<Value, Stop>
+    ensures { Comes data_of result (or_trap 1 (option_map (λ v. data_of v.now) value.entry)) }
 {
-    Err(Stop::Memory)
+    match value {
+        Some(value) => Ok(value.copy()?),
+        None => Err(Stop::Trap(1)),
+    }
 }
 
-pub fn truth(_value: &Value) -> Result<bool, Stop>
-    ensures { Comes itself result (truth (data_of _value.now)) }
+/// A Bool, where a test is asked for.
+pub fn truth(value: &Value) -> Result<bool, Stop>
+    ensures { Comes itself result (truth (data_of value.now)) }
 {
-    Err(Stop::Memory)
+    match value {
+        Value::Bool(truth) => Ok(*truth),
+        _ => Err(Stop::Trap(1)),
+    }
 }
 
-pub fn elements(_value: Value) -> Result<Values, Stop>
-    ensures { Comes itself result (elements (data_of _value)) }
+/// The parts of a list, where one is asked for.
+#[tactic(auto, using(crate::proofs::ListLemmas::list_of_items))]
+pub fn elements(value: Value) -> Result<Values, Stop>
+    ensures { Comes itself result (elements (data_of value)) }
 {
-    Err(Stop::Memory)
+    match value {
+        Value::List(parts) => Ok(parts),
+        _ => Err(Stop::Trap(1)),
+    }
 }
 
-pub fn add(values: &mut Values, _value: Value) -> Result<(), Stop>
-    ensures { Comes (λ _. values.new) result (Ok (values.old ++ data_of _value ∷ [])) }
+/// One value more.
+pub fn add(values: &mut Values, value: Value) -> Result<(), Stop>
+    ensures { Comes (λ _. values.new) result (Ok (values.old ++ data_of value ∷ [])) }
 {
-    Err(Stop::Memory)
+    match values.push(value) {
+        Ok(()) => Ok(()),
+        Err(_) => Err(Stop::Memory),
+    }
 }
 
-pub fn add_if(_kept: bool, values: &mut Values, _value: &Value) -> Result<(), Stop>
-    ensures { Comes (λ _. values.new) result (Ok (if _kept then values.old ++ data_of _value.now ∷ [] else values.old)) }
+/// A copy of the value more, where it is kept.
+pub fn add_if(kept: bool, values: &mut Values, value: &Value) -> Result<(), Stop>
+    ensures { Comes (λ _. values.new) result (Ok (if kept then values.old ++ data_of value.now ∷ [] else values.old)) }
 {
-    Err(Stop::Memory)
+    if kept {
+        add(values, value.copy()?)
+    } else {
+        Ok(())
+    }
+}
+
+fn not(values: &[Value]) -> Result<Value, Stop>
+    ensures { Comes data_of result (not_of (map data_of values.now)) }
+{
+    match values {
+        [Value::Bool(truth)] => Ok(Value::Bool(!*truth)),
+        _ => Err(Stop::Trap(1)),
+    }
+}
+
+fn equal(values: &[Value]) -> Result<Value, Stop>
+    ensures { Comes data_of result (equal_of (map data_of values.now)) }
+{
+    match values {
+        [first, second] => Ok(Value::Bool(first.order(second).is_eq())),
+        _ => Err(Stop::Trap(1)),
+    }
+}
+
+#[tactic(auto, using(std::proofs::lemmas::Grind::common_steps, crate::proofs::ListLemmas::list_of_items))]
+fn length(values: &[Value]) -> Result<Value, Stop>
+    ensures { Comes data_of result (length_of (map data_of values.now)) }
+{
+    match values {
+        [Value::List(parts)] => count(parts.as_slice().len()),
+        [Value::Text(text)] => count(text.as_slice().len()),
+        _ => Err(Stop::Trap(1)),
+    }
+}
+
+// A count as a number.
+fn count(length: usize) -> Result<Value, Stop>
+    ensures { Comes data_of result (number (pos length)) }
+{
+    match i64::try_from(length) {
+        Ok(number) => Ok(Value::Int(number)),
+        Err(_) => Err(Stop::Trap(2)),
+    }
+}
+
+fn is_null(values: &[Value]) -> Result<Value, Stop>
+    ensures { Comes data_of result (is_null_of (map data_of values.now)) }
+{
+    match values {
+        [value] => Ok(Value::Bool(matches!(value, Value::Null))),
+        _ => Err(Stop::Trap(1)),
+    }
 }
