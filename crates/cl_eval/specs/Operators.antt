@@ -1,6 +1,6 @@
 -- The operators, over the values of their parts: a value, or the kind of a trap.
 -- Traps: 1 a wrong kind, or a wrong count of parts; 2 a number past 64 bits; 3 a zero divisor; 4 no such place; 7 a value past its limits.
-use Rattle.std.specs.Prelude.{◌≡◌, ℕ, zero, suc, ◌+◌, ◌-◌, ◌^◌, ◌*◌, ℤ, pos, negsuc, neg_ℤ, ◌+ℤ◌, ◌-ℤ◌, ◌*ℤ◌, int_lt, int_le, Bool, true, false, not, ◌&&◌, nat_lt, nat_le, ◌==◌, if◌then◌else◌, List, [], ◌∷◌, ◌++◌, length, drop, replicate, slice_range, Option, Some, None, Result, Ok, Err}
+use Rattle.std.specs.Prelude.{◌≡◌, ℕ, zero, suc, ◌+◌, ◌-◌, ◌^◌, ◌*◌, ℤ, pos, negsuc, neg_ℤ, ◌+ℤ◌, ◌-ℤ◌, ◌*ℤ◌, int_lt, int_le, Bool, true, false, not, ◌&&◌, nat_lt, nat_le, ◌==◌, if◌then◌else◌, List, [], ◌∷◌, ◌++◌, length, drop, replicate, slice_range, position, Option, Some, None, Result, Ok, Err}
 use Rattle.std.specs.Fmt.{signed_decimal}
 use Rattle.std.specs.Int.{int_min, int_max, int_div_euclid}
 use Rattle.std.specs.declared.cmp.Ordering.{Ordering}
@@ -162,10 +162,12 @@ text_made o ds = Err 1
 
 -- ---- records
 
+abbrev pub is_called : List ℕ → List ℕ → Bool
+is_called x y = is_name y x
+
 -- the place of the first of these names
 abbrev pub place_of : List ℕ → List (List ℕ) → Option ℕ
-place_of x [] = None
-place_of x (y ∷ ys) = if is_name y x then Some 0 else (elim (place_of x ys) [ None ↦ None | Some n ↦ Some (suc n) ])
+place_of x ys = position (is_called x) ys
 
 -- the place of a field among those of a record that is declared
 abbrev pub field_place : List ℕ → Option RecordDecl → Option ℕ

@@ -14,7 +14,7 @@ use cl_value::{Value, Values};
 use std::alloc::Global;
 
 /// The greatest size of a value, and its greatest depth.
-const MOST_SIZE: u64 = 65_536;
+pub const MOST_SIZE: u64 = 65_536;
 const MOST_DEPTH: u64 = 64;
 
 /// The value of an operator over the values of its parts. A wrong kind or count of parts traps with 1.
@@ -52,7 +52,7 @@ pub fn limit(value: Value) -> Result<Value, Stop>
 
 /// A copy of a value that was looked for.
 pub fn find_value(value: Option<&Value>) -> Result<Value, Stop>
-    ensures { Comes data_of result (or_trap 1 (option_map (λ v. data_of v.now) value)) }
+    ensures { Comes data_of result (or_trap 1 (option_map (λ v. data_of v.now) value.entry)) }
 {
     match value {
         Some(value) => Ok(value.copy()?),
@@ -71,6 +71,7 @@ pub fn truth(value: &Value) -> Result<bool, Stop>
 }
 
 /// The parts of a list, where one is asked for.
+#[tactic(auto, using(crate::proofs::ListLemmas::list_of_items))]
 pub fn elements(value: Value) -> Result<Values, Stop>
     ensures { Comes itself result (elements (data_of value)) }
 {
@@ -119,6 +120,7 @@ fn equal(values: &[Value]) -> Result<Value, Stop>
     }
 }
 
+#[tactic(auto, using(crate::proofs::ListLemmas::list_of_items))]
 fn length(values: &[Value]) -> Result<Value, Stop>
     ensures { Comes data_of result (length_of (map data_of values.now)) }
 {
