@@ -63,7 +63,7 @@ fn list(alloc: Global, values: &[Value]) -> Result<Value, Stop>
     limit(Value::List(copy_all(alloc, values)?))
 }
 
-#[tactic(auto, using(crate::proofs::ListLemmas::list_of_items))]
+#[tactic(auto, using(std::proofs::lemmas::Grind::common_steps, crate::proofs::ListLemmas::list_of_items))]
 fn nth(values: &[Value]) -> Result<Value, Stop>
     ensures { Comes data_of result (list_made row.Nth (map data_of values.now)) }
 {
@@ -85,7 +85,7 @@ fn part_at(parts: &Values, place: i64) -> Result<Value, Stop>
     }
 }
 
-#[tactic(auto, using(crate::proofs::ListLemmas::list_of_items))]
+#[tactic(auto, using(std::proofs::lemmas::Grind::common_steps, crate::proofs::ListLemmas::list_of_items))]
 fn rest(alloc: Global, values: &[Value]) -> Result<Value, Stop>
     ensures { Comes data_of result (list_made row.Rest (map data_of values.now)) }
 {
@@ -104,7 +104,7 @@ fn all_but_first(alloc: Global, parts: &Values) -> Result<Value, Stop>
     }
 }
 
-#[tactic(auto, using(crate::proofs::ListLemmas::list_of_items))]
+#[tactic(auto, using(std::proofs::lemmas::Grind::common_steps, crate::proofs::ListLemmas::list_of_items))]
 fn cons(alloc: Global, values: &[Value]) -> Result<Value, Stop>
     ensures { Comes data_of result (list_made row.Cons (map data_of values.now)) }
 {
@@ -123,7 +123,7 @@ fn with_first(alloc: Global, first: &Value, rest: &Values) -> Result<Values, All
     Ok(parts)
 }
 
-#[tactic(auto, using(crate::proofs::ListLemmas::list_of_items))]
+#[tactic(auto, using(std::proofs::lemmas::Grind::common_steps, crate::proofs::ListLemmas::list_of_items))]
 fn append(values: &[Value]) -> Result<Value, Stop>
     ensures { Comes data_of result (list_made row.Append (map data_of values.now)) }
 {
@@ -141,7 +141,7 @@ fn joined(first: &Values, second: &Values) -> Result<Values, AllocError>
     Ok(parts)
 }
 
-#[tactic(auto, using(crate::proofs::ListLemmas::list_of_items))]
+#[tactic(auto, using(std::proofs::lemmas::Grind::common_steps, crate::proofs::ListLemmas::list_of_items))]
 fn contains(values: &[Value]) -> Result<Value, Stop>
     ensures { Comes data_of result (list_made row.Contains (map data_of values.now)) }
 {
@@ -173,7 +173,7 @@ fn range(alloc: Global, values: &[Value]) -> Result<Value, Stop>
 }
 
 // The numbers from the first to the last. There may be 2^64 of them, so they are counted before any is made.
-#[tactic(auto, using(crate::proofs::ListLemmas::numbers_size, crate::proofs::ListLemmas::numbers_depth))]
+#[tactic(auto, using(crate::proofs::ListLemmas::numbers_size))]
 fn numbers(alloc: Global, first: i64, last: i64) -> Result<Value, Stop>
     ensures { Comes data_of result (range_of first last) }
 {

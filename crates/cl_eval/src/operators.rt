@@ -120,7 +120,7 @@ fn equal(values: &[Value]) -> Result<Value, Stop>
     }
 }
 
-#[tactic(auto, using(crate::proofs::ListLemmas::list_of_items))]
+#[tactic(auto, using(std::proofs::lemmas::Grind::common_steps, crate::proofs::ListLemmas::list_of_items))]
 fn length(values: &[Value]) -> Result<Value, Stop>
     ensures { Comes data_of result (length_of (map data_of values.now)) }
 {

@@ -14,6 +14,7 @@ use std::alloc::{AllocError, Global};
 
 /// What is made of records, or asked of them. A record that is not declared, or that has no such field,
 /// traps with 1.
+#[tactic(auto, using(std::proofs::lemmas::Grind::common_steps, crate::proofs::ListLemmas::list_of_items))]
 pub fn record_operation(
     alloc: Global,
     app: &App,
@@ -23,43 +24,43 @@ pub fn record_operation(
     ensures { Comes data_of result (record_made app.now operator.now (map data_of values.now)) }
 {
     match operator {
-        RecordOperator::Make(record) => make(alloc, app, record, values),
+        RecordOperator::Make(name) => make(alloc, app, name, values),
         RecordOperator::Get(field) => match values {
-            [Value::Record(record, parts)] => part_at(parts, field_place(app, record, field)),
+            [Value::Record(name, parts)] => part_at(parts, field_place(app, name, field)),
             _ => Err(Stop::Trap(1)),
         },
         RecordOperator::With(field) => match values {
-            [Value::Record(record, parts), value] => {
-                change(alloc, record, parts, field_place(app, record, field), value)
+            [Value::Record(name, parts), value] => {
+                change(alloc, name, parts, field_place(app, name, field), value)
             }
             _ => Err(Stop::Trap(1)),
         },
     }
 }
 
-fn make(alloc: Global, app: &App, record: &Text, values: &[Value]) -> Result<Value, Stop>
-    ensures { Comes data_of result (made record.now (record_named record.now app.now) (map data_of values.now)) }
+fn make(alloc: Global, app: &App, name: &Text, values: &[Value]) -> Result<Value, Stop>
+    ensures { Comes data_of result (made name.now (record_named name.now app.now) (map data_of values.now)) }
 {
-    match app.record(record) {
+    match app.record(name) {
         Some(declared) if declared.fields.len() == values.len() => {
-            limit(Value::Record(record.copy()?, copy_all(alloc, values)?))
+            limit(Value::Record(name.copy()?, copy_all(alloc, values)?))
         }
         _ => Err(Stop::Trap(1)),
     }
 }
 
 // The place of a field among those of its record.
-fn field_place(app: &App, record: &Text, field: &Text) -> Option<usize>
-    ensures { result ≡ field_place field.now (record_named record.now app.now) }
+fn field_place(app: &App, name: &Text, field: &Text) -> Option<usize>
+    ensures { result ≡ field_place field.now (record_named name.now app.now) }
 {
-    let declared = app.record(record)?;
+    let declared = app.record(name)?;
     place_of(field, declared.fields.as_slice())
 }
 
-fn place_of(name: &Text, names: &[Text]) -> Option<usize>
-    ensures { result ≡ place_of name.now names.now }
+fn place_of(field: &Text, names: &[Text]) -> Option<usize>
+    ensures { result ≡ place_of field.now names.now }
 {
-    names.iter().position(|other| other.as_slice() == name.as_slice())
+    names.iter().position(|name| name.as_slice() == field.as_slice())
 }
 
 fn part_at(parts: &Values, place: Option<usize>) -> Result<Value, Stop>
@@ -76,24 +77,24 @@ fn part_at(parts: &Values, place: Option<usize>) -> Result<Value, Stop>
 
 fn change(
     alloc: Global,
-    record: &Text,
+    name: &Text,
     parts: &Values,
     place: Option<usize>,
     value: &Value,
 ) -> Result<Value, Stop>
-    ensures { Comes data_of result (changed_at record.now place (data_of value.now) parts.now) }
+    ensures { Comes data_of result (changed_at name.now place (data_of value.now) parts.now) }
 {
     let parts = parts.as_slice();
     match place {
         Some(place) if place < parts.len() => {
-            limit(Value::Record(record.copy()?, with_part(alloc, parts, place, value)?))
+            limit(Value::Record(name.copy()?, with_part(alloc, parts, place, value)?))
         }
         _ => Err(Stop::Trap(1)),
     }
 }
 
 // The values with another one at that place.
-#[tactic(auto, using(crate::proofs::ListLemmas::with_part_split))]
+#[tactic(auto, using(std::proofs::lemmas::Grind::common_steps, crate::proofs::ListLemmas::with_part_split, crate::proofs::ListLemmas::rest_whole))]
 fn with_part(
     alloc: Global,
     parts: &[Value],
