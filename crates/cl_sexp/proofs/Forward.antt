@@ -57,7 +57,7 @@ forward_gap text tokens depth at n f g p l =
       inside = f.inside;
     }
 
-keeps_shallow : (kind : Kind) (depth : ℕ) → depth ≤ 64 → KeepsNest kind depth → depth_after kind depth ≤ 64
+pub keeps_shallow : (kind : Kind) (depth : ℕ) → depth ≤ 64 → KeepsNest kind depth → depth_after kind depth ≤ 64
 keeps_shallow Open depth h k = omega arith
 keeps_shallow Close depth h k = omega arith
 keeps_shallow Quote depth h k = h

@@ -2,3 +2,4 @@ pub mod Forward
 pub mod Decimals
 pub mod Lying
 pub mod Reading
+pub mod Faulty

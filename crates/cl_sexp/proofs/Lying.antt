@@ -21,12 +21,12 @@ use Rattle.cl_sexp.specs.declared.begin.Begins.TheVariants.{Gap, Lexeme, Fault}
 use Rattle.cl_sexp.proofs.Forward.{gap_step, token_step}
 
 -- what begins is what the bytes begin with
-abbrev BeginsSpells : List ℕ → Begins → Type 0
+abbrev pub BeginsSpells : List ℕ → Begins → Type 0
 BeginsSpells bs (Gap n) = (gap : List ℕ) × (rest : List ℕ) × (bs ≡ gap ++ rest) × (n ≡ length gap) × (0 < n) × IsBlank gap rest
 BeginsSpells bs (Lexeme kind n) = (word : List ℕ) × (rest : List ℕ) × (bs ≡ word ++ rest) × (n ≡ length word) × (0 < n) × Spells kind word rest
 BeginsSpells bs (Fault number n) = ⊤
 
-by_test : (P : Begins → Type 0) (b : Bool) (x y : Begins) → (b ≡ true → P x) → (b ≡ false → P y) → P (if b then x else y)
+pub by_test : (P : Begins → Type 0) (b : Bool) (x y : Begins) → (b ≡ true → P x) → (b ≡ false → P y) → P (if b then x else y)
 by_test P true x y f g = f refl
 by_test P false x y f g = g refl
 
@@ -34,7 +34,7 @@ is_or_not : (b : Bool) → (b ≡ true) ⊎ (b ≡ false)
 is_or_not true = inl refl
 is_or_not false = inr refl
 
-not_false : (b : Bool) → not b ≡ false → b ≡ true
+pub not_false : (b : Bool) → not b ≡ false → b ≡ true
 not_false true h = refl
 not_false false h = cc
 
@@ -46,7 +46,7 @@ run_more test m b bs e = elim (is_or_not (test b)) [
   | inr h ↦ absurd (let f : suc m ≡ 0 = rw h at e in omega (arith, f))
 ]
 
-run_whole : (test : ℕ → Bool) (n : ℕ) (bs : List ℕ) → n ≡ prefix_len test bs → list_all test (take n bs) ≡ true
+pub run_whole : (test : ℕ → Bool) (n : ℕ) (bs : List ℕ) → n ≡ prefix_len test bs → list_all test (take n bs) ≡ true
 run_whole test zero bs e = refl
 run_whole test (suc m) [] e = refl
 run_whole test (suc m) (b ∷ bs) e =
@@ -55,7 +55,7 @@ run_whole test (suc m) (b ∷ bs) e =
     let first : test b ≡ true = r.0 in
     rw (first, all) refl
 
-run_longest : (test : ℕ → Bool) (n : ℕ) (bs : List ℕ) → n ≡ prefix_len test bs → Stops test (drop n bs)
+pub run_longest : (test : ℕ → Bool) (n : ℕ) (bs : List ℕ) → n ≡ prefix_len test bs → Stops test (drop n bs)
 run_longest test zero [] e = tt
 run_longest test (suc m) [] e = tt
 run_longest test zero (b ∷ bs) e = elim (is_or_not (test b)) [
@@ -64,7 +64,7 @@ run_longest test zero (b ∷ bs) e = elim (is_or_not (test b)) [
 ]
 run_longest test (suc m) (b ∷ bs) e = run_longest test m bs (run_more test m b bs e).1
 
-run_len : (test : ℕ → Bool) (n : ℕ) (bs : List ℕ) → n ≡ prefix_len test bs → n ≡ length (take n bs)
+pub run_len : (test : ℕ → Bool) (n : ℕ) (bs : List ℕ) → n ≡ prefix_len test bs → n ≡ length (take n bs)
 run_len test n bs e = sym (length-take-le n bs (omega (arith, e, prefix_len-le-length test bs)))
 
 -- ---- texts
@@ -122,7 +122,7 @@ comment_spells n bs e = (
   Lies.comment (take n bs) (drop n bs) (run_whole in_comment n bs e) (run_longest in_comment n bs e),
 )
 
-begin_spells : (depth : ℕ) (b : ℕ) (bs : List ℕ) → BeginsSpells (b ∷ bs) (begins depth (b ∷ bs))
+pub begin_spells : (depth : ℕ) (b : ℕ) (bs : List ℕ) → BeginsSpells (b ∷ bs) (begins depth (b ∷ bs))
 begin_spells depth b bs =
     by_test (BeginsSpells (b ∷ bs)) (is_space b) _ _ (λ h. (b ∷ [], bs, refl, refl, omega arith, Lies.space b bs h)) (λ _.
     by_test (BeginsSpells (b ∷ bs)) (b == 59) _ _ (λ h. let e : b ≡ 59 = eqb-true _ _ h in rw e (comment_spells (prefix_len in_comment bs) bs refl)) (λ _.
@@ -140,7 +140,7 @@ front_ok : (t : Token) (r : Result (List Token) (ℕ × ℕ)) (ts : List Token) 
 front_ok t (Ok more) ts e = (more, refl, cc)
 front_ok t (Err x) ts e = cc
 
-abbrev at_last : Bool → ℕ → Result (List Token) (ℕ × ℕ)
+abbrev pub at_last : Bool → ℕ → Result (List Token) (ℕ × ℕ)
 at_last b at = if b then Ok [] else Err (2, at)
 
 nothing_left : (b : Bool) (x : ℕ) (ts : List Token) → at_last b x ≡ Ok ts → [] ≡ ts

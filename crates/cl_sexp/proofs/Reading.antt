@@ -15,15 +15,15 @@ use Rattle.cl_sexp.specs.declared.begin.Begins.TheVariants.{Gap, Lexeme}
 use Rattle.cl_sexp.proofs.Forward.{gap_step, token_step}
 use Rattle.cl_sexp.proofs.Lying.{spelled_some}
 
-both_true : (a b : Bool) → (a && b) ≡ true → (a ≡ true) × (b ≡ true)
+pub both_true : (a b : Bool) → (a && b) ≡ true → (a ≡ true) × (b ≡ true)
 both_true true b h = (refl, h)
 both_true false b h = (cc, cc)
 
-not_true : (b : Bool) → not b ≡ true → b ≡ false
+pub not_true : (b : Bool) → not b ≡ true → b ≡ false
 not_true true h = cc
 not_true false h = refl
 
-differ : (m n : ℕ) → (m ≡ n → ⊥) → (m == n) ≡ false
+pub differ : (m n : ℕ) → (m ≡ n → ⊥) → (m == n) ≡ false
 differ m n h = differ_by (m == n) refl
   where
     differ_by : (b : Bool) → (m == n) ≡ b → b ≡ false
@@ -41,13 +41,13 @@ run_prefix test (b ∷ run) rest h s =
     let more : prefix_len test (run ++ rest) ≡ length run = run_prefix test run rest both.1 s in
     rw (first, more) (omega arith)
 
-blank_begins : (depth : ℕ) (gap rest : List ℕ) → IsBlank gap rest → begins depth (gap ++ rest) ≡ Gap (length gap)
+pub blank_begins : (depth : ℕ) (gap rest : List ℕ) → IsBlank gap rest → begins depth (gap ++ rest) ≡ Gap (length gap)
 blank_begins depth _ _ (Lies.space b rest h) = rw h refl
 blank_begins depth _ _ (Lies.comment bs rest h s) =
     let n : prefix_len in_comment (bs ++ rest) + 1 ≡ suc (length bs) = omega (arith, run_prefix in_comment bs rest h s) in
     ap Gap n
 
-blank_some : (gap rest : List ℕ) → IsBlank gap rest → 0 < length gap
+pub blank_some : (gap rest : List ℕ) → IsBlank gap rest → 0 < length gap
 blank_some _ _ (Lies.space b rest h) = omega arith
 blank_some _ _ (Lies.comment bs rest h s) = omega arith
 
@@ -102,7 +102,7 @@ plain_of b h =
       quotes = not_true _ a5.1;
     }
 
-word_read : (depth : ℕ) (word rest : List ℕ) → IsWord word rest → begins depth (word ++ rest) ≡ word_begins word (length word)
+pub word_read : (depth : ℕ) (word rest : List ℕ) → IsWord word rest → begins depth (word ++ rest) ≡ word_begins word (length word)
 word_read depth [] rest w = absurd (omega (arith, w.some))
 word_read depth (b ∷ word) rest w =
     let both : (is_word b ≡ true) × (list_all is_word word ≡ true) = both_true (is_word b) _ w.whole in
@@ -114,7 +114,7 @@ word_read depth (b ∷ word) rest w =
 
 -- ---- tokens
 
-spells_begins : (depth : ℕ) (kind : Kind) (word rest : List ℕ) → Spells kind word rest → KeepsNest kind depth → begins depth (word ++ rest) ≡ Lexeme kind (length word)
+pub spells_begins : (depth : ℕ) (kind : Kind) (word rest : List ℕ) → Spells kind word rest → KeepsNest kind depth → begins depth (word ++ rest) ≡ Lexeme kind (length word)
 spells_begins depth _ _ _ (Lies.opening rest) k = let e : (depth == 64) ≡ false = differ depth 64 (λ e. omega arith) in rw e refl
 spells_begins depth _ _ _ (Lies.closing rest) k = let e : (depth == 0) ≡ false = differ depth 0 (λ e. omega arith) in rw e refl
 spells_begins depth _ _ _ (Lies.quote rest) k = refl

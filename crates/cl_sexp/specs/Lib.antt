@@ -3,3 +3,4 @@ pub mod Numbers
 pub mod Tokens
 pub mod Reads
 pub mod Lies
+pub mod Faults

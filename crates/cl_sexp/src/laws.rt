@@ -1,7 +1,8 @@
 //! What the definition of the tokens says of a text. The contracts are the laws.
-ghost use Rattle.std.specs.Prelude.{◌≡◌, ℕ, List};
+ghost use Rattle.std.specs.Prelude.{◌≡◌, ◌↔◌, ℕ, List};
 ghost use Rattle.cl_sexp.specs.Tokens.{tokens_of, Nests};
 ghost use Rattle.cl_sexp.specs.Lies.{Lies, Rises, joined};
+ghost use Rattle.cl_sexp.specs.Faults.{FirstFault};
 ghost use Rattle.cl_sexp.specs.declared.Token.{Token};
 
 /// Between the tokens of a text stand white space and comments alone, and each word is the longest.
@@ -26,4 +27,10 @@ pub fn tokens_rise()
 #[tactic(auto, using(crate::proofs::Reading::read_of))]
 pub fn tokens_are_read()
     ensures { (text : List ℕ) (tokens : List Token) → Lies 0 text tokens → Nests 0 tokens → tokens_of text ≡ Ok tokens }
+{}
+
+/// A text is refused exactly where blanks and tokens lead up to a fault, with the number and the place of that fault.
+#[tactic(auto, using(crate::proofs::Faulty::fault_of))]
+pub fn first_fault_is_told()
+    ensures { (text : List ℕ) (number place : ℕ) → (tokens_of text ≡ Err (number, place)) ↔ FirstFault 0 0 text number place }
 {}

@@ -16,7 +16,7 @@ mod quoted;
 mod tests;
 mod word;
 
-pub use laws::{tokens_are_read, tokens_join, tokens_lie, tokens_rise};
+pub use laws::{first_fault_is_told, tokens_are_read, tokens_join, tokens_lie, tokens_rise};
 
 /// A word of an optional `-` and digits is a number; any other word is a symbol.
 #[derive(Clone, Copy, PartialEq, Eq, Debug)]

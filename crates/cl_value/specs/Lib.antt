@@ -1,4 +1,5 @@
 pub mod Data
 pub mod Shared
 pub mod Value
+pub mod Measured
 pub mod Falls

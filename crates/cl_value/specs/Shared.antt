@@ -1,8 +1,9 @@
--- What a list that is shared, or not yet there, holds.
-use Rattle.std.specs.Prelude.{List, [], Option, Some, None, Vec}
+-- What a row that is shared, or not yet there, holds.
+use Rattle.std.specs.Prelude.{List, [], Option, Some, None}
 use Rattle.std.specs.declared.rc.Rc.{Rc}
 use Rattle.std.specs.declared.alloc.Global.{Global}
+use Rattle.cl_value.specs.Data.{Data}
 
-abbrev pub shared_items : {A : Type 0} → Option (Rc (Vec A Global) Global) → List A
-shared_items None = []
-shared_items (Some r) = r.value.items
+abbrev pub shared_row : Option (Rc (List Data) Global) → List Data
+shared_row None = []
+shared_row (Some r) = r.value

@@ -2,13 +2,15 @@
 //! the kinds, their sizes and their order are our own profile.
 #![tactic(auto)]
 
-ghost use Rattle.std.specs.Prelude.{◌≡◌, ◌==◌, ◌++◌, ◌∷◌, [], IfOk, IfErr, OnOk, OnErr, map};
+ghost use Rattle.std.specs.Prelude.{◌≡◌, ◌↔◌, ◌==◌, ◌++◌, ◌∷◌, [], ◌-◌, ◌^◌, IfOk, IfErr, OnOk, OnErr, IsTrue, length, map, min};
 ghost use Rattle.std.specs.Cmp.Lexicographic.{pointwise};
 ghost use Rattle.std.proofs.Common.{rules};
 ghost use Rattle.std.specs.Cmp.Rules.{comparing, hashing};
 ghost use Rattle.std.specs.Hash as fed;
+ghost use Rattle.cl_value.specs.Data.{depth_of_items, items_of, size_of_items};
 ghost use Rattle.cl_value.specs.Value.{data_of};
 
+use row::Row;
 use std::alloc::{AllocError, Global};
 use std::hash::{Hash, Hasher};
 use std::marker::Model;
@@ -17,6 +19,7 @@ use std::rc::Rc;
 mod laws;
 mod measure;
 mod order;
+mod row;
 #[cfg(test)]
 mod tests;
 
@@ -58,11 +61,11 @@ pub enum Value {
 pub struct Values {
     alloc: Global,
     /// `None` for no values, which takes no memory.
-    items: Option<Rc<Vec<Value>>>,
+    row: Option<Rc<Row>>,
 }
 
 impl Model for Values {
-    ghost use Rattle.std.specs.Prelude.{List, map};
+    ghost use Rattle.std.specs.Prelude.{◌+◌, ◌*◌, List};
     ghost use Rattle.std.specs.Coded.{coded_list};
     ghost use Rattle.cl_value.specs.Data.{Data, data_code, size_of_items, items_of};
 
@@ -70,16 +73,15 @@ impl Model for Values {
 
     ghost coded = { coded_list data_code };
 
-    ghost use Rattle.cl_value.specs.Value.{data_of};
-    ghost use Rattle.cl_value.specs.Shared.{shared_items};
+    ghost use Rattle.cl_value.specs.Shared.{shared_row};
 
-    ghost view = { λ a. map data_of (shared_items a.items) };
+    ghost view = { λ a. shared_row a.row };
 
-    ghost size = { λ ds. size_of_items (items_of ds) };
+    ghost size = { λ ds. 2 * size_of_items (items_of ds) + 1 };
 
-    ghost use Rattle.cl_value.specs.Falls.{parts-size};
+    ghost use Rattle.cl_value.specs.Falls.{shared-size};
 
-    ghost size_decreases = { λ a h. parts-size a.alloc a.items };
+    ghost size_decreases = { λ a h. shared-size a.alloc a.row };
 }
 
 impl Text {
@@ -148,16 +150,62 @@ impl Values {
     pub fn new(alloc: Global) -> Values
         ensures { result ≡ [] }
     {
-        Values { alloc, items: None }
+        Values { alloc, row: None }
+    }
+
+    /// These values, which are not copied.
+    pub fn from_vec(alloc: Global, values: Vec<Value>) -> Result<Values, AllocError>
+        ensures { IfOk result (λ vs. vs ≡ map data_of values.items) }
+    {
+        if values.is_empty() {
+            return Ok(Values::new(alloc));
+        }
+        Ok(Values {
+            alloc,
+            row: Some(Rc::new(alloc, Row::from_vec(values))?),
+        })
     }
 
     /// The values in their order.
     pub fn as_slice(&self) -> &[Value]
         ensures { map data_of result.now ≡ self.now }
     {
-        match &self.items {
-            Some(items) => items.as_slice(),
+        match &self.row {
+            Some(row) => row.as_slice(),
             None => &[],
+        }
+    }
+
+    /// How many values.
+    pub fn len(&self) -> usize
+        ensures { result ≡ length self.now }
+    {
+        self.as_slice().len()
+    }
+
+    pub fn is_empty(&self) -> bool
+        ensures { IsTrue result ↔ (self.now ≡ []) }
+    {
+        self.as_slice().is_empty()
+    }
+
+    /// The sizes of the values together. It stands still at 2^64 - 1.
+    pub fn size(&self) -> u64
+        ensures { result ≡ min (size_of_items (items_of self.now)) (2 ^ 64 - 1) }
+    {
+        match &self.row {
+            Some(row) => row.size(),
+            None => 0,
+        }
+    }
+
+    /// The greatest depth of the values, 0 where there are none. It stands still at 2^64 - 1.
+    pub fn depth(&self) -> u64
+        ensures { result ≡ min (depth_of_items (items_of self.now)) (2 ^ 64 - 1) }
+    {
+        match &self.row {
+            Some(row) => row.depth(),
+            None => 0,
         }
     }
 
@@ -168,52 +216,45 @@ impl Values {
         ensures err { OnErr result (self.new ≡ self.old) }
         ensures handed_back { IfErr result (λ v. v ≡ value) }
     {
-        if let Some(items) = &mut self.items {
-            if let Some(items) = Rc::get_mut(items) {
-                return items.push(value).map_err(|failed| failed.value);
+        if let Some(row) = &mut self.row {
+            if let Some(row) = Rc::get_mut(row) {
+                return row.push(value);
             }
         }
-        let Ok(mut items) = copy_all(self.alloc, self.as_slice()) else {
+        let Ok(mut row) = self.row_of_own() else {
             return Err(value);
         };
-        if let Err(failed) = items.push(value) {
-            return Err(failed.value);
+        match Rc::get_mut(&mut row) {
+            Some(own) => own.push(value)?,
+            None => return Err(value),
         }
-        match Rc::new(self.alloc, items) {
-            Ok(items) => {
-                self.items = Some(items);
-                Ok(())
-            }
-            Err(mut failed) => match failed.value.pop() {
-                Some(value) => Err(value),
-                None => unreachable!(),
-            },
-        }
+        self.row = Some(row);
+        Ok(())
+    }
+
+    /// The values in a row with one owner.
+    fn row_of_own(&self) -> Result<Rc<Row>, AllocError>
+        ensures { IfOk result (λ row. row.value ≡ self.now) }
+    {
+        let row = match &self.row {
+            Some(row) => row.copy(self.alloc)?,
+            None => Row::new(self.alloc),
+        };
+        Ok(Rc::new(self.alloc, row)?)
     }
 
     /// The same values, which takes no memory: it fails only where one list has as many owners as can be counted.
     pub fn copy(&self) -> Result<Values, AllocError>
         ensures { IfOk result (λ vs. vs ≡ self.now) }
     {
-        match &self.items {
-            Some(items) => Ok(Values {
+        match &self.row {
+            Some(row) => Ok(Values {
                 alloc: self.alloc,
-                items: Some(items.clone()?),
+                row: Some(row.clone()?),
             }),
             None => Ok(Values::new(self.alloc)),
         }
     }
-}
-
-/// The values, each copied.
-fn copy_all(alloc: Global, values: &[Value]) -> Result<Vec<Value>, AllocError>
-    ensures { IfOk result (λ v. v.items ≡ values.now) }
-{
-    let mut copies = Vec::new(alloc);
-    for value in values {
-        copies.push(value.copy()?)?;
-    }
-    Ok(copies)
 }
 
 impl Value {

@@ -7,36 +7,34 @@ use crate::Value;
 
 impl Value {
     /// 1, and the bytes of a text, and the sizes of the parts of a list or a record. A symbol counts 1.
-    /// It stands still at 2^64 - 1.
-    #[cycle(size)]
+    /// It stands still at 2^64 - 1. One step, however large the value is.
     pub fn size(&self) -> u64
         ensures { result ≡ min (size_of (data_of self.now)) (2 ^ 64 - 1) }
     {
         match self {
             Value::Text(text) => (text.as_slice().len() as u64).saturating_add(1),
-            Value::List(parts) => size_all(parts.as_slice()).saturating_add(1),
-            Value::Record(_, parts) => size_all(parts.as_slice()).saturating_add(1),
+            Value::List(parts) => parts.size().saturating_add(1),
+            Value::Record(_, parts) => parts.size().saturating_add(1),
             _ => 1,
         }
     }
 
     /// 1 more than the deepest part; 1 where there is none. It stands still at 2^64 - 1.
-    #[cycle(depth)]
+    /// One step, however large the value is.
     pub fn depth(&self) -> u64
         ensures { result ≡ min (depth_of (data_of self.now)) (2 ^ 64 - 1) }
     {
         match self {
-            Value::List(parts) => depth_all(parts.as_slice()).saturating_add(1),
-            Value::Record(_, parts) => depth_all(parts.as_slice()).saturating_add(1),
+            Value::List(parts) => parts.depth().saturating_add(1),
+            Value::Record(_, parts) => parts.depth().saturating_add(1),
             _ => 1,
         }
     }
 }
 
 /// The sizes together.
-#[cycle(size)]
 #[tactic(auto, using(crate::proofs::Parts::part_size, crate::proofs::Parts::parts_next, crate::proofs::Parts::parts_end))]
-fn size_all(values: &[Value]) -> u64
+pub(crate) fn size_all(values: &[Value]) -> u64
     ensures { result ≡ min (size_of_items (parts_of values.now)) (2 ^ 64 - 1) }
 {
     let mut total: u64 = 0;
@@ -47,9 +45,8 @@ fn size_all(values: &[Value]) -> u64
 }
 
 /// The greatest depth, 0 where there are no values.
-#[cycle(depth)]
 #[tactic(auto, using(crate::proofs::Parts::part_size, crate::proofs::Parts::parts_next, crate::proofs::Parts::parts_end))]
-fn depth_all(values: &[Value]) -> u64
+pub(crate) fn depth_all(values: &[Value]) -> u64
     ensures { result ≡ min (depth_of_items (parts_of values.now)) (2 ^ 64 - 1) }
 {
     let mut deepest: u64 = 0;

@@ -49,6 +49,21 @@ fn a_shared_list_is_not_changed(rt: HostRuntime) -> Result<(), Fail> {
     Ok(())
 }
 
+#[test]
+fn a_vector_becomes_a_list(rt: HostRuntime) -> Result<(), Fail> {
+    let alloc = rt.alloc();
+    let mut row = Vec::new(alloc);
+    row.push(point(alloc)?)?;
+    row.push(Value::Int(5))?;
+    let mut values = Values::from_vec(alloc, row)?;
+    values.push(point(alloc)?).map_err(|_| "no memory")?;
+    assert_eq!(rt; (values.len(), values.is_empty()), (3, false));
+    assert_eq!(rt; (values.size(), values.depth()), (7 + 1 + 7, 3));
+    let none = Values::from_vec(alloc, Vec::new(alloc))?;
+    assert_eq!(rt; (none.len(), none.is_empty()), (0, true));
+    Ok(())
+}
+
 /// Values in rising order.
 fn rising(alloc: Global, place: usize) -> Result<Value, Fail> {
     Ok(match place {
