@@ -4,3 +4,6 @@ pub mod Scope
 pub mod Operators
 pub mod Meaning
 pub mod Agrees
+pub mod Evaluated
+pub mod Statements
+pub mod Executed

@@ -1,7 +1,10 @@
 //! The evaluator of expressions and statements.
 #![tactic(auto)]
 
+mod effects;
+mod evaluating;
 mod evaluation;
+mod execution;
 mod laws;
 mod lists;
 mod metering;
@@ -12,8 +15,11 @@ mod slot_table;
 mod texts;
 mod variables;
 
+pub use effects::{Effects, Lines};
+pub use evaluating::{Evaluated, eval};
 pub use evaluation::{Context, evaluate, evaluate_each, evaluate_list, evaluate_test};
-pub use laws::quotient_is_rounded_down;
+pub use execution::{Executed, Types, exec};
+pub use laws::{limits_can_be_wider, quotient_is_rounded_down};
 pub use metering::{Limits, Meter, Stop};
 pub use slot_table::Slots;
 pub use variables::{Env, Scope};
