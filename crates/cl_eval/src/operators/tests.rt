@@ -1,5 +1,10 @@
 //! Each operator with values and with each of its traps, worked out by hand.
 use super::*;
+use Arithmetic::{Add, Greatest, Least, Multiply, Quotient, Remainder, Subtract};
+use Comparison::{AtLeast, AtMost, Greater, Less};
+use ListOperator::{Append, Cons, Contains, List, Nth, Range, Rest};
+use Row::{Chars, Int, Ints, Name, Null, Trap, Truth};
+use TextOperator::{Concat, Pad, Subtext, Written};
 use cl_syntax::{Arithmetic, Comparison, ListOperator, TextOperator};
 use cl_value::Text;
 use std::test::Fail;
@@ -8,9 +13,9 @@ use std::test::Fail;
 #[derive(Clone, Copy)]
 enum Row<'a> {
     Int(i64),
-    Bool(bool),
-    Text(&'a [u8]),
-    Symbol(&'a [u8]),
+    Truth(bool),
+    Chars(&'a [u8]),
+    Name(&'a [u8]),
     Null,
     Ints(&'a [i64]),
     Trap(u8),
@@ -18,12 +23,12 @@ enum Row<'a> {
 
 fn value_of(alloc: Global, row: &Row) -> Result<Value, Fail> {
     Ok(match row {
-        Row::Int(number) => Value::Int(*number),
-        Row::Bool(truth) => Value::Bool(*truth),
-        Row::Text(bytes) => Value::Text(Text::from_slice(alloc, bytes)?),
-        Row::Symbol(name) => Value::Symbol(Text::from_slice(alloc, name)?),
-        Row::Null | Row::Trap(_) => Value::Null,
-        Row::Ints(numbers) => {
+        Int(number) => Value::Int(*number),
+        Truth(truth) => Value::Bool(*truth),
+        Chars(bytes) => Value::Text(Text::from_slice(alloc, bytes)?),
+        Name(name) => Value::Symbol(Text::from_slice(alloc, name)?),
+        Null | Trap(_) => Value::Null,
+        Ints(numbers) => {
             let mut parts = Values::new(alloc);
             for number in *numbers {
                 parts.push(Value::Int(*number)).map_err(|_| "no memory")?;
@@ -43,8 +48,8 @@ fn values_of(alloc: Global, rows: &[Row]) -> Result<Vec<Value>, Fail> {
 
 fn is_wanted(alloc: Global, answer: Result<Value, Stop>, wanted: &Row) -> Result<bool, Fail> {
     match (answer, wanted) {
-        (Err(Stop::Trap(kind)), Row::Trap(wanted)) => Ok(kind == *wanted),
-        (_, Row::Trap(_)) => Ok(false),
+        (Err(Stop::Trap(kind)), Trap(wanted)) => Ok(kind == *wanted),
+        (_, Trap(_)) => Ok(false),
         (Ok(value), wanted) => Ok(value.equal(&value_of(alloc, wanted)?)),
         (Err(_), _) => Ok(false),
     }
@@ -53,46 +58,31 @@ fn is_wanted(alloc: Global, answer: Result<Value, Stop>, wanted: &Row) -> Result
 #[test]
 fn arithmetic_of_two_numbers(rt: HostRuntime) -> Result<(), Fail> {
     let rows = [
-        (Arithmetic::Add, 2, 3, Row::Int(5)),
-        (Arithmetic::Add, i64::MAX, 1, Row::Trap(2)),
-        (Arithmetic::Subtract, 2, 3, Row::Int(-1)),
-        (Arithmetic::Subtract, i64::MIN, 1, Row::Trap(2)),
-        (Arithmetic::Multiply, -4, 3, Row::Int(-12)),
-        (
-            Arithmetic::Multiply,
-            4_294_967_296,
-            2_147_483_648,
-            Row::Trap(2),
-        ),
-        (
-            Arithmetic::Multiply,
-            -4_294_967_296,
-            2_147_483_648,
-            Row::Int(i64::MIN),
-        ),
-        (Arithmetic::Least, 2, -3, Row::Int(-3)),
-        (Arithmetic::Greatest, 2, -3, Row::Int(2)),
-        (Arithmetic::Quotient, 7, 2, Row::Int(3)),
-        (Arithmetic::Quotient, -7, 2, Row::Int(-4)),
-        (Arithmetic::Quotient, 7, -2, Row::Int(-4)),
-        (Arithmetic::Quotient, -7, -2, Row::Int(3)),
-        (Arithmetic::Quotient, i64::MIN, 1, Row::Int(i64::MIN)),
-        (Arithmetic::Quotient, i64::MIN, -1, Row::Trap(2)),
-        (Arithmetic::Quotient, 1, 0, Row::Trap(3)),
-        (Arithmetic::Remainder, 7, 2, Row::Int(1)),
-        (Arithmetic::Remainder, -7, 2, Row::Int(1)),
-        (Arithmetic::Remainder, 7, -2, Row::Int(-1)),
-        (Arithmetic::Remainder, -7, -2, Row::Int(-1)),
-        (Arithmetic::Remainder, 6, -2, Row::Int(0)),
-        (Arithmetic::Remainder, i64::MIN, -1, Row::Int(0)),
-        (Arithmetic::Remainder, i64::MIN, 10, Row::Int(2)),
-        (
-            Arithmetic::Remainder,
-            5,
-            i64::MIN,
-            Row::Int(-9_223_372_036_854_775_803),
-        ),
-        (Arithmetic::Remainder, 1, 0, Row::Trap(3)),
+        (Add, 2, 3, Int(5)),
+        (Add, i64::MAX, 1, Trap(2)),
+        (Subtract, 2, 3, Int(-1)),
+        (Subtract, i64::MIN, 1, Trap(2)),
+        (Multiply, -4, 3, Int(-12)),
+        (Multiply, 4_294_967_296, 2_147_483_648, Trap(2)),
+        (Multiply, -4_294_967_296, 2_147_483_648, Int(i64::MIN)),
+        (Least, 2, -3, Int(-3)),
+        (Greatest, 2, -3, Int(2)),
+        (Quotient, 7, 2, Int(3)),
+        (Quotient, -7, 2, Int(-4)),
+        (Quotient, 7, -2, Int(-4)),
+        (Quotient, -7, -2, Int(3)),
+        (Quotient, i64::MIN, 1, Int(i64::MIN)),
+        (Quotient, i64::MIN, -1, Trap(2)),
+        (Quotient, 1, 0, Trap(3)),
+        (Remainder, 7, 2, Int(1)),
+        (Remainder, -7, 2, Int(1)),
+        (Remainder, 7, -2, Int(-1)),
+        (Remainder, -7, -2, Int(-1)),
+        (Remainder, 6, -2, Int(0)),
+        (Remainder, i64::MIN, -1, Int(0)),
+        (Remainder, i64::MIN, 10, Int(2)),
+        (Remainder, 5, i64::MIN, Int(-9_223_372_036_854_775_803)),
+        (Remainder, 1, 0, Trap(3)),
     ];
     for (operator, first, second, wanted) in rows {
         let result = arithmetic(operator, &[Value::Int(first), Value::Int(second)]);
@@ -101,29 +91,29 @@ fn arithmetic_of_two_numbers(rt: HostRuntime) -> Result<(), Fail> {
             "{operator:?} {first} {second}"
         );
     }
-    let result = arithmetic(Arithmetic::Add, &[Value::Int(1), Value::Null]);
-    assert!(rt; is_wanted(rt.alloc(), result, &Row::Trap(1))?);
+    let result = arithmetic(Add, &[Value::Int(1), Value::Null]);
+    assert!(rt; is_wanted(rt.alloc(), result, &Trap(1))?);
     Ok(())
 }
 
 #[test]
 fn comparison_of_two_numbers(rt: HostRuntime) -> Result<(), Fail> {
     let rows = [
-        (Comparison::Less, [true, false, false]),
-        (Comparison::AtMost, [true, true, false]),
-        (Comparison::Greater, [false, false, true]),
-        (Comparison::AtLeast, [false, true, true]),
+        (Less, [true, false, false]),
+        (AtMost, [true, true, false]),
+        (Greater, [false, false, true]),
+        (AtLeast, [false, true, true]),
     ];
     for (operator, answers) in rows {
         for (first, answer) in [1, 2, 3].into_iter().zip(answers) {
             let result = comparison(operator, &[Value::Int(first), Value::Int(2)]);
             assert!(rt;
-                is_wanted(rt.alloc(), result, &Row::Bool(answer))?,
+                is_wanted(rt.alloc(), result, &Truth(answer))?,
                 "{operator:?} {first} 2"
             );
         }
         let result = comparison(operator, &[Value::Int(1), Value::Bool(true)]);
-        assert!(rt; is_wanted(rt.alloc(), result, &Row::Trap(1))?);
+        assert!(rt; is_wanted(rt.alloc(), result, &Trap(1))?);
     }
     Ok(())
 }
@@ -132,111 +122,31 @@ fn comparison_of_two_numbers(rt: HostRuntime) -> Result<(), Fail> {
 fn operators_on_lists(rt: HostRuntime) -> Result<(), Fail> {
     let most = i64::MAX;
     let rows: [(ListOperator, &[Row], Row); 25] = [
-        (ListOperator::List, &[], Row::Ints(&[])),
-        (
-            ListOperator::List,
-            &[Row::Int(1), Row::Int(2)],
-            Row::Ints(&[1, 2]),
-        ),
-        (
-            ListOperator::Nth,
-            &[Row::Ints(&[7, 8, 9]), Row::Int(0)],
-            Row::Int(7),
-        ),
-        (
-            ListOperator::Nth,
-            &[Row::Ints(&[7, 8, 9]), Row::Int(2)],
-            Row::Int(9),
-        ),
-        (
-            ListOperator::Nth,
-            &[Row::Ints(&[7, 8, 9]), Row::Int(3)],
-            Row::Trap(4),
-        ),
-        (
-            ListOperator::Nth,
-            &[Row::Ints(&[7, 8, 9]), Row::Int(-1)],
-            Row::Trap(4),
-        ),
-        (
-            ListOperator::Nth,
-            &[Row::Int(0), Row::Ints(&[7])],
-            Row::Trap(1),
-        ),
-        (
-            ListOperator::Rest,
-            &[Row::Ints(&[7, 8, 9])],
-            Row::Ints(&[8, 9]),
-        ),
-        (ListOperator::Rest, &[Row::Ints(&[7])], Row::Ints(&[])),
-        (ListOperator::Rest, &[Row::Ints(&[])], Row::Trap(4)),
-        (ListOperator::Rest, &[Row::Text(b"ab")], Row::Trap(1)),
-        (
-            ListOperator::Cons,
-            &[Row::Int(7), Row::Ints(&[8, 9])],
-            Row::Ints(&[7, 8, 9]),
-        ),
-        (
-            ListOperator::Cons,
-            &[Row::Ints(&[8, 9]), Row::Int(7)],
-            Row::Trap(1),
-        ),
-        (
-            ListOperator::Append,
-            &[Row::Ints(&[1, 2]), Row::Ints(&[3])],
-            Row::Ints(&[1, 2, 3]),
-        ),
-        (
-            ListOperator::Append,
-            &[Row::Ints(&[1]), Row::Null],
-            Row::Trap(1),
-        ),
-        (
-            ListOperator::Contains,
-            &[Row::Ints(&[7, 8]), Row::Int(8)],
-            Row::Bool(true),
-        ),
-        (
-            ListOperator::Contains,
-            &[Row::Ints(&[7, 8]), Row::Int(9)],
-            Row::Bool(false),
-        ),
-        (
-            ListOperator::Contains,
-            &[Row::Int(8), Row::Ints(&[7, 8])],
-            Row::Trap(1),
-        ),
-        (
-            ListOperator::Range,
-            &[Row::Int(3), Row::Int(5)],
-            Row::Ints(&[3, 4, 5]),
-        ),
-        (
-            ListOperator::Range,
-            &[Row::Int(5), Row::Int(5)],
-            Row::Ints(&[5]),
-        ),
-        (
-            ListOperator::Range,
-            &[Row::Int(5), Row::Int(1)],
-            Row::Ints(&[]),
-        ),
-        (
-            ListOperator::Range,
-            &[Row::Int(most), Row::Int(most)],
-            Row::Ints(&[i64::MAX]),
-        ),
-        (
-            ListOperator::Range,
-            &[Row::Int(i64::MIN), Row::Int(most)],
-            Row::Trap(7),
-        ),
-        (
-            ListOperator::Range,
-            &[Row::Int(1), Row::Int(65_536)],
-            Row::Trap(7),
-        ),
-        (ListOperator::Range, &[Row::Int(1), Row::Null], Row::Trap(1)),
+        (List, &[], Ints(&[])),
+        (List, &[Int(1), Int(2)], Ints(&[1, 2])),
+        (Nth, &[Ints(&[7, 8, 9]), Int(0)], Int(7)),
+        (Nth, &[Ints(&[7, 8, 9]), Int(2)], Int(9)),
+        (Nth, &[Ints(&[7, 8, 9]), Int(3)], Trap(4)),
+        (Nth, &[Ints(&[7, 8, 9]), Int(-1)], Trap(4)),
+        (Nth, &[Int(0), Ints(&[7])], Trap(1)),
+        (Rest, &[Ints(&[7, 8, 9])], Ints(&[8, 9])),
+        (Rest, &[Ints(&[7])], Ints(&[])),
+        (Rest, &[Ints(&[])], Trap(4)),
+        (Rest, &[Chars(b"ab")], Trap(1)),
+        (Cons, &[Int(7), Ints(&[8, 9])], Ints(&[7, 8, 9])),
+        (Cons, &[Ints(&[8, 9]), Int(7)], Trap(1)),
+        (Append, &[Ints(&[1, 2]), Ints(&[3])], Ints(&[1, 2, 3])),
+        (Append, &[Ints(&[1]), Null], Trap(1)),
+        (Contains, &[Ints(&[7, 8]), Int(8)], Truth(true)),
+        (Contains, &[Ints(&[7, 8]), Int(9)], Truth(false)),
+        (Contains, &[Int(8), Ints(&[7, 8])], Trap(1)),
+        (Range, &[Int(3), Int(5)], Ints(&[3, 4, 5])),
+        (Range, &[Int(5), Int(5)], Ints(&[5])),
+        (Range, &[Int(5), Int(1)], Ints(&[])),
+        (Range, &[Int(most), Int(most)], Ints(&[i64::MAX])),
+        (Range, &[Int(i64::MIN), Int(most)], Trap(7)),
+        (Range, &[Int(1), Int(65_536)], Trap(7)),
+        (Range, &[Int(1), Null], Trap(1)),
     ];
     let alloc = rt.alloc();
     for (place, (operator, parts, wanted)) in rows.iter().enumerate() {
@@ -253,100 +163,28 @@ fn operators_on_lists(rt: HostRuntime) -> Result<(), Fail> {
 #[test]
 fn operators_on_texts(rt: HostRuntime) -> Result<(), Fail> {
     let rows: [(TextOperator, &[Row], Row); 22] = [
-        (
-            TextOperator::Concat,
-            &[Row::Text(b"ab"), Row::Text(b"c")],
-            Row::Text(b"abc"),
-        ),
-        (
-            TextOperator::Concat,
-            &[Row::Text(b"ab"), Row::Symbol(b"c")],
-            Row::Trap(1),
-        ),
-        (
-            TextOperator::Subtext,
-            &[Row::Text(b"abc"), Row::Int(1), Row::Int(3)],
-            Row::Text(b"bc"),
-        ),
-        (
-            TextOperator::Subtext,
-            &[Row::Text(b"abc"), Row::Int(3), Row::Int(3)],
-            Row::Text(b""),
-        ),
-        (
-            TextOperator::Subtext,
-            &[Row::Text(b"abc"), Row::Int(2), Row::Int(1)],
-            Row::Trap(4),
-        ),
-        (
-            TextOperator::Subtext,
-            &[Row::Text(b"abc"), Row::Int(0), Row::Int(4)],
-            Row::Trap(4),
-        ),
-        (
-            TextOperator::Subtext,
-            &[Row::Text(b"abc"), Row::Int(-1), Row::Int(2)],
-            Row::Trap(4),
-        ),
-        (
-            TextOperator::Subtext,
-            &[Row::Text(b"abc"), Row::Int(0), Row::Int(-1)],
-            Row::Trap(4),
-        ),
-        (
-            TextOperator::Subtext,
-            &[Row::Text(b"abc"), Row::Int(0)],
-            Row::Trap(1),
-        ),
-        (
-            TextOperator::Pad,
-            &[Row::Text(b"ab"), Row::Int(4)],
-            Row::Text(b"ab  "),
-        ),
-        (
-            TextOperator::Pad,
-            &[Row::Text(b"ab"), Row::Int(2)],
-            Row::Text(b"ab"),
-        ),
-        (
-            TextOperator::Pad,
-            &[Row::Text(b"ab"), Row::Int(1)],
-            Row::Text(b"ab"),
-        ),
-        (
-            TextOperator::Pad,
-            &[Row::Text(b"ab"), Row::Int(-5)],
-            Row::Text(b"ab"),
-        ),
-        (
-            TextOperator::Pad,
-            &[Row::Text(b"ab"), Row::Int(65_536)],
-            Row::Trap(7),
-        ),
-        (
-            TextOperator::Pad,
-            &[Row::Text(b"ab"), Row::Int(i64::MAX)],
-            Row::Trap(7),
-        ),
-        (
-            TextOperator::Pad,
-            &[Row::Int(4), Row::Text(b"ab")],
-            Row::Trap(1),
-        ),
-        (TextOperator::Written, &[Row::Int(-12)], Row::Text(b"-12")),
-        (
-            TextOperator::Written,
-            &[Row::Int(i64::MIN)],
-            Row::Text(b"-9223372036854775808"),
-        ),
-        (
-            TextOperator::Written,
-            &[Row::Symbol(b"ab")],
-            Row::Text(b"ab"),
-        ),
-        (TextOperator::Written, &[Row::Text(b"ab")], Row::Text(b"ab")),
-        (TextOperator::Written, &[Row::Null], Row::Trap(1)),
-        (TextOperator::Written, &[Row::Bool(true)], Row::Trap(1)),
+        (Concat, &[Chars(b"ab"), Chars(b"c")], Chars(b"abc")),
+        (Concat, &[Chars(b"ab"), Name(b"c")], Trap(1)),
+        (Subtext, &[Chars(b"abc"), Int(1), Int(3)], Chars(b"bc")),
+        (Subtext, &[Chars(b"abc"), Int(3), Int(3)], Chars(b"")),
+        (Subtext, &[Chars(b"abc"), Int(2), Int(1)], Trap(4)),
+        (Subtext, &[Chars(b"abc"), Int(0), Int(4)], Trap(4)),
+        (Subtext, &[Chars(b"abc"), Int(-1), Int(2)], Trap(4)),
+        (Subtext, &[Chars(b"abc"), Int(0), Int(-1)], Trap(4)),
+        (Subtext, &[Chars(b"abc"), Int(0)], Trap(1)),
+        (Pad, &[Chars(b"ab"), Int(4)], Chars(b"ab  ")),
+        (Pad, &[Chars(b"ab"), Int(2)], Chars(b"ab")),
+        (Pad, &[Chars(b"ab"), Int(1)], Chars(b"ab")),
+        (Pad, &[Chars(b"ab"), Int(-5)], Chars(b"ab")),
+        (Pad, &[Chars(b"ab"), Int(65_536)], Trap(7)),
+        (Pad, &[Chars(b"ab"), Int(i64::MAX)], Trap(7)),
+        (Pad, &[Int(4), Chars(b"ab")], Trap(1)),
+        (Written, &[Int(-12)], Chars(b"-12")),
+        (Written, &[Int(i64::MIN)], Chars(b"-9223372036854775808")),
+        (Written, &[Name(b"ab")], Chars(b"ab")),
+        (Written, &[Chars(b"ab")], Chars(b"ab")),
+        (Written, &[Null], Trap(1)),
+        (Written, &[Truth(true)], Trap(1)),
     ];
     let alloc = rt.alloc();
     for (place, (operator, parts, wanted)) in rows.iter().enumerate() {
@@ -364,30 +202,27 @@ fn operators_on_texts(rt: HostRuntime) -> Result<(), Fail> {
 fn operators_on_any_value(rt: HostRuntime) -> Result<(), Fail> {
     let alloc = rt.alloc();
     let rows: [(&[Row], bool); 7] = [
-        (&[Row::Int(1), Row::Int(1)], true),
-        (&[Row::Int(1), Row::Text(b"1")], false),
-        (&[Row::Symbol(b"a"), Row::Text(b"a")], false),
-        (&[Row::Null, Row::Null], true),
-        (&[Row::Null, Row::Bool(false)], false),
-        (&[Row::Ints(&[1, 2]), Row::Ints(&[1, 2])], true),
-        (&[Row::Ints(&[1, 2]), Row::Ints(&[1, 3])], false),
+        (&[Int(1), Int(1)], true),
+        (&[Int(1), Chars(b"1")], false),
+        (&[Name(b"a"), Chars(b"a")], false),
+        (&[Null, Null], true),
+        (&[Null, Truth(false)], false),
+        (&[Ints(&[1, 2]), Ints(&[1, 2])], true),
+        (&[Ints(&[1, 2]), Ints(&[1, 3])], false),
     ];
     for (place, (parts, wanted)) in rows.iter().enumerate() {
         let values = values_of(alloc, parts)?;
         let result = equal(values.as_slice());
-        assert!(rt;
-            is_wanted(alloc, result, &Row::Bool(*wanted))?,
-            "row {place}"
-        );
+        assert!(rt; is_wanted(alloc, result, &Truth(*wanted))?, "row {place}");
     }
-    assert!(rt; is_wanted(alloc, not(&[Value::Bool(true)]), &Row::Bool(false))?);
-    assert!(rt; is_wanted(alloc, not(&[Value::Null]), &Row::Trap(1))?);
-    assert!(rt; is_wanted(alloc, is_null(&[Value::Null]), &Row::Bool(true))?);
-    assert!(rt; is_wanted(alloc, is_null(&[Value::Int(0)]), &Row::Bool(false))?);
+    assert!(rt; is_wanted(alloc, not(&[Value::Bool(true)]), &Truth(false))?);
+    assert!(rt; is_wanted(alloc, not(&[Value::Null]), &Trap(1))?);
+    assert!(rt; is_wanted(alloc, is_null(&[Value::Null]), &Truth(true))?);
+    assert!(rt; is_wanted(alloc, is_null(&[Value::Int(0)]), &Truth(false))?);
     let lengths = [
-        (Row::Ints(&[7, 8]), Row::Int(2)),
-        (Row::Text(b"abc"), Row::Int(3)),
-        (Row::Symbol(b"abc"), Row::Trap(1)),
+        (Ints(&[7, 8]), Int(2)),
+        (Chars(b"abc"), Int(3)),
+        (Name(b"abc"), Trap(1)),
     ];
     for (part, wanted) in lengths {
         let result = length(&[value_of(alloc, &part)?]);
@@ -407,45 +242,48 @@ fn length_or_trap(answer: Result<Value, Stop>) -> Result<usize, u8> {
     }
 }
 
-#[test]
-fn the_largest_values(rt: HostRuntime) -> Result<(), Fail> {
-    let alloc = rt.alloc();
-    let one = value_of(alloc, &Row::Ints(&[1]))?;
-    for (last, consed, appended) in [
-        (65_533, Ok(65_534), Ok(65_534)),
-        (65_534, Ok(65_535), Ok(65_535)),
-        (65_535, Err(7), Err(7)),
-    ] {
-        let ends = [Value::Int(1), Value::Int(last)];
-        let Ok(numbers) = list_operation(alloc, ListOperator::Range, &ends) else {
-            return Err("no range".into());
-        };
-        let parts = [Value::Int(1), numbers];
-        assert_eq!(rt;
-            length_or_trap(list_operation(alloc, ListOperator::Cons, &parts)),
-            consed
-        );
-        let [_, numbers] = parts;
-        let parts = [numbers, one.copy()?];
-        assert_eq!(rt;
-            length_or_trap(list_operation(alloc, ListOperator::Append, &parts)),
-            appended
-        );
+/// The numbers from 1.
+fn numbers_to(alloc: Global, last: i64) -> Result<Value, Fail> {
+    match list_operation(alloc, Range, &[Value::Int(1), Value::Int(last)]) {
+        Ok(numbers) => Ok(numbers),
+        Err(_) => Err("no numbers".into()),
     }
-    let padded = [value_of(alloc, &Row::Text(b"ab"))?, Value::Int(65_535)];
-    let Ok(text) = text_operation(alloc, TextOperator::Pad, &padded) else {
-        return Err("no text".into());
-    };
-    let parts = [text.copy()?, value_of(alloc, &Row::Text(b""))?];
-    assert_eq!(rt;
-        length_or_trap(text_operation(alloc, TextOperator::Concat, &parts)),
-        Ok(65_535)
-    );
-    let parts = [text, value_of(alloc, &Row::Text(b"c"))?];
-    assert_eq!(rt;
-        length_or_trap(text_operation(alloc, TextOperator::Concat, &parts)),
-        Err(7)
-    );
+}
+
+/// A text of that many bytes.
+fn text_of(alloc: Global, bytes: i64) -> Result<Value, Fail> {
+    match text_operation(
+        alloc,
+        Pad,
+        &[value_of(alloc, &Chars(b"ab"))?, Value::Int(bytes)],
+    ) {
+        Ok(text) => Ok(text),
+        Err(_) => Err("no text".into()),
+    }
+}
+
+#[test]
+fn the_longest_list(rt: HostRuntime) -> Result<(), Fail> {
+    let alloc = rt.alloc();
+    for (given, wanted) in [(65_533, Ok(65_534)), (65_534, Ok(65_535)), (65_535, Err(7))] {
+        let numbers = numbers_to(alloc, given)?;
+        let more = numbers_to(alloc, 1)?;
+        let consed = list_operation(alloc, Cons, &[Value::Null, numbers.copy()?]);
+        assert_eq!(rt; length_or_trap(consed), wanted, "cons onto {given}");
+        let appended = list_operation(alloc, Append, &[numbers, more]);
+        assert_eq!(rt; length_or_trap(appended), wanted, "append to {given}");
+    }
+    Ok(())
+}
+
+#[test]
+fn the_longest_text(rt: HostRuntime) -> Result<(), Fail> {
+    let alloc = rt.alloc();
+    for (given, wanted) in [(65_534, Ok(65_535)), (65_535, Err(7))] {
+        let parts = [text_of(alloc, given)?, value_of(alloc, &Chars(b"c"))?];
+        let joined = text_operation(alloc, Concat, &parts);
+        assert_eq!(rt; length_or_trap(joined), wanted, "concat to {given}");
+    }
     Ok(())
 }
 
@@ -454,14 +292,14 @@ fn the_deepest_value(rt: HostRuntime) -> Result<(), Fail> {
     let alloc = rt.alloc();
     let mut value = Value::List(Values::new(alloc));
     for _ in 1..64 {
-        let Ok(outer) = list_operation(alloc, ListOperator::List, &[value]) else {
+        let Ok(outer) = list_operation(alloc, List, &[value]) else {
             return Err("no list".into());
         };
         value = outer;
     }
     assert_eq!(rt; value.depth(), 64);
     assert_eq!(rt;
-        length_or_trap(list_operation(alloc, ListOperator::List, &[value])),
+        length_or_trap(list_operation(alloc, List, &[value])),
         Err(7)
     );
     Ok(())
