@@ -55,36 +55,37 @@ fn is_wanted(alloc: Global, answer: Result<Value, Stop>, wanted: &Row) -> Result
     }
 }
 
+const ARITHMETIC: [(Arithmetic, i64, i64, Row); 25] = [
+    (Add, 2, 3, Int(5)),
+    (Add, i64::MAX, 1, Trap(2)),
+    (Subtract, 2, 3, Int(-1)),
+    (Subtract, i64::MIN, 1, Trap(2)),
+    (Multiply, -4, 3, Int(-12)),
+    (Multiply, 4_294_967_296, 2_147_483_648, Trap(2)),
+    (Multiply, -4_294_967_296, 2_147_483_648, Int(i64::MIN)),
+    (Least, 2, -3, Int(-3)),
+    (Greatest, 2, -3, Int(2)),
+    (Quotient, 7, 2, Int(3)),
+    (Quotient, -7, 2, Int(-4)),
+    (Quotient, 7, -2, Int(-4)),
+    (Quotient, -7, -2, Int(3)),
+    (Quotient, i64::MIN, 1, Int(i64::MIN)),
+    (Quotient, i64::MIN, -1, Trap(2)),
+    (Quotient, 1, 0, Trap(3)),
+    (Remainder, 7, 2, Int(1)),
+    (Remainder, -7, 2, Int(1)),
+    (Remainder, 7, -2, Int(-1)),
+    (Remainder, -7, -2, Int(-1)),
+    (Remainder, 6, -2, Int(0)),
+    (Remainder, i64::MIN, -1, Int(0)),
+    (Remainder, i64::MIN, 10, Int(2)),
+    (Remainder, 5, i64::MIN, Int(-9_223_372_036_854_775_803)),
+    (Remainder, 1, 0, Trap(3)),
+];
+
 #[test]
 fn arithmetic_of_two_numbers(rt: HostRuntime) -> Result<(), Fail> {
-    let rows = [
-        (Add, 2, 3, Int(5)),
-        (Add, i64::MAX, 1, Trap(2)),
-        (Subtract, 2, 3, Int(-1)),
-        (Subtract, i64::MIN, 1, Trap(2)),
-        (Multiply, -4, 3, Int(-12)),
-        (Multiply, 4_294_967_296, 2_147_483_648, Trap(2)),
-        (Multiply, -4_294_967_296, 2_147_483_648, Int(i64::MIN)),
-        (Least, 2, -3, Int(-3)),
-        (Greatest, 2, -3, Int(2)),
-        (Quotient, 7, 2, Int(3)),
-        (Quotient, -7, 2, Int(-4)),
-        (Quotient, 7, -2, Int(-4)),
-        (Quotient, -7, -2, Int(3)),
-        (Quotient, i64::MIN, 1, Int(i64::MIN)),
-        (Quotient, i64::MIN, -1, Trap(2)),
-        (Quotient, 1, 0, Trap(3)),
-        (Remainder, 7, 2, Int(1)),
-        (Remainder, -7, 2, Int(1)),
-        (Remainder, 7, -2, Int(-1)),
-        (Remainder, -7, -2, Int(-1)),
-        (Remainder, 6, -2, Int(0)),
-        (Remainder, i64::MIN, -1, Int(0)),
-        (Remainder, i64::MIN, 10, Int(2)),
-        (Remainder, 5, i64::MIN, Int(-9_223_372_036_854_775_803)),
-        (Remainder, 1, 0, Trap(3)),
-    ];
-    for (operator, first, second, wanted) in rows {
+    for (operator, first, second, wanted) in ARITHMETIC {
         let result = arithmetic(operator, &[Value::Int(first), Value::Int(second)]);
         assert!(rt;
             is_wanted(rt.alloc(), result, &wanted)?,
@@ -118,38 +119,38 @@ fn comparison_of_two_numbers(rt: HostRuntime) -> Result<(), Fail> {
     Ok(())
 }
 
+const LISTS: [(ListOperator, &[Row], Row); 25] = [
+    (List, &[], Ints(&[])),
+    (List, &[Int(1), Int(2)], Ints(&[1, 2])),
+    (Nth, &[Ints(&[7, 8, 9]), Int(0)], Int(7)),
+    (Nth, &[Ints(&[7, 8, 9]), Int(2)], Int(9)),
+    (Nth, &[Ints(&[7, 8, 9]), Int(3)], Trap(4)),
+    (Nth, &[Ints(&[7, 8, 9]), Int(-1)], Trap(4)),
+    (Nth, &[Int(0), Ints(&[7])], Trap(1)),
+    (Rest, &[Ints(&[7, 8, 9])], Ints(&[8, 9])),
+    (Rest, &[Ints(&[7])], Ints(&[])),
+    (Rest, &[Ints(&[])], Trap(4)),
+    (Rest, &[Chars(b"ab")], Trap(1)),
+    (Cons, &[Int(7), Ints(&[8, 9])], Ints(&[7, 8, 9])),
+    (Cons, &[Ints(&[8, 9]), Int(7)], Trap(1)),
+    (Append, &[Ints(&[1, 2]), Ints(&[3])], Ints(&[1, 2, 3])),
+    (Append, &[Ints(&[1]), Null], Trap(1)),
+    (Contains, &[Ints(&[7, 8]), Int(8)], Truth(true)),
+    (Contains, &[Ints(&[7, 8]), Int(9)], Truth(false)),
+    (Contains, &[Int(8), Ints(&[7, 8])], Trap(1)),
+    (Range, &[Int(3), Int(5)], Ints(&[3, 4, 5])),
+    (Range, &[Int(5), Int(5)], Ints(&[5])),
+    (Range, &[Int(5), Int(1)], Ints(&[])),
+    (Range, &[Int(i64::MAX), Int(i64::MAX)], Ints(&[i64::MAX])),
+    (Range, &[Int(i64::MIN), Int(i64::MAX)], Trap(7)),
+    (Range, &[Int(1), Int(65_536)], Trap(7)),
+    (Range, &[Int(1), Null], Trap(1)),
+];
+
 #[test]
 fn operators_on_lists(rt: HostRuntime) -> Result<(), Fail> {
-    let most = i64::MAX;
-    let rows: [(ListOperator, &[Row], Row); 25] = [
-        (List, &[], Ints(&[])),
-        (List, &[Int(1), Int(2)], Ints(&[1, 2])),
-        (Nth, &[Ints(&[7, 8, 9]), Int(0)], Int(7)),
-        (Nth, &[Ints(&[7, 8, 9]), Int(2)], Int(9)),
-        (Nth, &[Ints(&[7, 8, 9]), Int(3)], Trap(4)),
-        (Nth, &[Ints(&[7, 8, 9]), Int(-1)], Trap(4)),
-        (Nth, &[Int(0), Ints(&[7])], Trap(1)),
-        (Rest, &[Ints(&[7, 8, 9])], Ints(&[8, 9])),
-        (Rest, &[Ints(&[7])], Ints(&[])),
-        (Rest, &[Ints(&[])], Trap(4)),
-        (Rest, &[Chars(b"ab")], Trap(1)),
-        (Cons, &[Int(7), Ints(&[8, 9])], Ints(&[7, 8, 9])),
-        (Cons, &[Ints(&[8, 9]), Int(7)], Trap(1)),
-        (Append, &[Ints(&[1, 2]), Ints(&[3])], Ints(&[1, 2, 3])),
-        (Append, &[Ints(&[1]), Null], Trap(1)),
-        (Contains, &[Ints(&[7, 8]), Int(8)], Truth(true)),
-        (Contains, &[Ints(&[7, 8]), Int(9)], Truth(false)),
-        (Contains, &[Int(8), Ints(&[7, 8])], Trap(1)),
-        (Range, &[Int(3), Int(5)], Ints(&[3, 4, 5])),
-        (Range, &[Int(5), Int(5)], Ints(&[5])),
-        (Range, &[Int(5), Int(1)], Ints(&[])),
-        (Range, &[Int(most), Int(most)], Ints(&[i64::MAX])),
-        (Range, &[Int(i64::MIN), Int(most)], Trap(7)),
-        (Range, &[Int(1), Int(65_536)], Trap(7)),
-        (Range, &[Int(1), Null], Trap(1)),
-    ];
     let alloc = rt.alloc();
-    for (place, (operator, parts, wanted)) in rows.iter().enumerate() {
+    for (place, (operator, parts, wanted)) in LISTS.iter().enumerate() {
         let values = values_of(alloc, parts)?;
         let result = list_operation(alloc, *operator, values.as_slice());
         assert!(rt;
@@ -160,34 +161,35 @@ fn operators_on_lists(rt: HostRuntime) -> Result<(), Fail> {
     Ok(())
 }
 
+const TEXTS: [(TextOperator, &[Row], Row); 22] = [
+    (Concat, &[Chars(b"ab"), Chars(b"c")], Chars(b"abc")),
+    (Concat, &[Chars(b"ab"), Name(b"c")], Trap(1)),
+    (Subtext, &[Chars(b"abc"), Int(1), Int(3)], Chars(b"bc")),
+    (Subtext, &[Chars(b"abc"), Int(3), Int(3)], Chars(b"")),
+    (Subtext, &[Chars(b"abc"), Int(2), Int(1)], Trap(4)),
+    (Subtext, &[Chars(b"abc"), Int(0), Int(4)], Trap(4)),
+    (Subtext, &[Chars(b"abc"), Int(-1), Int(2)], Trap(4)),
+    (Subtext, &[Chars(b"abc"), Int(0), Int(-1)], Trap(4)),
+    (Subtext, &[Chars(b"abc"), Int(0)], Trap(1)),
+    (Pad, &[Chars(b"ab"), Int(4)], Chars(b"ab  ")),
+    (Pad, &[Chars(b"ab"), Int(2)], Chars(b"ab")),
+    (Pad, &[Chars(b"ab"), Int(1)], Chars(b"ab")),
+    (Pad, &[Chars(b"ab"), Int(-5)], Chars(b"ab")),
+    (Pad, &[Chars(b"ab"), Int(65_536)], Trap(7)),
+    (Pad, &[Chars(b"ab"), Int(i64::MAX)], Trap(7)),
+    (Pad, &[Int(4), Chars(b"ab")], Trap(1)),
+    (Written, &[Int(-12)], Chars(b"-12")),
+    (Written, &[Int(i64::MIN)], Chars(b"-9223372036854775808")),
+    (Written, &[Name(b"ab")], Chars(b"ab")),
+    (Written, &[Chars(b"ab")], Chars(b"ab")),
+    (Written, &[Null], Trap(1)),
+    (Written, &[Truth(true)], Trap(1)),
+];
+
 #[test]
 fn operators_on_texts(rt: HostRuntime) -> Result<(), Fail> {
-    let rows: [(TextOperator, &[Row], Row); 22] = [
-        (Concat, &[Chars(b"ab"), Chars(b"c")], Chars(b"abc")),
-        (Concat, &[Chars(b"ab"), Name(b"c")], Trap(1)),
-        (Subtext, &[Chars(b"abc"), Int(1), Int(3)], Chars(b"bc")),
-        (Subtext, &[Chars(b"abc"), Int(3), Int(3)], Chars(b"")),
-        (Subtext, &[Chars(b"abc"), Int(2), Int(1)], Trap(4)),
-        (Subtext, &[Chars(b"abc"), Int(0), Int(4)], Trap(4)),
-        (Subtext, &[Chars(b"abc"), Int(-1), Int(2)], Trap(4)),
-        (Subtext, &[Chars(b"abc"), Int(0), Int(-1)], Trap(4)),
-        (Subtext, &[Chars(b"abc"), Int(0)], Trap(1)),
-        (Pad, &[Chars(b"ab"), Int(4)], Chars(b"ab  ")),
-        (Pad, &[Chars(b"ab"), Int(2)], Chars(b"ab")),
-        (Pad, &[Chars(b"ab"), Int(1)], Chars(b"ab")),
-        (Pad, &[Chars(b"ab"), Int(-5)], Chars(b"ab")),
-        (Pad, &[Chars(b"ab"), Int(65_536)], Trap(7)),
-        (Pad, &[Chars(b"ab"), Int(i64::MAX)], Trap(7)),
-        (Pad, &[Int(4), Chars(b"ab")], Trap(1)),
-        (Written, &[Int(-12)], Chars(b"-12")),
-        (Written, &[Int(i64::MIN)], Chars(b"-9223372036854775808")),
-        (Written, &[Name(b"ab")], Chars(b"ab")),
-        (Written, &[Chars(b"ab")], Chars(b"ab")),
-        (Written, &[Null], Trap(1)),
-        (Written, &[Truth(true)], Trap(1)),
-    ];
     let alloc = rt.alloc();
-    for (place, (operator, parts, wanted)) in rows.iter().enumerate() {
+    for (place, (operator, parts, wanted)) in TEXTS.iter().enumerate() {
         let values = values_of(alloc, parts)?;
         let result = text_operation(alloc, *operator, values.as_slice());
         assert!(rt;
