@@ -1,5 +1,5 @@
 -- Parts of lists and records: as items and as a row, from a place on, and with one of them changed.
-use Rattle.std.proofs.Common.{◌≡◌, ℕ, zero, suc, ◌+◌, ◌-◌, ◌<◌, ◌≤◌, List, [], ◌∷◌, ◌++◌, length, get_or, take, drop, map, if◌then◌else◌, true, false, Bool, refl, sym, ap, ◌∙◌, ℤ, pos, ◌+ℤ◌, arith, add-one, drop-cons, nat_le, Ok, rules, tests, length-drop}
+use Rattle.std.proofs.Common.{◌≡◌, ℕ, zero, suc, ◌+◌, ◌-◌, ◌<◌, ◌≤◌, List, [], ◌∷◌, ◌++◌, length, get_or, take, drop, map, if◌then◌else◌, true, false, refl, ap, ℤ, pos, ◌+ℤ◌, arith, add-one, drop-cons, nat_le, Ok, rules, tests, length-drop}
 use Rattle.std.proofs.Math.Seq.{take-length}
 use Rattle.std.proofs.lemmas.List.{drop_all}
 use Rattle.std.proofs.lemmas.Int.{ints}

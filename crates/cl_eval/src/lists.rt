@@ -12,7 +12,8 @@ use cl_syntax::ListOperator;
 use cl_value::{Value, Values};
 use std::alloc::{AllocError, Global};
 
-/// What is made of lists, or asked of them. A place that is not in its list traps with 4.
+/// What is made of lists, or asked of them. A place that is not in its list traps with 4, a list past the
+/// limits of a value with 7.
 pub fn list_operation(
     alloc: Global,
     operator: ListOperator,
@@ -104,7 +105,6 @@ fn all_but_first(alloc: Global, parts: &Values) -> Result<Value, Stop>
     }
 }
 
-#[tactic(auto, using(std::proofs::lemmas::Grind::common_steps, crate::proofs::ListLemmas::list_of_items))]
 fn cons(alloc: Global, values: &[Value]) -> Result<Value, Stop>
     ensures { Comes data_of result (list_made row.Cons (map data_of values.now)) }
 {

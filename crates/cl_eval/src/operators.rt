@@ -13,8 +13,13 @@ use cl_syntax::{App, Operator};
 use cl_value::{Value, Values};
 use std::alloc::Global;
 
-/// The greatest size of a value, and its greatest depth.
+#[cfg(test)]
+mod tests;
+
+/// The greatest size of a value.
 pub const MOST_SIZE: u64 = 65_536;
+
+/// The greatest depth of a value.
 const MOST_DEPTH: u64 = 64;
 
 /// The value of an operator over the values of its parts. A wrong kind or count of parts traps with 1.
@@ -39,7 +44,7 @@ pub fn operate(
     }
 }
 
-/// The value where it is within its limits.
+/// The value where its size and its depth are within their limits; else trap 7.
 pub fn limit(value: Value) -> Result<Value, Stop>
     ensures { Comes data_of result (limited (data_of value)) }
 {
@@ -50,7 +55,7 @@ pub fn limit(value: Value) -> Result<Value, Stop>
     }
 }
 
-/// A copy of a value that was looked for.
+/// A copy of a value that was looked for; where there is none, trap 1.
 pub fn find_value(value: Option<&Value>) -> Result<Value, Stop>
     ensures { Comes data_of result (or_trap 1 (option_map (λ v. data_of v.now) value.entry)) }
 {

@@ -12,6 +12,9 @@ use cl_syntax::{App, RecordOperator};
 use cl_value::{Text, Value, Values};
 use std::alloc::{AllocError, Global};
 
+#[cfg(test)]
+mod tests;
+
 /// What is made of records, or asked of them. A record that is not declared, or that has no such field,
 /// traps with 1.
 #[tactic(auto, using(std::proofs::lemmas::Grind::common_steps, crate::proofs::ListLemmas::list_of_items))]
@@ -60,7 +63,9 @@ fn field_place(app: &App, name: &Text, field: &Text) -> Option<usize>
 fn place_of(field: &Text, names: &[Text]) -> Option<usize>
     ensures { result ≡ place_of field.now names.now }
 {
-    names.iter().position(|name| name.as_slice() == field.as_slice())
+    names
+        .iter()
+        .position(|name| name.as_slice() == field.as_slice())
 }
 
 fn part_at(parts: &Values, place: Option<usize>) -> Result<Value, Stop>

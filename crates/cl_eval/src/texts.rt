@@ -13,7 +13,8 @@ use cl_syntax::TextOperator;
 use cl_value::{Text, Value};
 use std::alloc::{AllocError, Global};
 
-/// What is made of texts. A place that is not in its text traps with 4.
+/// What is made of texts. A place that is not in its text traps with 4, a text past the limits of a value
+/// with 7.
 pub fn text_operation(
     alloc: Global,
     operator: TextOperator,
