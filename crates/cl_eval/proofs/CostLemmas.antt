@@ -1,21 +1,20 @@
 -- The cost so far never falls: what a run comes to costs at least what it began with.
-use Rattle.std.proofs.Common.{◌≡◌, ℕ, zero, suc, ◌+◌, ◌≤◌, ◌==◌, Bool, true, false, if◌then◌else◌, nat_le, List, [], ◌∷◌, Option, Some, None, Result, Ok, Err, arith, refl}
-use Rattle.std.specs.Prelude.{ℤ, ◌+ℤ◌, max}
-use Rattle.cl_value.specs.declared.Value.{Value}
-use Rattle.cl_value.specs.Data.{Data, int, bool, text, symbol, null, list, rec}
+use Rattle.std.proofs.Common.{◌≡◌, ℕ, zero, suc, ◌+◌, ◌≤◌, ◌==◌, Bool, true, false, if◌then◌else◌, nat_le, List, [], ◌∷◌, ◌++◌, length, Option, Some, None, Result, Ok, Err, arith, refl}
+use Rattle.std.specs.Prelude.{max}
+use Rattle.cl_value.specs.Data.{Data, bool, list, items_of}
 use Rattle.cl_syntax.specs.Term as term
-use Rattle.cl_syntax.specs.Term.{Term}
-use Rattle.cl_syntax.specs.declared.expressions.Arithmetic.{Arithmetic}
-use Rattle.cl_syntax.specs.declared.expressions.Arithmetic.TheVariants.{Add}
-use Rattle.cl_syntax.specs.declared.statements.Act.{Act}
-use Rattle.cl_syntax.specs.declared.statements.Act.TheVariants as act
+use Rattle.cl_syntax.specs.Term.{Term, Terms, Bindings, none, part, unbound, binding}
+use Rattle.cl_syntax.specs.App.{function_named}
+use Rattle.cl_syntax.specs.declared.applications.App.{App}
+use Rattle.cl_syntax.specs.declared.declarations.FunctionDecl.{FunctionDecl}
 use Rattle.cl_eval.specs.declared.metering.Meter.{Meter}
 use Rattle.cl_eval.specs.declared.metering.Stop.{Stop}
 use Rattle.cl_eval.specs.declared.metering.Stop.TheVariants.{Trap, Memory}
-use Rattle.cl_eval.specs.Outcome.{Outcome, Gives, Traps, Run, give, trap, after, ◌>>=◌, cost_of}
-use Rattle.cl_eval.specs.Slots.{Slots, found}
-use Rattle.cl_eval.specs.Meaning.{entering, number, fits_int, calculated, written, looked_up, parts, means, assigned, act_parts, acts, runs}
-use Rattle.cl_eval.specs.Agrees.{Agrees, Entered}
+use Rattle.cl_eval.specs.Outcome.{Outcome, Gives, Traps, Run, give, trap, lift, after, ◌>>=◌, cost_of}
+use Rattle.cl_eval.specs.Slots.{Slots, Env, found, given}
+use Rattle.cl_eval.specs.Operators.{limited, or_trap, truth, elements, operated}
+use Rattle.cl_eval.specs.Meaning.{Go, entering, tested, listed, each, every, some, let_in, mapped, filtered, folded, called, parts, means}
+use Rattle.cl_eval.specs.Agrees.{Agrees, Comes, Entered}
 
 abbrev pub Grows : {A : Type 0} → Run A → Type 0
 Grows r = (c d : ℕ) → c ≤ cost_of (r c d)
@@ -26,6 +25,13 @@ cost-after (Traps k c d) f g = omega arith
 
 pub grows-then : {A B : Type 0} (m : Run A) (f : A → Run B) → Grows m → ((x : A) → Grows (f x)) → Grows (m >>= f)
 grows-then m f g h c d = omega (arith, g c d, cost-after (m c d) f h)
+
+pub grows-give : {A : Type 0} (x : A) → Grows (give x)
+grows-give x c d = omega arith
+
+pub grows-lift : {A : Type 0} (r : Result A ℕ) → Grows (lift r)
+grows-lift (Ok x) c d = omega arith
+grows-lift (Err k) c d = omega arith
 
 by_test : {A : Type 0} (b : Bool) (o p : Outcome A) (c : ℕ) → c ≤ cost_of o → c ≤ cost_of p → c ≤ cost_of (if b then o else p)
 by_test true o p c h g = h
@@ -40,66 +46,122 @@ pub grows-choice : {A : Type 0} (b : Bool) (r s : Run A) → Grows r → Grows s
 grows-choice true r s g h = g
 grows-choice false r s g h = h
 
-grows-number : (z : ℤ) → Grows (number z)
-grows-number z = grows-choice (fits_int z) (give (int z)) (trap 2) (λ c d. omega arith) (λ c d. omega arith)
+-- ---- by the meaning of the parts
 
-grows-calculated : (o : Arithmetic) (x y : Data) → Grows (calculated o x y)
-grows-calculated Add (int x) (int y) c d = grows-number (x +ℤ y) c d
-grows-calculated Add x y c d = omega arith
+abbrev pub GoGrows : Go → Type 0
+GoGrows go = (level : ℕ) (env : Env) (t : Term) → Grows (go level env t)
 
-pub grows-written : (x : Data) → Grows (written x)
-grows-written (int z) c d = omega arith
-grows-written (symbol s) c d = omega arith
-grows-written (text s) c d = omega arith
-grows-written x c d = omega arith
+pub grows-tested : (go : Go) → GoGrows go → (level : ℕ) (env : Env) (t : Term) → Grows (tested go level env t)
+grows-tested go g level env t = grows-then (go level env t) (λ d. lift (truth d)) (g level env t) (λ d. grows-lift (truth d))
 
-grows-looked_up : (o : Option Data) → Grows (looked_up o)
-grows-looked_up None c d = omega arith
-grows-looked_up (Some x) c d = omega arith
+pub grows-listed : (go : Go) → GoGrows go → (level : ℕ) (env : Env) (t : Term) → Grows (listed go level env t)
+grows-listed go g level env t = grows-then (go level env t) (λ d. lift (elements d)) (g level env t) (λ d. grows-lift (elements d))
 
-grows-parts : (go : ℕ → Term → Run Data) (slots : Slots) → ((level : ℕ) (t : Term) → Grows (go level t)) → (level : ℕ) (t : Term) → Grows (parts go slots level t)
-grows-parts go slots g level (term.constant x) c d = omega arith
-grows-parts go slots g level (term.slot x) c d = grows-looked_up (found x slots) c d
-grows-parts go slots g level (term.text t) c d = grows-then (go level t) written (g level t) grows-written c d
-grows-parts go slots g level (term.arithmetic o s t) c d =
-    grows-then (go level s) (λ x. go level t >>= λ y. calculated o x y) (g level s)
-    (λ x. grows-then (go level t) (λ y. calculated o x y) (g level t) (λ y. grows-calculated o x y)) c d
+pub grows-each : (go : Go) → GoGrows go → (level : ℕ) (env : Env) (ts : Terms) (ds : List Data) → Grows (each go level env ts ds)
+grows-each go g level env none ds = grows-give ds
+grows-each go g level env (part t ts) ds =
+    grows-then (go level env t) (λ d. each go level env ts (ds ++ d ∷ [])) (g level env t) (λ d. grows-each go g level env ts (ds ++ d ∷ []))
 
-pub grows-means : (left budget : ℕ) (slots : Slots) (level : ℕ) (t : Term) → Grows (means left budget slots level t)
-grows-means zero budget slots level t =
+pub grows-every : (go : Go) → GoGrows go → (level : ℕ) (env : Env) (ts : Terms) → Grows (every go level env ts)
+grows-every go g level env none = grows-give (bool true)
+grows-every go g level env (part t ts) =
+    grows-then (tested go level env t) (λ b. if b then every go level env ts else give (bool false)) (grows-tested go g level env t)
+    (λ b. grows-choice b (every go level env ts) (give (bool false)) (grows-every go g level env ts) (grows-give (bool false)))
+
+pub grows-some : (go : Go) → GoGrows go → (level : ℕ) (env : Env) (ts : Terms) → Grows (some go level env ts)
+grows-some go g level env none = grows-give (bool false)
+grows-some go g level env (part t ts) =
+    grows-then (tested go level env t) (λ b. if b then give (bool true) else some go level env ts) (grows-tested go g level env t)
+    (λ b. grows-choice b (give (bool true)) (some go level env ts) (grows-give (bool true)) (grows-some go g level env ts))
+
+pub grows-let_in : (go : Go) → GoGrows go → (level : ℕ) (bs : Bindings) (t : Term) (env : Env) → Grows (let_in go level bs t env)
+grows-let_in go g level unbound t env = g level env t
+grows-let_in go g level (binding x s bs) t env =
+    grows-then (go level env s) (λ d. let_in go level bs t ((x, d) ∷ env)) (g level env s) (λ d. grows-let_in go g level bs t ((x, d) ∷ env))
+
+pub grows-mapped : (go : Go) → GoGrows go → (level : ℕ) (env : Env) (x : List ℕ) (t : Term) (ds es : List Data) → Grows (mapped go level env x t ds es)
+grows-mapped go g level env x t [] es = grows-give es
+grows-mapped go g level env x t (a ∷ ds) es =
+    grows-then (go level ((x, a) ∷ env) t) (λ e. mapped go level env x t ds (es ++ e ∷ [])) (g level ((x, a) ∷ env) t)
+    (λ e. grows-mapped go g level env x t ds (es ++ e ∷ []))
+
+pub grows-filtered : (go : Go) → GoGrows go → (level : ℕ) (env : Env) (x : List ℕ) (t : Term) (ds es : List Data) → Grows (filtered go level env x t ds es)
+grows-filtered go g level env x t [] es = grows-give es
+grows-filtered go g level env x t (a ∷ ds) es =
+    grows-then (tested go level ((x, a) ∷ env) t) (λ b. filtered go level env x t ds (if b then es ++ a ∷ [] else es)) (grows-tested go g level ((x, a) ∷ env) t)
+    (λ b. grows-filtered go g level env x t ds (if b then es ++ a ∷ [] else es))
+
+pub grows-folded : (go : Go) → GoGrows go → (level : ℕ) (env : Env) (x y : List ℕ) (t : Term) (ds : List Data) (a : Data) → Grows (folded go level env x y t ds a)
+grows-folded go g level env x y t [] a = grows-give a
+grows-folded go g level env x y t (e ∷ ds) a =
+    grows-then (go level ((y, a) ∷ (x, e) ∷ env) t) (λ b. folded go level env x y t ds b) (g level ((y, a) ∷ (x, e) ∷ env) t)
+    (λ b. grows-folded go g level env x y t ds b)
+
+pub grows-called : (go : Go) → GoGrows go → (level : ℕ) (f : Option FunctionDecl) (ds : List Data) → Grows (called go level f ds)
+grows-called go g level None ds = λ c d. omega arith
+grows-called go g level (Some f) ds =
+    grows-choice (length ds == length f.parameters) (go level (given f.parameters ds) f.body) (trap 1) (g level (given f.parameters ds) f.body) (λ c d. omega arith)
+
+-- what follows in each row
+pub grows-then_choice : (go : Go) → GoGrows go → (level : ℕ) (env : Env) (u v : Term) (b : Bool) → Grows (if b then go level env u else go level env v)
+grows-then_choice go g level env u v b = grows-choice b (go level env u) (go level env v) (g level env u) (g level env v)
+
+pub grows-limited : (es : List Data) → Grows (lift (limited (list (items_of es))))
+grows-limited es = grows-lift (limited (list (items_of es)))
+
+pub grows-then_map : (go : Go) → GoGrows go → (level : ℕ) (env : Env) (x : List ℕ) (t : Term) (ds : List Data)
+    → Grows (mapped go level env x t ds [] >>= λ es. lift (limited (list (items_of es))))
+grows-then_map go g level env x t ds =
+    grows-then (mapped go level env x t ds []) (λ es. lift (limited (list (items_of es)))) (grows-mapped go g level env x t ds []) grows-limited
+
+pub grows-then_filter : (go : Go) → GoGrows go → (level : ℕ) (env : Env) (x : List ℕ) (t : Term) (ds : List Data)
+    → Grows (filtered go level env x t ds [] >>= λ es. lift (limited (list (items_of es))))
+grows-then_filter go g level env x t ds =
+    grows-then (filtered go level env x t ds []) (λ es. lift (limited (list (items_of es)))) (grows-filtered go g level env x t ds []) grows-limited
+
+pub grows-then_fold : (go : Go) → GoGrows go → (level : ℕ) (env : Env) (x y : List ℕ) (t : Term) (d a : Data)
+    → Grows (lift (elements d) >>= λ ds. folded go level env x y t ds a)
+grows-then_fold go g level env x y t d a =
+    grows-then (lift (elements d)) (λ ds. folded go level env x y t ds a) (grows-lift (elements d)) (λ ds. grows-folded go g level env x y t ds a)
+
+pub grows-then_opening : (go : Go) → GoGrows go → (level : ℕ) (env : Env) (x y : List ℕ) (opening t : Term) (d : Data)
+    → Grows (go level env opening >>= λ a. lift (elements d) >>= λ ds. folded go level env x y t ds a)
+grows-then_opening go g level env x y opening t d =
+    grows-then (go level env opening) (λ a. lift (elements d) >>= λ ds. folded go level env x y t ds a) (g level env opening)
+    (λ a. grows-then_fold go g level env x y t d a)
+
+grows-parts : (app : App) (slots : Slots) (go : Go) → GoGrows go → (level : ℕ) (env : Env) (t : Term) → Grows (parts app slots go level env t)
+grows-parts app slots go g level env (term.constant x) = grows-give x
+grows-parts app slots go g level env (term.variable x) = grows-lift (or_trap 1 (found x env))
+grows-parts app slots go g level env (term.slot x) = grows-lift (or_trap 1 (found x slots))
+grows-parts app slots go g level env (term.choice t u v) =
+    grows-then (tested go level env t) (λ b. if b then go level env u else go level env v) (grows-tested go g level env t) (grows-then_choice go g level env u v)
+grows-parts app slots go g level env (term.bind bs t) = grows-let_in go g level bs t env
+grows-parts app slots go g level env (term.every ts) = grows-every go g level env ts
+grows-parts app slots go g level env (term.some ts) = grows-some go g level env ts
+grows-parts app slots go g level env (term.map x t body) =
+    grows-then (listed go level env t) (λ ds. mapped go level env x body ds [] >>= λ es. lift (limited (list (items_of es)))) (grows-listed go g level env t)
+    (grows-then_map go g level env x body)
+grows-parts app slots go g level env (term.filter x t body) =
+    grows-then (listed go level env t) (λ ds. filtered go level env x body ds [] >>= λ es. lift (limited (list (items_of es)))) (grows-listed go g level env t)
+    (grows-then_filter go g level env x body)
+grows-parts app slots go g level env (term.fold x t y opening body) =
+    grows-then (go level env t) (λ d. go level env opening >>= λ a. lift (elements d) >>= λ ds. folded go level env x y body ds a) (g level env t)
+    (grows-then_opening go g level env x y opening body)
+grows-parts app slots go g level env (term.operation o ts) =
+    grows-then (each go level env ts []) (λ ds. lift (operated app o ds)) (grows-each go g level env ts []) (λ ds. grows-lift (operated app o ds))
+grows-parts app slots go g level env (term.call f ts) =
+    grows-then (each go level env ts []) (λ ds. called go level (function_named f app) ds) (grows-each go g level env ts []) (grows-called go g level (function_named f app))
+
+pub grows-means : (left budget : ℕ) (app : App) (slots : Slots) → GoGrows (means left budget app slots)
+grows-means zero budget app slots level env t =
     grows-then (entering 0 budget level) (λ _. λ c d. Traps 6 c d) (grows-entering 0 budget level) (λ _ c d. omega arith)
-grows-means (suc left) budget slots level t =
-    grows-then (entering (suc left) budget level) (λ _. parts (means left budget slots) slots (level + 1) t) (grows-entering (suc left) budget level)
-    (λ _. grows-parts (means left budget slots) slots (grows-means left budget slots) (level + 1) t)
+grows-means (suc left) budget app slots level env t =
+    grows-then (entering (suc left) budget level) (λ _. parts app slots (means left budget app slots) (level + 1) env t) (grows-entering (suc left) budget level)
+    (λ _. grows-parts app slots (means left budget app slots) (grows-means left budget app slots) (level + 1) env t)
 
-pub grows-second : (go : ℕ → Term → Run Data) → ((level : ℕ) (t : Term) → Grows (go level t)) → (level : ℕ) (o : Arithmetic) (t : Term) (x : Data)
-    → Grows (go level t >>= λ y. calculated o x y)
-grows-second go g level o t x = grows-then (go level t) (λ y. calculated o x y) (g level t) (λ y. grows-calculated o x y)
+-- ---- a stop before the rest of a run
 
-pub grows-sum : (o : Arithmetic) (x y : Data) → Grows (calculated o x y)
-grows-sum = grows-calculated
-
-pub grows-assigned : (x : List ℕ) (slots : Slots) (old : Option Data) (y : Data) → Grows (assigned x slots old y)
-grows-assigned x slots (Some old) (int z) c d = omega arith
-grows-assigned x slots old y c d = omega arith
-
-grows-act_parts : (go : ℕ → Term → Run Data) (slots : Slots) → ((level : ℕ) (t : Term) → Grows (go level t)) → (level : ℕ) (a : Act) → Grows (act_parts go slots level a)
-grows-act_parts go slots g level (act.Setf x t) =
-    grows-then (go level t) (assigned x slots (found x slots)) (g level t) (grows-assigned x slots (found x slots))
-
-pub grows-acts : (left budget level : ℕ) (a : Act) (slots : Slots) → Grows (acts left budget level a slots)
-grows-acts zero budget level a slots =
-    grows-then (entering 0 budget level) (λ _. λ c d. Traps 6 c d) (grows-entering 0 budget level) (λ _ c d. omega arith)
-grows-acts (suc left) budget level a slots =
-    grows-then (entering (suc left) budget level) (λ _. act_parts (means left budget slots) slots (level + 1) a) (grows-entering (suc left) budget level)
-    (λ _. grows-act_parts (means left budget slots) slots (grows-means left budget slots) (level + 1) a)
-
-pub grows-runs : (left budget level : ℕ) (as' : List Act) (slots : Slots) → Grows (runs left budget level as' slots)
-grows-runs left budget level [] slots c d = omega arith
-grows-runs left budget level (a ∷ rest) slots c d =
-    grows-then (acts left budget level a slots) (runs left budget level rest) (grows-acts left budget level a slots) (grows-runs left budget level rest) c d
-
--- a stop before the rest of a run
 pub Agrees-stop : {A B C D : Type 0} (f : A → B) (h : C → D) (e : Stop) (m : Meter) (o : Outcome B) (k : B → Run D) → ((x : B) → Grows (k x))
     → Agrees f (Err e) m o → Agrees h (Err e) m (after o k)
 Agrees-stop f h (Trap kind) m o k g p = rw p refl
@@ -109,3 +171,10 @@ pub Entered-stop : {C D : Type 0} (h : C → D) (e : Stop) (m : Meter) (o : Outc
     → Entered (Err e) m o → Agrees h (Err e) m (after o k)
 Entered-stop h (Trap kind) m o k p = rw p refl
 Entered-stop h Memory m o k p = absurd p
+
+-- what enters no form agrees with its run
+pub Agrees-lift : {A B : Type 0} (f : A → B) (result : Result A Stop) (m : Meter) (r : Result B ℕ) → Comes f result r → Agrees f result m (lift r m.cost m.deepest)
+Agrees-lift f (Ok x) m r p = rw p refl
+Agrees-lift f (Err (Trap k)) m r p = rw p refl
+Agrees-lift f (Err Memory) m (Ok y) p = omega arith
+Agrees-lift f (Err Memory) m (Err k) p = omega arith

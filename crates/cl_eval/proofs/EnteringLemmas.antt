@@ -2,8 +2,9 @@
 use Rattle.std.proofs.Common.{◌≡◌, ℕ, zero, suc, ◌+◌, ◌-◌, Bool, true, false, if◌then◌else◌, nat_le, refl, arith, ap}
 use Rattle.cl_value.specs.Data.{Data}
 use Rattle.cl_syntax.specs.Term.{Term}
+use Rattle.cl_syntax.specs.declared.applications.App.{App}
 use Rattle.cl_eval.specs.Outcome.{Outcome, Gives, Traps, Run, after}
-use Rattle.cl_eval.specs.Slots.{Slots}
+use Rattle.cl_eval.specs.Slots.{Slots, Env}
 use Rattle.cl_eval.specs.Meaning.{entering, parts, means}
 
 abbrev refused : Bool → ℕ → ℕ → Outcome (Unit {0})
@@ -13,10 +14,10 @@ pub no_entry : (b : Bool) (cost deepest c d : ℕ) → refused b cost deepest �
 no_entry true cost deepest c d p = cc
 no_entry false cost deepest c d p = cc
 
-pub means-entered : (left budget : ℕ) (slots : Slots) (level : ℕ) (t : Term) (cost deepest c d : ℕ)
+pub means-entered : (left budget : ℕ) (app : App) (slots : Slots) (level : ℕ) (env : Env) (t : Term) (cost deepest c d : ℕ)
     → entering left budget level cost deepest ≡ Gives tt c d
-    → means left budget slots level t cost deepest ≡ parts (means (left - 1) budget slots) slots (level + 1) t c d
-means-entered zero budget slots level t cost deepest c d p = absurd (no_entry (nat_le budget cost) cost deepest c d p)
-means-entered (suc n) budget slots level t cost deepest c d p =
+    → means left budget app slots level env t cost deepest ≡ parts app slots (means (left - 1) budget app slots) (level + 1) env t c d
+means-entered zero budget app slots level env t cost deepest c d p = absurd (no_entry (nat_le budget cost) cost deepest c d p)
+means-entered (suc n) budget app slots level env t cost deepest c d p =
     let less : suc n - 1 ≡ n = omega arith in
     rw (p, less)

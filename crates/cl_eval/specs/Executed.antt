@@ -1,30 +1,42 @@
 -- What running statements answers, against what the definition says.
-use Rattle.std.specs.Prelude.{◌≡◌, ℕ, ◌+◌, ◌≤◌, List}
-use Rattle.cl_syntax.specs.declared.statements.Act.{Act}
-use Rattle.cl_eval.specs.declared.metering.Limits.{Limits}
+use Rattle.std.specs.Prelude.{◌≡◌, ℕ, ◌+◌, ◌≤◌, List, [], Bool, true, false}
+use Rattle.cl_value.specs.declared.Held.{Held}
+use Rattle.cl_value.specs.declared.Held.TheVariants as held
+use Rattle.cl_syntax.specs.Statement.{Statement, statements_of}
+use Rattle.cl_syntax.specs.declared.applications.App.{App}
+use Rattle.cl_eval.specs.declared.effects.Effects.{Effects}
 use Rattle.cl_eval.specs.declared.execution.Executed.{Executed}
 use Rattle.cl_eval.specs.declared.execution.Executed.TheVariants as executed
-use Rattle.cl_eval.specs.Slots as slots
+use Rattle.cl_eval.specs.declared.metering.Limits.{Limits}
+use Rattle.cl_eval.specs.Slots.{Slots, Env}
 use Rattle.cl_eval.specs.Outcome.{Outcome, Gives, Traps}
-use Rattle.cl_eval.specs.Meaning.{runs}
+use Rattle.cl_eval.specs.Statements.{Member, does, in_turn}
 
-abbrev pub same_slots : slots.Slots → slots.Slots
-same_slots s = s
+-- whether that could be found
+abbrev pub Decides : Held → Bool → Type 0
+Decides held.Yes b = b ≡ true
+Decides held.No b = b ≡ false
+Decides held.Memory b = Unit {0}
 
--- a command's statements, from no cost
-unfoldable pub ran : Limits → List Act → slots.Slots → Outcome slots.Slots
-ran limits statements s = runs limits.depth limits.budget 0 statements s 0 0
+-- no statement was run yet
+abbrev pub no_effects : Slots → Effects
+no_effects slots = record { slots = slots; replies = []; reply_bytes = 0 }
 
--- the slots of an end without a trap, or the trap's kind
-abbrev pub Executes : Executed → Outcome slots.Slots → Type 0
-Executes (executed.Done s) (Gives t cost deepest) = s ≡ t
-Executes (executed.Done s) (Traps kind cost deepest) = ⊥
-Executes (executed.Trap k) (Gives t cost deepest) = ⊥
-Executes (executed.Trap k) (Traps kind cost deepest) = k ≡ kind
+-- a body of statements, from no cost
+unfoldable pub ran : Limits → App → Member → List Statement → Env → Slots → Outcome Effects
+ran limits app member body env slots =
+    in_turn (does limits.depth limits.budget app member) 0 env (statements_of body) (no_effects slots) 0 0
+
+-- the slots and the replies of an end without a trap, or the trap's kind; each with the cost
+abbrev pub Executes : Executed → Outcome Effects → Type 0
+Executes (executed.Done s lines cost) (Gives e c deepest) = (s ≡ e.slots) × (lines ≡ e.replies) × (cost ≡ c)
+Executes (executed.Done s lines cost) (Traps kind c deepest) = ⊥
+Executes (executed.Trap k cost) (Gives e c deepest) = ⊥
+Executes (executed.Trap k cost) (Traps kind c deepest) = (k ≡ kind) × (cost ≡ c)
 Executes executed.Memory o = Unit {0}
 
 -- the ledger rises by the cost; where there was no memory, by no more
 abbrev pub Rises : Executed → ℕ → ℕ → ℕ → Type 0
-Rises (executed.Done s) old new cost = new ≡ old + cost
-Rises (executed.Trap k) old new cost = new ≡ old + cost
+Rises (executed.Done s lines c) old new cost = new ≡ old + cost
+Rises (executed.Trap k c) old new cost = new ≡ old + cost
 Rises executed.Memory old new cost = (old ≤ new) × (new ≤ old + cost)

@@ -1,5 +1,9 @@
 pub mod Outcome
 pub mod Slots
+pub mod Scope
+pub mod Operators
 pub mod Meaning
 pub mod Agrees
+pub mod Evaluated
+pub mod Statements
 pub mod Executed

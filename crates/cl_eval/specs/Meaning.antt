@@ -1,16 +1,16 @@
--- The meaning of expressions and statements. Each form that is entered costs 1, and its parts cost in turn, from left to right.
--- Traps: 1 wrong kind, 2 overflow, 5 budget, 6 depth.
-use Rattle.std.specs.Prelude.{ℕ, zero, suc, ◌+◌, ◌^◌, ℤ, pos, negsuc, ◌+ℤ◌, Bool, nat_lt, nat_le, if◌then◌else◌, ◌==◌, max, List, [], ◌∷◌, Option, Some, None}
-use Rattle.std.specs.Fmt.{signed_decimal}
-use Rattle.cl_value.specs.Data.{Data, int, text, symbol}
+-- The meaning of expressions. Each form that is entered costs 1, and its parts cost in turn, from left to right. Reach is the
+-- deepest level that is entered. Traps on entering a form: 5 the budget, then 6 the depth. A form's own traps come when all its
+-- parts have ended, but for the checks that stand between them here.
+use Rattle.std.specs.Prelude.{ℕ, zero, suc, ◌+◌, Bool, true, false, nat_le, if◌then◌else◌, ◌==◌, max, List, [], ◌∷◌, ◌++◌, length, Option, Some, None, Result, Ok, Err}
+use Rattle.cl_value.specs.Data.{Data, bool, list, items_of}
 use Rattle.cl_syntax.specs.Term as term
-use Rattle.cl_syntax.specs.Term.{Term}
-use Rattle.cl_syntax.specs.declared.expressions.Arithmetic.{Arithmetic}
-use Rattle.cl_syntax.specs.declared.expressions.Arithmetic.TheVariants.{Add}
-use Rattle.cl_syntax.specs.declared.statements.Act.{Act}
-use Rattle.cl_syntax.specs.declared.statements.Act.TheVariants as act
-use Rattle.cl_eval.specs.Outcome.{Outcome, Gives, Traps, Run, give, trap, ◌>>=◌}
-use Rattle.cl_eval.specs.Slots.{Slots, found, put}
+use Rattle.cl_syntax.specs.Term.{Term, Terms, Bindings, none, part, unbound, binding}
+use Rattle.cl_syntax.specs.App.{function_named}
+use Rattle.cl_syntax.specs.declared.applications.App.{App}
+use Rattle.cl_syntax.specs.declared.declarations.FunctionDecl.{FunctionDecl}
+use Rattle.cl_eval.specs.Outcome.{Outcome, Gives, Traps, Run, give, trap, lift, ◌>>=◌}
+use Rattle.cl_eval.specs.Slots.{Slots, Env, found, given}
+use Rattle.cl_eval.specs.Operators.{limited, or_trap, truth, elements, operated}
 
 -- on entering a form: first the budget, then the depth
 abbrev pub entering : ℕ → ℕ → ℕ → Run (Unit {0})
@@ -18,53 +18,80 @@ entering left budget level cost deepest =
     if nat_le budget cost then Traps 5 cost deepest
     else (if left == 0 then Traps 6 cost deepest else Gives tt (cost + 1) (max deepest (level + 1)))
 
-abbrev pub fits_int : ℤ → Bool
-fits_int (pos n) = nat_lt n (2 ^ 63)
-fits_int (negsuc n) = nat_lt n (2 ^ 63)
+-- the meaning of the parts: an expression at a level, with the variables there
+abbrev pub Go : Type 0
+Go = ℕ → Env → Term → Run Data
 
-abbrev pub number : ℤ → Run Data
-number z = if fits_int z then give (int z) else trap 2
+-- whether an expression is true, where a Bool is asked for
+abbrev pub tested : Go → ℕ → Env → Term → Run Bool
+tested go level env t = go level env t >>= λ d. lift (truth d)
 
-abbrev pub calculated : Arithmetic → Data → Data → Run Data
-calculated Add (int x) (int y) = number (x +ℤ y)
-calculated Add x y = trap 1
+-- the parts of a list, where one is asked for
+abbrev pub listed : Go → ℕ → Env → Term → Run (List Data)
+listed go level env t = go level env t >>= λ d. lift (elements d)
 
--- a number in decimal, a symbol's name, a text itself
-abbrev pub written : Data → Run Data
-written (int z) = give (text (signed_decimal z))
-written (symbol s) = give (text s)
-written (text s) = give (text s)
-written d = trap 1
+-- the values of parts in order, behind those that are there
+abbrev pub each : Go → ℕ → Env → Terms → List Data → Run (List Data)
+each go level env none ds = give ds
+each go level env (part t ts) ds = go level env t >>= λ d. each go level env ts (ds ++ d ∷ [])
 
-abbrev pub looked_up : Option Data → Run Data
-looked_up None = trap 1
-looked_up (Some d) = give d
+-- true where each part is, up to the first that is not
+abbrev pub every : Go → ℕ → Env → Terms → Run Data
+every go level env none = give (bool true)
+every go level env (part t ts) = tested go level env t >>= λ b. if b then every go level env ts else give (bool false)
+
+-- false where each part is, up to the first that is not
+abbrev pub some : Go → ℕ → Env → Terms → Run Data
+some go level env none = give (bool false)
+some go level env (part t ts) = tested go level env t >>= λ b. if b then give (bool true) else some go level env ts
+
+-- the body behind bindings, each of which sees the ones before it
+abbrev pub let_in : Go → ℕ → Bindings → Term → Env → Run Data
+let_in go level unbound t env = go level env t
+let_in go level (binding x s bs) t env = go level env s >>= λ d. let_in go level bs t ((x, d) ∷ env)
+
+-- the values of a body for each of these, behind those that are there
+abbrev pub mapped : Go → ℕ → Env → List ℕ → Term → List Data → List Data → Run (List Data)
+mapped go level env x body [] es = give es
+mapped go level env x body (d ∷ ds) es = go level ((x, d) ∷ env) body >>= λ e. mapped go level env x body ds (es ++ e ∷ [])
+
+-- those of these for which a body is true, behind those that are there
+abbrev pub filtered : Go → ℕ → Env → List ℕ → Term → List Data → List Data → Run (List Data)
+filtered go level env x body [] es = give es
+filtered go level env x body (d ∷ ds) es =
+    tested go level ((x, d) ∷ env) body >>= λ b. filtered go level env x body ds (if b then es ++ d ∷ [] else es)
+
+-- the last value of a body that is given each of these with the value before; the accumulator hides the element
+abbrev pub folded : Go → ℕ → Env → List ℕ → List ℕ → Term → List Data → Data → Run Data
+folded go level env x accumulator body [] a = give a
+folded go level env x accumulator body (d ∷ ds) a =
+    go level ((accumulator, a) ∷ (x, d) ∷ env) body >>= λ b. folded go level env x accumulator body ds b
+
+-- a function's body, where its parameters are all that it sees
+abbrev pub called : Go → ℕ → Option FunctionDecl → List Data → Run Data
+called go level None ds = trap 1
+called go level (Some f) ds = if length ds == length f.parameters then go level (given f.parameters ds) f.body else trap 1
 
 -- a form that was entered, by the meaning of its parts at this level
-abbrev pub parts : (ℕ → Term → Run Data) → Slots → ℕ → Term → Run Data
-parts go slots level (term.constant d) = give d
-parts go slots level (term.slot x) = looked_up (found x slots)
-parts go slots level (term.text t) = go level t >>= written
-parts go slots level (term.arithmetic o s t) = go level s >>= λ x. go level t >>= λ y. calculated o x y
+abbrev pub parts : App → Slots → Go → ℕ → Env → Term → Run Data
+parts app slots go level env (term.constant d) = give d
+parts app slots go level env (term.variable x) = lift (or_trap 1 (found x env))
+parts app slots go level env (term.slot x) = lift (or_trap 1 (found x slots))
+parts app slots go level env (term.choice t u v) = tested go level env t >>= λ b. if b then go level env u else go level env v
+parts app slots go level env (term.bind bs t) = let_in go level bs t env
+parts app slots go level env (term.every ts) = every go level env ts
+parts app slots go level env (term.some ts) = some go level env ts
+parts app slots go level env (term.map x t body) =
+    listed go level env t >>= λ ds. mapped go level env x body ds [] >>= λ es. lift (limited (list (items_of es)))
+parts app slots go level env (term.filter x t body) =
+    listed go level env t >>= λ ds. filtered go level env x body ds [] >>= λ es. lift (limited (list (items_of es)))
+parts app slots go level env (term.fold x t accumulator opening body) =
+    go level env t >>= λ d. go level env opening >>= λ a. lift (elements d) >>= λ ds. folded go level env x accumulator body ds a
+parts app slots go level env (term.operation o ts) = each go level env ts [] >>= λ ds. lift (operated app o ds)
+parts app slots go level env (term.call f ts) = each go level env ts [] >>= λ ds. called go level (function_named f app) ds
 
 -- an expression, where so many levels are left, below this level
-abbrev pub means : ℕ → ℕ → Slots → ℕ → Term → Run Data
-means zero budget slots level t = entering 0 budget level >>= λ _. trap 6
-means (suc left) budget slots level t = entering (suc left) budget level >>= λ _. parts (means left budget slots) slots (level + 1) t
-
--- a slot takes numbers alone
-abbrev pub assigned : List ℕ → Slots → Option Data → Data → Run Slots
-assigned x slots (Some old) (int z) = give (put x (int z) slots)
-assigned x slots old d = trap 1
-
-abbrev pub act_parts : (ℕ → Term → Run Data) → Slots → ℕ → Act → Run Slots
-act_parts go slots level (act.Setf x t) = go level t >>= assigned x slots (found x slots)
-
-abbrev pub acts : ℕ → ℕ → ℕ → Act → Slots → Run Slots
-acts zero budget level a slots = entering 0 budget level >>= λ _. trap 6
-acts (suc left) budget level a slots = entering (suc left) budget level >>= λ _. act_parts (means left budget slots) slots (level + 1) a
-
--- statements in order, each with the slots that the ones before it left
-abbrev pub runs : ℕ → ℕ → ℕ → List Act → Slots → Run Slots
-runs left budget level [] slots = give slots
-runs left budget level (a ∷ rest) slots = acts left budget level a slots >>= runs left budget level rest
+abbrev pub means : ℕ → ℕ → App → Slots → Go
+means zero budget app slots level env t = entering 0 budget level >>= λ _. trap 6
+means (suc left) budget app slots level env t =
+    entering (suc left) budget level >>= λ _. parts app slots (means left budget app slots) (level + 1) env t

@@ -1,5 +1,5 @@
 -- What a run comes to, from the cost so far and the deepest level so far.
-use Rattle.std.specs.Prelude.{ℕ}
+use Rattle.std.specs.Prelude.{ℕ, Result, Ok, Err}
 
 -- a value, or a trap of some kind; each with the cost and the deepest level then
 pub data Outcome (A : Type 0) : Type 0 where
@@ -22,6 +22,11 @@ after (Traps kind cost deepest) f = Traps kind cost deepest
 infixl 10 ◌>>=◌
 abbrev pub ◌>>=◌ : {A B : Type 0} → Run A → (A → Run B) → Run B
 (m >>= f) cost deepest = after (m cost deepest) f
+
+-- a value, or the kind of a trap; neither enters a form
+abbrev pub lift : {A : Type 0} → Result A ℕ → Run A
+lift (Ok x) cost deepest = Gives x cost deepest
+lift (Err kind) cost deepest = Traps kind cost deepest
 
 abbrev pub cost_of : {A : Type 0} → Outcome A → ℕ
 cost_of (Gives x cost deepest) = cost

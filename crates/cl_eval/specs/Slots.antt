@@ -1,4 +1,4 @@
--- Slots are names with values, in the order in which they were added.
+-- Names with values: slots in the order in which they were added, variables with the newest first.
 use Rattle.std.specs.Prelude.{ℕ, Bool, if◌then◌else◌, ◌==◌, List, [], ◌∷◌, Option, Some, None}
 use Rattle.std.specs.Cmp.Lexicographic.{pointwise}
 use Rattle.cl_value.specs.Data.{Data}
@@ -8,10 +8,13 @@ use Rattle.cl_value.specs.Value.{data_of}
 abbrev pub Slots : Type 0
 Slots = List (List ℕ × Data)
 
+abbrev pub Env : Type 0
+Env = List (List ℕ × Data)
+
 abbrev pub is_name : List ℕ → List ℕ → Bool
 is_name x y = pointwise ◌==◌ x y
 
-abbrev pub found : List ℕ → Slots → Option Data
+abbrev pub found : List ℕ → List (List ℕ × Data) → Option Data
 found x [] = None
 found x (s ∷ slots) = if is_name s.0 x then Some s.1 else found x slots
 
@@ -19,6 +22,12 @@ found x (s ∷ slots) = if is_name s.0 x then Some s.1 else found x slots
 abbrev pub put : List ℕ → Data → Slots → Slots
 put x d [] = (x, d) ∷ []
 put x d (s ∷ slots) = if is_name s.0 x then (x, d) ∷ slots else s ∷ put x d slots
+
+-- parameters with the values that they are given, as many as there are of both
+abbrev pub given : List (List ℕ) → List Data → Env
+given [] ds = []
+given (x ∷ xs) [] = []
+given (x ∷ xs) (d ∷ ds) = (x, d) ∷ given xs ds
 
 -- a name with its value, as the program holds them
 abbrev pub entry_of : List ℕ × Value → List ℕ × Data

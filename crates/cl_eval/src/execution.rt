@@ -1,136 +1,320 @@
-ghost use Rattle.std.specs.Prelude.{◌≡◌, ◌+◌, ◌<◌, ◌≤◌, ◌^◌};
+//! Execution of statements.
+ghost use Rattle.std.specs.Prelude.{◌≡◌, ◌+◌, ◌<◌, ◌≤◌, ◌^◌, Bool, map};
+ghost use Rattle.cl_value.specs.Data.{Data};
 ghost use Rattle.cl_value.specs.Value.{data_of};
+ghost use Rattle.cl_syntax.specs.Statement.{statements_of};
+ghost use Rattle.cl_syntax.specs.Expr.{bindings_of};
+ghost use Rattle.cl_syntax.specs.App.{slot_type};
+ghost use Rattle.cl_syntax.specs.declared.type_specs.TypeSpec.{TypeSpec};
 ghost use Rattle.cl_eval.specs.Outcome.{cost_of};
-ghost use Rattle.cl_eval.specs.Slots.{found};
-ghost use Rattle.cl_eval.specs.Meaning.{act_parts, acts, assigned, means, runs};
-ghost use Rattle.cl_eval.specs.Executed.{Executes, Rises, same_slots, ran};
-ghost use Rattle.cl_eval.specs.Agrees.{Agrees};
+ghost use Rattle.cl_eval.specs.Scope.{variables_of};
+ghost use Rattle.cl_eval.specs.Meaning.{listed, means, tested};
+ghost use Rattle.cl_eval.specs.Statements.{act_parts, acts_in, assigned, does, for_each, in_turn};
+ghost use Rattle.cl_eval.specs.Agrees.{Agrees, Comes, always, itself};
+ghost use Rattle.cl_eval.specs.Executed.{Decides, Executes, Rises, ran};
 
-use crate::evaluation::{Context, evaluate};
+use crate::effects::{Effects, Lines, reply};
+use crate::evaluation::{Context, evaluate, evaluate_list, evaluate_test};
 use crate::metering::{Limits, Meter, Stop};
 use crate::slot_table::Slots;
+use crate::variables::{Env, Scope};
 use cl_outside::{Ledger, Steps};
-use cl_syntax::{Act, Acts};
-use cl_value::{Text, Value};
+use cl_syntax::{Act, ActKind, Acts, App, Binding, Expr, TypeSpec};
+use cl_value::{Held, Text, Value, Values};
 use std::alloc::Global;
+
+/// The types of an application.
+pub trait Types {
+    // whether a value is a member of a type
+    ghost member: { Self → Data → TypeSpec → Bool };
+
+    /// Whether a value is a member of a type, as far as there is memory to find it.
+    fn member(&self, value: &Value, spec: &TypeSpec) -> Held
+        ensures { Decides result (member self.now (data_of value.now) spec.now) };
+}
 
 /// What the statements of a command come to.
 #[derive(Drop)]
 pub enum Executed {
-    /// The slots that they leave.
-    Done(Slots),
-    /// The kind of their trap.
-    Trap(u8),
+    /// The slots that they leave, the texts of their replies, and the cost.
+    Done(Slots, Lines, u64),
+    /// The kind of their trap, and the cost up to it.
+    Trap(u8, u64),
     /// There was no memory.
     Memory,
 }
 
+// What statements are run in: the application, its types, and how many forms may be entered in all.
+#[derive(Drop)]
+struct Program<'a, T: Types> {
+    alloc: Global,
+    app: &'a App,
+    types: &'a T,
+    budget: u64,
+}
+
 /// Runs statements on a copy of the slots. Each form that is entered is a step.
 #[tactic(auto, unfolding(crate::specs::Executed::ran))]
-pub fn exec<L: Ledger>(
+pub fn exec<T: Types, L: Ledger>(
     alloc: Global,
+    app: &App,
     statements: &Acts,
+    env: &Env,
     slots: &Slots,
+    types: &T,
     limits: Limits,
     steps: &mut Steps<L>,
 ) -> Executed
     requires { limits.depth ≤ 512 }
-    ensures meaning { Executes result (ran limits statements.now slots.now) }
-    ensures ledger { Rises result steps.old steps.new (cost_of (ran limits statements.now slots.now)) }
+    ensures meaning { Executes result (ran limits app.now (T.member types.now) statements.now env.now slots.now) }
+    ensures ledger { Rises result steps.old steps.new (cost_of (ran limits app.now (T.member types.now) statements.now env.now slots.now)) }
 {
-    let mut meter = Meter::new();
-    match run_all(
+    let program = Program {
         alloc,
-        statements.as_slice(),
-        slots,
-        limits,
-        &mut meter,
-        steps,
-    ) {
-        Ok(slots) => Executed::Done(slots),
-        Err(Stop::Trap(kind)) => Executed::Trap(kind),
+        app,
+        types,
+        budget: limits.budget,
+    };
+    let mut meter = Meter::new();
+    let mut effects = match Effects::new(alloc, slots) {
+        Ok(effects) => effects,
+        Err(_) => return Executed::Memory,
+    };
+    let scope = Scope::Given(env);
+    match act_all(&program, statements.as_slice(), &scope, limits.depth, 0, &mut effects, &mut meter, steps) {
+        Ok(()) => Executed::Done(effects.slots, effects.replies, meter.cost),
+        Err(Stop::Trap(kind)) => Executed::Trap(kind, meter.cost),
         Err(Stop::Memory) => Executed::Memory,
     }
 }
 
-fn run_all<L: Ledger>(
-    alloc: Global,
-    statements: &[Act],
-    slots: &Slots,
-    limits: Limits,
+// One statement.
+#[cycle(act)]
+fn act<T: Types, L: Ledger>(
+    program: &Program<'_, T>,
+    statement: &Act,
+    scope: &Scope<'_>,
+    left: u32,
+    level: u32,
+    effects: &mut Effects,
     meter: &mut Meter,
     steps: &mut Steps<L>,
-) -> Result<Slots, Stop>
-    requires { limits.depth ≤ 512 }
-    ensures meaning { Agrees same_slots result meter.new (runs limits.depth limits.budget 0 statements.now slots.now meter.old.cost meter.old.deepest) }
+) -> Result<(), Stop>
+    requires { level + left < 2 ^ 32 }
+    ensures meaning { Agrees (always effects.new) result meter.new (does left program.now.budget program.now.app.now (T.member program.now.types.now) level (variables_of scope.now) statement.now effects.old meter.old.cost meter.old.deepest) }
     ensures ledger { steps.new + meter.old.cost ≡ steps.old + meter.new.cost }
 {
-    let mut current = slots.copy(alloc)?;
-    for statement in statements {
-        let next = run(alloc, statement, &current, limits, meter, steps)?;
-        current = next;
+    meter.enter(left, program.budget, level, steps)?;
+    act_parts(program, statement, scope, left - 1, level + 1, effects, meter, steps)
+}
+
+// A statement that was entered.
+#[cycle(act)]
+fn act_parts<T: Types, L: Ledger>(
+    program: &Program<'_, T>,
+    statement: &Act,
+    scope: &Scope<'_>,
+    left: u32,
+    level: u32,
+    effects: &mut Effects,
+    meter: &mut Meter,
+    steps: &mut Steps<L>,
+) -> Result<(), Stop>
+    requires { level + left < 2 ^ 32 }
+    ensures meaning { Agrees (always effects.new) result meter.new (act_parts program.now.app.now (T.member program.now.types.now) (means left program.now.budget program.now.app.now) (does left program.now.budget program.now.app.now (T.member program.now.types.now)) level (variables_of scope.now) statement.now effects.old meter.old.cost meter.old.deepest) }
+    ensures ledger { steps.new + meter.old.cost ≡ steps.old + meter.new.cost }
+{
+    match &statement.kind {
+        ActKind::Setf(name, value) => {
+            let value = value_of(program, value, &effects.slots, scope, left, level, meter, steps)?;
+            assign(program, name, value, effects)
+        }
+        ActKind::Reply(text) => {
+            let text = value_of(program, text, &effects.slots, scope, left, level, meter, steps)?;
+            reply(effects, text)
+        }
+        ActKind::If(test, then, other) => {
+            if is_true(program, test, &effects.slots, scope, left, level, meter, steps)? {
+                act(program, then, scope, left, level, effects, meter, steps)
+            } else {
+                act(program, other, scope, left, level, effects, meter, steps)
+            }
+        }
+        ActKind::When(test, body) => {
+            if is_true(program, test, &effects.slots, scope, left, level, meter, steps)? {
+                act_all(program, body.as_slice(), scope, left, level, effects, meter, steps)
+            } else {
+                Ok(())
+            }
+        }
+        ActKind::Let(bindings, body) => act_in(program, bindings, body.as_slice(), scope, left, level, effects, meter, steps),
+        ActKind::Dolist(name, list, body) => {
+            let list = list_of(program, list, &effects.slots, scope, left, level, meter, steps)?;
+            act_each(program, name, list.as_slice(), body.as_slice(), scope, left, level, effects, meter, steps)
+        }
+        ActKind::Progn(body) => act_all(program, body.as_slice(), scope, left, level, effects, meter, steps),
     }
-    Ok(current)
 }
 
-// One statement below no other.
-fn run<L: Ledger>(
-    alloc: Global,
-    statement: &Act,
-    slots: &Slots,
-    limits: Limits,
+// Statements in order.
+#[cycle(act)]
+fn act_all<T: Types, L: Ledger>(
+    program: &Program<'_, T>,
+    statements: &[Act],
+    scope: &Scope<'_>,
+    left: u32,
+    level: u32,
+    effects: &mut Effects,
     meter: &mut Meter,
     steps: &mut Steps<L>,
-) -> Result<Slots, Stop>
-    requires { limits.depth ≤ 512 }
-    ensures meaning { Agrees same_slots result meter.new (acts limits.depth limits.budget 0 statement.now slots.now meter.old.cost meter.old.deepest) }
+) -> Result<(), Stop>
+    requires { level + left < 2 ^ 32 }
+    ensures meaning { Agrees (always effects.new) result meter.new (in_turn (does left program.now.budget program.now.app.now (T.member program.now.types.now)) level (variables_of scope.now) (statements_of statements.now) effects.old meter.old.cost meter.old.deepest) }
     ensures ledger { steps.new + meter.old.cost ≡ steps.old + meter.new.cost }
 {
-    let context = Context {
-        alloc,
-        slots,
-        budget: limits.budget,
-    };
-    meter.enter(limits.depth, limits.budget, 0, steps)?;
-    run_parts(&context, statement, limits.depth - 1, 1, meter, steps)
+    for statement in statements {
+        act(program, statement, scope, left, level, effects, meter, steps)?;
+    }
+    Ok(())
 }
 
-fn run_parts<L: Ledger>(
-    context: &Context<'_>,
-    statement: &Act,
+// The statements behind bindings, each of which sees the ones before it.
+#[cycle(act)]
+fn act_in<T: Types, L: Ledger>(
+    program: &Program<'_, T>,
+    bindings: &[Binding],
+    body: &[Act],
+    scope: &Scope<'_>,
+    left: u32,
+    level: u32,
+    effects: &mut Effects,
+    meter: &mut Meter,
+    steps: &mut Steps<L>,
+) -> Result<(), Stop>
+    requires { level + left < 2 ^ 32 }
+    ensures meaning { Agrees (always effects.new) result meter.new (acts_in ((means left program.now.budget program.now.app.now) effects.old.slots) (does left program.now.budget program.now.app.now (T.member program.now.types.now)) level (bindings_of bindings.now) (statements_of body.now) (variables_of scope.now) effects.old meter.old.cost meter.old.deepest) }
+    ensures ledger { steps.new + meter.old.cost ≡ steps.old + meter.new.cost }
+{
+    match bindings {
+        [] => act_all(program, body, scope, left, level, effects, meter, steps),
+        [first, rest @ ..] => {
+            let value = value_of(program, &first.value, &effects.slots, scope, left, level, meter, steps)?;
+            let inner = Scope::Bound(&first.name, &value, &*scope);
+            act_in(program, rest, body, &inner, left, level, effects, meter, steps)
+        }
+    }
+}
+
+// The statements for each of these values.
+#[cycle(act)]
+fn act_each<T: Types, L: Ledger>(
+    program: &Program<'_, T>,
+    name: &Text,
+    list: &[Value],
+    body: &[Act],
+    scope: &Scope<'_>,
+    left: u32,
+    level: u32,
+    effects: &mut Effects,
+    meter: &mut Meter,
+    steps: &mut Steps<L>,
+) -> Result<(), Stop>
+    requires { level + left < 2 ^ 32 }
+    ensures meaning { Agrees (always effects.new) result meter.new (for_each (does left program.now.budget program.now.app.now (T.member program.now.types.now)) level (variables_of scope.now) name.now (statements_of body.now) (map data_of list.now) effects.old meter.old.cost meter.old.deepest) }
+    ensures ledger { steps.new + meter.old.cost ≡ steps.old + meter.new.cost }
+{
+    for item in list {
+        let inner = Scope::Bound(&*name, item, &*scope);
+        act_all(program, body, &inner, left, level, effects, meter, steps)?;
+    }
+    Ok(())
+}
+
+// The value of an expression on these slots.
+fn value_of<T: Types, L: Ledger>(
+    program: &Program<'_, T>,
+    expr: &Expr,
+    slots: &Slots,
+    scope: &Scope<'_>,
     left: u32,
     level: u32,
     meter: &mut Meter,
     steps: &mut Steps<L>,
-) -> Result<Slots, Stop>
+) -> Result<Value, Stop>
     requires { level + left < 2 ^ 32 }
-    ensures meaning { Agrees same_slots result meter.new (act_parts (means left context.now.budget context.now.slots.now) context.now.slots.now level statement.now meter.old.cost meter.old.deepest) }
+    ensures meaning { Agrees data_of result meter.new (means left program.now.budget program.now.app.now slots.now level (variables_of scope.now) expr.now meter.old.cost meter.old.deepest) }
     ensures ledger { steps.new + meter.old.cost ≡ steps.old + meter.new.cost }
 {
-    match statement {
-        Act::Setf(name, value) => {
-            let value = evaluate(context, value, left, level, meter, steps)?;
-            assign(context.alloc, name, value, context.slots, meter)
-        }
-    }
+    let context = Context {
+        alloc: program.alloc,
+        app: program.app,
+        slots,
+        budget: program.budget,
+    };
+    evaluate(&context, expr, scope, left, level, meter, steps)
 }
 
-// The slots with a new number in one of them.
-fn assign(
-    alloc: Global,
-    name: &Text,
-    value: Value,
+// Whether an expression is true on these slots.
+fn is_true<T: Types, L: Ledger>(
+    program: &Program<'_, T>,
+    expr: &Expr,
     slots: &Slots,
-    meter: &Meter,
-) -> Result<Slots, Stop>
-    ensures { Agrees same_slots result meter.now (assigned name.now slots.now (found name.now slots.now) (data_of value) meter.now.cost meter.now.deepest) }
+    scope: &Scope<'_>,
+    left: u32,
+    level: u32,
+    meter: &mut Meter,
+    steps: &mut Steps<L>,
+) -> Result<bool, Stop>
+    requires { level + left < 2 ^ 32 }
+    ensures meaning { Agrees itself result meter.new (tested (means left program.now.budget program.now.app.now slots.now) level (variables_of scope.now) expr.now meter.old.cost meter.old.deepest) }
+    ensures ledger { steps.new + meter.old.cost ≡ steps.old + meter.new.cost }
 {
-    match (slots.get(name.as_slice()), &value) {
-        (Some(_), Value::Int(_)) => {
-            let mut next = slots.copy(alloc)?;
-            next.put(name.copy()?, value)?;
-            Ok(next)
+    let context = Context {
+        alloc: program.alloc,
+        app: program.app,
+        slots,
+        budget: program.budget,
+    };
+    evaluate_test(&context, expr, scope, left, level, meter, steps)
+}
+
+// The list that an expression gives on these slots.
+fn list_of<T: Types, L: Ledger>(
+    program: &Program<'_, T>,
+    expr: &Expr,
+    slots: &Slots,
+    scope: &Scope<'_>,
+    left: u32,
+    level: u32,
+    meter: &mut Meter,
+    steps: &mut Steps<L>,
+) -> Result<Values, Stop>
+    requires { level + left < 2 ^ 32 }
+    ensures meaning { Agrees itself result meter.new (listed (means left program.now.budget program.now.app.now slots.now) level (variables_of scope.now) expr.now meter.old.cost meter.old.deepest) }
+    ensures ledger { steps.new + meter.old.cost ≡ steps.old + meter.new.cost }
+{
+    let context = Context {
+        alloc: program.alloc,
+        app: program.app,
+        slots,
+        budget: program.budget,
+    };
+    evaluate_list(&context, expr, scope, left, level, meter, steps)
+}
+
+// A slot with a new value, where that is a member of its type.
+fn assign<T: Types>(program: &Program<'_, T>, name: &Text, value: Value, effects: &mut Effects) -> Result<(), Stop>
+    ensures { Comes (always effects.new) result (assigned (T.member program.now.types.now) name.now (slot_type name.now program.now.app.now) effects.old (data_of value)) }
+{
+    let Some(spec) = program.app.slot_spec(name) else {
+        return Err(Stop::Trap(1));
+    };
+    match program.types.member(&value, spec) {
+        Held::Yes => {
+            effects.slots.put(name.copy()?, value)?;
+            Ok(())
         }
-        _ => Err(Stop::Trap(1)),
+        Held::No => Err(Stop::Trap(1)),
+        Held::Memory => Err(Stop::Memory),
     }
 }

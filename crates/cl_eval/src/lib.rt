@@ -1,13 +1,25 @@
-// The evaluator of expressions and statements.
+//! The evaluator of expressions and statements.
 #![tactic(auto)]
 
-pub mod evaluation;
-pub mod execution;
-pub mod metering;
-pub mod operators;
-pub mod slot_table;
+mod effects;
+mod evaluating;
+mod evaluation;
+mod execution;
+mod laws;
+mod lists;
+mod metering;
+mod numbers;
+mod operators;
+mod records;
+mod slot_table;
+mod texts;
+mod variables;
 
-pub use evaluation::{Context, evaluate};
-pub use execution::{Executed, exec};
+pub use effects::{Effects, Lines};
+pub use evaluating::{Evaluated, eval};
+pub use evaluation::{Context, evaluate, evaluate_each, evaluate_list, evaluate_test};
+pub use execution::{Executed, Types, exec};
+pub use laws::{limits_can_be_wider, quotient_is_rounded_down};
 pub use metering::{Limits, Meter, Stop};
 pub use slot_table::Slots;
+pub use variables::{Env, Scope};

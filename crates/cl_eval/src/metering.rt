@@ -3,6 +3,7 @@ ghost use Rattle.cl_eval.specs.Meaning.{entering};
 ghost use Rattle.cl_eval.specs.Agrees.{Entered};
 
 use cl_outside::{Ledger, Steps};
+use cl_value::Value;
 use std::alloc::{AllocError, AllocFailed};
 
 /// How many forms may be entered in all, and how many may be entered and not left.
@@ -25,6 +26,16 @@ impl From<AllocError> for Stop {
     ghost from_gives = { λ _ s. s ≡ Memory };
 
     fn from(_: AllocError) -> Stop {
+        Stop::Memory
+    }
+}
+
+impl From<AllocFailed<Value>> for Stop {
+    ghost use Rattle.cl_eval.specs.declared.metering.Stop.TheVariants.{Memory};
+
+    ghost from_gives = { λ _ s. s ≡ Memory };
+
+    fn from(_: AllocFailed<Value>) -> Stop {
         Stop::Memory
     }
 }

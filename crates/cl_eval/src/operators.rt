@@ -1,65 +1,156 @@
-ghost use Rattle.std.specs.Prelude.{◌≡◌, ◌+ℤ◌, IfOk};
-ghost use Rattle.std.specs.Fmt.{signed_decimal};
+//! The operators, over the values of their parts.
+ghost use Rattle.std.specs.Prelude.{◌≡◌, Ok, pos, ◌++◌, ◌∷◌, [], map, option_map, if◌then◌else◌, IfOk};
 ghost use Rattle.cl_value.specs.Value.{data_of};
-ghost use Rattle.cl_eval.specs.Slots.{found};
-ghost use Rattle.cl_eval.specs.Meaning.{calculated, looked_up, number, written};
-ghost use Rattle.cl_eval.specs.Agrees.{Agrees};
+ghost use Rattle.cl_eval.specs.Operators.{elements, equal_of, is_null_of, length_of, limited, not_of, number, operated, or_trap, truth};
+ghost use Rattle.cl_eval.specs.Agrees.{Comes, itself};
 
-use crate::metering::{Meter, Stop};
-use crate::slot_table::Slots;
-use cl_syntax::Arithmetic;
-use cl_value::{Text, Value};
-use std::alloc::{AllocError, Global};
+use crate::lists::list_operation;
+use crate::metering::Stop;
+use crate::numbers::{arithmetic, comparison};
+use crate::records::record_operation;
+use crate::texts::text_operation;
+use cl_syntax::{App, Operator};
+use cl_value::{Value, Values};
+use std::alloc::Global;
 
-/// The value of a slot.
-pub fn look_up(slots: &Slots, name: &[u8], meter: &Meter) -> Result<Value, Stop>
-    ensures { Agrees data_of result meter.now (looked_up (found name.now slots.now) meter.now.cost meter.now.deepest) }
+#[cfg(test)]
+mod tests;
+
+/// The greatest size of a value.
+pub const MOST_SIZE: u64 = 65_536;
+
+/// The greatest depth of a value.
+const MOST_DEPTH: u64 = 64;
+
+/// The value of an operator over the values of its parts. A wrong kind or count of parts traps with 1.
+pub fn operate(
+    alloc: Global,
+    app: &App,
+    operator: &Operator,
+    values: &[Value],
+) -> Result<Value, Stop>
+    ensures { Comes data_of result (operated app.now operator.now (map data_of values.now)) }
 {
-    match slots.get(name) {
+    match operator {
+        Operator::Arithmetic(operator) => arithmetic(*operator, values),
+        Operator::Comparison(operator) => comparison(*operator, values),
+        Operator::List(operator) => list_operation(alloc, *operator, values),
+        Operator::Text(operator) => text_operation(alloc, *operator, values),
+        Operator::Record(operator) => record_operation(alloc, app, operator, values),
+        Operator::Not => not(values),
+        Operator::Equal => equal(values),
+        Operator::Length => length(values),
+        Operator::IsNull => is_null(values),
+    }
+}
+
+/// The value where its size and its depth are within their limits; else trap 7.
+pub fn limit(value: Value) -> Result<Value, Stop>
+    ensures { Comes data_of result (limited (data_of value)) }
+{
+    if value.size() <= MOST_SIZE && value.depth() <= MOST_DEPTH {
+        Ok(value)
+    } else {
+        Err(Stop::Trap(7))
+    }
+}
+
+/// A copy of a value that was looked for; where there is none, trap 1.
+pub fn find_value(value: Option<&Value>) -> Result<Value, Stop>
+    ensures { Comes data_of result (or_trap 1 (option_map (λ v. data_of v.now) value.entry)) }
+{
+    match value {
         Some(value) => Ok(value.copy()?),
         None => Err(Stop::Trap(1)),
     }
 }
 
-/// The text of a number, a symbol or a text.
-pub fn write(alloc: Global, value: &Value, meter: &Meter) -> Result<Value, Stop>
-    ensures { Agrees data_of result meter.now (written (data_of value.now) meter.now.cost meter.now.deepest) }
+/// A Bool, where a test is asked for.
+pub fn truth(value: &Value) -> Result<bool, Stop>
+    ensures { Comes itself result (truth (data_of value.now)) }
 {
     match value {
-        Value::Int(number) => Ok(Value::Text(decimal(alloc, *number)?)),
-        Value::Symbol(text) | Value::Text(text) => Ok(Value::Text(text.copy()?)),
+        Value::Bool(truth) => Ok(*truth),
         _ => Err(Stop::Trap(1)),
     }
 }
 
-// A number in decimal.
-fn decimal(alloc: Global, number: i64) -> Result<Text, AllocError>
-    ensures { IfOk result (λ t. t ≡ signed_decimal number) }
+/// The parts of a list, where one is asked for.
+#[tactic(auto, using(crate::proofs::ListLemmas::list_of_items))]
+pub fn elements(value: Value) -> Result<Values, Stop>
+    ensures { Comes itself result (elements (data_of value)) }
 {
-    let digits = format!(in alloc; "{number}")?;
-    Text::from_slice(alloc, digits.as_bytes())
-}
-
-/// The sum of two numbers, where it is one.
-pub fn calculate(
-    operator: Arithmetic,
-    first: &Value,
-    second: &Value,
-    meter: &Meter,
-) -> Result<Value, Stop>
-    ensures { Agrees data_of result meter.now (calculated operator (data_of first.now) (data_of second.now) meter.now.cost meter.now.deepest) }
-{
-    match (operator, first, second) {
-        (Arithmetic::Add, Value::Int(first), Value::Int(second)) => add(*first, *second, meter),
+    match value {
+        Value::List(parts) => Ok(parts),
         _ => Err(Stop::Trap(1)),
     }
 }
 
-fn add(first: i64, second: i64, meter: &Meter) -> Result<Value, Stop>
-    ensures { Agrees data_of result meter.now (number (first +ℤ second) meter.now.cost meter.now.deepest) }
+/// One value more.
+pub fn add(values: &mut Values, value: Value) -> Result<(), Stop>
+    ensures { Comes (λ _. values.new) result (Ok (values.old ++ data_of value ∷ [])) }
 {
-    match first.checked_add(second) {
-        Some(sum) => Ok(Value::Int(sum)),
-        None => Err(Stop::Trap(2)),
+    match values.push(value) {
+        Ok(()) => Ok(()),
+        Err(_) => Err(Stop::Memory),
+    }
+}
+
+/// A copy of the value more, where it is kept.
+pub fn add_if(kept: bool, values: &mut Values, value: &Value) -> Result<(), Stop>
+    ensures { Comes (λ _. values.new) result (Ok (if kept then values.old ++ data_of value.now ∷ [] else values.old)) }
+{
+    if kept {
+        add(values, value.copy()?)
+    } else {
+        Ok(())
+    }
+}
+
+fn not(values: &[Value]) -> Result<Value, Stop>
+    ensures { Comes data_of result (not_of (map data_of values.now)) }
+{
+    match values {
+        [Value::Bool(truth)] => Ok(Value::Bool(!*truth)),
+        _ => Err(Stop::Trap(1)),
+    }
+}
+
+fn equal(values: &[Value]) -> Result<Value, Stop>
+    ensures { Comes data_of result (equal_of (map data_of values.now)) }
+{
+    match values {
+        [first, second] => Ok(Value::Bool(first.order(second).is_eq())),
+        _ => Err(Stop::Trap(1)),
+    }
+}
+
+#[tactic(auto, using(std::proofs::lemmas::Grind::common_steps, crate::proofs::ListLemmas::list_of_items))]
+fn length(values: &[Value]) -> Result<Value, Stop>
+    ensures { Comes data_of result (length_of (map data_of values.now)) }
+{
+    match values {
+        [Value::List(parts)] => count(parts.as_slice().len()),
+        [Value::Text(text)] => count(text.as_slice().len()),
+        _ => Err(Stop::Trap(1)),
+    }
+}
+
+// A count as a number.
+fn count(length: usize) -> Result<Value, Stop>
+    ensures { Comes data_of result (number (pos length)) }
+{
+    match i64::try_from(length) {
+        Ok(number) => Ok(Value::Int(number)),
+        Err(_) => Err(Stop::Trap(2)),
+    }
+}
+
+fn is_null(values: &[Value]) -> Result<Value, Stop>
+    ensures { Comes data_of result (is_null_of (map data_of values.now)) }
+{
+    match values {
+        [value] => Ok(Value::Bool(matches!(value, Value::Null))),
+        _ => Err(Stop::Trap(1)),
     }
 }

@@ -87,7 +87,6 @@ impl Model for Shapes {
 }
 
 impl Shape {
-    /// `(write-text E)`
     pub fn write_text(part: Expr) -> Shape
         ensures { result ≡ form.write_text part }
     {
@@ -96,7 +95,6 @@ impl Shape {
         }
     }
 
-    /// `(newline)`
     pub fn newline() -> Shape
         ensures { result ≡ form.newline }
     {
@@ -105,7 +103,6 @@ impl Shape {
         }
     }
 
-    /// `(if TEST THEN ELSE)`
     pub fn choice(alloc: Global, test: Expr, then: Shape, other: Shape) -> Result<Shape, AllocError>
         ensures { IfOk result (λ s. s ≡ form.choice test then other) }
     {
@@ -114,7 +111,6 @@ impl Shape {
         })
     }
 
-    /// `(when TEST FORM ...)`
     pub fn when(test: Expr, body: Shapes) -> Shape
         ensures { result ≡ form.when test (form.forms_of body) }
     {
@@ -123,7 +119,6 @@ impl Shape {
         }
     }
 
-    /// `(let ((NAME E) ...) FORM ...)`: each binding sees the earlier ones.
     pub fn bind(bindings: Vec<Binding>, body: Shapes) -> Shape
         ensures { result ≡ form.bind (bindings_of bindings.items) (form.forms_of body) }
     {
@@ -132,7 +127,6 @@ impl Shape {
         }
     }
 
-    /// `(dolist (NAME LIST) FORM ...)`
     pub fn each(name: Text, list: Expr, body: Shapes) -> Shape
         ensures { result ≡ form.each name list (form.forms_of body) }
     {
@@ -141,7 +135,6 @@ impl Shape {
         }
     }
 
-    /// `(progn FORM ...)`
     pub fn sequence(body: Shapes) -> Shape
         ensures { result ≡ form.sequence (form.forms_of body) }
     {
@@ -150,7 +143,6 @@ impl Shape {
         }
     }
 
-    /// `(DISPLAY E ...)`
     pub fn call(name: Text, parts: Vec<Expr>) -> Shape
         ensures { result ≡ form.call name (terms_of parts.items) }
     {

@@ -9,8 +9,6 @@ pub mod names;
 pub mod operators;
 pub mod statements;
 pub mod tables;
-#[cfg(test)]
-mod tests;
 pub mod type_specs;
 
 pub use applications::App;

@@ -1,30 +1,195 @@
-use Rattle.std.proofs.Common.{◌≡◌, ◌∙◌, ap, sym}
+use Rattle.std.proofs.Common.{◌≡◌, ◌∙◌, ◌∷◌, ◌++◌, ◌<◌, [], suc, drop, drop-cons, length, map, ap, sym, arith, if◌then◌else◌}
 use Rattle.std.proofs.lemmas.Result.{err_from_is_err_and}
 use Rattle.cl_value.specs.Value.{data_of}
+use Rattle.cl_value.specs.declared.Value.{Value}
 use Rattle.cl_syntax.specs.Term as term
-use Rattle.cl_syntax.specs.Expr.{term_of}
-use Rattle.cl_eval.specs.Outcome.{◌>>=◌}
-use Rattle.cl_eval.specs.Meaning.{means, calculated}
+use Rattle.cl_syntax.specs.Term.{terms_of}
+use Rattle.cl_syntax.specs.Expr.{term_of, bindings_of}
+use Rattle.cl_syntax.specs.declared.expressions.Binding.{Binding}
+use Rattle.cl_syntax.specs.declared.expressions.Expr.{Expr}
+use Rattle.cl_eval.specs.Scope.{variables_of}
+use Rattle.cl_eval.specs.Meaning.{means}
+use Rattle.cl_eval.specs.Agrees.{itself}
 use Rattle.cl_eval.proofs.EnteringLemmas.{means-entered}
-use Rattle.cl_eval.proofs.CostLemmas.{Agrees-stop, grows-means, grows-second}
+use Rattle.cl_eval.proofs.CostLemmas.{grows-means}
+use Rattle.cl_eval.proofs.StopLemmas.{stop-each, full-each, stop-every, stop-some, stop-let_in, stop-mapped, full-mapped, stop-filtered, full-filtered, stop-folded, stop-choice, stop-map, stop-filter, stop-fold, stop-opening, stop-elements, stop-call, is_memory}
 use Rattle.cl_eval.proofs.evaluation.+evaluate.Goals as goal
 
 pub evaluate-returns-clause-meaning : goal.evaluate-returns-clause-meaning
 evaluate-returns-clause-meaning g t c =
-    rw (means-entered c.args.left c.args.context.now.budget c.args.context.now.slots.now c.args.level c.args.expr.now
+    rw (means-entered c.args.left c.args.context.now.budget c.args.context.now.app.now c.args.context.now.slots.now c.args.level (variables_of c.args.scope.now) c.args.expr.now
     c.args.meter.now.cost c.args.meter.now.deepest _ _ c.in_ok-enter.ensures.meaning)
     c.evaluate_parts.ensures.meaning
 
-pub evaluate_parts-returns-in_err-first-in-Arithmetic-clause-meaning : goal.evaluate_parts-returns-in_err-first-in-Arithmetic-clause-meaning
-evaluate_parts-returns-in_err-first-in-Arithmetic-clause-meaning g t c =
-    let p = err_from_is_err_and c.from_residual-in_err-first-in-Arithmetic.result c.from_residual-in_err-first-in-Arithmetic.ensures.1 in
-    let whole : c.args.expr.now ≡ term.arithmetic c.in-Arithmetic.operator c.in-Arithmetic.first.value c.in-Arithmetic.second.value =
-    sym c.expr.view_is ∙ ap term_of c.in-Arithmetic.is in
-    let stop = rw c.deref-in-Arithmetic.ensures at c.in_err-first-in-Arithmetic.ensures.meaning in
-    let go = means c.args.left c.args.context.now.budget c.args.context.now.slots.now in
+pub evaluate_each-returns-in_err-value-clause-meaning : goal.evaluate_each-returns-in_err-value-clause-meaning
+evaluate_each-returns-in_err-value-clause-meaning g t c =
+    let p = err_from_is_err_and c.from_residual.result c.from_residual.ensures.1 in
+    let at = c.loop-part.part-index in
+    let rest = drop (suc at) c.args.parts.now in
+    let step : drop at c.args.parts.now ≡ c.part-item.result ∷ rest =
+    drop-cons c.args.parts.now at c.part-item.result c.loop-part-test.true ∙ ap (λ (a : Expr). a ∷ rest) (sym c.part-item.is) in
+    rw (p.1, p.2, ← c.loop-part.invariant.meaning, step)
+    (stop-each (means c.args.left c.args.context.now.budget c.args.context.now.app.now c.args.context.now.slots.now) (grows-means c.args.left c.args.context.now.budget c.args.context.now.app.now c.args.context.now.slots.now) c.args.level (variables_of c.args.scope.now) c.part-item.result (terms_of rest) (map data_of c.loop-part.values.items) c.in_err-value.field-0.0 c.evaluate.new.meter c.loop-part.meter.cost c.loop-part.meter.deepest
+    c.in_err-value.ensures.meaning)
+
+pub evaluate_each-returns-in_err-push-clause-meaning : goal.evaluate_each-returns-in_err-push-clause-meaning
+evaluate_each-returns-in_err-push-clause-meaning g t c =
+    let p = err_from_is_err_and c.from_residual-in_err-push.result c.from_residual-in_err-push.ensures.1 in
+    let at = c.loop-part.part-index in
+    let rest = drop (suc at) c.args.parts.now in
+    let step : drop at c.args.parts.now ≡ c.part-item.result ∷ rest =
+    drop-cons c.args.parts.now at c.part-item.result c.loop-part-test.true ∙ ap (λ (a : Expr). a ∷ rest) (sym c.part-item.is) in
+    rw (p.1, p.2, ← c.loop-part.invariant.meaning, step)
+    (full-each (means c.args.left c.args.context.now.budget c.args.context.now.app.now c.args.context.now.slots.now) (grows-means c.args.left c.args.context.now.budget c.args.context.now.app.now c.args.context.now.slots.now) c.args.level (variables_of c.args.scope.now) c.part-item.result (terms_of rest) (map data_of c.loop-part.values.items) (data_of c.in_ok-value.value) c.loop-part.meter.cost c.loop-part.meter.deepest c.evaluate.new.meter.cost c.evaluate.new.meter.deepest
+    c.in_ok-value.ensures.meaning)
+
+pub evaluate_every-returns-in_err-truth-clause-meaning : goal.evaluate_every-returns-in_err-truth-clause-meaning
+evaluate_every-returns-in_err-truth-clause-meaning g t c =
+    let p = err_from_is_err_and c.from_residual.result c.from_residual.ensures.1 in
+    let at = c.loop-part.part-index in
+    let rest = drop (suc at) c.args.parts.now in
+    let step : drop at c.args.parts.now ≡ c.part-item.result ∷ rest =
+    drop-cons c.args.parts.now at c.part-item.result c.loop-part-test.true ∙ ap (λ (a : Expr). a ∷ rest) (sym c.part-item.is) in
+    rw (p.1, p.2, ← c.loop-part.invariant.meaning, step)
+    (stop-every (means c.args.left c.args.context.now.budget c.args.context.now.app.now c.args.context.now.slots.now) (grows-means c.args.left c.args.context.now.budget c.args.context.now.app.now c.args.context.now.slots.now) c.args.level (variables_of c.args.scope.now) c.part-item.result (terms_of rest) c.in_err-truth.field-0.0 c.evaluate_test.new.meter c.loop-part.meter.cost c.loop-part.meter.deepest
+    c.in_err-truth.ensures.meaning)
+
+pub evaluate_some-returns-in_err-truth-clause-meaning : goal.evaluate_some-returns-in_err-truth-clause-meaning
+evaluate_some-returns-in_err-truth-clause-meaning g t c =
+    let p = err_from_is_err_and c.from_residual.result c.from_residual.ensures.1 in
+    let at = c.loop-part.part-index in
+    let rest = drop (suc at) c.args.parts.now in
+    let step : drop at c.args.parts.now ≡ c.part-item.result ∷ rest =
+    drop-cons c.args.parts.now at c.part-item.result c.loop-part-test.true ∙ ap (λ (a : Expr). a ∷ rest) (sym c.part-item.is) in
+    rw (p.1, p.2, ← c.loop-part.invariant.meaning, step)
+    (stop-some (means c.args.left c.args.context.now.budget c.args.context.now.app.now c.args.context.now.slots.now) (grows-means c.args.left c.args.context.now.budget c.args.context.now.app.now c.args.context.now.slots.now) c.args.level (variables_of c.args.scope.now) c.part-item.result (terms_of rest) c.in_err-truth.field-0.0 c.evaluate_test.new.meter c.loop-part.meter.cost c.loop-part.meter.deepest
+    c.in_err-truth.ensures.meaning)
+
+pub evaluate_let-returns-in_err-value-in-len1-up-clause-meaning : goal.evaluate_let-returns-in_err-value-in-len1-up-clause-meaning
+evaluate_let-returns-in_err-value-in-len1-up-clause-meaning g t c =
+    let p = err_from_is_err_and c.from_residual.result c.from_residual.ensures.1 in
+    let some : 0 < length c.args.bindings.now = omega (arith, c.in-len1-up.len_at_least) in
+    let rest = drop 1 c.args.bindings.now in
+    let step : c.args.bindings.now ≡ c.first-item.result ∷ rest =
+    drop-cons c.args.bindings.now 0 c.first-item.result some ∙ ap (λ (a : Binding). a ∷ rest) (sym c.first-item.is) in
+    rw (p.1, p.2, step)
+    (stop-let_in (means c.args.left c.args.context.now.budget c.args.context.now.app.now c.args.context.now.slots.now) (grows-means c.args.left c.args.context.now.budget c.args.context.now.app.now c.args.context.now.slots.now) c.args.level c.first-item.result.name c.first-item.result.value (bindings_of rest) c.args.body.now (variables_of c.args.scope.now)
+    c.in_err-value-in-len1-up.field-0.0 c.evaluate-in-len1-up.new.meter c.args.meter.now.cost c.args.meter.now.deepest c.in_err-value-in-len1-up.ensures.meaning)
+
+pub evaluate_parts-returns-in_err-evaluate_test-in-If-clause-meaning : goal.evaluate_parts-returns-in_err-evaluate_test-in-If-clause-meaning
+evaluate_parts-returns-in_err-evaluate_test-in-If-clause-meaning g t c =
+    let p = err_from_is_err_and c.from_residual-in_err-evaluate_test-in-If.result c.from_residual-in_err-evaluate_test-in-If.ensures.1 in
+    let whole : c.args.expr.now ≡ term.choice c.in-If.test.value c.in-If.then.value c.in-If.other.value = sym c.expr.view_is ∙ ap term_of c.in-If.is in
+    let stop = rw c.deref.ensures at c.in_err-evaluate_test-in-If.ensures.meaning in
     rw (p.1, p.2, whole)
-    (Agrees-stop data_of data_of c.in_err-first-in-Arithmetic.field-0.0 c.evaluate-in-Arithmetic.new.meter
-    (go c.args.level c.in-Arithmetic.first.value c.args.meter.now.cost c.args.meter.now.deepest)
-    (λ x. go c.args.level c.in-Arithmetic.second.value >>= λ y. calculated c.in-Arithmetic.operator x y)
-    (grows-second go (grows-means c.args.left c.args.context.now.budget c.args.context.now.slots.now) c.args.level c.in-Arithmetic.operator c.in-Arithmetic.second.value)
-    stop)
+    (stop-choice c.args.context.now.app.now c.args.context.now.slots.now (means c.args.left c.args.context.now.budget c.args.context.now.app.now c.args.context.now.slots.now) (grows-means c.args.left c.args.context.now.budget c.args.context.now.app.now c.args.context.now.slots.now) c.args.level (variables_of c.args.scope.now) c.in-If.test.value c.in-If.then.value c.in-If.other.value c.in_err-evaluate_test-in-If.field-0.0 c.evaluate_test.new.meter c.args.meter.now.cost c.args.meter.now.deepest stop)
+
+pub evaluate_parts-returns-in_err-list-in-Map-clause-meaning : goal.evaluate_parts-returns-in_err-list-in-Map-clause-meaning
+evaluate_parts-returns-in_err-list-in-Map-clause-meaning g t c =
+    let p = err_from_is_err_and c.from_residual-in_err-list-in-Map.result c.from_residual-in_err-list-in-Map.ensures.1 in
+    let whole : c.args.expr.now ≡ term.map c.in-Map.name c.in-Map.list.value c.in-Map.body.value = sym c.expr.view_is ∙ ap term_of c.in-Map.is in
+    let stop = rw c.deref-in-Map.ensures at c.in_err-list-in-Map.ensures.meaning in
+    rw (p.1, p.2, whole)
+    (stop-map c.args.context.now.app.now c.args.context.now.slots.now (means c.args.left c.args.context.now.budget c.args.context.now.app.now c.args.context.now.slots.now) (grows-means c.args.left c.args.context.now.budget c.args.context.now.app.now c.args.context.now.slots.now) c.args.level (variables_of c.args.scope.now) c.in-Map.name c.in-Map.list.value c.in-Map.body.value c.in_err-list-in-Map.field-0.0 c.evaluate_list.new.meter c.args.meter.now.cost c.args.meter.now.deepest stop)
+
+pub evaluate_parts-returns-in_err-list-in-Filter-clause-meaning : goal.evaluate_parts-returns-in_err-list-in-Filter-clause-meaning
+evaluate_parts-returns-in_err-list-in-Filter-clause-meaning g t c =
+    let p = err_from_is_err_and c.from_residual-in_err-list-in-Filter.result c.from_residual-in_err-list-in-Filter.ensures.1 in
+    let whole : c.args.expr.now ≡ term.filter c.in-Filter.name c.in-Filter.list.value c.in-Filter.body.value = sym c.expr.view_is ∙ ap term_of c.in-Filter.is in
+    let stop = rw c.deref-in-Filter.ensures at c.in_err-list-in-Filter.ensures.meaning in
+    rw (p.1, p.2, whole)
+    (stop-filter c.args.context.now.app.now c.args.context.now.slots.now (means c.args.left c.args.context.now.budget c.args.context.now.app.now c.args.context.now.slots.now) (grows-means c.args.left c.args.context.now.budget c.args.context.now.app.now c.args.context.now.slots.now) c.args.level (variables_of c.args.scope.now) c.in-Filter.name c.in-Filter.list.value c.in-Filter.body.value c.in_err-list-in-Filter.field-0.0 c.evaluate_list-in-Filter.new.meter c.args.meter.now.cost c.args.meter.now.deepest stop)
+
+pub evaluate_parts-returns-in_err-list-in-Fold-clause-meaning : goal.evaluate_parts-returns-in_err-list-in-Fold-clause-meaning
+evaluate_parts-returns-in_err-list-in-Fold-clause-meaning g t c =
+    let p = err_from_is_err_and c.from_residual-in_err-list-in-Fold.result c.from_residual-in_err-list-in-Fold.ensures.1 in
+    let whole : c.args.expr.now ≡ term.fold c.in-Fold.name c.in-Fold.list.value c.in-Fold.accumulator c.in-Fold.opening.value c.in-Fold.body.value = sym c.expr.view_is ∙ ap term_of c.in-Fold.is in
+    let stop = rw c.deref-in-Fold.ensures at c.in_err-list-in-Fold.ensures.meaning in
+    rw (p.1, p.2, whole)
+    (stop-fold c.args.context.now.app.now c.args.context.now.slots.now (means c.args.left c.args.context.now.budget c.args.context.now.app.now c.args.context.now.slots.now) (grows-means c.args.left c.args.context.now.budget c.args.context.now.app.now c.args.context.now.slots.now) c.args.level (variables_of c.args.scope.now) c.in-Fold.name c.in-Fold.accumulator c.in-Fold.list.value c.in-Fold.opening.value c.in-Fold.body.value c.in_err-list-in-Fold.field-0.0 c.evaluate-in-Fold.new.meter c.args.meter.now.cost c.args.meter.now.deepest stop)
+
+pub evaluate_parts-returns-in_err-opening-in-Fold-clause-meaning : goal.evaluate_parts-returns-in_err-opening-in-Fold-clause-meaning
+evaluate_parts-returns-in_err-opening-in-Fold-clause-meaning g t c =
+    let p = err_from_is_err_and c.from_residual-in_err-opening-in-Fold.result c.from_residual-in_err-opening-in-Fold.ensures.1 in
+    let whole : c.args.expr.now ≡ term.fold c.in-Fold.name c.in-Fold.list.value c.in-Fold.accumulator c.in-Fold.opening.value c.in-Fold.body.value = sym c.expr.view_is ∙ ap term_of c.in-Fold.is in
+    let listed = rw c.deref-in-Fold.ensures at c.in_ok-list-in-Fold.ensures.meaning in
+    let stop = rw c.deref-in-Fold-2.ensures at c.in_err-opening-in-Fold.ensures.meaning in
+    rw (p.1, p.2, whole)
+    (stop-opening c.args.context.now.app.now c.args.context.now.slots.now (means c.args.left c.args.context.now.budget c.args.context.now.app.now c.args.context.now.slots.now) (grows-means c.args.left c.args.context.now.budget c.args.context.now.app.now c.args.context.now.slots.now) c.args.level (variables_of c.args.scope.now) c.in-Fold.name c.in-Fold.accumulator c.in-Fold.list.value c.in-Fold.opening.value c.in-Fold.body.value c.in_err-opening-in-Fold.field-0.0 c.evaluate-in-Fold-2.new.meter (data_of c.in_ok-list-in-Fold.list) c.args.meter.now.cost c.args.meter.now.deepest
+    c.evaluate-in-Fold.new.meter.cost c.evaluate-in-Fold.new.meter.deepest listed stop)
+
+pub evaluate_parts-returns-in_err-list-in-Fold-2-clause-meaning : goal.evaluate_parts-returns-in_err-list-in-Fold-2-clause-meaning
+evaluate_parts-returns-in_err-list-in-Fold-2-clause-meaning g t c =
+    let p = err_from_is_err_and c.from_residual-in_err-list-in-Fold-2.result c.from_residual-in_err-list-in-Fold-2.ensures.1 in
+    let whole : c.args.expr.now ≡ term.fold c.in-Fold.name c.in-Fold.list.value c.in-Fold.accumulator c.in-Fold.opening.value c.in-Fold.body.value = sym c.expr.view_is ∙ ap term_of c.in-Fold.is in
+    let listed = rw c.deref-in-Fold.ensures at c.in_ok-list-in-Fold.ensures.meaning in
+    let opened = rw c.deref-in-Fold-2.ensures at c.in_ok-opening-in-Fold.ensures.meaning in
+    rw (p.1, p.2, whole)
+    (stop-elements c.args.context.now.app.now c.args.context.now.slots.now (means c.args.left c.args.context.now.budget c.args.context.now.app.now c.args.context.now.slots.now) (grows-means c.args.left c.args.context.now.budget c.args.context.now.app.now c.args.context.now.slots.now) c.args.level (variables_of c.args.scope.now) c.in-Fold.name c.in-Fold.accumulator c.in-Fold.list.value c.in-Fold.opening.value c.in-Fold.body.value c.in_err-list-in-Fold-2.field-0.0 c.evaluate-in-Fold-2.new.meter (data_of c.in_ok-list-in-Fold.list) (data_of c.in_ok-opening-in-Fold.opening) c.args.meter.now.cost c.args.meter.now.deepest
+    c.evaluate-in-Fold.new.meter.cost c.evaluate-in-Fold.new.meter.deepest listed opened c.in_err-list-in-Fold-2.ensures)
+
+pub evaluate_parts-returns-in_err-values-in-Call-clause-meaning : goal.evaluate_parts-returns-in_err-values-in-Call-clause-meaning
+evaluate_parts-returns-in_err-values-in-Call-clause-meaning g t c =
+    let p = err_from_is_err_and c.from_residual-in_err-values-in-Call.result c.from_residual-in_err-values-in-Call.ensures.1 in
+    let whole : c.args.expr.now ≡ term.call c.in-Call.name (terms_of c.in-Call.parts.items) = sym c.expr.view_is ∙ ap term_of c.in-Call.is in
+    let stop = rw c.deref-in-Call.ensures.value at c.in_err-values-in-Call.ensures.meaning in
+    rw (p.1, p.2, whole)
+    (stop-call c.args.context.now.app.now c.args.context.now.slots.now (means c.args.left c.args.context.now.budget c.args.context.now.app.now c.args.context.now.slots.now) (grows-means c.args.left c.args.context.now.budget c.args.context.now.app.now c.args.context.now.slots.now) c.args.level (variables_of c.args.scope.now) c.in-Call.name (terms_of c.in-Call.parts.items) c.in_err-values-in-Call.field-0.0 c.evaluate_each-in-Call.new.meter c.args.meter.now.cost c.args.meter.now.deepest stop)
+
+pub filter_over-returns-in_err-kept-clause-meaning : goal.filter_over-returns-in_err-kept-clause-meaning
+filter_over-returns-in_err-kept-clause-meaning g t c =
+    let p = err_from_is_err_and c.from_residual.result c.from_residual.ensures.1 in
+    let at = c.loop-item.item-index in
+    let rest = drop (suc at) c.args.list.now in
+    let step : drop at c.args.list.now ≡ c.item-item.result ∷ rest =
+    drop-cons c.args.list.now at c.item-item.result c.loop-item-test.true ∙ ap (λ (a : Value). a ∷ rest) (sym c.item-item.is) in
+    rw (p.1, p.2, ← c.loop-item.invariant.meaning, step)
+    (stop-filtered (means c.args.left c.args.context.now.budget c.args.context.now.app.now c.args.context.now.slots.now) (grows-means c.args.left c.args.context.now.budget c.args.context.now.app.now c.args.context.now.slots.now) c.args.level (variables_of c.args.scope.now) c.args.name.now c.args.body.now (data_of c.item-item.result) (map data_of rest) c.loop-item.values c.in_err-kept.field-0.0 c.evaluate_test.new.meter c.loop-item.meter.cost c.loop-item.meter.deepest
+    c.in_err-kept.ensures.meaning)
+
+pub filter_over-returns-in_err-add_if-clause-meaning : goal.filter_over-returns-in_err-add_if-clause-meaning
+filter_over-returns-in_err-add_if-clause-meaning g t c =
+    let p = err_from_is_err_and c.from_residual-in_err-add_if.result c.from_residual-in_err-add_if.ensures.1 in
+    let at = c.loop-item.item-index in
+    let rest = drop (suc at) c.args.list.now in
+    let step : drop at c.args.list.now ≡ c.item-item.result ∷ rest =
+    drop-cons c.args.list.now at c.item-item.result c.loop-item-test.true ∙ ap (λ (a : Value). a ∷ rest) (sym c.item-item.is) in
+    let full = is_memory (λ (_ : Unit {0}). c.add_if.new.values) c.in_err-add_if.field-0.0
+    (if c.in_ok-kept.kept then c.loop-item.values ++ data_of c.item-item.result ∷ [] else c.loop-item.values) c.in_err-add_if.ensures in
+    rw (p.1, p.2, full, ← c.loop-item.invariant.meaning, step)
+    (full-filtered (means c.args.left c.args.context.now.budget c.args.context.now.app.now c.args.context.now.slots.now) (grows-means c.args.left c.args.context.now.budget c.args.context.now.app.now c.args.context.now.slots.now) c.args.level (variables_of c.args.scope.now) c.args.name.now c.args.body.now (data_of c.item-item.result) (map data_of rest) c.loop-item.values c.in_ok-kept.kept c.loop-item.meter.cost c.loop-item.meter.deepest
+    c.evaluate_test.new.meter.cost c.evaluate_test.new.meter.deepest c.in_ok-kept.ensures.meaning)
+
+pub fold_over-returns-in_err-next-clause-meaning : goal.fold_over-returns-in_err-next-clause-meaning
+fold_over-returns-in_err-next-clause-meaning g t c =
+    let p = err_from_is_err_and c.from_residual.result c.from_residual.ensures.1 in
+    let at = c.loop-item.item-index in
+    let rest = drop (suc at) c.args.list.now in
+    let step : drop at c.args.list.now ≡ c.item-item.result ∷ rest =
+    drop-cons c.args.list.now at c.item-item.result c.loop-item-test.true ∙ ap (λ (a : Value). a ∷ rest) (sym c.item-item.is) in
+    rw (p.1, p.2, ← c.loop-item.invariant.meaning, step)
+    (stop-folded (means c.args.left c.args.context.now.budget c.args.context.now.app.now c.args.context.now.slots.now) (grows-means c.args.left c.args.context.now.budget c.args.context.now.app.now c.args.context.now.slots.now) c.args.level (variables_of c.args.scope.now) c.args.name.now c.args.accumulator.now c.args.body.now (data_of c.item-item.result) (map data_of rest) (data_of c.loop-item.value) c.in_err-next.field-0.0 c.evaluate.new.meter c.loop-item.meter.cost c.loop-item.meter.deepest
+    c.in_err-next.ensures.meaning)
+
+pub map_over-returns-in_err-value-clause-meaning : goal.map_over-returns-in_err-value-clause-meaning
+map_over-returns-in_err-value-clause-meaning g t c =
+    let p = err_from_is_err_and c.from_residual.result c.from_residual.ensures.1 in
+    let at = c.loop-item.item-index in
+    let rest = drop (suc at) c.args.list.now in
+    let step : drop at c.args.list.now ≡ c.item-item.result ∷ rest =
+    drop-cons c.args.list.now at c.item-item.result c.loop-item-test.true ∙ ap (λ (a : Value). a ∷ rest) (sym c.item-item.is) in
+    rw (p.1, p.2, ← c.loop-item.invariant.meaning, step)
+    (stop-mapped (means c.args.left c.args.context.now.budget c.args.context.now.app.now c.args.context.now.slots.now) (grows-means c.args.left c.args.context.now.budget c.args.context.now.app.now c.args.context.now.slots.now) c.args.level (variables_of c.args.scope.now) c.args.name.now c.args.body.now (data_of c.item-item.result) (map data_of rest) c.loop-item.values c.in_err-value.field-0.0 c.evaluate.new.meter c.loop-item.meter.cost c.loop-item.meter.deepest
+    c.in_err-value.ensures.meaning)
+
+pub map_over-returns-in_err-add-clause-meaning : goal.map_over-returns-in_err-add-clause-meaning
+map_over-returns-in_err-add-clause-meaning g t c =
+    let p = err_from_is_err_and c.from_residual-in_err-add.result c.from_residual-in_err-add.ensures.1 in
+    let at = c.loop-item.item-index in
+    let rest = drop (suc at) c.args.list.now in
+    let step : drop at c.args.list.now ≡ c.item-item.result ∷ rest =
+    drop-cons c.args.list.now at c.item-item.result c.loop-item-test.true ∙ ap (λ (a : Value). a ∷ rest) (sym c.item-item.is) in
+    let full = is_memory (λ (_ : Unit {0}). c.add.new.values) c.in_err-add.field-0.0 (c.loop-item.values ++ data_of c.in_ok-value.value ∷ []) c.in_err-add.ensures in
+    rw (p.1, p.2, full, ← c.loop-item.invariant.meaning, step)
+    (full-mapped (means c.args.left c.args.context.now.budget c.args.context.now.app.now c.args.context.now.slots.now) (grows-means c.args.left c.args.context.now.budget c.args.context.now.app.now c.args.context.now.slots.now) c.args.level (variables_of c.args.scope.now) c.args.name.now c.args.body.now (data_of c.item-item.result) (map data_of rest) c.loop-item.values (data_of c.in_ok-value.value) c.loop-item.meter.cost c.loop-item.meter.deepest
+    c.evaluate.new.meter.cost c.evaluate.new.meter.deepest c.in_ok-value.ensures.meaning)

@@ -1,0 +1,115 @@
+-- A part that stops, stops the whole: what each row and each turn of a loop comes to then.
+use Rattle.std.proofs.Common.{◌≡◌, ℕ, ◌≤◌, Bool, true, false, if◌then◌else◌, List, [], ◌∷◌, ◌++◌, Result, Ok, Err, Option, refl}
+use Rattle.cl_value.specs.Data.{Data, bool, list, items_of}
+use Rattle.cl_value.specs.Value.{data_of}
+use Rattle.cl_syntax.specs.Term as term
+use Rattle.cl_syntax.specs.Term.{Term, Terms, Bindings, part, binding}
+use Rattle.cl_syntax.specs.App.{function_named}
+use Rattle.cl_syntax.specs.declared.applications.App.{App}
+use Rattle.cl_eval.specs.declared.metering.Meter.{Meter}
+use Rattle.cl_eval.specs.declared.metering.Stop.{Stop}
+use Rattle.cl_eval.specs.declared.metering.Stop.TheVariants.{Trap, Memory}
+use Rattle.cl_eval.specs.Outcome.{Outcome, Gives, Traps, Run, give, lift, after, ◌>>=◌, cost_of}
+use Rattle.cl_eval.specs.Slots.{Slots, Env}
+use Rattle.cl_eval.specs.Operators.{limited, elements}
+use Rattle.cl_eval.specs.Meaning.{Go, tested, listed, each, every, some, let_in, mapped, filtered, folded, called, parts}
+use Rattle.cl_eval.specs.Agrees.{Agrees, Comes, itself, items_are}
+use Rattle.cl_eval.proofs.CostLemmas.{GoGrows, Agrees-stop, Agrees-lift, grows-choice, grows-give, grows-each, grows-every, grows-some, grows-let_in, grows-mapped, grows-filtered, grows-folded, grows-called, grows-then_choice, grows-then_map, grows-then_filter, grows-then_fold, grows-then_opening}
+
+-- ---- loops: the turn stops, or memory is wanting behind it
+
+pub stop-each : (go : Go) → GoGrows go → (level : ℕ) (env : Env) (t : Term) (ts : Terms) (ds : List Data) (e : Stop) (m : Meter) (c d : ℕ)
+    → Agrees data_of (Err e) m (go level env t c d) → Agrees items_are (Err e) m (each go level env (part t ts) ds c d)
+stop-each go g level env t ts ds e m c d =
+    Agrees-stop data_of items_are e m (go level env t c d) (λ x. each go level env ts (ds ++ x ∷ [])) (λ x. grows-each go g level env ts (ds ++ x ∷ []))
+
+pub full-each : (go : Go) → GoGrows go → (level : ℕ) (env : Env) (t : Term) (ts : Terms) (ds : List Data) (x : Data) (c d n l : ℕ)
+    → go level env t c d ≡ Gives x n l → n ≤ cost_of (each go level env (part t ts) ds c d)
+full-each go g level env t ts ds x c d n l p = rw p (grows-each go g level env ts (ds ++ x ∷ []) n l)
+
+pub stop-every : (go : Go) → GoGrows go → (level : ℕ) (env : Env) (t : Term) (ts : Terms) (e : Stop) (m : Meter) (c d : ℕ)
+    → Agrees itself (Err e) m (tested go level env t c d) → Agrees data_of (Err e) m (every go level env (part t ts) c d)
+stop-every go g level env t ts e m c d =
+    Agrees-stop itself data_of e m (tested go level env t c d) (λ b. if b then every go level env ts else give (bool false))
+    (λ b. grows-choice b (every go level env ts) (give (bool false)) (grows-every go g level env ts) (grows-give (bool false)))
+
+pub stop-some : (go : Go) → GoGrows go → (level : ℕ) (env : Env) (t : Term) (ts : Terms) (e : Stop) (m : Meter) (c d : ℕ)
+    → Agrees itself (Err e) m (tested go level env t c d) → Agrees data_of (Err e) m (some go level env (part t ts) c d)
+stop-some go g level env t ts e m c d =
+    Agrees-stop itself data_of e m (tested go level env t c d) (λ b. if b then give (bool true) else some go level env ts)
+    (λ b. grows-choice b (give (bool true)) (some go level env ts) (grows-give (bool true)) (grows-some go g level env ts))
+
+pub stop-let_in : (go : Go) → GoGrows go → (level : ℕ) (x : List ℕ) (s : Term) (bs : Bindings) (t : Term) (env : Env) (e : Stop) (m : Meter) (c d : ℕ)
+    → Agrees data_of (Err e) m (go level env s c d) → Agrees data_of (Err e) m (let_in go level (binding x s bs) t env c d)
+stop-let_in go g level x s bs t env e m c d =
+    Agrees-stop data_of data_of e m (go level env s c d) (λ v. let_in go level bs t ((x, v) ∷ env)) (λ v. grows-let_in go g level bs t ((x, v) ∷ env))
+
+pub stop-mapped : (go : Go) → GoGrows go → (level : ℕ) (env : Env) (x : List ℕ) (t : Term) (a : Data) (ds es : List Data) (e : Stop) (m : Meter) (c d : ℕ)
+    → Agrees data_of (Err e) m (go level ((x, a) ∷ env) t c d) → Agrees itself (Err e) m (mapped go level env x t (a ∷ ds) es c d)
+stop-mapped go g level env x t a ds es e m c d =
+    Agrees-stop data_of itself e m (go level ((x, a) ∷ env) t c d) (λ v. mapped go level env x t ds (es ++ v ∷ [])) (λ v. grows-mapped go g level env x t ds (es ++ v ∷ []))
+
+pub full-mapped : (go : Go) → GoGrows go → (level : ℕ) (env : Env) (x : List ℕ) (t : Term) (a : Data) (ds es : List Data) (v : Data) (c d n l : ℕ)
+    → go level ((x, a) ∷ env) t c d ≡ Gives v n l → n ≤ cost_of (mapped go level env x t (a ∷ ds) es c d)
+full-mapped go g level env x t a ds es v c d n l p = rw p (grows-mapped go g level env x t ds (es ++ v ∷ []) n l)
+
+pub stop-filtered : (go : Go) → GoGrows go → (level : ℕ) (env : Env) (x : List ℕ) (t : Term) (a : Data) (ds es : List Data) (e : Stop) (m : Meter) (c d : ℕ)
+    → Agrees itself (Err e) m (tested go level ((x, a) ∷ env) t c d) → Agrees itself (Err e) m (filtered go level env x t (a ∷ ds) es c d)
+stop-filtered go g level env x t a ds es e m c d =
+    Agrees-stop itself itself e m (tested go level ((x, a) ∷ env) t c d) (λ b. filtered go level env x t ds (if b then es ++ a ∷ [] else es))
+    (λ b. grows-filtered go g level env x t ds (if b then es ++ a ∷ [] else es))
+
+pub full-filtered : (go : Go) → GoGrows go → (level : ℕ) (env : Env) (x : List ℕ) (t : Term) (a : Data) (ds es : List Data) (b : Bool) (c d n l : ℕ)
+    → tested go level ((x, a) ∷ env) t c d ≡ Gives b n l → n ≤ cost_of (filtered go level env x t (a ∷ ds) es c d)
+full-filtered go g level env x t a ds es b c d n l p = rw p (grows-filtered go g level env x t ds (if b then es ++ a ∷ [] else es) n l)
+
+pub stop-folded : (go : Go) → GoGrows go → (level : ℕ) (env : Env) (x y : List ℕ) (t : Term) (v : Data) (ds : List Data) (a : Data) (e : Stop) (m : Meter) (c d : ℕ)
+    → Agrees data_of (Err e) m (go level ((y, a) ∷ (x, v) ∷ env) t c d) → Agrees data_of (Err e) m (folded go level env x y t (v ∷ ds) a c d)
+stop-folded go g level env x y t v ds a e m c d =
+    Agrees-stop data_of data_of e m (go level ((y, a) ∷ (x, v) ∷ env) t c d) (λ b. folded go level env x y t ds b) (λ b. grows-folded go g level env x y t ds b)
+
+-- ---- rows
+
+pub stop-choice : (app : App) (slots : Slots) (go : Go) → GoGrows go → (level : ℕ) (env : Env) (t u v : Term) (e : Stop) (m : Meter) (c d : ℕ)
+    → Agrees itself (Err e) m (tested go level env t c d) → Agrees data_of (Err e) m (parts app slots go level env (term.choice t u v) c d)
+stop-choice app slots go g level env t u v e m c d =
+    Agrees-stop itself data_of e m (tested go level env t c d) (λ b. if b then go level env u else go level env v) (grows-then_choice go g level env u v)
+
+pub stop-map : (app : App) (slots : Slots) (go : Go) → GoGrows go → (level : ℕ) (env : Env) (x : List ℕ) (t u : Term) (e : Stop) (m : Meter) (c d : ℕ)
+    → Agrees itself (Err e) m (listed go level env t c d) → Agrees data_of (Err e) m (parts app slots go level env (term.map x t u) c d)
+stop-map app slots go g level env x t u e m c d =
+    Agrees-stop itself data_of e m (listed go level env t c d) (λ ds. mapped go level env x u ds [] >>= λ es. lift (limited (list (items_of es)))) (grows-then_map go g level env x u)
+
+pub stop-filter : (app : App) (slots : Slots) (go : Go) → GoGrows go → (level : ℕ) (env : Env) (x : List ℕ) (t u : Term) (e : Stop) (m : Meter) (c d : ℕ)
+    → Agrees itself (Err e) m (listed go level env t c d) → Agrees data_of (Err e) m (parts app slots go level env (term.filter x t u) c d)
+stop-filter app slots go g level env x t u e m c d =
+    Agrees-stop itself data_of e m (listed go level env t c d) (λ ds. filtered go level env x u ds [] >>= λ es. lift (limited (list (items_of es)))) (grows-then_filter go g level env x u)
+
+pub stop-fold : (app : App) (slots : Slots) (go : Go) → GoGrows go → (level : ℕ) (env : Env) (x y : List ℕ) (t opening u : Term) (e : Stop) (m : Meter) (c d : ℕ)
+    → Agrees data_of (Err e) m (go level env t c d) → Agrees data_of (Err e) m (parts app slots go level env (term.fold x t y opening u) c d)
+stop-fold app slots go g level env x y t opening u e m c d =
+    Agrees-stop data_of data_of e m (go level env t c d) (λ v. go level env opening >>= λ a. lift (elements v) >>= λ ds. folded go level env x y u ds a)
+    (grows-then_opening go g level env x y opening u)
+
+pub stop-opening : (app : App) (slots : Slots) (go : Go) → GoGrows go → (level : ℕ) (env : Env) (x y : List ℕ) (t opening u : Term) (e : Stop) (m : Meter) (v : Data) (c d n l : ℕ)
+    → go level env t c d ≡ Gives v n l → Agrees data_of (Err e) m (go level env opening n l)
+    → Agrees data_of (Err e) m (parts app slots go level env (term.fold x t y opening u) c d)
+stop-opening app slots go g level env x y t opening u e m v c d n l p q =
+    rw p (Agrees-stop data_of data_of e m (go level env opening n l) (λ a. lift (elements v) >>= λ ds. folded go level env x y u ds a) (grows-then_fold go g level env x y u v) q)
+
+pub stop-elements : (app : App) (slots : Slots) (go : Go) → GoGrows go → (level : ℕ) (env : Env) (x y : List ℕ) (t opening u : Term) (e : Stop) (m : Meter) (v a : Data) (c d n l : ℕ)
+    → go level env t c d ≡ Gives v n l → go level env opening n l ≡ Gives a m.cost m.deepest → Comes itself (Err e) (elements v)
+    → Agrees data_of (Err e) m (parts app slots go level env (term.fold x t y opening u) c d)
+stop-elements app slots go g level env x y t opening u e m v a c d n l p q r =
+    rw (p, q) (Agrees-stop itself data_of e m (lift (elements v) m.cost m.deepest) (λ ds. folded go level env x y u ds a) (λ ds. grows-folded go g level env x y u ds a)
+    (Agrees-lift itself (Err e) m (elements v) r))
+
+pub stop-call : (app : App) (slots : Slots) (go : Go) → GoGrows go → (level : ℕ) (env : Env) (f : List ℕ) (ts : Terms) (e : Stop) (m : Meter) (c d : ℕ)
+    → Agrees items_are (Err e) m (each go level env ts [] c d) → Agrees data_of (Err e) m (parts app slots go level env (term.call f ts) c d)
+stop-call app slots go g level env f ts e m c d =
+    Agrees-stop items_are data_of e m (each go level env ts [] c d) (λ ds. called go level (function_named f app) ds) (grows-called go g level (function_named f app))
+
+-- an error of what takes memory alone
+pub is_memory : {A B : Type 0} (f : A → B) (e : Stop) (y : B) → Comes f (Err e) (Ok y) → e ≡ Memory
+is_memory f (Trap k) y p = cc
+is_memory f Memory y p = refl

@@ -1,0 +1,30 @@
+-- What evaluating an expression answers, against what the definition says.
+use Rattle.std.specs.Prelude.{◌≡◌, ℕ, ◌+◌, ◌≤◌}
+use Rattle.cl_value.specs.Data.{Data}
+use Rattle.cl_value.specs.Value.{data_of}
+use Rattle.cl_syntax.specs.Term.{Term}
+use Rattle.cl_syntax.specs.declared.applications.App.{App}
+use Rattle.cl_eval.specs.declared.metering.Limits.{Limits}
+use Rattle.cl_eval.specs.declared.evaluating.Evaluated.{Evaluated}
+use Rattle.cl_eval.specs.declared.evaluating.Evaluated.TheVariants as evaluated
+use Rattle.cl_eval.specs.Slots.{Slots, Env}
+use Rattle.cl_eval.specs.Outcome.{Outcome, Gives, Traps}
+use Rattle.cl_eval.specs.Meaning.{means}
+
+-- an expression by itself, from no cost
+unfoldable pub meant : Limits → App → Slots → Env → Term → Outcome Data
+meant limits app slots env t = means limits.depth limits.budget app slots 0 env t 0 0
+
+-- the value with its cost and its reach, or the trap's kind with the cost up to it
+abbrev pub Evaluates : Evaluated → Outcome Data → Type 0
+Evaluates (evaluated.Value v cost reach) (Gives d c l) = (data_of v ≡ d) × (cost ≡ c) × (reach ≡ l)
+Evaluates (evaluated.Value v cost reach) (Traps kind c l) = ⊥
+Evaluates (evaluated.Trap k cost) (Gives d c l) = ⊥
+Evaluates (evaluated.Trap k cost) (Traps kind c l) = (k ≡ kind) × (cost ≡ c)
+Evaluates evaluated.Memory o = Unit {0}
+
+-- the ledger rises by the cost; where there was no memory, by no more
+abbrev pub Rises : Evaluated → ℕ → ℕ → ℕ → Type 0
+Rises (evaluated.Value v c reach) old new cost = new ≡ old + cost
+Rises (evaluated.Trap k c) old new cost = new ≡ old + cost
+Rises evaluated.Memory old new cost = (old ≤ new) × (new ≤ old + cost)

@@ -1,0 +1,240 @@
+-- The operators, over the values of their parts: a value, or the kind of a trap.
+-- Traps: 1 a wrong kind, or a wrong count of parts; 2 a number past 64 bits; 3 a zero divisor; 4 no such place; 7 a value past its limits.
+use Rattle.std.specs.Prelude.{ℕ, zero, suc, ◌+◌, ◌-◌, ◌^◌, ℤ, pos, negsuc, neg_ℤ, ◌+ℤ◌, ◌-ℤ◌, ◌*ℤ◌, int_lt, int_le, Bool, true, false, not, ◌&&◌, nat_lt, nat_le, ◌==◌, if◌then◌else◌, List, [], ◌∷◌, ◌++◌, length, replicate, slice_range, position, Option, Some, None, Result, Ok, Err}
+use Rattle.std.specs.Fmt.{signed_decimal}
+use Rattle.std.specs.Int.{int_min, int_max, int_div_euclid}
+use Rattle.std.specs.declared.cmp.Ordering.{Ordering}
+use Rattle.std.specs.declared.cmp.Ordering.TheVariants.{Less, Equal, Greater}
+use Rattle.cl_value.specs.Data.{Data, int, bool, text, symbol, null, list, rec, Items, none, item, items_of, size_of, depth_of, order_of}
+use Rattle.cl_syntax.specs.App.{record_named}
+use Rattle.cl_syntax.specs.declared.applications.App.{App}
+use Rattle.cl_syntax.specs.declared.declarations.RecordDecl.{RecordDecl}
+use Rattle.cl_syntax.specs.declared.operators.Arithmetic.{Arithmetic}
+use Rattle.cl_syntax.specs.declared.operators.Arithmetic.TheVariants as arithmetic
+use Rattle.cl_syntax.specs.declared.operators.Comparison.{Comparison}
+use Rattle.cl_syntax.specs.declared.operators.Comparison.TheVariants as comparison
+use Rattle.cl_syntax.specs.declared.operators.ListOperator.{ListOperator}
+use Rattle.cl_syntax.specs.declared.operators.ListOperator.TheVariants as row
+use Rattle.cl_syntax.specs.declared.operators.TextOperator.{TextOperator}
+use Rattle.cl_syntax.specs.declared.operators.TextOperator.TheVariants as written
+use Rattle.cl_syntax.specs.declared.operators.RecordOperator.{RecordOperator}
+use Rattle.cl_syntax.specs.declared.operators.RecordOperator.TheVariants as fields
+use Rattle.cl_syntax.specs.declared.operators.Operator.{Operator}
+use Rattle.cl_syntax.specs.declared.operators.Operator.TheVariants as operator
+use Rattle.cl_eval.specs.Slots.{is_name}
+
+abbrev pub Answer : Type 0
+Answer = Result Data ℕ
+
+-- a value of size at most 65,536 and depth at most 64
+abbrev pub limited : Data → Answer
+limited d = if nat_le (size_of d) 65536 && nat_le (depth_of d) 64 then Ok d else Err 7
+
+-- the parts of a list or a record
+abbrev pub list_of : Items → List Data
+list_of none = []
+list_of (item d ds) = d ∷ list_of ds
+
+abbrev pub or_trap : {A : Type 0} → ℕ → Option A → Result A ℕ
+or_trap kind None = Err kind
+or_trap kind (Some x) = Ok x
+
+-- a Bool, where a test is asked for
+abbrev pub truth : Data → Result Bool ℕ
+truth (bool b) = Ok b
+truth d = Err 1
+
+-- the parts of a list, where one is asked for
+abbrev pub elements : Data → Result (List Data) ℕ
+elements (list ds) = Ok (list_of ds)
+elements d = Err 1
+
+-- ---- numbers
+
+abbrev pub fits_int : ℤ → Bool
+fits_int (pos n) = nat_lt n (2 ^ 63)
+fits_int (negsuc n) = nat_lt n (2 ^ 63)
+
+abbrev pub number : ℤ → Answer
+number z = if fits_int z then Ok (int z) else Err 2
+
+-- the quotient rounded down, and what is left of it; the divisor is not 0
+abbrev pub quotient : ℤ → ℤ → ℤ
+quotient x (pos n) = int_div_euclid x (pos n)
+quotient x (negsuc n) = int_div_euclid (neg_ℤ x) (pos (suc n))
+
+abbrev pub remainder : ℤ → ℤ → ℤ
+remainder x y = x -ℤ y *ℤ quotient x y
+
+abbrev pub is_zero : ℤ → Bool
+is_zero (pos n) = n == 0
+is_zero (negsuc n) = false
+
+abbrev pub calculated : Arithmetic → ℤ → ℤ → Answer
+calculated arithmetic.Add x y = number (x +ℤ y)
+calculated arithmetic.Subtract x y = number (x -ℤ y)
+calculated arithmetic.Multiply x y = number (x *ℤ y)
+calculated arithmetic.Least x y = Ok (int (int_min x y))
+calculated arithmetic.Greatest x y = Ok (int (int_max x y))
+calculated arithmetic.Quotient x y = if is_zero y then Err 3 else number (quotient x y)
+calculated arithmetic.Remainder x y = if is_zero y then Err 3 else Ok (int (remainder x y))
+
+abbrev pub compared : Comparison → ℤ → ℤ → Bool
+compared comparison.Less x y = int_lt x y
+compared comparison.AtMost x y = int_le x y
+compared comparison.Greater x y = int_lt y x
+compared comparison.AtLeast x y = int_le y x
+
+-- ---- lists
+
+abbrev pub is_equal : Ordering → Bool
+is_equal Equal = true
+is_equal Less = false
+is_equal Greater = false
+
+abbrev pub same : Data → Data → Bool
+same d e = is_equal (order_of d e)
+
+abbrev pub has_part : Data → List Data → Bool
+has_part d [] = false
+has_part d (e ∷ es) = if same e d then true else has_part d es
+
+abbrev pub part_at : {A : Type 0} → ℕ → List A → Option A
+part_at n [] = None
+part_at zero (x ∷ xs) = Some x
+part_at (suc n) (x ∷ xs) = part_at n xs
+
+abbrev pub nth_of : List Data → ℤ → Answer
+nth_of ds (pos n) = or_trap 4 (part_at n ds)
+nth_of ds (negsuc n) = Err 4
+
+abbrev pub rest_of : List Data → Answer
+rest_of [] = Err 4
+rest_of (d ∷ ds) = Ok (list (items_of ds))
+
+-- so many numbers, from the first
+abbrev pub numbers_from : ℤ → ℕ → List Data
+numbers_from x zero = []
+numbers_from x (suc n) = int x ∷ numbers_from (x +ℤ pos 1) n
+
+-- how many numbers there are from one to another, both included
+abbrev pub count_to : ℤ → ℕ
+count_to (pos n) = n + 1
+count_to (negsuc n) = 0
+
+abbrev pub range_of : ℤ → ℤ → Answer
+range_of x y = limited (list (items_of (numbers_from x (count_to (y -ℤ x)))))
+
+abbrev pub list_made : ListOperator → List Data → Answer
+list_made row.List ds = limited (list (items_of ds))
+list_made row.Nth (list ds ∷ int z ∷ []) = nth_of (list_of ds) z
+list_made row.Rest (list ds ∷ []) = rest_of (list_of ds)
+list_made row.Cons (d ∷ list ds ∷ []) = limited (list (item d ds))
+list_made row.Append (list ds ∷ list es ∷ []) = limited (list (items_of (list_of ds ++ list_of es)))
+list_made row.Contains (list ds ∷ d ∷ []) = Ok (bool (has_part d (list_of ds)))
+list_made row.Range (int x ∷ int y ∷ []) = range_of x y
+list_made o ds = Err 1
+
+-- ---- texts
+
+abbrev pub subtext_of : List ℕ → ℤ → ℤ → Answer
+subtext_of s (pos from) (pos to) = if nat_le from to && nat_le to (length s) then Ok (text (slice_range s from to)) else Err 4
+subtext_of s from to = Err 4
+
+-- followed by spaces up to that length
+abbrev pub padded : List ℕ → ℤ → List ℕ
+padded s (pos n) = s ++ replicate (n - length s) 32
+padded s (negsuc n) = s
+
+-- a number in decimal, a symbol's name, a text itself
+abbrev pub text_of : Data → Answer
+text_of (int z) = Ok (text (signed_decimal z))
+text_of (symbol s) = Ok (text s)
+text_of (text s) = Ok (text s)
+text_of d = Err 1
+
+abbrev pub text_made : TextOperator → List Data → Answer
+text_made written.Concat (text s ∷ text t ∷ []) = limited (text (s ++ t))
+text_made written.Subtext (text s ∷ int from ∷ int to ∷ []) = subtext_of s from to
+text_made written.Pad (text s ∷ int n ∷ []) = limited (text (padded s n))
+text_made written.Written (d ∷ []) = text_of d
+text_made o ds = Err 1
+
+-- ---- records
+
+abbrev pub is_called : List ℕ → List ℕ → Bool
+is_called x y = is_name y x
+
+-- the place of the first of these names
+abbrev pub place_of : List ℕ → List (List ℕ) → Option ℕ
+place_of x ys = position (is_called x) ys
+
+-- the place of a field among those of a record that is declared
+abbrev pub field_place : List ℕ → Option RecordDecl → Option ℕ
+field_place f None = None
+field_place f (Some r) = place_of f r.fields
+
+abbrev pub made : List ℕ → Option RecordDecl → List Data → Answer
+made r None ds = Err 1
+made r (Some decl) ds = if length ds == length decl.fields then limited (rec r (items_of ds)) else Err 1
+
+abbrev pub value_at : Option ℕ → List Data → Answer
+value_at None ds = Err 1
+value_at (Some n) ds = or_trap 1 (part_at n ds)
+
+abbrev pub with_part : {A : Type 0} → ℕ → A → List A → List A
+with_part n x [] = []
+with_part zero x (y ∷ ys) = x ∷ ys
+with_part (suc n) x (y ∷ ys) = y ∷ with_part n x ys
+
+abbrev pub changed_at : List ℕ → Option ℕ → Data → List Data → Answer
+changed_at r None d ds = Err 1
+changed_at r (Some n) d ds = if nat_lt n (length ds) then limited (rec r (items_of (with_part n d ds))) else Err 1
+
+abbrev pub record_made : App → RecordOperator → List Data → Answer
+record_made app (fields.Make r) ds = made r (record_named r app) ds
+record_made app (fields.Get f) (rec r ds ∷ []) = value_at (field_place f (record_named r app)) (list_of ds)
+record_made app (fields.With f) (rec r ds ∷ d ∷ []) = changed_at r (field_place f (record_named r app)) d (list_of ds)
+record_made app o ds = Err 1
+
+-- ---- all
+
+abbrev pub is_null : Data → Bool
+is_null null = true
+is_null d = false
+
+abbrev pub arithmetic_of : Arithmetic → List Data → Answer
+arithmetic_of o (int x ∷ int y ∷ []) = calculated o x y
+arithmetic_of o ds = Err 1
+
+abbrev pub comparison_of : Comparison → List Data → Answer
+comparison_of o (int x ∷ int y ∷ []) = Ok (bool (compared o x y))
+comparison_of o ds = Err 1
+
+abbrev pub not_of : List Data → Answer
+not_of (bool b ∷ []) = Ok (bool (not b))
+not_of ds = Err 1
+
+abbrev pub equal_of : List Data → Answer
+equal_of (d ∷ e ∷ []) = Ok (bool (same d e))
+equal_of ds = Err 1
+
+abbrev pub length_of : List Data → Answer
+length_of (list ds ∷ []) = number (pos (length (list_of ds)))
+length_of (text s ∷ []) = number (pos (length s))
+length_of ds = Err 1
+
+abbrev pub is_null_of : List Data → Answer
+is_null_of (d ∷ []) = Ok (bool (is_null d))
+is_null_of ds = Err 1
+
+abbrev pub operated : App → Operator → List Data → Answer
+operated app (operator.Arithmetic o) ds = arithmetic_of o ds
+operated app (operator.Comparison o) ds = comparison_of o ds
+operated app (operator.List o) ds = list_made o ds
+operated app (operator.Text o) ds = text_made o ds
+operated app (operator.Record o) ds = record_made app o ds
+operated app operator.Not ds = not_of ds
+operated app operator.Equal ds = equal_of ds
+operated app operator.Length ds = length_of ds
+operated app operator.IsNull ds = is_null_of ds

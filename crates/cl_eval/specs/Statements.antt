@@ -1,0 +1,69 @@
+-- What statements do. Later statements see the slots that earlier ones set.
+-- Traps, beside those of expressions: 1 a slot that is given what is no member of its type; 7 replies of more than 65,536 bytes.
+use Rattle.std.specs.Prelude.{ℕ, zero, suc, ◌+◌, Bool, true, false, nat_le, if◌then◌else◌, List, [], ◌∷◌, ◌++◌, length, Option, Some, None, Result, Ok, Err}
+use Rattle.cl_value.specs.Data.{Data, text}
+use Rattle.cl_syntax.specs.Statement as act
+use Rattle.cl_syntax.specs.Statement.{Statement, Statements, none, statement}
+use Rattle.cl_syntax.specs.Term.{Term, Bindings, unbound, binding}
+use Rattle.cl_syntax.specs.App.{slot_type}
+use Rattle.cl_syntax.specs.declared.applications.App.{App}
+use Rattle.cl_syntax.specs.declared.type_specs.TypeSpec.{TypeSpec}
+use Rattle.cl_eval.specs.declared.effects.Effects.{Effects}
+use Rattle.cl_eval.specs.Outcome.{Outcome, Run, give, trap, lift, ◌>>=◌}
+use Rattle.cl_eval.specs.Slots.{Slots, Env, put}
+use Rattle.cl_eval.specs.Meaning.{Go, entering, tested, listed, means}
+
+-- whether a value is a member of a type
+abbrev pub Member : Type 0
+Member = Data → TypeSpec → Bool
+
+-- the meaning of the statements inside, at a level
+abbrev pub Does : Type 0
+Does = ℕ → Env → Statement → Effects → Run Effects
+
+-- a slot takes members of its type alone
+abbrev pub assigned : Member → List ℕ → Option TypeSpec → Effects → Data → Result Effects ℕ
+assigned member x None s d = Err 1
+assigned member x (Some spec) s d = if member d spec then Ok (record s { slots = put x d s.slots }) else Err 1
+
+-- one reply more
+abbrev pub said : List ℕ → Effects → Effects
+said t s = record s { replies = s.replies ++ t ∷ []; reply_bytes = s.reply_bytes + length t }
+
+-- a reply is a text
+abbrev pub replied : Effects → Data → Result Effects ℕ
+replied s (text t) = if nat_le (s.reply_bytes + length t) 65536 then Ok (said t s) else Err 7
+replied s d = Err 1
+
+abbrev pub in_turn : Does → ℕ → Env → Statements → Effects → Run Effects
+in_turn go level env none s = give s
+in_turn go level env (statement a rest) s = go level env a s >>= in_turn go level env rest
+
+-- the statements for each of these values
+abbrev pub for_each : Does → ℕ → Env → List ℕ → Statements → List Data → Effects → Run Effects
+for_each go level env x body [] s = give s
+for_each go level env x body (d ∷ ds) s = in_turn go level ((x, d) ∷ env) body s >>= for_each go level env x body ds
+
+-- the statements behind bindings, each of which sees the ones before it
+abbrev pub acts_in : Go → Does → ℕ → Bindings → Statements → Env → Effects → Run Effects
+acts_in value go level unbound body env s = in_turn go level env body s
+acts_in value go level (binding x t bs) body env s = value level env t >>= λ d. acts_in value go level bs body ((x, d) ∷ env) s
+
+-- a statement that was entered, by the meaning of its expressions on the slots so far and of the statements inside
+abbrev pub act_parts : App → Member → (Slots → Go) → Does → ℕ → Env → Statement → Effects → Run Effects
+act_parts app member value go level env (act.setf x t) s = value s.slots level env t >>= λ d. lift (assigned member x (slot_type x app) s d)
+act_parts app member value go level env (act.reply t) s = value s.slots level env t >>= λ d. lift (replied s d)
+act_parts app member value go level env (act.choice t a b) s =
+    tested (value s.slots) level env t >>= λ yes. if yes then go level env a s else go level env b s
+act_parts app member value go level env (act.when t body) s =
+    tested (value s.slots) level env t >>= λ yes. if yes then in_turn go level env body s else give s
+act_parts app member value go level env (act.bind bs body) s = acts_in (value s.slots) go level bs body env s
+act_parts app member value go level env (act.each x t body) s =
+    listed (value s.slots) level env t >>= λ ds. for_each go level env x body ds s
+act_parts app member value go level env (act.sequence body) s = in_turn go level env body s
+
+-- a statement, where so many levels are left, below this level
+abbrev pub does : ℕ → ℕ → App → Member → Does
+does zero budget app member level env a s = entering 0 budget level >>= λ _. trap 6
+does (suc left) budget app member level env a s =
+    entering (suc left) budget level >>= λ _. act_parts app member (means left budget app) (does left budget app member) (level + 1) env a s

@@ -1,0 +1,93 @@
+//! What statements did so far.
+ghost use Rattle.std.specs.Prelude.{◌≡◌, Ok, IfOk, [], ◌∷◌, ◌++◌, OnOk, OnErr};
+ghost use Rattle.cl_value.specs.Value.{data_of};
+ghost use Rattle.cl_eval.specs.Agrees.{Comes, always};
+ghost use Rattle.cl_eval.specs.Executed.{no_effects};
+ghost use Rattle.cl_eval.specs.Statements.{replied};
+
+use crate::metering::Stop;
+use crate::slot_table::Slots;
+use cl_value::{Text, Value};
+use std::alloc::{AllocError, Global};
+use std::marker::Model;
+
+/// The most bytes that the replies of one command have together.
+const MOST_REPLY_BYTES: usize = 65_536;
+
+/// Texts in a row, which contracts see as their list.
+#[derive(Drop)]
+pub struct Lines {
+    items: Vec<Text>,
+}
+
+impl Model for Lines {
+    ghost use Rattle.std.specs.Prelude.{ℕ, List};
+
+    ghost Value = { List (List ℕ) };
+
+    ghost view = { λ l. l.items.items };
+}
+
+impl Lines {
+    /// No text.
+    pub fn new(alloc: Global) -> Lines
+        ensures { result ≡ [] }
+    {
+        Lines {
+            items: Vec::new(alloc),
+        }
+    }
+
+    /// One text more, behind the others.
+    pub fn push(&mut self, text: Text) -> Result<(), AllocError>
+        ensures ok { OnOk result (self.new ≡ self.old ++ text ∷ []) }
+        ensures err { OnErr result (self.new ≡ self.old) }
+    {
+        self.items.push(text)?;
+        Ok(())
+    }
+
+    /// The texts in their order.
+    pub fn as_slice(&self) -> &[Text]
+        ensures { result.now ≡ self.now }
+    {
+        self.items.as_slice()
+    }
+}
+
+/// What statements did so far: the slots as they are now, the texts of the replies, and how many bytes these have together.
+#[derive(Drop)]
+pub struct Effects {
+    pub slots: Slots,
+    pub replies: Lines,
+    pub reply_bytes: usize,
+}
+
+impl Effects {
+    /// None yet, on a copy of these slots.
+    pub fn new(alloc: Global, slots: &Slots) -> Result<Effects, AllocError>
+        ensures { IfOk result (λ e. e ≡ no_effects slots.now) }
+    {
+        Ok(Effects {
+            slots: slots.copy(alloc)?,
+            replies: Lines::new(alloc),
+            reply_bytes: 0,
+        })
+    }
+}
+
+/// One reply more, where it is a text and the replies do not grow too long.
+pub fn reply(effects: &mut Effects, value: Value) -> Result<(), Stop>
+    ensures { Comes (always effects.new) result (replied effects.old (data_of value)) }
+{
+    let Value::Text(text) = value else {
+        return Err(Stop::Trap(1));
+    };
+    let length = text.as_slice().len();
+    if length > MOST_REPLY_BYTES.saturating_sub(effects.reply_bytes) || effects.reply_bytes > MOST_REPLY_BYTES {
+        return Err(Stop::Trap(7));
+    }
+    effects.replies.push(text)?;
+    effects.reply_bytes += length;
+    Ok(())
+}

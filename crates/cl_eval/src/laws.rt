@@ -1,0 +1,25 @@
+//! What the definitions of this crate say. The contracts are the laws.
+ghost use Rattle.std.specs.Prelude.{◌≡◌, ◌≤◌, ℕ, ℤ, pos, ◌+ℤ◌, ◌*ℤ◌, ◌<ℤ◌, ◌≤ℤ◌};
+ghost use Rattle.cl_value.specs.Data.{Data};
+ghost use Rattle.cl_syntax.specs.Term.{Term};
+ghost use Rattle.cl_syntax.specs.declared.applications.App.{App};
+ghost use Rattle.cl_eval.specs.Outcome.{Gives};
+ghost use Rattle.cl_eval.specs.Slots.{Env, Slots};
+ghost use Rattle.cl_eval.specs.Meaning.{means};
+ghost use Rattle.cl_eval.specs.Operators.{quotient, remainder};
+
+/// The quotient is rounded down: what it leaves lies between 0, which it may be, and the divisor, which it is not.
+#[tactic(auto, using(crate::proofs::NumberLemmas::whole, crate::proofs::NumberLemmas::within_above, crate::proofs::NumberLemmas::within_below))]
+pub fn quotient_is_rounded_down()
+    ensures whole { (x y : ℤ) → x ≡ (y *ℤ quotient x y) +ℤ remainder x y }
+    ensures above { (x y : ℤ) → pos 0 <ℤ y → (pos 0 ≤ℤ remainder x y) × (remainder x y <ℤ y) }
+    ensures below { (x y : ℤ) → y <ℤ pos 0 → (y <ℤ remainder x y) × (remainder x y ≤ℤ pos 0) }
+{}
+
+/// What ends with a value under some limits, ends so under all limits that its cost and its reach do not pass, with the
+/// same value, cost and reach.
+pub fn limits_can_be_wider()
+    ensures { (depth budget wider_depth wider_budget : ℕ) (app : App) (slots : Slots) (env : Env) (t : Term) (d : Data) (cost reach : ℕ)
+        → means depth budget app slots 0 env t 0 0 ≡ Gives d cost reach → cost ≤ wider_budget → reach ≤ wider_depth
+        → means wider_depth wider_budget app slots 0 env t 0 0 ≡ Gives d cost reach }
+{}
