@@ -87,6 +87,7 @@ impl Model for Shapes {
 }
 
 impl Shape {
+    /// `(write-text E)`
     pub fn write_text(part: Expr) -> Shape
         ensures { result ≡ form.write_text part }
     {
@@ -95,6 +96,7 @@ impl Shape {
         }
     }
 
+    /// `(newline)`
     pub fn newline() -> Shape
         ensures { result ≡ form.newline }
     {
@@ -103,6 +105,7 @@ impl Shape {
         }
     }
 
+    /// `(if TEST THEN ELSE)`
     pub fn choice(alloc: Global, test: Expr, then: Shape, other: Shape) -> Result<Shape, AllocError>
         ensures { IfOk result (λ s. s ≡ form.choice test then other) }
     {
@@ -111,6 +114,7 @@ impl Shape {
         })
     }
 
+    /// `(when TEST FORM ...)`
     pub fn when(test: Expr, body: Shapes) -> Shape
         ensures { result ≡ form.when test (form.forms_of body) }
     {
@@ -119,6 +123,7 @@ impl Shape {
         }
     }
 
+    /// `(let ((NAME E) ...) FORM ...)`: each binding sees the earlier ones.
     pub fn bind(bindings: Vec<Binding>, body: Shapes) -> Shape
         ensures { result ≡ form.bind (bindings_of bindings.items) (form.forms_of body) }
     {
@@ -127,6 +132,7 @@ impl Shape {
         }
     }
 
+    /// `(dolist (NAME LIST) FORM ...)`
     pub fn each(name: Text, list: Expr, body: Shapes) -> Shape
         ensures { result ≡ form.each name list (form.forms_of body) }
     {
@@ -135,6 +141,7 @@ impl Shape {
         }
     }
 
+    /// `(progn FORM ...)`
     pub fn sequence(body: Shapes) -> Shape
         ensures { result ≡ form.sequence (form.forms_of body) }
     {
@@ -143,6 +150,7 @@ impl Shape {
         }
     }
 
+    /// `(DISPLAY E ...)`
     pub fn call(name: Text, parts: Vec<Expr>) -> Shape
         ensures { result ≡ form.call name (terms_of parts.items) }
     {

@@ -84,6 +84,7 @@ impl Expr {
         }
     }
 
+    /// A variable.
     pub fn variable(name: Text) -> Expr
         ensures { result ≡ term.variable name }
     {
@@ -92,6 +93,7 @@ impl Expr {
         }
     }
 
+    /// `(slot NAME)`
     pub fn slot(name: Text) -> Expr
         ensures { result ≡ term.slot name }
     {
@@ -100,6 +102,7 @@ impl Expr {
         }
     }
 
+    /// `(if TEST THEN ELSE)`
     pub fn choice(alloc: Global, test: Expr, then: Expr, other: Expr) -> Result<Expr, AllocError>
         ensures { IfOk result (λ e. e ≡ term.choice test then other) }
     {
@@ -107,14 +110,11 @@ impl Expr {
         let then = Box::new(alloc, then)?;
         let other = Box::new(alloc, other)?;
         Ok(Expr {
-            kind: ExprKind::If(
-                Box::new(alloc, test)?,
-                Box::new(alloc, then)?,
-                Box::new(alloc, other)?,
-            ),
+            kind: ExprKind::If(test, then, other),
         })
     }
 
+    /// `(let ((NAME E) ...) BODY)`: each binding sees the earlier ones.
     pub fn bind(alloc: Global, bindings: Vec<Binding>, body: Expr) -> Result<Expr, AllocError>
         ensures { IfOk result (λ e. e ≡ term.bind (bindings_of bindings.items) body) }
     {
@@ -123,6 +123,7 @@ impl Expr {
         })
     }
 
+    /// `(and E ...)`
     pub fn every(parts: Vec<Expr>) -> Expr
         ensures { result ≡ term.every (term.terms_of parts.items) }
     {
@@ -131,6 +132,7 @@ impl Expr {
         }
     }
 
+    /// `(or E ...)`
     pub fn some(parts: Vec<Expr>) -> Expr
         ensures { result ≡ term.some (term.terms_of parts.items) }
     {
@@ -139,6 +141,7 @@ impl Expr {
         }
     }
 
+    /// `(map NAME LIST BODY)`
     pub fn map(alloc: Global, name: Text, list: Expr, body: Expr) -> Result<Expr, AllocError>
         ensures { IfOk result (λ e. e ≡ term.map name list body) }
     {
@@ -147,6 +150,7 @@ impl Expr {
         })
     }
 
+    /// `(filter NAME LIST BODY)`
     pub fn filter(alloc: Global, name: Text, list: Expr, body: Expr) -> Result<Expr, AllocError>
         ensures { IfOk result (λ e. e ≡ term.filter name list body) }
     {
@@ -155,6 +159,7 @@ impl Expr {
         })
     }
 
+    /// `(fold NAME LIST ACCUMULATOR OPENING BODY)`
     pub fn fold(
         alloc: Global,
         name: Text,
@@ -165,17 +170,15 @@ impl Expr {
     ) -> Result<Expr, AllocError>
         ensures { IfOk result (λ e. e ≡ term.fold name list accumulator opening body) }
     {
+        let list = Box::new(alloc, list)?;
+        let opening = Box::new(alloc, opening)?;
+        let body = Box::new(alloc, body)?;
         Ok(Expr {
-            kind: ExprKind::Fold(
-                name,
-                Box::new(alloc, list)?,
-                accumulator,
-                Box::new(alloc, opening)?,
-                Box::new(alloc, body)?,
-            ),
+            kind: ExprKind::Fold(name, list, accumulator, opening, body),
         })
     }
 
+    /// An operator over the values of its parts.
     pub fn operation(operator: Operator, parts: Vec<Expr>) -> Expr
         ensures { result ≡ term.operation operator (term.terms_of parts.items) }
     {
@@ -184,6 +187,7 @@ impl Expr {
         }
     }
 
+    /// `(FUNCTION E ...)`
     pub fn call(name: Text, parts: Vec<Expr>) -> Expr
         ensures { result ≡ term.call name (term.terms_of parts.items) }
     {

@@ -9,6 +9,8 @@ pub mod names;
 pub mod operators;
 pub mod statements;
 pub mod tables;
+#[cfg(test)]
+mod tests;
 pub mod type_specs;
 
 pub use applications::App;

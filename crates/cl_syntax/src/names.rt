@@ -21,6 +21,7 @@ impl Model for Names {
 }
 
 impl Names {
+    /// No names, which takes no memory.
     pub fn new(alloc: Global) -> Names
         ensures { result ≡ [] }
     {
@@ -29,6 +30,7 @@ impl Names {
         }
     }
 
+    /// Puts a name behind the others.
     pub fn push(&mut self, name: Text) -> Result<(), AllocError>
         ensures ok { OnOk result (self.new ≡ self.old ++ name ∷ []) }
         ensures err { OnErr result (self.new ≡ self.old) }
@@ -37,18 +39,21 @@ impl Names {
         Ok(())
     }
 
+    /// The names in their order.
     pub fn as_slice(&self) -> &[Text]
         ensures { result.now ≡ self.now }
     {
         self.items.as_slice()
     }
 
+    /// How many names there are.
     pub fn len(&self) -> usize
         ensures { result ≡ length self.now }
     {
         self.items.len()
     }
 
+    /// Whether there are no names.
     pub fn is_empty(&self) -> bool
         ensures { IsTrue result ↔ (self.now ≡ []) }
     {

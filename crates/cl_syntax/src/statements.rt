@@ -84,6 +84,7 @@ impl Model for Acts {
 }
 
 impl Act {
+    /// `(setf (slot NAME) E)`
     pub fn setf(name: Text, part: Expr) -> Act
         ensures { result ≡ statement.setf name part }
     {
@@ -92,6 +93,7 @@ impl Act {
         }
     }
 
+    /// `(reply E)`
     pub fn reply(part: Expr) -> Act
         ensures { result ≡ statement.reply part }
     {
@@ -100,6 +102,7 @@ impl Act {
         }
     }
 
+    /// `(if TEST THEN ELSE)`
     pub fn choice(alloc: Global, test: Expr, then: Act, other: Act) -> Result<Act, AllocError>
         ensures { IfOk result (λ a. a ≡ statement.choice test then other) }
     {
@@ -108,6 +111,7 @@ impl Act {
         })
     }
 
+    /// `(when TEST STATEMENT ...)`
     pub fn when(test: Expr, body: Acts) -> Act
         ensures { result ≡ statement.when test (statement.statements_of body) }
     {
@@ -116,6 +120,7 @@ impl Act {
         }
     }
 
+    /// `(let ((NAME E) ...) STATEMENT ...)`: each binding sees the earlier ones.
     pub fn bind(bindings: Vec<Binding>, body: Acts) -> Act
         ensures { result ≡ statement.bind (bindings_of bindings.items) (statement.statements_of body) }
     {
@@ -124,6 +129,7 @@ impl Act {
         }
     }
 
+    /// `(dolist (NAME LIST) STATEMENT ...)`
     pub fn each(name: Text, list: Expr, body: Acts) -> Act
         ensures { result ≡ statement.each name list (statement.statements_of body) }
     {
@@ -132,6 +138,7 @@ impl Act {
         }
     }
 
+    /// `(progn STATEMENT ...)`
     pub fn sequence(body: Acts) -> Act
         ensures { result ≡ statement.sequence (statement.statements_of body) }
     {

@@ -13,6 +13,7 @@ pub trait Declared: Drop {
 
     ghost own_name: { Self → List ℕ };
 
+    /// The name under which it is declared.
     fn name(&self) -> &Text
         ensures { result.now ≡ own_name self.now };
 }
@@ -64,12 +65,14 @@ impl<D: Declared> Table<D> {
         }
     }
 
+    /// How many declarations there are.
     pub fn len(&self) -> usize
         ensures { result ≡ length self.now }
     {
         self.entries.len()
     }
 
+    /// Whether there are no declarations.
     pub fn is_empty(&self) -> bool
         ensures { IsTrue result ↔ (self.now ≡ []) }
     {
