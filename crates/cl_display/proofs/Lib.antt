@@ -1,2 +1,1 @@
-pub mod EnteringLemmas
-pub mod CostLemmas
+pub mod FormLemmas

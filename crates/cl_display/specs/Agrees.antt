@@ -1,5 +1,4 @@
--- What the evaluation of display forms answers, against what the definition says. Want of memory is no outcome; it comes before
--- the cost of the outcome is passed.
+-- What the evaluation of a display answers, against what the definition says.
 use Rattle.std.specs.Prelude.{◌≡◌, ◌+◌, ◌≤◌, ℕ, Result, Ok, Err, List}
 use Rattle.cl_eval.specs.declared.metering.Meter.{Meter}
 use Rattle.cl_eval.specs.declared.metering.Stop.{Stop}
@@ -9,11 +8,6 @@ use Rattle.cl_display.specs.declared.drawings.Drawing.{Drawing}
 use Rattle.cl_display.specs.declared.displays.Shown.{Shown}
 use Rattle.cl_display.specs.declared.displays.Shown.TheVariants as shown
 use Rattle.cl_display.specs.Script.{trap_history}
-
-abbrev pub Draws : Result (Unit {0}) Stop → Drawing → Meter → Outcome Drawing → Type 0
-Draws (Ok u) s m o = o ≡ Gives s m.cost m.deepest
-Draws (Err (Trap k)) s m o = o ≡ Traps k m.cost m.deepest
-Draws (Err Memory) s m o = m.cost ≤ cost_of o
 
 -- the history and the variant that belong to an outcome
 abbrev pub Shows : Shown → Outcome Drawing → Type 0

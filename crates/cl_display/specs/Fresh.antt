@@ -1,13 +1,16 @@
 -- Evaluation of display forms from nothing: what each form draws, from the drawing so far.
 -- Traps, beside those of expressions: 9 range of coordinates, 10 weight.
-use Rattle.std.specs.Prelude.{ℕ, zero, suc, ◌+◌, ◌&&◌, nat_le, if◌then◌else◌, List, [], ◌∷◌, ◌++◌, length}
+use Rattle.std.specs.Prelude.{ℕ, zero, suc, ◌+◌, ◌&&◌, ◌==◌, nat_le, if◌then◌else◌, List, [], ◌∷◌, ◌++◌, length, Option, Some, None, Result, Ok, Err}
 use Rattle.cl_value.specs.Data.{Data, text}
-use Rattle.cl_syntax.specs.Term.{Term}
-use Rattle.cl_syntax.specs.declared.display_forms.Shape.{Shape}
-use Rattle.cl_syntax.specs.declared.display_forms.Shape.TheVariants as shape
-use Rattle.cl_eval.specs.Outcome.{Run, give, trap, ◌>>=◌}
-use Rattle.cl_eval.specs.Slots.{Slots}
-use Rattle.cl_eval.specs.Meaning.{entering, means}
+use Rattle.cl_syntax.specs.Term.{Term, Bindings, unbound, binding}
+use Rattle.cl_syntax.specs.Form as shape
+use Rattle.cl_syntax.specs.Form.{Form, Forms, none, form, forms_of}
+use Rattle.cl_syntax.specs.App.{display_named}
+use Rattle.cl_syntax.specs.declared.applications.App.{App}
+use Rattle.cl_syntax.specs.declared.declarations.DisplayDecl.{DisplayDecl}
+use Rattle.cl_eval.specs.Outcome.{Run, give, trap, lift, ◌>>=◌}
+use Rattle.cl_eval.specs.Slots.{Slots, Env, given}
+use Rattle.cl_eval.specs.Meaning.{Go, each, entering, listed, means, tested}
 use Rattle.cl_display.specs.declared.drawings.Drawing.{Drawing}
 use Rattle.cl_display.specs.declared.histories.TextItem.{TextItem}
 
@@ -21,32 +24,58 @@ with_text bytes s = record {
 }
 
 -- a text at the cursor; an empty one draws nothing
-abbrev pub drawn : List ℕ → Drawing → Run Drawing
-drawn [] s = give s
+abbrev pub drawn : List ℕ → Drawing → Result Drawing ℕ
+drawn [] s = Ok s
 drawn (b ∷ bs) s =
     if nat_le (s.x + length (b ∷ bs)) 1000000 && nat_le (s.y + 1) 1000000
-    then (if nat_le (s.weight + length (b ∷ bs) + 1) 1000000 then give (with_text (b ∷ bs) s) else trap 10)
-    else trap 9
+    then (if nat_le (s.weight + length (b ∷ bs) + 1) 1000000 then Ok (with_text (b ∷ bs) s) else Err 10)
+    else Err 9
 
-abbrev pub written : Drawing → Data → Run Drawing
+abbrev pub written : Drawing → Data → Result Drawing ℕ
 written s (text bytes) = drawn bytes s
-written s d = trap 1
+written s d = Err 1
 
 -- the cursor at the margin, which is 0, of the next line
-abbrev pub lined : Drawing → Run Drawing
-lined s = if nat_le (s.y + 1) 1000000 then give (record { x = 0; y = s.y + 1; weight = s.weight; history = s.history }) else trap 9
+abbrev pub lined : Drawing → Result Drawing ℕ
+lined s = if nat_le (s.y + 1) 1000000 then Ok (record { x = 0; y = s.y + 1; weight = s.weight; history = s.history }) else Err 9
 
--- a form that was entered, by the meaning of its expressions at this level
-abbrev pub shape_parts : (ℕ → Term → Run Data) → ℕ → Shape → Drawing → Run Drawing
-shape_parts go level (shape.WriteText t) s = go level t >>= written s
-shape_parts go level shape.Newline s = lined s
-
-abbrev pub draws : ℕ → ℕ → Slots → ℕ → Shape → Drawing → Run Drawing
-draws zero budget slots level f s = entering 0 budget level >>= λ _. trap 6
-draws (suc left) budget slots level f s =
-    entering (suc left) budget level >>= λ _. shape_parts (means left budget slots) (level + 1) f s
+-- the meaning of the forms inside, at a level
+abbrev pub Draws : Type 0
+Draws = ℕ → Env → Form → Drawing → Run Drawing
 
 -- forms in order, each from the drawing that the ones before it left
-abbrev pub draws_all : ℕ → ℕ → Slots → ℕ → List Shape → Drawing → Run Drawing
-draws_all left budget slots level [] s = give s
-draws_all left budget slots level (f ∷ fs) s = draws left budget slots level f s >>= draws_all left budget slots level fs
+abbrev pub in_order : Draws → ℕ → Env → Forms → Drawing → Run Drawing
+in_order go level env none s = give s
+in_order go level env (form f fs) s = go level env f s >>= in_order go level env fs
+
+-- the forms for each of these values
+abbrev pub for_each : Draws → ℕ → Env → List ℕ → Forms → List Data → Drawing → Run Drawing
+for_each go level env x body [] s = give s
+for_each go level env x body (d ∷ ds) s = in_order go level ((x, d) ∷ env) body s >>= for_each go level env x body ds
+
+-- the forms behind bindings, each of which sees the ones before it
+abbrev pub draws_in : Go → Draws → ℕ → Bindings → Forms → Env → Drawing → Run Drawing
+draws_in value go level unbound body env s = in_order go level env body s
+draws_in value go level (binding x t bs) body env s = value level env t >>= λ d. draws_in value go level bs body ((x, d) ∷ env) s
+
+-- a display's forms, where its parameters are all that they see
+abbrev pub called : Draws → ℕ → Option DisplayDecl → List Data → Drawing → Run Drawing
+called go level None ds s = trap 1
+called go level (Some f) ds s = if length ds == length f.parameters then in_order go level (given f.parameters ds) (forms_of f.body) s else trap 1
+
+-- a form that was entered, by the meaning of its expressions and of the forms inside
+abbrev pub shape_parts : App → Go → Draws → ℕ → Env → Form → Drawing → Run Drawing
+shape_parts app value go level env (shape.write_text t) s = value level env t >>= λ d. lift (written s d)
+shape_parts app value go level env shape.newline s = lift (lined s)
+shape_parts app value go level env (shape.choice t f g) s = tested value level env t >>= λ holds. if holds then go level env f s else go level env g s
+shape_parts app value go level env (shape.when t body) s = tested value level env t >>= λ holds. if holds then in_order go level env body s else give s
+shape_parts app value go level env (shape.bind bs body) s = draws_in value go level bs body env s
+shape_parts app value go level env (shape.each x t body) s = listed value level env t >>= λ ds. for_each go level env x body ds s
+shape_parts app value go level env (shape.sequence body) s = in_order go level env body s
+shape_parts app value go level env (shape.call f ts) s = each value level env ts [] >>= λ ds. called go level (display_named f app) ds s
+
+-- a form, where so many levels are left, below this level
+abbrev pub draws : ℕ → ℕ → App → Slots → Draws
+draws zero budget app slots level env f s = entering 0 budget level >>= λ _. trap 6
+draws (suc left) budget app slots level env f s =
+    entering (suc left) budget level >>= λ _. shape_parts app (means left budget app slots) (draws left budget app slots) (level + 1) env f s

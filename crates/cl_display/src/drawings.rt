@@ -1,11 +1,13 @@
 ghost use Rattle.std.specs.Prelude.{◌≡◌};
 ghost use Rattle.cl_value.specs.Value.{data_of};
 ghost use Rattle.cl_display.specs.Fresh.{drawn, lined, written};
-ghost use Rattle.cl_display.specs.Agrees.{Draws};
+ghost use Rattle.cl_eval.specs.Agrees.{Comes, always};
+ghost use Rattle.cl_display.specs.Script.{blank_drawing};
 
 use crate::histories::{History, TextItem};
-use cl_eval::{Meter, Stop};
+use cl_eval::Stop;
 use cl_value::{Text, Value};
+use std::alloc::Global;
 
 /// No coordinate passes this number of cells.
 pub const FAR: u32 = 1_000_000;
@@ -23,18 +25,30 @@ pub struct Drawing {
 }
 
 impl Drawing {
+    /// Nothing drawn yet, the cursor at the corner.
+    pub fn blank(alloc: Global) -> Drawing
+        ensures { result ≡ blank_drawing }
+    {
+        Drawing {
+            x: 0,
+            y: 0,
+            weight: 0,
+            history: History::empty(alloc),
+        }
+    }
+
     /// Draws a text at the cursor.
-    pub fn write(&mut self, value: &Value, meter: &Meter) -> Result<(), Stop>
-        ensures { Draws result self.new meter.now (written self.old (data_of value.now) meter.now.cost meter.now.deepest) }
+    pub fn write(&mut self, value: &Value) -> Result<(), Stop>
+        ensures { Comes (always self.new) result (written self.old (data_of value.now)) }
     {
         match value {
-            Value::Text(text) => self.write_text(text, meter),
+            Value::Text(text) => self.write_text(text),
             _ => Err(Stop::Trap(1)),
         }
     }
 
-    fn write_text(&mut self, text: &Text, meter: &Meter) -> Result<(), Stop>
-        ensures { Draws result self.new meter.now (drawn text.now self.old meter.now.cost meter.now.deepest) }
+    fn write_text(&mut self, text: &Text) -> Result<(), Stop>
+        ensures { Comes (always self.new) result (drawn text.now self.old) }
     {
         let length = text.as_slice().len();
         if length == 0 {
@@ -57,8 +71,8 @@ impl Drawing {
     }
 
     /// Moves the cursor to the margin of the next line.
-    pub fn newline(&mut self, meter: &Meter) -> Result<(), Stop>
-        ensures { Draws result self.new meter.now (lined self.old meter.now.cost meter.now.deepest) }
+    pub fn newline(&mut self) -> Result<(), Stop>
+        ensures { Comes (always self.new) result (lined self.old) }
     {
         if self.y >= FAR {
             return Err(Stop::Trap(9));
