@@ -2,6 +2,7 @@
 use Rattle.std.specs.Prelude.{ℕ, List, [], ◌∷◌, ◌++◌, codes}
 use Rattle.std.specs.Fmt.{decimal}
 use Rattle.cl_syntax.specs.Form.{Form, forms_of}
+use Rattle.cl_syntax.specs.App.{pane_forms}
 use Rattle.cl_syntax.specs.declared.applications.App.{App}
 use Rattle.cl_eval.specs.declared.metering.Limits.{Limits}
 use Rattle.cl_eval.specs.Outcome.{Outcome, Gives, Traps}
@@ -27,3 +28,11 @@ history_of (Traps kind cost deepest) = trap_history kind
 
 abbrev pub script : Limits → App → List Form → Env → Slots → List TextItem
 script limits app forms env slots = history_of (fresh limits app forms env slots)
+
+-- ---- the pane of a frame: the forms of its display, with no variables
+
+abbrev pub pane_fresh : Limits → App → Slots → Outcome Drawing
+pane_fresh limits app slots = fresh limits app (pane_forms app) [] slots
+
+abbrev pub pane_script : Limits → App → Slots → List TextItem
+pane_script limits app slots = history_of (pane_fresh limits app slots)

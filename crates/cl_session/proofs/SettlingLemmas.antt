@@ -2,7 +2,7 @@
 use Rattle.std.proofs.Common.{◌≡◌, ℕ, ◌++◌, Bool, true, false, Option, Some, None, List, refl, ap}
 use Rattle.std.specs.Prelude.{◌||◌, is_none, ◌⊎◌}
 use Rattle.std.proofs.Common.{inl, inr}
-use Rattle.cl_syntax.specs.declared.declarations.App.{App}
+use Rattle.cl_syntax.specs.declared.applications.App.{App}
 use Rattle.cl_eval.specs.declared.metering.Limits.{Limits}
 use Rattle.cl_eval.specs.Outcome.{Outcome, Gives, Traps}
 use Rattle.cl_eval.specs.Slots.{Slots}
@@ -40,8 +40,8 @@ lines-settled app old new (Traps kind cost deepest) report.Memory h = refl
 lines-settled app old new (Traps kind cost deepest) report.Quiet h = absurd h
 
 pub current-settled : (app : App) (limits : Limits) (slots : Slots) (old new : Option (List TextItem)) (r : PaneReport)
-    → SettlesTo old new (fresh limits app.display.body slots) r → IsCurrent app limits slots new
-current-settled app limits slots old new r h = by (fresh limits app.display.body slots) r h
+    → SettlesTo old new (pane_fresh limits app slots) r → IsCurrent app limits slots new
+current-settled app limits slots old new r h = by (pane_fresh limits app slots) r h
   where
     by : (shown : Outcome Drawing) (r : PaneReport) → SettlesTo old new shown r → (new ≡ None) ⊎ (new ≡ Some (history_of shown))
     by (Gives s cost deepest) (report.Shown r) h = inr h.0
@@ -54,10 +54,10 @@ current-settled app limits slots old new r h = by (fresh limits app.display.body
     by (Traps kind cost deepest) report.Quiet h = absurd h
 
 pub settles-due : (due : Bool) (app : App) (limits : Limits) (slots : Slots) (old new : Option (List TextItem)) (r : PaneReport)
-    → due || is_none old ≡ true → SettlesTo old new (fresh limits app.display.body slots) r → SettlesIf due app limits slots old new r
+    → due || is_none old ≡ true → SettlesTo old new (pane_fresh limits app slots) r → SettlesIf due app limits slots old new r
 settles-due due app limits slots old new r is h = record {
-  history = rw is (history-settled app old new (fresh limits app.display.body slots) r h);
-  lines = rw is (lines-settled app old new (fresh limits app.display.body slots) r h);
+  history = rw is (history-settled app old new (pane_fresh limits app slots) r h);
+  lines = rw is (lines-settled app old new (pane_fresh limits app slots) r h);
 }
 
 pub settles-quiet : (due : Bool) (app : App) (limits : Limits) (slots : Slots) (old : Option (List TextItem))

@@ -1,10 +1,10 @@
 -- What a session is as a world, and when it fits an application and slots.
 use Rattle.std.specs.Prelude.{◌≡◌, ◌⊎◌, ◌≤◌, Bool, ◌||◌, is_none, Option, Some, None, List, []}
-use Rattle.cl_syntax.specs.declared.declarations.App.{App}
+use Rattle.cl_syntax.specs.declared.applications.App.{App}
 use Rattle.cl_eval.specs.Slots.{Slots}
 use Rattle.cl_eval.specs.declared.metering.Limits.{Limits}
 use Rattle.cl_display.specs.declared.histories.TextItem.{TextItem}
-use Rattle.cl_display.specs.Script.{script}
+use Rattle.cl_display.specs.Script.{pane_script}
 use Rattle.cl_gesture.specs.declared.answers.Gesture.{Gesture}
 use Rattle.cl_session.specs.declared.answers.PaneReport.{PaneReport}
 use Rattle.cl_session.specs.declared.answers.Replies.{Replies}
@@ -19,7 +19,7 @@ world_of session slots = record { slots = slots; line = session.line; pane = ses
 
 -- the history is the script of these slots, unless it is blank
 abbrev pub IsCurrent : App → Limits → Slots → Option (List TextItem) → Type 0
-IsCurrent app limits slots history = (history ≡ None) ⊎ (history ≡ Some (script limits app.display.body slots))
+IsCurrent app limits slots history = (history ≡ None) ⊎ (history ≡ Some (pane_script limits app slots))
 
 -- A session fits an application and slots: its pane is as large as the frame, its cells are those of its history, its history
 -- is the script of these slots, unless it is blank for want of memory, and no bytes wait to be written.

@@ -1,14 +1,16 @@
 -- The step of a world by a gesture: the next world and the lines that are said of it.
 use Rattle.std.specs.Prelude.{◌≡◌, ◌≤◌, ℕ, ◌+◌, Bool, true, false, ◌||◌, nat_le, is_none, if◌then◌else◌, List, [], ◌∷◌, ◌++◌, length, Option, Some, None, codes}
 use Rattle.std.specs.Fmt.{decimal}
-use Rattle.cl_syntax.specs.declared.declarations.App.{App}
+use Rattle.cl_syntax.specs.declared.applications.App.{App}
 use Rattle.cl_eval.specs.declared.metering.Limits.{Limits}
 use Rattle.cl_eval.specs.Outcome.{Outcome, Gives, Traps, cost_of}
 use Rattle.cl_eval.specs.Slots.{Slots}
 use Rattle.cl_eval.specs.Executed.{ran}
+use Rattle.cl_eval.specs.declared.effects.Effects.{Effects}
+use Rattle.cl_load.specs.SlotTypes.{is_member}
 use Rattle.cl_display.specs.declared.drawings.Drawing.{Drawing}
 use Rattle.cl_display.specs.declared.histories.TextItem.{TextItem}
-use Rattle.cl_display.specs.Script.{fresh, history_of, script}
+use Rattle.cl_display.specs.Script.{history_of, pane_fresh, pane_script}
 use Rattle.cl_redisplay.specs.Paint.{shown_rows}
 use Rattle.cl_command.specs.declared.lines.Finished.{Finished}
 use Rattle.cl_command.specs.declared.lines.Finished.TheVariants.{Command, Unknown, Surplus}
@@ -40,14 +42,26 @@ typed w text =
     then record { replies = []; slots = w.slots; line = w.line ++ text; commits = false; cost = 0 }
     else refused w 0 (codes "! full")
 
+-- `= TEXT` for each text that the command replied
+abbrev pub text_lines : List (List ℕ) → List (List ℕ)
+text_lines [] = []
+text_lines (t ∷ ts) = (codes "= " ++ t) ∷ text_lines ts
+
+abbrev pub ok_lines : List ℕ → List (List ℕ) → List (List ℕ)
+ok_lines name replies = (codes "ok " ++ name) ∷ text_lines replies
+
 -- the run of the command: an end without a trap commits the slots and empties the line, a trap leaves both
-abbrev pub run_of : App → World → Outcome Slots → Handled
-run_of app w (Gives slots cost deepest) =
-    record { replies = (codes "ok " ++ app.command.line_name) ∷ []; slots = slots; line = []; commits = true; cost = cost }
+abbrev pub run_of : App → World → Outcome Effects → Handled
+run_of app w (Gives effects cost deepest) =
+    record { replies = ok_lines app.command.line_name effects.replies; slots = effects.slots; line = []; commits = true; cost = cost }
 run_of app w (Traps kind cost deepest) = refused w cost (codes "! trap " ++ decimal kind)
 
+-- the run of the command's statements, with no variables
+abbrev pub command_run : Limits → App → Slots → Outcome Effects
+command_run limits app slots = ran limits app is_member app.command.body [] slots
+
 abbrev pub returned : App → Limits → World → Finished → Handled
-returned app limits w Command = run_of app w (ran limits app.command.body w.slots)
+returned app limits w Command = run_of app w (command_run limits app w.slots)
 returned app limits w Unknown = refused w 0 (codes "! unknown")
 returned app limits w Surplus = refused w 0 (codes "! surplus")
 
@@ -105,7 +119,7 @@ settled app shown old false =
 
 -- a pane is settled where a command committed, and tried again where it is blank
 abbrev pub settled_if : Bool → App → Limits → Slots → Option (List TextItem) → Bool → Settled
-settled_if true app limits slots pane met = settled app (fresh limits app.display.body slots) (items_in pane) met
+settled_if true app limits slots pane met = settled app (pane_fresh limits app slots) (items_in pane) met
 settled_if false app limits slots pane met = record { pane = pane; lines = []; cost = 0 }
 
 pub record Next : Type 0 where
@@ -141,4 +155,4 @@ pub record Spends (app : App) (limits : Limits) (w : World) (g : Gesture) (met :
 
 -- the world at the opening
 abbrev pub opening : App → Limits → Slots → World
-opening app limits slots = record { slots = slots; line = []; pane = Some (script limits app.display.body slots) }
+opening app limits slots = record { slots = slots; line = []; pane = Some (pane_script limits app slots) }

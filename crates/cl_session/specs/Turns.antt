@@ -1,6 +1,6 @@
 -- One turn of serving.
 use Rattle.std.specs.Prelude.{◌<◌, ℕ, Bool, true, false, Option, Some, None, List}
-use Rattle.cl_syntax.specs.declared.declarations.App.{App}
+use Rattle.cl_syntax.specs.declared.applications.App.{App}
 use Rattle.cl_eval.specs.declared.metering.Limits.{Limits}
 use Rattle.cl_gesture.specs.Next.{Progress}
 use Rattle.cl_session.specs.declared.serving.End.{End}

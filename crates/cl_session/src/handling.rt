@@ -1,18 +1,17 @@
 ghost use Rattle.std.specs.Prelude.{◌≡◌, ◌≤◌, ◌++◌, ◌∷◌, [], codes, IfOk};
 ghost use Rattle.std.specs.Fmt.{decimal};
 ghost use Rattle.cl_command.specs.Line.{finish_of};
-ghost use Rattle.cl_eval.specs.Executed.{ran};
 ghost use Rattle.cl_redisplay.specs.Paint.{shown_rows};
 ghost use Rattle.cl_session.specs.World.{items_in};
-ghost use Rattle.cl_session.specs.Step.{handled, returned, run_of, typed};
+ghost use Rattle.cl_session.specs.Step.{command_run, handled, ok_lines, returned, run_of, text_lines, typed};
 ghost use Rattle.cl_session.specs.Pane.{IsPainted};
 ghost use Rattle.cl_session.specs.Handling.{HandlesTo, HandlingRises, IsReply};
 
-use crate::answers::Lines;
 use crate::panes::Pane;
 use cl_command::{Finished, Line, Pushed};
-use cl_eval::{Executed, Limits, Slots, exec};
+use cl_eval::{Env, Executed, Limits, Lines, Slots, exec};
 use cl_gesture::Gesture;
+use cl_load::SlotTypes;
 use cl_outside::{Ledger, Steps};
 use cl_syntax::App;
 use cl_value::Text;
@@ -97,11 +96,25 @@ fn run_command<L: Ledger>(
     steps: &mut Steps<L>,
 ) -> Handling
     requires { limits.depth ≤ 512 }
-    ensures handles { HandlesTo (run_of app.now (record { slots = slots.old; line = line.old; pane = pane.now.history }) (ran limits app.now.command.body slots.old)) result slots.old slots.new line.old line.new }
-    ensures ledger { HandlingRises result steps.old steps.new (run_of app.now (record { slots = slots.old; line = line.old; pane = pane.now.history }) (ran limits app.now.command.body slots.old)).cost }
+    ensures handles { HandlesTo (run_of app.now (record { slots = slots.old; line = line.old; pane = pane.now.history }) (command_run limits app.now slots.old)) result slots.old slots.new line.old line.new }
+    ensures ledger { HandlingRises result steps.old steps.new (run_of app.now (record { slots = slots.old; line = line.old; pane = pane.now.history }) (command_run limits app.now slots.old)).cost }
 {
-    match exec(alloc, &app.command.body, slots, limits, steps) {
-        Executed::Done(next) => match ok_line(alloc, app.command.line_name.as_slice()) {
+    let env = Env::new(alloc);
+    match exec(
+        alloc,
+        app,
+        &app.command.body,
+        &env,
+        slots,
+        &SlotTypes,
+        limits,
+        steps,
+    ) {
+        Executed::Done(next, replies, _) => match ok_lines(
+            alloc,
+            app.command.line_name.as_slice(),
+            replies.as_slice(),
+        ) {
             Ok(lines) => {
                 *slots = next;
                 line.clear();
@@ -109,7 +122,7 @@ fn run_command<L: Ledger>(
             }
             Err(_) => Handling::Memory,
         },
-        Executed::Trap(kind) => match trap_line(alloc, kind) {
+        Executed::Trap(kind, _) => match trap_line(alloc, kind) {
             Ok(lines) => Handling::Replied(lines),
             Err(_) => Handling::Memory,
         },
@@ -136,12 +149,25 @@ fn one_line(alloc: Global, bytes: &[u8]) -> Result<Lines, AllocError>
     Ok(lines)
 }
 
-fn ok_line(alloc: Global, name: &[u8]) -> Result<Lines, AllocError>
-    ensures { IfOk result (λ l. l ≡ (codes "ok " ++ name.now) ∷ []) }
+// The line of a command that ended, and one for each text of its replies.
+fn ok_lines(alloc: Global, name: &[u8], replies: &[Text]) -> Result<Lines, AllocError>
+    ensures { IfOk result (λ l. l ≡ ok_lines name.now replies.now) }
 {
-    let mut bytes = Vec::from_slice(alloc, b"ok ")?;
-    bytes.extend_from_slice(name)?;
-    one_line(alloc, &bytes)
+    let mut lines = one_line(alloc, &joined(alloc, b"ok ", name)?)?;
+    for reply in replies {
+        let line = joined(alloc, b"= ", reply.as_slice())?;
+        lines.push(Text::from_vec(alloc, line)?)?;
+    }
+    Ok(lines)
+}
+
+// These bytes, one part behind the other.
+fn joined(alloc: Global, first: &[u8], second: &[u8]) -> Result<Vec<u8>, AllocError>
+    ensures { IfOk result (λ v. v.items ≡ first.now ++ second.now) }
+{
+    let mut bytes = Vec::from_slice(alloc, first)?;
+    bytes.extend_from_slice(second)?;
+    Ok(bytes)
 }
 
 fn trap_line(alloc: Global, kind: u8) -> Result<Lines, AllocError>

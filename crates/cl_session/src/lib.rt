@@ -9,4 +9,5 @@ pub mod sessions;
 pub mod speaking;
 pub mod writing;
 
-pub use answers::{Lines, PaneReport, Replies, Report};
+pub use answers::{PaneReport, Replies, Report};
+pub use cl_eval::Lines;

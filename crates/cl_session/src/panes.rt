@@ -1,6 +1,6 @@
 ghost use Rattle.std.specs.Prelude.{◌≡◌, ◌≤◌, ◌<◌, length, IfOk};
 ghost use Rattle.cl_eval.specs.Outcome.{cost_of};
-ghost use Rattle.cl_display.specs.Script.{fresh};
+ghost use Rattle.cl_display.specs.Script.{pane_fresh};
 ghost use Rattle.cl_raster.specs.Raster.{SameSize};
 ghost use Rattle.cl_redisplay.specs.Paint.{shown_row};
 ghost use Rattle.cl_session.specs.World.{items_in};
@@ -8,11 +8,11 @@ ghost use Rattle.cl_session.specs.Pane.{IsPainted, Rises, SettlesTo};
 
 use crate::answers::{PaneReport, Report};
 use cl_display::{History, Shown, display};
-use cl_eval::{Limits, Slots};
+use cl_eval::{Env, Limits, Slots};
 use cl_outside::{Ledger, Steps};
 use cl_raster::Raster;
 use cl_redisplay::paint;
-use cl_syntax::Shapes;
+use cl_syntax::App;
 use std::alloc::{AllocError, Global};
 
 /// A pane that is the whole screen: its history, None where it is blank for want of memory, and its
@@ -71,20 +71,29 @@ impl Pane {
     pub fn settle<L: Ledger>(
         &mut self,
         alloc: Global,
-        forms: &Shapes,
+        app: &App,
         slots: &Slots,
         limits: Limits,
         steps: &mut Steps<L>,
     ) -> PaneReport
         requires { limits.depth ≤ 512 }
-        ensures settles { SettlesTo self.old.history self.new.history (fresh limits forms.now slots.now) result }
+        ensures settles { SettlesTo self.old.history self.new.history (pane_fresh limits app.now slots.now) result }
         ensures painted { IsPainted self.new }
         ensures size { SameSize self.old.raster self.new.raster }
-        ensures ledger { Rises result steps.old steps.new (cost_of (fresh limits forms.now slots.now)) }
+        ensures ledger { Rises result steps.old steps.new (cost_of (pane_fresh limits app.now slots.now)) }
         ensures later { steps.old ≤ steps.new }
     {
         let erased = self.count();
-        match display(alloc, forms, slots, limits, steps) {
+        let env = Env::new(alloc);
+        match display(
+            alloc,
+            app,
+            app.pane_forms(),
+            &env,
+            slots,
+            limits,
+            steps,
+        ) {
             Shown::Built(history) => {
                 let drawn = history.as_slice().len() as u64;
                 self.show(history);

@@ -1,5 +1,5 @@
 ghost use Rattle.std.specs.Prelude.{◌≡◌, ◌≤◌, ◌+◌, ◌||◌, false, is_none, IfOk};
-ghost use Rattle.cl_display.specs.Script.{fresh};
+ghost use Rattle.cl_display.specs.Script.{pane_fresh};
 ghost use Rattle.cl_eval.specs.Outcome.{cost_of};
 ghost use Rattle.cl_raster.specs.Raster.{SameSize};
 ghost use Rattle.cl_session.specs.Replies.{met_memory, met_of};
@@ -7,12 +7,12 @@ ghost use Rattle.cl_session.specs.Pane.{IsPainted};
 ghost use Rattle.cl_session.specs.Step.{RisesBy, Spends, opening, settled_if};
 ghost use Rattle.cl_session.specs.Session.{Fits, IsCurrent, SettlesIf, Steps as StepsTo, world_of};
 
-use crate::answers::{Lines, PaneReport, Replies};
+use crate::answers::{PaneReport, Replies};
 use crate::handling::{Handling, handle};
 use crate::panes::Pane;
 use crate::writing::Outgoing;
 use cl_command::Line;
-use cl_eval::{Limits, Slots};
+use cl_eval::{Limits, Lines, Slots};
 use cl_gesture::Gesture;
 use cl_load::Loaded;
 use cl_outside::{Ledger, Steps};
@@ -44,9 +44,9 @@ impl Session {
     ) -> Result<Session, AllocError>
         ensures world { IfOk result (λ s. world_of s slots.now ≡ opening loaded.now.app s.limits slots.now) }
         ensures limits { IfOk result (λ s. (s.limits.budget ≡ budget) × (s.limits.depth ≡ 512)) }
-        ensures ledger { IfOk result (λ s. steps.new ≡ steps.old + cost_of (fresh s.limits loaded.now.app.display.body slots.now)) }
+        ensures ledger { IfOk result (λ s. steps.new ≡ steps.old + cost_of (pane_fresh s.limits loaded.now.app slots.now)) }
         ensures later { steps.old ≤ steps.new }
-        ensures at_most { steps.new ≤ steps.old + cost_of (fresh (record { budget = budget; depth = 512 }) loaded.now.app.display.body slots.now) }
+        ensures at_most { steps.new ≤ steps.old + cost_of (pane_fresh (record { budget = budget; depth = 512 }) loaded.now.app slots.now) }
         ensures fits { IfOk result (Fits loaded.now.app slots.now) }
     {
         let line = Line::new(alloc)?;
@@ -56,7 +56,7 @@ impl Session {
             budget,
             depth: DEPTH,
         };
-        match pane.settle(alloc, &loaded.app.display.body, slots, limits, steps) {
+        match pane.settle(alloc, &loaded.app, slots, limits, steps) {
             PaneReport::Memory => Err(AllocError),
             _ => Ok(Session {
                 line,
@@ -145,7 +145,7 @@ impl Session {
     {
         if due || self.pane.history.is_none() {
             self.pane
-                .settle(alloc, &app.display.body, slots, self.limits, steps)
+                .settle(alloc, app, slots, self.limits, steps)
         } else {
             PaneReport::Quiet
         }

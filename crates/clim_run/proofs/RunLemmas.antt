@@ -2,8 +2,8 @@
 use Rattle.std.proofs.Common.{◌≡◌, ◌<◌, ◌≤◌, ℕ, ◌+◌, List, [], ◌++◌, length, sym, ◌∙◌, ap, arith, append-nil, Option, Bool, true, false, inl, inr}
 use Rattle.std.specs.Io.KnownBytes.{Consumes}
 use Rattle.cl_outside.specs.Causes.{Rose}
-use Rattle.cl_syntax.specs.declared.declarations.App.{App}
-use Rattle.cl_display.specs.Script.{fresh}
+use Rattle.cl_syntax.specs.declared.applications.App.{App}
+use Rattle.cl_display.specs.Script.{pane_fresh}
 use Rattle.cl_eval.specs.declared.metering.Limits.{Limits}
 use Rattle.cl_eval.specs.Outcome.{cost_of}
 use Rattle.cl_eval.specs.Slots.{Slots}
@@ -31,9 +31,9 @@ limits_are limits budget depth =
 
 -- what the display costs at the opening
 pub cost-opening : (app : App) (limits : Limits) (slots : Slots) → limits ≡ run_limits → slots ≡ opening_slots app
-    → cost_of (fresh limits app.display.body slots) ≡ opening_cost app
+    → cost_of (pane_fresh limits app slots) ≡ opening_cost app
 cost-opening app limits slots l s =
-    ap (λ x. cost_of (fresh x app.display.body slots)) l ∙ ap (λ x. cost_of (fresh run_limits app.display.body x)) s
+    ap (λ x. cost_of (pane_fresh x app slots)) l ∙ ap (λ x. cost_of (pane_fresh run_limits app x)) s
 
 -- what a reader at the first line has read, with what is ahead of it
 read_so_far : (old new : Option (List ℕ)) (ahead_old ahead_new read : List ℕ) → ahead_old ≡ [] → Reads old new ahead_old ahead_new read

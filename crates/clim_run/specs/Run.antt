@@ -2,8 +2,8 @@
 use Rattle.std.specs.Prelude.{◌≡◌, ◌<◌, ◌≤◌, ◌⊎◌, ◌+◌, ℕ, List, [], ◌++◌, length, Option, true, false}
 use Rattle.std.specs.Io.KnownBytes.{Appends, Consumes, IsAtEnd}
 use Rattle.cl_outside.specs.Causes.{Rose}
-use Rattle.cl_syntax.specs.declared.declarations.App.{App}
-use Rattle.cl_display.specs.Script.{fresh}
+use Rattle.cl_syntax.specs.declared.applications.App.{App}
+use Rattle.cl_display.specs.Script.{pane_fresh}
 use Rattle.cl_eval.specs.declared.metering.Limits.{Limits}
 use Rattle.cl_eval.specs.Outcome.{cost_of}
 use Rattle.cl_gesture.specs.Lines.{Piece, pieces, ended, held_from}
@@ -27,7 +27,7 @@ run_limits = record { budget = 1000000; depth = 512 }
 
 -- what the display costs at the opening
 abbrev pub opening_cost : App → ℕ
-opening_cost app = cost_of (fresh run_limits app.display.body (opening_slots app))
+opening_cost app = cost_of (pane_fresh run_limits app (opening_slots app))
 
 -- these bytes are a transcript of the pieces, from the opening of the application on, and the ledger rose by what the opening costs
 -- and then by what the commands and displays of the transcript cost
