@@ -7,13 +7,13 @@ use Rattle.cl_value.specs.Data.{int}
 use Rattle.cl_value.specs.declared.Value.TheVariants as value
 use Rattle.cl_sexp.specs.Tokens.{tokens_of}
 use Rattle.cl_sexp.specs.declared.Token.{Token}
-use Rattle.cl_syntax.specs.Term.{Term, constant, slot, text, arithmetic}
-use Rattle.cl_syntax.specs.declared.expressions.Arithmetic.TheVariants.{Add}
-use Rattle.cl_syntax.specs.declared.display_forms.Shape.{Shape}
-use Rattle.cl_syntax.specs.declared.display_forms.Shape.TheVariants.{WriteText, Newline}
-use Rattle.cl_syntax.specs.declared.statements.Act.{Act}
-use Rattle.cl_syntax.specs.declared.statements.Act.TheVariants.{Setf}
-use Rattle.cl_syntax.specs.declared.declarations.App.{App}
+use Rattle.cl_syntax.specs.Term.{Term, constant, slot, operation, terms_of}
+use Rattle.cl_syntax.specs.Form.{Form, write_text, newline}
+use Rattle.cl_syntax.specs.Statement.{Statement, setf}
+use Rattle.cl_syntax.specs.declared.operators.Arithmetic.TheVariants.{Add}
+use Rattle.cl_syntax.specs.declared.operators.TextOperator.TheVariants.{Written}
+use Rattle.cl_syntax.specs.declared.operators.Operator.TheVariants as operator
+use Rattle.cl_syntax.specs.declared.applications.App.{App}
 use Rattle.cl_syntax.specs.declared.declarations.FrameDecl.{FrameDecl}
 use Rattle.cl_syntax.specs.declared.declarations.SlotDecl.{SlotDecl}
 use Rattle.cl_syntax.specs.declared.declarations.PaneDecl.{PaneDecl}
@@ -82,14 +82,22 @@ abbrev pub slot_row : List ℕ → List Sub → Option Term
 slot_row x (a ∷ []) = some_if (is_word x a.shape) (slot x)
 slot_row x parts = None
 
+-- the text of a value
+abbrev pub text_of : Term → Term
+text_of t = operation (operator.Text Written) (terms_of (t ∷ []))
+
+-- the sum of two numbers
+abbrev pub sum_of : Term → Term → Term
+sum_of s t = operation (operator.Arithmetic Add) (terms_of (s ∷ t ∷ []))
+
 -- `(text E)`
 abbrev pub text_row : List Sub → Option Term
-text_row (a ∷ []) = a.term >>= λ t. Some (text t)
+text_row (a ∷ []) = a.term >>= λ t. Some (text_of t)
 text_row parts = None
 
 -- `(+ E E)`
 abbrev pub sum_row : List Sub → Option Term
-sum_row (a ∷ b ∷ []) = a.term >>= λ s. b.term >>= λ t. Some (arithmetic Add s t)
+sum_row (a ∷ b ∷ []) = a.term >>= λ s. b.term >>= λ t. Some (sum_of s t)
 sum_row parts = None
 
 abbrev pub row_of : List ℕ → List Sub → Option Term
@@ -120,16 +128,16 @@ list_in (literal s at) = None
 list_in (name s at) = None
 
 -- `(write-text E)` or `(newline)`
-abbrev pub shape_row : List ℕ → List Tree → Option Shape
+abbrev pub shape_row : List ℕ → List Tree → Option Form
 shape_row x [] = None
-shape_row x (head ∷ []) = if is_word (codes "newline") head then Some Newline else None
-shape_row x (head ∷ a ∷ []) = if is_word (codes "write-text") head then (term_in x a >>= λ t. Some (WriteText t)) else None
+shape_row x (head ∷ []) = if is_word (codes "newline") head then Some newline else None
+shape_row x (head ∷ a ∷ []) = if is_word (codes "write-text") head then (term_in x a >>= λ t. Some (write_text t)) else None
 shape_row x (head ∷ a ∷ b ∷ rest) = None
 
-abbrev pub shape_in : List ℕ → Tree → Option Shape
+abbrev pub shape_in : List ℕ → Tree → Option Form
 shape_in x t = list_in t >>= shape_row x
 
-abbrev pub shapes_in : List ℕ → List Tree → Option (List Shape)
+abbrev pub shapes_in : List ℕ → List Tree → Option (List Form)
 shapes_in x [] = Some []
 shapes_in x (t ∷ ts) = shape_in x t >>= λ f. shapes_in x ts >>= λ fs. Some (f ∷ fs)
 
@@ -142,12 +150,12 @@ abbrev pub is_place : List ℕ → Tree → Bool
 is_place x t = elim (list_in t) [ None ↦ false | Some parts ↦ place_row x parts ]
 
 -- `(setf (slot NAME) E)`
-abbrev pub act_row : List ℕ → List Tree → Option Act
+abbrev pub act_row : List ℕ → List Tree → Option Statement
 act_row x (head ∷ place ∷ a ∷ []) =
-    if is_word (codes "setf") head && is_place x place then (term_in x a >>= λ t. Some (Setf x t)) else None
+    if is_word (codes "setf") head && is_place x place then (term_in x a >>= λ t. Some (setf x t)) else None
 act_row x parts = None
 
-abbrev pub act_in : List ℕ → Tree → Option Act
+abbrev pub act_in : List ℕ → Tree → Option Statement
 act_in x t = list_in t >>= act_row x
 
 -- ---- declarations
@@ -177,7 +185,7 @@ int_in (form ts at) = None
 abbrev pub slot_decl : List Tree → Option SlotDecl
 slot_decl (n ∷ type ∷ o ∷ []) =
     if is_word (codes "integer") type
-    then (name_in n >>= λ x. int_in o >>= λ z. Some (record { name = x; opening = value.Int z }))
+    then (name_in n >>= λ x. int_in o >>= λ z. Some (record { name = x; spec = record { name = codes "integer" }; opening = value.Int z }))
     else None
 slot_decl parts = None
 
@@ -251,7 +259,7 @@ is_empty_list (name s at) = false
 abbrev pub display_of : List ℕ → ℕ → Tree → List Tree → Option DisplayDecl
 display_of x at n body =
     name_in n >>= λ d. shapes_in x body >>= λ shapes.
-    if is_operator d then None else Some (record { name = d; body = shapes; at = at })
+    if is_operator d then None else Some (record { name = d; parameters = []; body = shapes; at = at })
 
 -- `(define-display NAME () SHAPE ...)`
 abbrev pub display_row : List ℕ → ℕ → List Tree → Option DisplayDecl
@@ -303,10 +311,14 @@ command_in x (number z at) = None
 command_in x (literal s at) = None
 command_in x (name s at) = None
 
+-- the application of one display and one command, without records and functions
+abbrev pub app_of : FrameDecl → DisplayDecl → CommandDecl → App
+app_of frame display command = record { records = []; functions = []; displays = (display.name, display) ∷ []; command = command; frame = frame }
+
 -- the pane shows the display
 abbrev pub agreed : FrameDecl → DisplayDecl → CommandDecl → Option App
 agreed frame display command =
-    if bytes_eq frame.pane.display display.name then Some (record { frame = frame; display = display; command = command }) else None
+    if bytes_eq frame.pane.display display.name then Some (app_of frame display command) else None
 
 abbrev pub declared_by : FrameDecl → Tree → Tree → Option App
 declared_by frame d c = display_in frame.slot.name d >>= λ display. command_in frame.slot.name c >>= λ command. agreed frame display command

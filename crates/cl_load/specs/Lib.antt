@@ -5,4 +5,5 @@ pub mod Spelled
 pub mod Opening
 pub mod Decodes
 pub mod Application
+pub mod SlotTypes
 pub mod Loads

@@ -1,6 +1,6 @@
 -- The opening values of the slots.
 use Rattle.std.specs.Prelude.{[], ◌∷◌}
-use Rattle.cl_syntax.specs.declared.declarations.App.{App}
+use Rattle.cl_syntax.specs.declared.applications.App.{App}
 use Rattle.cl_value.specs.Value.{data_of}
 use Rattle.cl_eval.specs.Slots.{Slots}
 

@@ -2,7 +2,7 @@
 ghost use Rattle.std.specs.Prelude.{◌≡◌, ◌∷◌, [], map, IfOk};
 ghost use Rattle.cl_load.specs.Form.{tree_of};
 ghost use Rattle.cl_load.specs.Decodes.{Decodes};
-ghost use Rattle.cl_load.specs.Application.{IsSize, is_operator, display_row, display_of, display_in, command_row, command_of, command_in, agreed, declared_by, application_in};
+ghost use Rattle.cl_load.specs.Application.{IsSize, is_operator, display_row, display_of, display_in, command_row, command_of, command_in, app_of, agreed, declared_by, application_in};
 
 use crate::decoding::Stop;
 use crate::display_forms::shapes_in;
@@ -11,7 +11,9 @@ use crate::frames::frame_in;
 use crate::line_names::line_name_of;
 use crate::names::{is_empty_list, is_word, name_in};
 use crate::statements::act_in;
-use cl_syntax::{Act, Acts, App, CommandDecl, DisplayDecl, FrameDecl};
+use cl_syntax::{
+    Act, Acts, App, CommandDecl, DisplayDecl, Displays, FrameDecl, Functions, Names, Records,
+};
 use cl_value::Text;
 use std::alloc::{AllocError, Global};
 
@@ -24,7 +26,7 @@ pub fn application_in(alloc: Global, forms: &[Form]) -> Result<App, Stop>
     let [frame, display, command] = forms else {
         return Err(Stop::Refused);
     };
-    declared_by(alloc, frame_in(frame)?, display, command)
+    declared_by(alloc, frame_in(alloc, frame)?, display, command)
 }
 
 fn declared_by(alloc: Global, frame: FrameDecl, display: &Form, command: &Form) -> Result<App, Stop>
@@ -33,23 +35,49 @@ fn declared_by(alloc: Global, frame: FrameDecl, display: &Form, command: &Form) 
 {
     let display = display_in(alloc, &frame.slot.name, display)?;
     let command = command_in(alloc, &frame.slot.name, command)?;
-    agreed(frame, display, command)
+    agreed(alloc, frame, display, command)
 }
 
 /// The application, where the pane shows the display.
-fn agreed(frame: FrameDecl, display: DisplayDecl, command: CommandDecl) -> Result<App, Stop>
+fn agreed(
+    alloc: Global,
+    frame: FrameDecl,
+    display: DisplayDecl,
+    command: CommandDecl,
+) -> Result<App, Stop>
     ensures value { Decodes result (agreed frame display command) }
     ensures size { IfOk result (λ app. app.frame ≡ frame) }
 {
     if frame.pane.display.as_slice() == display.name.as_slice() {
-        Ok(App {
-            frame,
-            display,
-            command,
-        })
+        Ok(app_of(alloc, frame, display, command)?)
     } else {
         Err(Stop::Refused)
     }
+}
+
+fn app_of(
+    alloc: Global,
+    frame: FrameDecl,
+    display: DisplayDecl,
+    command: CommandDecl,
+) -> Result<App, AllocError>
+    ensures { IfOk result (λ app. app ≡ app_of frame display command) }
+{
+    Ok(App {
+        records: Records::new(alloc),
+        functions: Functions::new(alloc),
+        displays: table_of(alloc, display)?,
+        command,
+        frame,
+    })
+}
+
+fn table_of(alloc: Global, display: DisplayDecl) -> Result<Displays, AllocError>
+    ensures { IfOk result (λ displays. displays ≡ (display.name, display) ∷ []) }
+{
+    let mut displays = Displays::new(alloc);
+    displays.add(display).map_err(|_| AllocError)?;
+    Ok(displays)
 }
 
 /// The display that a form declares, where the one slot has this name.
@@ -92,7 +120,12 @@ fn display_of(
     if is_operator(name.as_slice()) {
         return Err(Stop::Refused);
     }
-    Ok(DisplayDecl { name, body, at })
+    Ok(DisplayDecl {
+        name,
+        parameters: Names::new(alloc),
+        body,
+        at,
+    })
 }
 
 fn is_operator(name: &[u8]) -> bool

@@ -37,8 +37,8 @@ fn shape_row(alloc: Global, slot: &Text, parts: &[Form]) -> Result<Shape, Stop>
     ensures { Decodes result (shape_row slot.now (map tree_of parts.now)) }
 {
     match parts {
-        [head] if is_word(b"newline", head) => Ok(Shape::Newline),
-        [head, part] if is_word(b"write-text", head) => Ok(Shape::WriteText(term_in(
+        [head] if is_word(b"newline", head) => Ok(Shape::newline()),
+        [head, part] if is_word(b"write-text", head) => Ok(Shape::write_text(term_in(
             alloc, slot, part,
         )?)),
         _ => Err(Stop::Refused),

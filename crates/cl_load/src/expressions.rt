@@ -1,16 +1,16 @@
 //! Expressions over the one slot.
-ghost use Rattle.std.specs.Prelude.{map};
+ghost use Rattle.std.specs.Prelude.{◌≡◌, IfOk, map};
 ghost use Rattle.cl_load.specs.Tree.{trees_of};
 ghost use Rattle.cl_load.specs.Form.{tree_of};
 ghost use Rattle.cl_load.specs.Decodes.{Decodes};
-ghost use Rattle.cl_load.specs.Application.{subs, slot_row, text_row, sum_row, row_of, term_in};
+ghost use Rattle.cl_load.specs.Application.{subs, slot_row, text_of, text_row, sum_of, sum_row, row_of, term_in};
 
 use crate::decoding::Stop;
 use crate::form::Form;
 use crate::names::is_word;
-use cl_syntax::{Arithmetic, Expr};
+use cl_syntax::{Arithmetic, Expr, Operator, TextOperator};
 use cl_value::{Text, Value};
-use std::alloc::Global;
+use std::alloc::{AllocError, Global};
 
 /// The expression that a form is, where the one slot has this name.
 #[cycle(expression)]
@@ -67,7 +67,7 @@ fn text_row(alloc: Global, slot: &Text, parts: &[Form]) -> Result<Expr, Stop>
         return Err(Stop::Refused);
     };
     let part = term_in(alloc, slot, part)?;
-    Ok(Expr::text(alloc, part)?)
+    Ok(text_of(alloc, part)?)
 }
 
 /// `(+ E E)`
@@ -81,5 +81,19 @@ fn sum_row(alloc: Global, slot: &Text, parts: &[Form]) -> Result<Expr, Stop>
     };
     let first = term_in(alloc, slot, first)?;
     let second = term_in(alloc, slot, second)?;
-    Ok(Expr::arithmetic(alloc, Arithmetic::Add, first, second)?)
+    Ok(sum_of(alloc, first, second)?)
+}
+
+fn text_of(alloc: Global, part: Expr) -> Result<Expr, AllocError>
+    ensures { IfOk result (λ e. e ≡ text_of part) }
+{
+    let parts = vec![in alloc; part]?;
+    Ok(Expr::operation(Operator::Text(TextOperator::Written), parts))
+}
+
+fn sum_of(alloc: Global, first: Expr, second: Expr) -> Result<Expr, AllocError>
+    ensures { IfOk result (λ e. e ≡ sum_of first second) }
+{
+    let parts = vec![in alloc; first, second]?;
+    Ok(Expr::operation(Operator::Arithmetic(Arithmetic::Add), parts))
 }

@@ -7,8 +7,9 @@ ghost use Rattle.cl_load.specs.Application.{IsSize, size_row, size_in, slot_decl
 use crate::decoding::Stop;
 use crate::form::Form;
 use crate::names::{int_in, is_number, is_word, list_in, name_in, number_in};
-use cl_syntax::{FrameDecl, PaneDecl, SlotDecl};
-use cl_value::Value;
+use cl_syntax::{FrameDecl, PaneDecl, SlotDecl, TypeSpec};
+use cl_value::{Text, Value};
+use std::alloc::Global;
 
 /// In cells.
 #[derive(Clone, Copy)]
@@ -19,12 +20,12 @@ pub struct Size {
 
 /// The frame that a form declares.
 #[tactic(auto, using(crate::proofs::Trees::parts_trees))]
-pub fn frame_in(form: &Form) -> Result<FrameDecl, Stop>
+pub fn frame_in(alloc: Global, form: &Form) -> Result<FrameDecl, Stop>
     ensures value { Decodes result (frame_in (tree_of form.now)) }
     ensures size { IfOk result (λ f. IsSize f.width f.height) }
 {
     match form {
-        Form::Parts(parts, at) => frame_row(*at, parts.as_slice()),
+        Form::Parts(parts, at) => frame_row(alloc, *at, parts.as_slice()),
         Form::Number(_, _) => Err(Stop::Refused),
         Form::Name(_, _) => Err(Stop::Refused),
         Form::Literal(_, _) => Err(Stop::Refused),
@@ -33,7 +34,7 @@ pub fn frame_in(form: &Form) -> Result<FrameDecl, Stop>
 
 /// `(define-application-frame NAME SIZE SLOTS PANES)`
 #[tactic(auto, using(crate::proofs::Rows::frame_counts))]
-fn frame_row(at: u32, parts: &[Form]) -> Result<FrameDecl, Stop>
+fn frame_row(alloc: Global, at: u32, parts: &[Form]) -> Result<FrameDecl, Stop>
     ensures value { Decodes result (frame_row at (map tree_of parts.now)) }
     ensures size { IfOk result (λ f. IsSize f.width f.height) }
 {
@@ -43,10 +44,11 @@ fn frame_row(at: u32, parts: &[Form]) -> Result<FrameDecl, Stop>
     if !is_word(b"define-application-frame", head) {
         return Err(Stop::Refused);
     }
-    frame_of(at, name, size, slots, panes)
+    frame_of(alloc, at, name, size, slots, panes)
 }
 
 fn frame_of(
+    alloc: Global,
     at: u32,
     name: &Form,
     size: &Form,
@@ -58,7 +60,7 @@ fn frame_of(
 {
     let name = name_in(name)?;
     let Size { width, height } = size_in(size)?;
-    let slot = slots_in(slots)?;
+    let slot = slots_in(alloc, slots)?;
     let pane = panes_in(width, height, panes)?;
     Ok(FrameDecl {
         name,
@@ -96,17 +98,17 @@ fn size_row(parts: &[Form]) -> Result<Size, Stop>
     Ok(Size { width, height })
 }
 
-fn slots_in(form: &Form) -> Result<SlotDecl, Stop>
+fn slots_in(alloc: Global, form: &Form) -> Result<SlotDecl, Stop>
     ensures { Decodes result (slots_in (tree_of form.now)) }
 {
     match list_in(form) {
-        Some(parts) => slots_row(parts),
+        Some(parts) => slots_row(alloc, parts),
         None => Err(Stop::Refused),
     }
 }
 
 /// `(:slots SLOT)`
-fn slots_row(parts: &[Form]) -> Result<SlotDecl, Stop>
+fn slots_row(alloc: Global, parts: &[Form]) -> Result<SlotDecl, Stop>
     ensures { Decodes result (slots_row (map tree_of parts.now)) }
 {
     let [key, slot] = parts else {
@@ -115,20 +117,20 @@ fn slots_row(parts: &[Form]) -> Result<SlotDecl, Stop>
     if !is_word(b":slots", key) {
         return Err(Stop::Refused);
     }
-    slot_in(slot)
+    slot_in(alloc, slot)
 }
 
-fn slot_in(form: &Form) -> Result<SlotDecl, Stop>
+fn slot_in(alloc: Global, form: &Form) -> Result<SlotDecl, Stop>
     ensures { Decodes result (slot_in (tree_of form.now)) }
 {
     match list_in(form) {
-        Some(parts) => slot_decl(parts),
+        Some(parts) => slot_decl(alloc, parts),
         None => Err(Stop::Refused),
     }
 }
 
 /// `(NAME integer OPENING)`
-fn slot_decl(parts: &[Form]) -> Result<SlotDecl, Stop>
+fn slot_decl(alloc: Global, parts: &[Form]) -> Result<SlotDecl, Stop>
     ensures { Decodes result (slot_decl (map tree_of parts.now)) }
 {
     let [name, value_type, opening] = parts else {
@@ -141,6 +143,9 @@ fn slot_decl(parts: &[Form]) -> Result<SlotDecl, Stop>
     let opening = int_in(opening)?;
     Ok(SlotDecl {
         name,
+        spec: TypeSpec {
+            name: Text::from_slice(alloc, b"integer")?,
+        },
         opening: Value::Int(opening),
     })
 }

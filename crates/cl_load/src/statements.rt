@@ -33,7 +33,7 @@ fn act_row(alloc: Global, slot: &Text, parts: &[Form]) -> Result<Act, Stop>
         return Err(Stop::Refused);
     }
     let term = term_in(alloc, slot, part)?;
-    Ok(Act::Setf(slot.copy()?, term))
+    Ok(Act::setf(slot.copy()?, term))
 }
 
 fn is_place(slot: &Text, form: &Form) -> bool

@@ -12,3 +12,8 @@ returns-in_err-app c =
     let refusal = err_from_is_err_and c.from_residual-in_err-app.result c.from_residual-in_err-app.ensures.1 in
     rw (refusal.1, refusal.2) (refused_application c.args.text.now c.in_ok-forms.forms c.in_err-app.field-0.0 c.in_ok-forms.ensures
     (rw c.as_slice.ensures at c.in_err-app.ensures.value))
+
+pub returns-in_err-slots : goal.returns-in_err-slots
+returns-in_err-slots c =
+    let refusal = err_from_is_err_and c.from_residual-in_err-slots.result c.from_residual-in_err-slots.ensures.1 in
+    rw (refusal.1, refusal.2) tt

@@ -1,0 +1,24 @@
+-- The types that a slot may have.
+use Rattle.std.specs.Prelude.{ℕ, Bool, false, not, ◌&&◌, ◌||◌, List, codes}
+use Rattle.std.specs.Str.{bytes_eq}
+use Rattle.cl_value.specs.Data.{Data, int, bool, text, symbol, null, list, rec}
+use Rattle.cl_syntax.specs.declared.type_specs.TypeSpec.{TypeSpec}
+
+-- the names that are no names of records
+abbrev pub is_standard : List ℕ → Bool
+is_standard type =
+    bytes_eq type (codes "t") || bytes_eq type (codes "integer") || bytes_eq type (codes "string") || bytes_eq type (codes "symbol") || bytes_eq type (codes "boolean")
+
+-- `integer` has the numbers, `boolean` true and false, `string` the texts, `symbol` the symbols, and a record's name the records of that name
+abbrev pub is_of : List ℕ → Data → Bool
+is_of type (int z) = bytes_eq type (codes "integer")
+is_of type (bool b) = bytes_eq type (codes "boolean")
+is_of type (text s) = bytes_eq type (codes "string")
+is_of type (symbol s) = bytes_eq type (codes "symbol")
+is_of type null = false
+is_of type (list ds) = false
+is_of type (rec name ds) = bytes_eq type name && not (is_standard type)
+
+-- `t` has all values
+abbrev pub is_member : Data → TypeSpec → Bool
+is_member d spec = bytes_eq spec.name (codes "t") || is_of spec.name d
