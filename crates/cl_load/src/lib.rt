@@ -14,6 +14,7 @@ mod line_names;
 mod loading;
 mod names;
 mod parse;
+mod slot_types;
 mod statements;
 #[cfg(test)]
 mod tests;
@@ -21,3 +22,4 @@ mod tests;
 pub use application::Loaded;
 pub use laws::one_tree;
 pub use loading::{LoadRefusal, load};
+pub use slot_types::SlotTypes;

@@ -15,7 +15,7 @@ pub struct SlotTypes;
 impl Types for SlotTypes {
     ghost use Rattle.cl_load.specs.SlotTypes.{is_member};
 
-    ghost member = { λ _ d spec. is_member d spec };
+    ghost holds = { λ _ d spec. is_member d spec };
 
     fn member(&self, value: &Value, spec: &TypeSpec) -> Held {
         if is_member(value, spec) {
