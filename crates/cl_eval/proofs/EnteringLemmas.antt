@@ -1,9 +1,8 @@
 -- A form that could be entered means what its parts mean, one level further down.
-use Rattle.std.proofs.Common.{◌≡◌, ℕ, zero, suc, ◌+◌, ◌-◌, Bool, true, false, if◌then◌else◌, nat_le, refl, arith, ap}
-use Rattle.cl_value.specs.Data.{Data}
+use Rattle.std.proofs.Common.{◌≡◌, ℕ, zero, suc, ◌+◌, ◌-◌, Bool, true, false, if◌then◌else◌, nat_le, arith}
 use Rattle.cl_syntax.specs.Term.{Term}
 use Rattle.cl_syntax.specs.declared.applications.App.{App}
-use Rattle.cl_eval.specs.Outcome.{Outcome, Gives, Traps, Run, after}
+use Rattle.cl_eval.specs.Outcome.{Outcome, Gives, Traps}
 use Rattle.cl_eval.specs.Slots.{Slots, Env}
 use Rattle.cl_eval.specs.Meaning.{entering, parts, means}
 

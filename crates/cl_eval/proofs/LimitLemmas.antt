@@ -1,5 +1,5 @@
 -- What ends under some limits ends so under all limits that its cost and its reach do not pass.
-use Rattle.std.proofs.Common.{◌≡◌, ◌∙◌, sym, ap, ℕ, zero, suc, ◌+◌, ◌-◌, ◌≤◌, ◌<◌, ◌==◌, Bool, true, false, if◌then◌else◌, nat_le, List, [], ◌∷◌, ◌++◌, length, Option, Some, None, Result, Ok, Err, arith, refl}
+use Rattle.std.proofs.Common.{◌≡◌, ap, ℕ, zero, suc, ◌+◌, ◌≤◌, ◌==◌, Bool, true, false, if◌then◌else◌, nat_le, List, [], ◌∷◌, ◌++◌, length, Option, Some, None, Result, Ok, Err, arith, refl}
 use Rattle.std.specs.Prelude.{max}
 use Rattle.std.proofs.lemmas.Bool.Decides.{nat_tests}
 use Rattle.cl_value.specs.Data.{Data, bool, list, items_of}
@@ -35,7 +35,7 @@ goes-give budget depth x c d v n l p =
     let deepest : d ≡ l = ap deepest_of p in
     record { cost = omega (arith, cost); deepest = omega (arith, deepest); same = λ _ _. p }
 
-pub goes-trap : {A : Type 0} (budget depth k : ℕ) → Goes {A} budget depth (trap k) (trap k)
+pub goes-trap : {A : Type 0} (budget depth k : ℕ) → Goes {A = A} budget depth (trap k) (trap k)
 goes-trap budget depth k c d v n l p = absurd (no_value k c d v n l p)
 
 pub goes-lift : {A : Type 0} (budget depth : ℕ) (r : Result A ℕ) → Goes budget depth (lift r) (lift r)
@@ -72,7 +72,7 @@ abbrev entered : Bool → Bool → ℕ → ℕ → ℕ → Outcome (Unit {0})
 entered b e level c d = if b then Traps 5 c d else (if e then Traps 6 c d else Gives tt (c + 1) (max d (level + 1)))
 
 -- what entering a form gives, where it gives anything
-gives-entered : (b e : Bool) (level c d : ℕ) (v : Unit {0}) (n l : ℕ) → entered b e level c d ≡ Gives v n l → Gives {A = Unit {0}} tt (c + 1) (max d (level + 1)) ≡ Gives v n l
+gives-entered : (b e : Bool) (level c d : ℕ) (v : Unit {0}) (n l : ℕ) → entered b e level c d ≡ Gives v n l → entered false false level c d ≡ Gives v n l
 gives-entered true e level c d v n l p = absurd (no_value 5 c d v n l p)
 gives-entered false true level c d v n l p = absurd (no_value 6 c d v n l p)
 gives-entered false false level c d v n l p = p
@@ -164,11 +164,11 @@ goes-limited budget depth es =
 
 pub goes-then_map : (budget depth : ℕ) (go go' : Go) → (level : ℕ) → GoGoes budget depth level go go' → (env : Env) (x : List ℕ) (t : Term) (ds : List Data) → Goes budget depth (mapped go level env x t ds [] >>= λ es. lift (limited (list (items_of es)))) (mapped go' level env x t ds [] >>= λ es. lift (limited (list (items_of es))))
 goes-then_map budget depth go go' level g env x t ds =
-    goes-then budget depth (mapped go level env x t ds []) (mapped go' level env x t ds []) (λ es. lift (limited (list (items_of es)))) (λ es. lift (limited (list (items_of es)))) (goes-mapped budget depth go go' level g env x t ds []) goes-limited budget depth
+    goes-then budget depth (mapped go level env x t ds []) (mapped go' level env x t ds []) (λ es. lift (limited (list (items_of es)))) (λ es. lift (limited (list (items_of es)))) (goes-mapped budget depth go go' level g env x t ds []) (goes-limited budget depth)
 
 pub goes-then_filter : (budget depth : ℕ) (go go' : Go) → (level : ℕ) → GoGoes budget depth level go go' → (env : Env) (x : List ℕ) (t : Term) (ds : List Data) → Goes budget depth (filtered go level env x t ds [] >>= λ es. lift (limited (list (items_of es)))) (filtered go' level env x t ds [] >>= λ es. lift (limited (list (items_of es))))
 goes-then_filter budget depth go go' level g env x t ds =
-    goes-then budget depth (filtered go level env x t ds []) (filtered go' level env x t ds []) (λ es. lift (limited (list (items_of es)))) (λ es. lift (limited (list (items_of es)))) (goes-filtered budget depth go go' level g env x t ds []) goes-limited budget depth
+    goes-then budget depth (filtered go level env x t ds []) (filtered go' level env x t ds []) (λ es. lift (limited (list (items_of es)))) (λ es. lift (limited (list (items_of es)))) (goes-filtered budget depth go go' level g env x t ds []) (goes-limited budget depth)
 
 pub goes-then_fold : (budget depth : ℕ) (go go' : Go) → (level : ℕ) → GoGoes budget depth level go go' → (env : Env) (x y : List ℕ) (t : Term) (d a : Data) → Goes budget depth (lift (elements d) >>= λ ds. folded go level env x y t ds a) (lift (elements d) >>= λ ds. folded go' level env x y t ds a)
 goes-then_fold budget depth go go' level g env x y t d a =
@@ -246,10 +246,10 @@ goes-means (suc left) budget zero budget' app slots level env t c d v n l p =
       same = λ _ _. q;
     })
     (λ _. parts app slots (means left budget app slots) (level + 1) env t) (λ _. refl) at v n l p
-goes-means (suc left) budget (suc left') budget' app slots level env t =
+goes-means (suc left) budget (suc left') budget' app slots level env t c d v n l p =
     let deeper : level + 1 + left' ≡ level + suc left' = omega arith in
     goes-then budget' (level + suc left') (entering (suc left) budget level) (entering (suc left') budget' level)
     (λ _. parts app slots (means left budget app slots) (level + 1) env t) (λ _. parts app slots (means left' budget' app slots) (level + 1) env t)
     (goes-entering (suc left) budget (suc left') budget' level)
     (λ _. rw (← deeper) (goes-parts budget' (level + 1 + left') app slots (means left budget app slots) (means left' budget' app slots) (level + 1)
-    (goes-means left budget left' budget' app slots (level + 1)) env t))
+    (goes-means left budget left' budget' app slots (level + 1)) env t)) c d v n l p

@@ -1,12 +1,11 @@
 -- Putting a value into slots, by the place of its name.
-use Rattle.std.proofs.Common.{◌≡◌, ℕ, zero, suc, ◌+◌, ◌<◌, ◌≤◌, Bool, true, false, cond, not, List, [], ◌∷◌, ◌++◌, map, length, slice_set, Option, Some, None, refl, arith, ap}
+use Rattle.std.proofs.Common.{◌≡◌, ℕ, suc, ◌+◌, ◌<◌, ◌≤◌, Bool, true, false, cond, not, List, [], ◌∷◌, ◌++◌, map, length, slice_set, Some, None, refl, arith, ap}
 use Rattle.std.specs.Prelude.{position, nat_lt, if◌then◌else◌}
 use Rattle.std.specs.List.{position_or_len}
 use Rattle.std.proofs.lemmas.Bool.Decides.{nat_tests}
-use Rattle.cl_value.specs.Data.{Data}
 use Rattle.cl_value.specs.declared.Value.{Value}
 use Rattle.cl_value.specs.Value.{data_of}
-use Rattle.cl_eval.specs.Slots.{Slots, is_name, is_named, put, entry_of}
+use Rattle.cl_eval.specs.Slots.{is_name, is_named, put, entry_of}
 
 abbrev Entries : Type 0
 Entries = List (List ℕ × Value)

@@ -1,5 +1,5 @@
 -- Statements: the cost never falls, a statement that could be entered does what its parts do, and a part that stops, stops the whole.
-use Rattle.std.proofs.Common.{◌≡◌, ℕ, zero, suc, ◌+◌, ◌-◌, ◌≤◌, ◌==◌, Bool, true, false, if◌then◌else◌, nat_le, List, [], ◌∷◌, Option, Some, None, Result, Ok, Err, arith}
+use Rattle.std.proofs.Common.{◌≡◌, ℕ, zero, suc, ◌+◌, ◌-◌, Bool, if◌then◌else◌, nat_le, List, [], ◌∷◌, Err, arith}
 use Rattle.cl_value.specs.Data.{Data}
 use Rattle.cl_value.specs.Value.{data_of}
 use Rattle.cl_syntax.specs.Statement as act
@@ -10,7 +10,7 @@ use Rattle.cl_syntax.specs.declared.applications.App.{App}
 use Rattle.cl_eval.specs.declared.effects.Effects.{Effects}
 use Rattle.cl_eval.specs.declared.metering.Meter.{Meter}
 use Rattle.cl_eval.specs.declared.metering.Stop.{Stop}
-use Rattle.cl_eval.specs.Outcome.{Outcome, Gives, Traps, Run, give, lift, after, ◌>>=◌, cost_of}
+use Rattle.cl_eval.specs.Outcome.{Gives, Traps, give, lift}
 use Rattle.cl_eval.specs.Slots.{Slots, Env}
 use Rattle.cl_eval.specs.Meaning.{Go, entering, tested, listed, means}
 use Rattle.cl_eval.specs.Statements.{Member, Does, assigned, replied, in_turn, for_each, acts_in, act_parts, does}
@@ -37,11 +37,11 @@ grows-acts_in value v go g level unbound body env s = grows-in_turn go g level e
 grows-acts_in value v go g level (binding x t bs) body env s =
     grows-then (value level env t) (λ d. acts_in value go level bs body ((x, d) ∷ env) s) (v level env t) (λ d. grows-acts_in value v go g level bs body ((x, d) ∷ env) s)
 
-pub grows-then_act : (go : Does) → DoesGrows go → (level : ℕ) (env : Env) (a b : Statement) (s : Effects) (yes : Bool) → Grows (if yes then go level env a s else go level env b s)
-grows-then_act go g level env a b s yes = grows-choice yes (go level env a s) (go level env b s) (g level env a s) (g level env b s)
+pub grows-then_act : (go : Does) → DoesGrows go → (level : ℕ) (env : Env) (a b : Statement) (s : Effects) (test : Bool) → Grows (if test then go level env a s else go level env b s)
+grows-then_act go g level env a b s test = grows-choice test (go level env a s) (go level env b s) (g level env a s) (g level env b s)
 
-pub grows-then_body : (go : Does) → DoesGrows go → (level : ℕ) (env : Env) (body : Statements) (s : Effects) (yes : Bool) → Grows (if yes then in_turn go level env body s else give s)
-grows-then_body go g level env body s yes = grows-choice yes (in_turn go level env body s) (give s) (grows-in_turn go g level env body s) (grows-give s)
+pub grows-then_body : (go : Does) → DoesGrows go → (level : ℕ) (env : Env) (body : Statements) (s : Effects) (test : Bool) → Grows (if test then in_turn go level env body s else give s)
+grows-then_body go g level env body s test = grows-choice test (in_turn go level env body s) (give s) (grows-in_turn go g level env body s) (grows-give s)
 
 abbrev pub AllGrow : (Slots → Go) → Type 0
 AllGrow value = (slots : Slots) → GoGrows (value slots)
@@ -53,10 +53,10 @@ grows-act_parts app member value v go g level env (act.setf x t) s =
 grows-act_parts app member value v go g level env (act.reply t) s =
     grows-then (value s.slots level env t) (λ d. lift (replied s d)) (v s.slots level env t) (λ d. grows-lift (replied s d))
 grows-act_parts app member value v go g level env (act.choice t a b) s =
-    grows-then (tested (value s.slots) level env t) (λ yes. if yes then go level env a s else go level env b s) (grows-tested (value s.slots) (v s.slots) level env t)
+    grows-then (tested (value s.slots) level env t) (λ test. if test then go level env a s else go level env b s) (grows-tested (value s.slots) (v s.slots) level env t)
     (grows-then_act go g level env a b s)
 grows-act_parts app member value v go g level env (act.when t body) s =
-    grows-then (tested (value s.slots) level env t) (λ yes. if yes then in_turn go level env body s else give s) (grows-tested (value s.slots) (v s.slots) level env t)
+    grows-then (tested (value s.slots) level env t) (λ test. if test then in_turn go level env body s else give s) (grows-tested (value s.slots) (v s.slots) level env t)
     (grows-then_body go g level env body s)
 grows-act_parts app member value v go g level env (act.bind bs body) s = grows-acts_in (value s.slots) (v s.slots) go g level bs body env s
 grows-act_parts app member value v go g level env (act.each x t body) s =
@@ -85,31 +85,31 @@ does-entered (suc n) budget app member level env a s cost deepest c d p =
 -- ---- a part that stops
 
 pub stop-in_turn : (go : Does) → DoesGrows go → (level : ℕ) (env : Env) (a : Statement) (rest : Statements) (s s' : Effects) (e : Stop) (m : Meter) (c d : ℕ)
-    → Agrees {A = Unit {0}} (always s') (Err e) m (go level env a s c d) → Agrees {A = Unit {0}} (always s') (Err e) m (in_turn go level env (statement a rest) s c d)
+    → Agrees (always {A = Unit {0}} s') (Err e) m (go level env a s c d) → Agrees (always {A = Unit {0}} s') (Err e) m (in_turn go level env (statement a rest) s c d)
 stop-in_turn go g level env a rest s s' e m c d =
-    Agrees-stop (always s') (always s') e m (go level env a s c d) (in_turn go level env rest) (grows-in_turn go g level env rest)
+    Agrees-stop (always {A = Unit {0}} s') (always {A = Unit {0}} s') e m (go level env a s c d) (in_turn go level env rest) (grows-in_turn go g level env rest)
 
 pub stop-for_each : (go : Does) → DoesGrows go → (level : ℕ) (env : Env) (x : List ℕ) (body : Statements) (v : Data) (ds : List Data) (s s' : Effects) (e : Stop) (m : Meter) (c d : ℕ)
-    → Agrees {A = Unit {0}} (always s') (Err e) m (in_turn go level ((x, v) ∷ env) body s c d) → Agrees {A = Unit {0}} (always s') (Err e) m (for_each go level env x body (v ∷ ds) s c d)
+    → Agrees (always {A = Unit {0}} s') (Err e) m (in_turn go level ((x, v) ∷ env) body s c d) → Agrees (always {A = Unit {0}} s') (Err e) m (for_each go level env x body (v ∷ ds) s c d)
 stop-for_each go g level env x body v ds s s' e m c d =
-    Agrees-stop (always s') (always s') e m (in_turn go level ((x, v) ∷ env) body s c d) (for_each go level env x body ds) (grows-for_each go g level env x body ds)
+    Agrees-stop (always {A = Unit {0}} s') (always {A = Unit {0}} s') e m (in_turn go level ((x, v) ∷ env) body s c d) (for_each go level env x body ds) (grows-for_each go g level env x body ds)
 
 pub stop-acts_in : (value : Go) → GoGrows value → (go : Does) → DoesGrows go → (level : ℕ) (x : List ℕ) (t : Term) (bs : Bindings) (body : Statements) (env : Env) (s s' : Effects) (e : Stop) (m : Meter) (c d : ℕ)
-    → Agrees data_of (Err e) m (value level env t c d) → Agrees {A = Unit {0}} (always s') (Err e) m (acts_in value go level (binding x t bs) body env s c d)
+    → Agrees data_of (Err e) m (value level env t c d) → Agrees (always {A = Unit {0}} s') (Err e) m (acts_in value go level (binding x t bs) body env s c d)
 stop-acts_in value v go g level x t bs body env s s' e m c d =
-    Agrees-stop data_of (always s') e m (value level env t c d) (λ d. acts_in value go level bs body ((x, d) ∷ env) s) (λ d. grows-acts_in value v go g level bs body ((x, d) ∷ env) s)
+    Agrees-stop data_of (always {A = Unit {0}} s') e m (value level env t c d) (λ d. acts_in value go level bs body ((x, d) ∷ env) s) (λ d. grows-acts_in value v go g level bs body ((x, d) ∷ env) s)
 
 pub stop-choice : (app : App) (member : Member) (value : Slots → Go) (go : Does) → DoesGrows go → (level : ℕ) (env : Env) (t : Term) (a b : Statement) (s s' : Effects) (e : Stop) (m : Meter) (c d : ℕ)
-    → Agrees itself (Err e) m (tested (value s.slots) level env t c d) → Agrees {A = Unit {0}} (always s') (Err e) m (act_parts app member value go level env (act.choice t a b) s c d)
+    → Agrees itself (Err e) m (tested (value s.slots) level env t c d) → Agrees (always {A = Unit {0}} s') (Err e) m (act_parts app member value go level env (act.choice t a b) s c d)
 stop-choice app member value go g level env t a b s s' e m c d =
-    Agrees-stop itself (always s') e m (tested (value s.slots) level env t c d) (λ yes. if yes then go level env a s else go level env b s) (grows-then_act go g level env a b s)
+    Agrees-stop itself (always {A = Unit {0}} s') e m (tested (value s.slots) level env t c d) (λ test. if test then go level env a s else go level env b s) (grows-then_act go g level env a b s)
 
 pub stop-when : (app : App) (member : Member) (value : Slots → Go) (go : Does) → DoesGrows go → (level : ℕ) (env : Env) (t : Term) (body : Statements) (s s' : Effects) (e : Stop) (m : Meter) (c d : ℕ)
-    → Agrees itself (Err e) m (tested (value s.slots) level env t c d) → Agrees {A = Unit {0}} (always s') (Err e) m (act_parts app member value go level env (act.when t body) s c d)
+    → Agrees itself (Err e) m (tested (value s.slots) level env t c d) → Agrees (always {A = Unit {0}} s') (Err e) m (act_parts app member value go level env (act.when t body) s c d)
 stop-when app member value go g level env t body s s' e m c d =
-    Agrees-stop itself (always s') e m (tested (value s.slots) level env t c d) (λ yes. if yes then in_turn go level env body s else give s) (grows-then_body go g level env body s)
+    Agrees-stop itself (always {A = Unit {0}} s') e m (tested (value s.slots) level env t c d) (λ test. if test then in_turn go level env body s else give s) (grows-then_body go g level env body s)
 
 pub stop-dolist : (app : App) (member : Member) (value : Slots → Go) (go : Does) → DoesGrows go → (level : ℕ) (env : Env) (x : List ℕ) (t : Term) (body : Statements) (s s' : Effects) (e : Stop) (m : Meter) (c d : ℕ)
-    → Agrees itself (Err e) m (listed (value s.slots) level env t c d) → Agrees {A = Unit {0}} (always s') (Err e) m (act_parts app member value go level env (act.each x t body) s c d)
+    → Agrees itself (Err e) m (listed (value s.slots) level env t c d) → Agrees (always {A = Unit {0}} s') (Err e) m (act_parts app member value go level env (act.each x t body) s c d)
 stop-dolist app member value go g level env x t body s s' e m c d =
-    Agrees-stop itself (always s') e m (listed (value s.slots) level env t c d) (λ ds. for_each go level env x body ds s) (λ ds. grows-for_each go g level env x body ds s)
+    Agrees-stop itself (always {A = Unit {0}} s') e m (listed (value s.slots) level env t c d) (λ ds. for_each go level env x body ds s) (λ ds. grows-for_each go g level env x body ds s)

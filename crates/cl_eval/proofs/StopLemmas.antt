@@ -1,5 +1,5 @@
 -- A part that stops, stops the whole: what each row and each turn of a loop comes to then.
-use Rattle.std.proofs.Common.{◌≡◌, ℕ, ◌≤◌, Bool, true, false, if◌then◌else◌, List, [], ◌∷◌, ◌++◌, Result, Ok, Err, Option, refl}
+use Rattle.std.proofs.Common.{◌≡◌, ℕ, ◌≤◌, Bool, true, false, if◌then◌else◌, List, [], ◌∷◌, ◌++◌, Ok, Err, refl}
 use Rattle.cl_value.specs.Data.{Data, bool, list, items_of}
 use Rattle.cl_value.specs.Value.{data_of}
 use Rattle.cl_syntax.specs.Term as term
@@ -9,7 +9,7 @@ use Rattle.cl_syntax.specs.declared.applications.App.{App}
 use Rattle.cl_eval.specs.declared.metering.Meter.{Meter}
 use Rattle.cl_eval.specs.declared.metering.Stop.{Stop}
 use Rattle.cl_eval.specs.declared.metering.Stop.TheVariants.{Trap, Memory}
-use Rattle.cl_eval.specs.Outcome.{Outcome, Gives, Traps, Run, give, lift, after, ◌>>=◌, cost_of}
+use Rattle.cl_eval.specs.Outcome.{Gives, give, lift, ◌>>=◌, cost_of}
 use Rattle.cl_eval.specs.Slots.{Slots, Env}
 use Rattle.cl_eval.specs.Operators.{limited, elements}
 use Rattle.cl_eval.specs.Meaning.{Go, tested, listed, each, every, some, let_in, mapped, filtered, folded, called, parts}

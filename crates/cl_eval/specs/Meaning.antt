@@ -1,14 +1,14 @@
 -- The meaning of expressions. Each form that is entered costs 1, and its parts cost in turn, from left to right. Reach is the
 -- deepest level that is entered. Traps on entering a form: 5 the budget, then 6 the depth. A form's own traps come when all its
 -- parts have ended, but for the checks that stand between them here.
-use Rattle.std.specs.Prelude.{ℕ, zero, suc, ◌+◌, Bool, true, false, nat_le, if◌then◌else◌, ◌==◌, max, List, [], ◌∷◌, ◌++◌, length, Option, Some, None, Result, Ok, Err}
+use Rattle.std.specs.Prelude.{ℕ, zero, suc, ◌+◌, Bool, true, false, nat_le, if◌then◌else◌, ◌==◌, max, List, [], ◌∷◌, ◌++◌, length, Option, Some, None}
 use Rattle.cl_value.specs.Data.{Data, bool, list, items_of}
 use Rattle.cl_syntax.specs.Term as term
 use Rattle.cl_syntax.specs.Term.{Term, Terms, Bindings, none, part, unbound, binding}
 use Rattle.cl_syntax.specs.App.{function_named}
 use Rattle.cl_syntax.specs.declared.applications.App.{App}
 use Rattle.cl_syntax.specs.declared.declarations.FunctionDecl.{FunctionDecl}
-use Rattle.cl_eval.specs.Outcome.{Outcome, Gives, Traps, Run, give, trap, lift, ◌>>=◌}
+use Rattle.cl_eval.specs.Outcome.{Gives, Traps, Run, give, trap, lift, ◌>>=◌}
 use Rattle.cl_eval.specs.Slots.{Slots, Env, found, given}
 use Rattle.cl_eval.specs.Operators.{limited, or_trap, truth, elements, operated}
 

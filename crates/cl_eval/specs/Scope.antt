@@ -1,5 +1,5 @@
 -- The variables that a form sees.
-use Rattle.std.specs.Prelude.{ℕ, List, [], ◌∷◌, map}
+use Rattle.std.specs.Prelude.{◌∷◌, map}
 use Rattle.cl_value.specs.Value.{data_of}
 use Rattle.cl_eval.specs.Slots.{Env, given}
 use Rattle.cl_eval.specs.declared.variables.Scope.{Scope}

@@ -1,15 +1,15 @@
 -- What statements do. Later statements see the slots that earlier ones set.
 -- Traps, beside those of expressions: 1 a slot that is given what is no member of its type; 7 replies of more than 65,536 bytes.
-use Rattle.std.specs.Prelude.{ℕ, zero, suc, ◌+◌, Bool, true, false, nat_le, if◌then◌else◌, List, [], ◌∷◌, ◌++◌, length, Option, Some, None, Result, Ok, Err}
+use Rattle.std.specs.Prelude.{ℕ, zero, suc, ◌+◌, Bool, nat_le, if◌then◌else◌, List, [], ◌∷◌, ◌++◌, length, Option, Some, None, Result, Ok, Err}
 use Rattle.cl_value.specs.Data.{Data, text}
 use Rattle.cl_syntax.specs.Statement as act
 use Rattle.cl_syntax.specs.Statement.{Statement, Statements, none, statement}
-use Rattle.cl_syntax.specs.Term.{Term, Bindings, unbound, binding}
+use Rattle.cl_syntax.specs.Term.{Bindings, unbound, binding}
 use Rattle.cl_syntax.specs.App.{slot_type}
 use Rattle.cl_syntax.specs.declared.applications.App.{App}
 use Rattle.cl_syntax.specs.declared.type_specs.TypeSpec.{TypeSpec}
 use Rattle.cl_eval.specs.declared.effects.Effects.{Effects}
-use Rattle.cl_eval.specs.Outcome.{Outcome, Run, give, trap, lift, ◌>>=◌}
+use Rattle.cl_eval.specs.Outcome.{Run, give, trap, lift, ◌>>=◌}
 use Rattle.cl_eval.specs.Slots.{Slots, Env, put}
 use Rattle.cl_eval.specs.Meaning.{Go, entering, tested, listed, means}
 

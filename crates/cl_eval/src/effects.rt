@@ -84,7 +84,9 @@ pub fn reply(effects: &mut Effects, value: Value) -> Result<(), Stop>
         return Err(Stop::Trap(1));
     };
     let length = text.as_slice().len();
-    if length > MOST_REPLY_BYTES.saturating_sub(effects.reply_bytes) || effects.reply_bytes > MOST_REPLY_BYTES {
+    if length > MOST_REPLY_BYTES.saturating_sub(effects.reply_bytes)
+        || effects.reply_bytes > MOST_REPLY_BYTES
+    {
         return Err(Stop::Trap(7));
     }
     effects.replies.push(text)?;

@@ -78,19 +78,51 @@ fn evaluate_parts<L: Ledger>(
         ExprKind::Or(parts) => evaluate_some(context, parts, scope, left, level, meter, steps),
         ExprKind::Map(name, list, body) => {
             let list = evaluate_list(context, list, scope, left, level, meter, steps)?;
-            let values = map_over(context, name, list.as_slice(), body, scope, left, level, meter, steps)?;
+            let values = map_over(
+                context,
+                name,
+                list.as_slice(),
+                body,
+                scope,
+                left,
+                level,
+                meter,
+                steps,
+            )?;
             limit(Value::List(values))
         }
         ExprKind::Filter(name, list, body) => {
             let list = evaluate_list(context, list, scope, left, level, meter, steps)?;
-            let values = filter_over(context, name, list.as_slice(), body, scope, left, level, meter, steps)?;
+            let values = filter_over(
+                context,
+                name,
+                list.as_slice(),
+                body,
+                scope,
+                left,
+                level,
+                meter,
+                steps,
+            )?;
             limit(Value::List(values))
         }
         ExprKind::Fold(name, list, accumulator, opening, body) => {
             let list = evaluate(context, list, scope, left, level, meter, steps)?;
             let opening = evaluate(context, opening, scope, left, level, meter, steps)?;
             let list = elements(list)?;
-            fold_over(context, name, list.as_slice(), accumulator, opening, body, scope, left, level, meter, steps)
+            fold_over(
+                context,
+                name,
+                list.as_slice(),
+                accumulator,
+                opening,
+                body,
+                scope,
+                left,
+                level,
+                meter,
+                steps,
+            )
         }
         ExprKind::Operation(operator, parts) => {
             let values = evaluate_each(context, parts, scope, left, level, meter, steps)?;

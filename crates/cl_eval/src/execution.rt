@@ -26,11 +26,11 @@ use std::alloc::Global;
 /// The types of an application.
 pub trait Types {
     // whether a value is a member of a type
-    ghost member: { Self → Data → TypeSpec → Bool };
+    ghost holds: { Self → Data → TypeSpec → Bool };
 
     /// Whether a value is a member of a type, as far as there is memory to find it.
     fn member(&self, value: &Value, spec: &TypeSpec) -> Held
-        ensures { Decides result (member self.now (data_of value.now) spec.now) };
+        ensures { Decides result (holds self.now (data_of value.now) spec.now) };
 }
 
 /// What the statements of a command come to.
@@ -66,8 +66,8 @@ pub fn exec<T: Types, L: Ledger>(
     steps: &mut Steps<L>,
 ) -> Executed
     requires { limits.depth ≤ 512 }
-    ensures meaning { Executes result (ran limits app.now (T.member types.now) statements.now env.now slots.now) }
-    ensures ledger { Rises result steps.old steps.new (cost_of (ran limits app.now (T.member types.now) statements.now env.now slots.now)) }
+    ensures meaning { Executes result (ran limits app.now (T.holds types.now) statements.now env.now slots.now) }
+    ensures ledger { Rises result steps.old steps.new (cost_of (ran limits app.now (T.holds types.now) statements.now env.now slots.now)) }
 {
     let program = Program {
         alloc,
@@ -81,7 +81,16 @@ pub fn exec<T: Types, L: Ledger>(
         Err(_) => return Executed::Memory,
     };
     let scope = Scope::Given(env);
-    match act_all(&program, statements.as_slice(), &scope, limits.depth, 0, &mut effects, &mut meter, steps) {
+    match act_all(
+        &program,
+        statements.as_slice(),
+        &scope,
+        limits.depth,
+        0,
+        &mut effects,
+        &mut meter,
+        steps,
+    ) {
         Ok(()) => Executed::Done(effects.slots, effects.replies, meter.cost),
         Err(Stop::Trap(kind)) => Executed::Trap(kind, meter.cost),
         Err(Stop::Memory) => Executed::Memory,
@@ -101,11 +110,20 @@ fn act<T: Types, L: Ledger>(
     steps: &mut Steps<L>,
 ) -> Result<(), Stop>
     requires { level + left < 2 ^ 32 }
-    ensures meaning { Agrees (always effects.new) result meter.new (does left program.now.budget program.now.app.now (T.member program.now.types.now) level (variables_of scope.now) statement.now effects.old meter.old.cost meter.old.deepest) }
+    ensures meaning { Agrees (always effects.new) result meter.new (does left program.now.budget program.now.app.now (T.holds program.now.types.now) level (variables_of scope.now) statement.now effects.old meter.old.cost meter.old.deepest) }
     ensures ledger { steps.new + meter.old.cost ≡ steps.old + meter.new.cost }
 {
     meter.enter(left, program.budget, level, steps)?;
-    act_parts(program, statement, scope, left - 1, level + 1, effects, meter, steps)
+    act_parts(
+        program,
+        statement,
+        scope,
+        left - 1,
+        level + 1,
+        effects,
+        meter,
+        steps,
+    )
 }
 
 // A statement that was entered.
@@ -121,38 +139,122 @@ fn act_parts<T: Types, L: Ledger>(
     steps: &mut Steps<L>,
 ) -> Result<(), Stop>
     requires { level + left < 2 ^ 32 }
-    ensures meaning { Agrees (always effects.new) result meter.new (act_parts program.now.app.now (T.member program.now.types.now) (means left program.now.budget program.now.app.now) (does left program.now.budget program.now.app.now (T.member program.now.types.now)) level (variables_of scope.now) statement.now effects.old meter.old.cost meter.old.deepest) }
+    ensures meaning { Agrees (always effects.new) result meter.new (act_parts program.now.app.now (T.holds program.now.types.now) (means left program.now.budget program.now.app.now) (does left program.now.budget program.now.app.now (T.holds program.now.types.now)) level (variables_of scope.now) statement.now effects.old meter.old.cost meter.old.deepest) }
     ensures ledger { steps.new + meter.old.cost ≡ steps.old + meter.new.cost }
 {
     match &statement.kind {
         ActKind::Setf(name, value) => {
-            let value = value_of(program, value, &effects.slots, scope, left, level, meter, steps)?;
+            let value = value_of(
+                program,
+                value,
+                &effects.slots,
+                scope,
+                left,
+                level,
+                meter,
+                steps,
+            )?;
             assign(program, name, value, effects)
         }
         ActKind::Reply(text) => {
-            let text = value_of(program, text, &effects.slots, scope, left, level, meter, steps)?;
+            let text = value_of(
+                program,
+                text,
+                &effects.slots,
+                scope,
+                left,
+                level,
+                meter,
+                steps,
+            )?;
             reply(effects, text)
         }
         ActKind::If(test, then, other) => {
-            if is_true(program, test, &effects.slots, scope, left, level, meter, steps)? {
+            if is_true(
+                program,
+                test,
+                &effects.slots,
+                scope,
+                left,
+                level,
+                meter,
+                steps,
+            )? {
                 act(program, then, scope, left, level, effects, meter, steps)
             } else {
                 act(program, other, scope, left, level, effects, meter, steps)
             }
         }
         ActKind::When(test, body) => {
-            if is_true(program, test, &effects.slots, scope, left, level, meter, steps)? {
-                act_all(program, body.as_slice(), scope, left, level, effects, meter, steps)
+            if is_true(
+                program,
+                test,
+                &effects.slots,
+                scope,
+                left,
+                level,
+                meter,
+                steps,
+            )? {
+                act_all(
+                    program,
+                    body.as_slice(),
+                    scope,
+                    left,
+                    level,
+                    effects,
+                    meter,
+                    steps,
+                )
             } else {
                 Ok(())
             }
         }
-        ActKind::Let(bindings, body) => act_in(program, bindings, body.as_slice(), scope, left, level, effects, meter, steps),
+        ActKind::Let(bindings, body) => act_in(
+            program,
+            bindings,
+            body.as_slice(),
+            scope,
+            left,
+            level,
+            effects,
+            meter,
+            steps,
+        ),
         ActKind::Dolist(name, list, body) => {
-            let list = list_of(program, list, &effects.slots, scope, left, level, meter, steps)?;
-            act_each(program, name, list.as_slice(), body.as_slice(), scope, left, level, effects, meter, steps)
+            let list = list_of(
+                program,
+                list,
+                &effects.slots,
+                scope,
+                left,
+                level,
+                meter,
+                steps,
+            )?;
+            act_each(
+                program,
+                name,
+                list.as_slice(),
+                body.as_slice(),
+                scope,
+                left,
+                level,
+                effects,
+                meter,
+                steps,
+            )
         }
-        ActKind::Progn(body) => act_all(program, body.as_slice(), scope, left, level, effects, meter, steps),
+        ActKind::Progn(body) => act_all(
+            program,
+            body.as_slice(),
+            scope,
+            left,
+            level,
+            effects,
+            meter,
+            steps,
+        ),
     }
 }
 
@@ -169,11 +271,13 @@ fn act_all<T: Types, L: Ledger>(
     steps: &mut Steps<L>,
 ) -> Result<(), Stop>
     requires { level + left < 2 ^ 32 }
-    ensures meaning { Agrees (always effects.new) result meter.new (in_turn (does left program.now.budget program.now.app.now (T.member program.now.types.now)) level (variables_of scope.now) (statements_of statements.now) effects.old meter.old.cost meter.old.deepest) }
+    ensures meaning { Agrees (always effects.new) result meter.new (in_turn (does left program.now.budget program.now.app.now (T.holds program.now.types.now)) level (variables_of scope.now) (statements_of statements.now) effects.old meter.old.cost meter.old.deepest) }
     ensures ledger { steps.new + meter.old.cost ≡ steps.old + meter.new.cost }
 {
     for statement in statements {
-        act(program, statement, scope, left, level, effects, meter, steps)?;
+        act(
+            program, statement, scope, left, level, effects, meter, steps,
+        )?;
     }
     Ok(())
 }
@@ -192,15 +296,26 @@ fn act_in<T: Types, L: Ledger>(
     steps: &mut Steps<L>,
 ) -> Result<(), Stop>
     requires { level + left < 2 ^ 32 }
-    ensures meaning { Agrees (always effects.new) result meter.new (acts_in ((means left program.now.budget program.now.app.now) effects.old.slots) (does left program.now.budget program.now.app.now (T.member program.now.types.now)) level (bindings_of bindings.now) (statements_of body.now) (variables_of scope.now) effects.old meter.old.cost meter.old.deepest) }
+    ensures meaning { Agrees (always effects.new) result meter.new (acts_in ((means left program.now.budget program.now.app.now) effects.old.slots) (does left program.now.budget program.now.app.now (T.holds program.now.types.now)) level (bindings_of bindings.now) (statements_of body.now) (variables_of scope.now) effects.old meter.old.cost meter.old.deepest) }
     ensures ledger { steps.new + meter.old.cost ≡ steps.old + meter.new.cost }
 {
     match bindings {
         [] => act_all(program, body, scope, left, level, effects, meter, steps),
         [first, rest @ ..] => {
-            let value = value_of(program, &first.value, &effects.slots, scope, left, level, meter, steps)?;
+            let value = value_of(
+                program,
+                &first.value,
+                &effects.slots,
+                scope,
+                left,
+                level,
+                meter,
+                steps,
+            )?;
             let inner = Scope::Bound(&first.name, &value, &*scope);
-            act_in(program, rest, body, &inner, left, level, effects, meter, steps)
+            act_in(
+                program, rest, body, &inner, left, level, effects, meter, steps,
+            )
         }
     }
 }
@@ -220,7 +335,7 @@ fn act_each<T: Types, L: Ledger>(
     steps: &mut Steps<L>,
 ) -> Result<(), Stop>
     requires { level + left < 2 ^ 32 }
-    ensures meaning { Agrees (always effects.new) result meter.new (for_each (does left program.now.budget program.now.app.now (T.member program.now.types.now)) level (variables_of scope.now) name.now (statements_of body.now) (map data_of list.now) effects.old meter.old.cost meter.old.deepest) }
+    ensures meaning { Agrees (always effects.new) result meter.new (for_each (does left program.now.budget program.now.app.now (T.holds program.now.types.now)) level (variables_of scope.now) name.now (statements_of body.now) (map data_of list.now) effects.old meter.old.cost meter.old.deepest) }
     ensures ledger { steps.new + meter.old.cost ≡ steps.old + meter.new.cost }
 {
     for item in list {
@@ -303,8 +418,13 @@ fn list_of<T: Types, L: Ledger>(
 }
 
 // A slot with a new value, where that is a member of its type.
-fn assign<T: Types>(program: &Program<'_, T>, name: &Text, value: Value, effects: &mut Effects) -> Result<(), Stop>
-    ensures { Comes (always effects.new) result (assigned (T.member program.now.types.now) name.now (slot_type name.now program.now.app.now) effects.old (data_of value)) }
+fn assign<T: Types>(
+    program: &Program<'_, T>,
+    name: &Text,
+    value: Value,
+    effects: &mut Effects,
+) -> Result<(), Stop>
+    ensures { Comes (always effects.new) result (assigned (T.holds program.now.types.now) name.now (slot_type name.now program.now.app.now) effects.old (data_of value)) }
 {
     let Some(spec) = program.app.slot_spec(name) else {
         return Err(Stop::Trap(1));

@@ -9,7 +9,6 @@ use Rattle.cl_syntax.specs.declared.expressions.Binding.{Binding}
 use Rattle.cl_syntax.specs.declared.expressions.Expr.{Expr}
 use Rattle.cl_eval.specs.Scope.{variables_of}
 use Rattle.cl_eval.specs.Meaning.{means}
-use Rattle.cl_eval.specs.Agrees.{itself}
 use Rattle.cl_eval.proofs.EnteringLemmas.{means-entered}
 use Rattle.cl_eval.proofs.CostLemmas.{grows-means}
 use Rattle.cl_eval.proofs.StopLemmas.{stop-each, full-each, stop-every, stop-some, stop-let_in, stop-mapped, full-mapped, stop-filtered, full-filtered, stop-folded, stop-choice, stop-map, stop-filter, stop-fold, stop-opening, stop-elements, stop-call, is_memory}

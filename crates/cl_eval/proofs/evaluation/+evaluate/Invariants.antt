@@ -1,10 +1,8 @@
-use Rattle.std.proofs.Common.{◌≡◌, ℕ, ◌+◌, ◌*◌, ◌^◌, [], drop, length, map}
+use Rattle.std.proofs.Common.{◌≡◌, ◌+◌, ◌*◌, ◌^◌, [], drop, length, map}
 use Rattle.cl_value.specs.Value.{data_of}
 use Rattle.cl_syntax.specs.Term.{terms_of}
-use Rattle.cl_syntax.specs.declared.applications.App.{App}
-use Rattle.cl_eval.specs.Slots.{Slots}
 use Rattle.cl_eval.specs.Scope.{variables_of}
-use Rattle.cl_eval.specs.Meaning.{Go, each, every, some, mapped, filtered, folded, means}
+use Rattle.cl_eval.specs.Meaning.{each, every, some, mapped, filtered, folded, means}
 use Rattle.cl_eval.proofs.evaluation.+evaluate.Given as goal
 
 abbrev pub decreases-evaluate : goal.decreases-evaluate
@@ -78,4 +76,3 @@ invariant-fold_over-loop-item g l = record {
   meaning : folded (means l.left l.context.budget l.context.app.now l.context.slots.now) l.level (variables_of l.scope) l.name l.accumulator l.body (map data_of (drop l.item-index l.list)) (data_of l.value) l.meter.cost l.meter.deepest ≡ folded (means l.left l.context.budget l.context.app.now l.context.slots.now) l.level (variables_of l.scope) l.name l.accumulator l.body (map data_of l.list) (data_of l.initial.value) l.initial.meter.cost l.initial.meter.deepest;
   ledger : l.steps + l.initial.meter.cost ≡ l.initial.steps + l.meter.cost;
 }
-

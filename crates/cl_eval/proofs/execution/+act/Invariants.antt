@@ -22,13 +22,12 @@ decreases-act_each g l = l.left * 2 ^ 66 + 3
 
 abbrev pub invariant-act_all-loop-statement : goal.invariant-act_all-loop-statement
 invariant-act_all-loop-statement g l = record {
-  meaning : in_turn (does l.left l.program.budget l.program.app.now (g.T.Types.member l.program.types.now)) l.level (variables_of l.scope) (statements_of (drop l.statement-index l.statements)) l.effects l.meter.cost l.meter.deepest ≡ in_turn (does l.left l.program.budget l.program.app.now (g.met.T.Types.member l.program.types.now)) l.level (variables_of l.scope) (statements_of l.statements) l.initial.effects l.initial.meter.cost l.initial.meter.deepest;
+  meaning : in_turn (does l.left l.program.budget l.program.app.now (g.T.Types.holds l.program.types.now)) l.level (variables_of l.scope) (statements_of (drop l.statement-index l.statements)) l.effects l.meter.cost l.meter.deepest ≡ in_turn (does l.left l.program.budget l.program.app.now (g.T.Types.holds l.program.types.now)) l.level (variables_of l.scope) (statements_of l.statements) l.initial.effects l.initial.meter.cost l.initial.meter.deepest;
   ledger : l.steps + l.initial.meter.cost ≡ l.initial.steps + l.meter.cost;
 }
 
 abbrev pub invariant-act_each-loop-item : goal.invariant-act_each-loop-item
 invariant-act_each-loop-item g l = record {
-  meaning : for_each (does l.left l.program.budget l.program.app.now (g.T.Types.member l.program.types.now)) l.level (variables_of l.scope) l.name (statements_of l.body) (map data_of (drop l.item-index l.list)) l.effects l.meter.cost l.meter.deepest ≡ for_each (does l.left l.program.budget l.program.app.now (g.met.T.Types.member l.program.types.now)) l.level (variables_of l.scope) l.name (statements_of l.body) (map data_of l.list) l.initial.effects l.initial.meter.cost l.initial.meter.deepest;
+  meaning : for_each (does l.left l.program.budget l.program.app.now (g.T.Types.holds l.program.types.now)) l.level (variables_of l.scope) l.name (statements_of l.body) (map data_of (drop l.item-index l.list)) l.effects l.meter.cost l.meter.deepest ≡ for_each (does l.left l.program.budget l.program.app.now (g.T.Types.holds l.program.types.now)) l.level (variables_of l.scope) l.name (statements_of l.body) (map data_of l.list) l.initial.effects l.initial.meter.cost l.initial.meter.deepest;
   ledger : l.steps + l.initial.meter.cost ≡ l.initial.steps + l.meter.cost;
 }
-
