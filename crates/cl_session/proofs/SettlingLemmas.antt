@@ -8,7 +8,7 @@ use Rattle.cl_eval.specs.Outcome.{Outcome, Gives, Traps}
 use Rattle.cl_eval.specs.Slots.{Slots}
 use Rattle.cl_display.specs.declared.drawings.Drawing.{Drawing}
 use Rattle.cl_display.specs.declared.histories.TextItem.{TextItem}
-use Rattle.cl_display.specs.Script.{fresh, history_of}
+use Rattle.cl_display.specs.Script.{history_of, pane_fresh}
 use Rattle.cl_session.specs.declared.answers.PaneReport.{PaneReport}
 use Rattle.cl_session.specs.declared.answers.PaneReport.TheVariants as report
 use Rattle.cl_session.specs.World.{World, items_in}
