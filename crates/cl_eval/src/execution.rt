@@ -14,13 +14,13 @@ ghost use Rattle.cl_eval.specs.Agrees.{Agrees, Comes, always, itself};
 ghost use Rattle.cl_eval.specs.Executed.{Decides, Executes, Rises, ran};
 
 use crate::effects::{Effects, Lines, reply};
-use crate::evaluation::{Context, evaluate, evaluate_list, evaluate_test};
 use crate::metering::{Limits, Meter, Stop};
+use crate::programs::{Program, assign, is_true, list_of, value_of};
 use crate::slot_table::Slots;
 use crate::variables::{Env, Scope};
 use cl_outside::{Ledger, Steps};
-use cl_syntax::{Act, ActKind, Acts, App, Binding, Expr, TypeSpec};
-use cl_value::{Held, Text, Value, Values};
+use cl_syntax::{Act, ActKind, Acts, App, Binding, TypeSpec};
+use cl_value::{Held, Text, Value};
 use std::alloc::Global;
 
 /// The types of an application.
@@ -42,15 +42,6 @@ pub enum Executed {
     Trap(u8, u64),
     /// There was no memory.
     Memory,
-}
-
-// What statements are run in: the application, its types, and how many forms may be entered in all.
-#[derive(Drop)]
-struct Program<'a, T: Types> {
-    alloc: Global,
-    app: &'a App,
-    types: &'a T,
-    budget: u64,
 }
 
 /// Runs statements on a copy of the slots. Each form that is entered is a step.
@@ -343,98 +334,4 @@ fn act_each<T: Types, L: Ledger>(
         act_all(program, body, &inner, left, level, effects, meter, steps)?;
     }
     Ok(())
-}
-
-// The value of an expression on these slots.
-fn value_of<T: Types, L: Ledger>(
-    program: &Program<'_, T>,
-    expr: &Expr,
-    slots: &Slots,
-    scope: &Scope<'_>,
-    left: u32,
-    level: u32,
-    meter: &mut Meter,
-    steps: &mut Steps<L>,
-) -> Result<Value, Stop>
-    requires { level + left < 2 ^ 32 }
-    ensures meaning { Agrees data_of result meter.new (means left program.now.budget program.now.app.now slots.now level (variables_of scope.now) expr.now meter.old.cost meter.old.deepest) }
-    ensures ledger { steps.new + meter.old.cost ≡ steps.old + meter.new.cost }
-{
-    let context = Context {
-        alloc: program.alloc,
-        app: program.app,
-        slots,
-        budget: program.budget,
-    };
-    evaluate(&context, expr, scope, left, level, meter, steps)
-}
-
-// Whether an expression is true on these slots.
-fn is_true<T: Types, L: Ledger>(
-    program: &Program<'_, T>,
-    expr: &Expr,
-    slots: &Slots,
-    scope: &Scope<'_>,
-    left: u32,
-    level: u32,
-    meter: &mut Meter,
-    steps: &mut Steps<L>,
-) -> Result<bool, Stop>
-    requires { level + left < 2 ^ 32 }
-    ensures meaning { Agrees itself result meter.new (tested (means left program.now.budget program.now.app.now slots.now) level (variables_of scope.now) expr.now meter.old.cost meter.old.deepest) }
-    ensures ledger { steps.new + meter.old.cost ≡ steps.old + meter.new.cost }
-{
-    let context = Context {
-        alloc: program.alloc,
-        app: program.app,
-        slots,
-        budget: program.budget,
-    };
-    evaluate_test(&context, expr, scope, left, level, meter, steps)
-}
-
-// The list that an expression gives on these slots.
-fn list_of<T: Types, L: Ledger>(
-    program: &Program<'_, T>,
-    expr: &Expr,
-    slots: &Slots,
-    scope: &Scope<'_>,
-    left: u32,
-    level: u32,
-    meter: &mut Meter,
-    steps: &mut Steps<L>,
-) -> Result<Values, Stop>
-    requires { level + left < 2 ^ 32 }
-    ensures meaning { Agrees itself result meter.new (listed (means left program.now.budget program.now.app.now slots.now) level (variables_of scope.now) expr.now meter.old.cost meter.old.deepest) }
-    ensures ledger { steps.new + meter.old.cost ≡ steps.old + meter.new.cost }
-{
-    let context = Context {
-        alloc: program.alloc,
-        app: program.app,
-        slots,
-        budget: program.budget,
-    };
-    evaluate_list(&context, expr, scope, left, level, meter, steps)
-}
-
-// A slot with a new value, where that is a member of its type.
-fn assign<T: Types>(
-    program: &Program<'_, T>,
-    name: &Text,
-    value: Value,
-    effects: &mut Effects,
-) -> Result<(), Stop>
-    ensures { Comes (always effects.new) result (assigned (T.holds program.now.types.now) name.now (slot_type name.now program.now.app.now) effects.old (data_of value)) }
-{
-    let Some(spec) = program.app.slot_spec(name) else {
-        return Err(Stop::Trap(1));
-    };
-    match program.types.member(&value, spec) {
-        Held::Yes => {
-            effects.slots.put(name.copy()?, value)?;
-            Ok(())
-        }
-        Held::No => Err(Stop::Trap(1)),
-        Held::Memory => Err(Stop::Memory),
-    }
 }

@@ -10,6 +10,7 @@ mod lists;
 mod metering;
 mod numbers;
 mod operators;
+mod programs;
 mod records;
 mod slot_table;
 mod texts;

@@ -85,15 +85,7 @@ impl Pane {
     {
         let erased = self.count();
         let env = Env::new(alloc);
-        match display(
-            alloc,
-            app,
-            app.pane_forms(),
-            &env,
-            slots,
-            limits,
-            steps,
-        ) {
+        match display(alloc, app, app.pane_forms(), &env, slots, limits, steps) {
             Shown::Built(history) => {
                 let drawn = history.as_slice().len() as u64;
                 self.show(history);

@@ -144,8 +144,7 @@ impl Session {
         ensures later { steps.old ≤ steps.new }
     {
         if due || self.pane.history.is_none() {
-            self.pane
-                .settle(alloc, app, slots, self.limits, steps)
+            self.pane.settle(alloc, app, slots, self.limits, steps)
         } else {
             PaneReport::Quiet
         }
