@@ -1,6 +1,6 @@
 -- The laws of a leaf, for items.
-use Rattle.std.specs.Prelude.{◌≡◌, ℕ, ℤ, pos, ◌+ℤ◌, ◌-ℤ◌, Bool, true, false, ◌&&◌, int_le, int_lt, if◌then◌else◌, Option, Some, None, refl}
-use Rattle.std.proofs.Common.{sym, ◌∙◌, ap, arith}
+use Rattle.std.specs.Prelude.{◌≡◌, ℕ, ℤ, pos, ◌+ℤ◌, ◌-ℤ◌, Bool, true, false, if◌then◌else◌, Option, Some, None, refl}
+use Rattle.std.proofs.Common.{◌∙◌, ap, arith}
 use Rattle.std.proofs.lemmas.Int.{ints}
 use Rattle.cl_region.specs.Places.{holds, moved}
 use Rattle.cl_region.specs.declared.rects.Rect.{Rect}
@@ -9,7 +9,7 @@ use Rattle.cl_region.proofs.Corners.{holds_within, same_bool, within}
 use Rattle.cl_medium.specs.declared.areas.Area.{Area}
 use Rattle.cl_medium.specs.Items.{Item, Painted, Shape, bounds_of, item_bounds, item_cell, item_moved, moved_area, shape_glyph, with_ink}
 
-swapped : (a b c : ℤ) → (a +ℤ b) +ℤ c ≡ (a +ℤ c) +ℤ b
+pub swapped : (a b c : ℤ) → (a +ℤ b) +ℤ c ≡ (a +ℤ c) +ℤ b
 swapped a b c = omega (arith, ints)
 
 joined_up : (a b c : ℤ) → (a +ℤ b) +ℤ c ≡ a +ℤ (b +ℤ c)

@@ -1,5 +1,5 @@
 -- Items: an area, and what is painted in it.
-use Rattle.std.specs.Prelude.{◌≡◌, ℕ, zero, suc, ◌≤◌, ℤ, pos, negsuc, ◌+ℤ◌, ◌-ℤ◌, ◌≤ℤ◌, ◌<ℤ◌, int_le, Bool, true, false, ◌&&◌, ◌||◌, nat_le, if◌then◌else◌, List, length, Option, Some, None, option_map, slice_get}
+use Rattle.std.specs.Prelude.{◌≡◌, ℕ, ◌≤◌, ℤ, pos, negsuc, ◌+ℤ◌, ◌-ℤ◌, ◌≤ℤ◌, ◌<ℤ◌, int_le, Bool, true, false, ◌&&◌, ◌||◌, nat_le, if◌then◌else◌, List, Option, Some, None, option_map, slice_get}
 use Rattle.cl_outside.specs.declared.cells.Cell.{Cell}
 use Rattle.cl_region.specs.Places.{IsInRange, holds}
 use Rattle.cl_region.specs.declared.rects.Rect.{Rect}

@@ -1,6 +1,6 @@
 -- The kinds of items, each seen as an item.
-use Rattle.std.specs.Prelude.{◌≡◌, ℤ, pos, ◌+ℤ◌, true, Option, Some, refl}
-use Rattle.std.proofs.Common.{◌∙◌, ap}
+use Rattle.std.specs.Prelude.{◌≡◌, ℤ, pos, ◌+ℤ◌, true, Option, Some}
+use Rattle.std.proofs.Common.{ap}
 use Rattle.cl_region.specs.Places.{holds, moved}
 use Rattle.cl_region.specs.declared.rects.Rect.{Rect}
 use Rattle.cl_region.specs.declared.rects.Shift.{Shift}

@@ -10,7 +10,11 @@ pub(crate) fn glyph(byte: u8) -> u8
     ensures first { 32 ≤ result }
     ensures last { result ≤ 126 }
 {
-    if byte >= 32 && byte <= 126 { byte } else { b'#' }
+    if byte >= 32 && byte <= 126 {
+        byte
+    } else {
+        b'#'
+    }
 }
 
 // Whether a distance is that of the first or the last place of a side.
