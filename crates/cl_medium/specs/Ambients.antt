@@ -2,6 +2,7 @@
 use Rattle.std.specs.Prelude.{◌≡◌, ℕ, ◌≤◌, ℤ, pos, ◌+ℤ◌, Bool, true, false, Option, Some, None}
 use Rattle.std.specs.Int.{int_max}
 use Rattle.cl_region.specs.Places.{IsNear}
+use Rattle.cl_region.specs.declared.rects.Shift.{Shift}
 
 -- the cursor, the left margin, the origin and the ink
 pub record AmbientAt : Type 0 where
@@ -50,3 +51,15 @@ MovesWhereNear z before after now false = (IsNear z → ⊥) × (now ≡ before)
 abbrev pub IsNearSum : ℤ → Option ℤ → Type 0
 IsNearSum z None = IsNear z → ⊥
 IsNearSum z (Some sum) = (sum ≡ z) × IsNear z
+
+-- the second has its cursor elsewhere, and the same ink
+pub record CursorMoved (v : Shift) (a b : AmbientAt) : Type 0 where
+  pub x : b.x ≡ a.x +ℤ v.dx
+  pub y : b.y ≡ a.y +ℤ v.dy
+  pub ink : b.ink ≡ a.ink
+
+-- the second has its origin elsewhere, and the same ink
+pub record OriginMoved (v : Shift) (a b : AmbientAt) : Type 0 where
+  pub x : b.origin_x ≡ a.origin_x +ℤ v.dx
+  pub y : b.origin_y ≡ a.origin_y +ℤ v.dy
+  pub ink : b.ink ≡ a.ink

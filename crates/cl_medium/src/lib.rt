@@ -22,7 +22,7 @@ pub use areas::Area;
 pub use boxes::BoxItem;
 pub use drawing::{Drawn, draw_box, draw_hline, draw_point, draw_text, draw_vline, fill_box};
 pub use fills::{FillItem, PointItem};
-pub use laws::{shape_moves_with_origin, text_moves_with_cursor};
+pub use laws::{shapes_move_with_origin, text_moves_with_cursor};
 pub use leaves::Leaf;
 pub use lines::{Direction, LineItem};
 pub use texts::TextItem;
