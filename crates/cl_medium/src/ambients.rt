@@ -22,11 +22,11 @@ impl Model for Ambient {
 
     ghost Value = { AmbientAt };
 
-    ghost view = { λ a. record { x = a.x; y = a.y; margin = a.margin; origin_x = a.origin_x; origin_y = a.origin_y; ink = a.ink } };
+    ghost view = { λ ambient. record { x = ambient.x; y = ambient.y; margin = ambient.margin; origin_x = ambient.origin_x; origin_y = ambient.origin_y; ink = ambient.ink } };
 
-    ghost invariant = { λ a. IsAmbient (record { x = a.x; y = a.y; margin = a.margin; origin_x = a.origin_x; origin_y = a.origin_y; ink = a.ink }) };
+    ghost invariant = { λ ambient. IsAmbient (record { x = ambient.x; y = ambient.y; margin = ambient.margin; origin_x = ambient.origin_x; origin_y = ambient.origin_y; ink = ambient.ink }) };
 
-    ghost inverse = { λ a. record { x = a.x; y = a.y; margin = a.margin; origin_x = a.origin_x; origin_y = a.origin_y; ink = a.ink } };
+    ghost inverse = { λ ambient. record { x = ambient.x; y = ambient.y; margin = ambient.margin; origin_x = ambient.origin_x; origin_y = ambient.origin_y; ink = ambient.ink } };
 }
 
 /// No coordinate lies further out than this.
@@ -50,13 +50,13 @@ impl Ambient {
 
 /// Sets the cursor to the margin of the next row. It is false exactly where that row is past
 /// 1,000,000, and then nothing changes.
-pub fn newline(a: &mut Ambient) -> bool
-    ensures { MovesWhereNear (a.old.y +ℤ pos 1) a.old (after_newline a.old) a.new result }
+pub fn newline(ambient: &mut Ambient) -> bool
+    ensures { MovesWhereNear (ambient.old.y +ℤ pos 1) ambient.old (after_newline ambient.old) ambient.new result }
 {
-    match near_sum(a.y, 1) {
+    match near_sum(ambient.y, 1) {
         Some(y) => {
-            a.x = a.margin;
-            a.y = y;
+            ambient.x = ambient.margin;
+            ambient.y = y;
             true
         }
         None => false,
@@ -65,12 +65,12 @@ pub fn newline(a: &mut Ambient) -> bool
 
 /// Adds to the margin, and leaves the cursor. It is false exactly where the margin would leave the
 /// range, and then nothing changes.
-pub fn indent(a: &mut Ambient, n: i64) -> bool
-    ensures { MovesWhereNear (a.old.margin +ℤ n) a.old (after_indent a.old n) a.new result }
+pub fn indent(ambient: &mut Ambient, n: i64) -> bool
+    ensures { MovesWhereNear (ambient.old.margin +ℤ n) ambient.old (after_indent ambient.old n) ambient.new result }
 {
-    match near_sum(a.margin, n) {
+    match near_sum(ambient.margin, n) {
         Some(margin) => {
-            a.margin = margin;
+            ambient.margin = margin;
             true
         }
         None => false,
@@ -78,27 +78,27 @@ pub fn indent(a: &mut Ambient, n: i64) -> bool
 }
 
 /// Sets the origin to the cursor, and gives what was before.
-pub fn enter_room(a: &mut Ambient) -> Ambient
-    ensures before { result ≡ a.old }
-    ensures inside { a.new ≡ in_room a.old }
+pub fn enter_room(ambient: &mut Ambient) -> Ambient
+    ensures before { result ≡ ambient.old }
+    ensures inside { ambient.new ≡ in_room ambient.old }
 {
-    let before = *a;
-    a.origin_x = a.x;
-    a.origin_y = a.y;
+    let before = *ambient;
+    ambient.origin_x = ambient.x;
+    ambient.origin_y = ambient.y;
     before
 }
 
 /// Restores the origin, and sets the cursor to the margin of the row below what was drawn in the
 /// room: `bottom` is the greatest end of an item there. The cursor does not come to stand above where
 /// it was at the entry.
-pub fn leave_room(a: &mut Ambient, before: &Ambient, bottom: i64)
+pub fn leave_room(ambient: &mut Ambient, before: &Ambient, bottom: i64)
     requires { IsNear bottom }
-    ensures { a.new ≡ after_room a.old before.now bottom }
+    ensures { ambient.new ≡ after_room ambient.old before.now bottom }
 {
-    a.x = a.margin;
-    a.y = bottom.max(before.y);
-    a.origin_x = before.origin_x;
-    a.origin_y = before.origin_y;
+    ambient.x = ambient.margin;
+    ambient.y = bottom.max(before.y);
+    ambient.origin_x = before.origin_x;
+    ambient.origin_y = before.origin_y;
 }
 
 // The sum, where it is no further out than a coordinate may be.

@@ -25,27 +25,27 @@ pub enum Drawn {
 }
 
 /// A text at the cursor, which moves to its end. Where the answer is no item, nothing changes.
-pub fn draw_text(alloc: Global, a: &mut Ambient, text: &[u8]) -> Drawn
-    ensures { IsWritten a.old a.new text.now result }
+pub fn draw_text(alloc: Global, ambient: &mut Ambient, text: &[u8]) -> Drawn
+    ensures { IsWritten ambient.old ambient.new text.now result }
 {
     if text.is_empty() {
         return Drawn::Nothing;
     }
-    let Some(area) = place_text(a, text.len()) else {
+    let Some(area) = place_text(ambient, text.len()) else {
         return Drawn::Range;
     };
     let Ok(bytes) = Vec::from_slice(alloc, text) else {
         return Drawn::Memory;
     };
-    a.x += area.width;
+    ambient.x += area.width;
     Drawn::Item(AnyLeaf::Text(TextItem::new(area, bytes)))
 }
 
 /// One byte in one cell. Here and below x and y are those from the origin, and the cursor stays.
-pub fn draw_point(a: &Ambient, x: i64, y: i64, byte: u8) -> Drawn
-    ensures { let area = shape_area a.now x y (pos 1) (pos 1) in IsDrawn (point_leaf area byte) area result }
+pub fn draw_point(ambient: &Ambient, x: i64, y: i64, byte: u8) -> Drawn
+    ensures { let area = shape_area ambient.now x y (pos 1) (pos 1) in IsDrawn (point_leaf area byte) area result }
 {
-    match fit_area(a, x, y, 1, 1) {
+    match fit_area(ambient, x, y, 1, 1) {
         Fit::Within(area) => Drawn::Item(AnyLeaf::Point(PointItem::new(area, byte))),
         Fit::Nothing => Drawn::Nothing,
         Fit::Range => Drawn::Range,
@@ -53,10 +53,10 @@ pub fn draw_point(a: &Ambient, x: i64, y: i64, byte: u8) -> Drawn
 }
 
 /// `length` cells to the right.
-pub fn draw_hline(a: &Ambient, x: i64, y: i64, length: i64) -> Drawn
-    ensures { let area = shape_area a.now x y length (pos 1) in IsDrawn (hline_leaf area) area result }
+pub fn draw_hline(ambient: &Ambient, x: i64, y: i64, length: i64) -> Drawn
+    ensures { let area = shape_area ambient.now x y length (pos 1) in IsDrawn (hline_leaf area) area result }
 {
-    match fit_area(a, x, y, length, 1) {
+    match fit_area(ambient, x, y, length, 1) {
         Fit::Within(area) => {
             Drawn::Item(AnyLeaf::Line(LineItem::new(area, Direction::Horizontal)))
         }
@@ -66,10 +66,10 @@ pub fn draw_hline(a: &Ambient, x: i64, y: i64, length: i64) -> Drawn
 }
 
 /// `length` cells down.
-pub fn draw_vline(a: &Ambient, x: i64, y: i64, length: i64) -> Drawn
-    ensures { let area = shape_area a.now x y (pos 1) length in IsDrawn (vline_leaf area) area result }
+pub fn draw_vline(ambient: &Ambient, x: i64, y: i64, length: i64) -> Drawn
+    ensures { let area = shape_area ambient.now x y (pos 1) length in IsDrawn (vline_leaf area) area result }
 {
-    match fit_area(a, x, y, 1, length) {
+    match fit_area(ambient, x, y, 1, length) {
         Fit::Within(area) => Drawn::Item(AnyLeaf::Line(LineItem::new(area, Direction::Vertical))),
         Fit::Nothing => Drawn::Nothing,
         Fit::Range => Drawn::Range,
@@ -77,10 +77,10 @@ pub fn draw_vline(a: &Ambient, x: i64, y: i64, length: i64) -> Drawn
 }
 
 /// The outline of `width` columns and `height` rows.
-pub fn draw_box(a: &Ambient, x: i64, y: i64, width: i64, height: i64) -> Drawn
-    ensures { let area = shape_area a.now x y width height in IsDrawn (box_leaf area) area result }
+pub fn draw_box(ambient: &Ambient, x: i64, y: i64, width: i64, height: i64) -> Drawn
+    ensures { let area = shape_area ambient.now x y width height in IsDrawn (box_leaf area) area result }
 {
-    match fit_area(a, x, y, width, height) {
+    match fit_area(ambient, x, y, width, height) {
         Fit::Within(area) => Drawn::Item(AnyLeaf::Outline(BoxItem::new(area))),
         Fit::Nothing => Drawn::Nothing,
         Fit::Range => Drawn::Range,
@@ -88,10 +88,10 @@ pub fn draw_box(a: &Ambient, x: i64, y: i64, width: i64, height: i64) -> Drawn
 }
 
 /// One byte all over `width` columns and `height` rows.
-pub fn fill_box(a: &Ambient, x: i64, y: i64, width: i64, height: i64, byte: u8) -> Drawn
-    ensures { let area = shape_area a.now x y width height in IsDrawn (fill_leaf area byte) area result }
+pub fn fill_box(ambient: &Ambient, x: i64, y: i64, width: i64, height: i64, byte: u8) -> Drawn
+    ensures { let area = shape_area ambient.now x y width height in IsDrawn (fill_leaf area byte) area result }
 {
-    match fit_area(a, x, y, width, height) {
+    match fit_area(ambient, x, y, width, height) {
         Fit::Within(area) => Drawn::Item(AnyLeaf::Fill(FillItem::new(area, byte))),
         Fit::Nothing => Drawn::Nothing,
         Fit::Range => Drawn::Range,

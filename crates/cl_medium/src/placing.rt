@@ -13,38 +13,38 @@ pub enum Fit {
 }
 
 // The area of so many cells from the cursor on.
-pub(crate) fn place_text(a: &Ambient, count: usize) -> Option<Area>
-    ensures { IsPlaced (text_area a.now count) result }
+pub(crate) fn place_text(ambient: &Ambient, count: usize) -> Option<Area>
+    ensures { IsPlaced (text_area ambient.now count) result }
 {
     if count > 2_000_000 {
         return None;
     }
     let width = count as i64;
-    near_sum(a.x, width)?;
-    near_sum(a.y, 1)?;
+    near_sum(ambient.x, width)?;
+    near_sum(ambient.y, 1)?;
     Some(Area {
-        x: a.x,
-        y: a.y,
+        x: ambient.x,
+        y: ambient.y,
         width,
         height: 1,
-        ink: a.ink,
+        ink: ambient.ink,
     })
 }
 
 // The area so far from the origin.
-fn place(a: &Ambient, x: i64, y: i64, width: i64, height: i64) -> Option<Area>
+fn place(ambient: &Ambient, x: i64, y: i64, width: i64, height: i64) -> Option<Area>
     requires width { pos 0 ≤ℤ width }
     requires height { pos 0 ≤ℤ height }
-    ensures { IsPlaced (shape_area a.now x y width height) result }
+    ensures { IsPlaced (shape_area ambient.now x y width height) result }
 {
-    let x = start_of(a.origin_x, x, width)?;
-    match start_of(a.origin_y, y, height) {
+    let x = start_of(ambient.origin_x, x, width)?;
+    match start_of(ambient.origin_y, y, height) {
         Some(y) => Some(Area {
             x,
             y,
             width,
             height,
-            ink: a.ink,
+            ink: ambient.ink,
         }),
         None => None,
     }
@@ -60,8 +60,8 @@ fn start_of(origin: i64, distance: i64, size: i64) -> Option<i64>
 }
 
 // The sizes first, and then the range.
-pub(crate) fn fit_area(a: &Ambient, x: i64, y: i64, width: i64, height: i64) -> Fit
-    ensures { IsFit (shape_area a.now x y width height) result }
+pub(crate) fn fit_area(ambient: &Ambient, x: i64, y: i64, width: i64, height: i64) -> Fit
+    ensures { IsFit (shape_area ambient.now x y width height) result }
 {
     if width < 0 {
         return Fit::Range;
@@ -75,7 +75,7 @@ pub(crate) fn fit_area(a: &Ambient, x: i64, y: i64, width: i64, height: i64) -> 
     if height == 0 {
         return Fit::Nothing;
     }
-    match place(a, x, y, width, height) {
+    match place(ambient, x, y, width, height) {
         Some(area) => Fit::Within(area),
         None => Fit::Range,
     }

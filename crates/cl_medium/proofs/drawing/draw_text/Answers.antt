@@ -10,29 +10,29 @@ use Rattle.cl_medium.proofs.Placed.{written}
 use Rattle.cl_medium.specs.declared.any_leaf.AnyLeaf.TheVariants.{Text}
 use Rattle.cl_medium.proofs.drawing.draw_text.Goals as goal
 
-pub invariant_of-a : goal.invariant_of-a
-invariant_of-a c =
-    let sx : SFits w64 c.a.inside.x = search rules in
-    let x : c.a.inside.x ≡ c.args.a.now.x = ap (λ (m : AmbientAt). m.x) c.a.view_is in
+pub invariant_of-ambient : goal.invariant_of-ambient
+invariant_of-ambient c =
+    let sx : SFits w64 c.ambient.inside.x = search rules in
+    let x : c.ambient.inside.x ≡ c.args.ambient.now.x = ap (λ (m : AmbientAt). m.x) c.ambient.view_is in
     let w : c.in-Some.area.width ≡ pos (length c.args.text.now) = ap (λ (r : Area). r.width) c.in-Some.ensures.0 in
     let r = c.in-Some.ensures.1.range.x2 in
     record {
       x = near _ _ (omega (arith, ints, x, w, r.low, r.high)) r;
-      y = c.a.invariant.y;
-      margin = c.a.invariant.margin;
-      origin_x = c.a.invariant.origin_x;
-      origin_y = c.a.invariant.origin_y;
-      ink = c.a.invariant.ink;
+      y = c.ambient.invariant.y;
+      margin = c.ambient.invariant.margin;
+      origin_x = c.ambient.invariant.origin_x;
+      origin_y = c.ambient.invariant.origin_y;
+      ink = c.ambient.invariant.ink;
     }
 
 pub returns : goal.returns
 returns c =
-    let sx : SFits w64 c.a.inside.x = search rules in
-    let x : c.a.inside.x ≡ c.args.a.now.x = ap (λ (m : AmbientAt). m.x) c.a.view_is in
+    let sx : SFits w64 c.ambient.inside.x = search rules in
+    let x : c.ambient.inside.x ≡ c.args.ambient.now.x = ap (λ (m : AmbientAt). m.x) c.ambient.view_is in
     let w : c.in-Some.area.width ≡ pos (length c.args.text.now) = ap (λ (r : Area). r.width) c.in-Some.ensures.0 in
     let r = c.in-Some.ensures.1.range.x2 in (
       ap (λ (i : Item). Text i) (c.new.ensures ∙ rw (c.in-Some.ensures.0, c.in-Ok.ensures.items) refl),
       search rules,
       c.in-Some.ensures.1,
-      written (record { x = c.a.inside.x; y = c.a.inside.y; margin = c.a.inside.margin; origin_x = c.a.inside.origin_x; origin_y = c.a.inside.origin_y; ink = c.a.inside.ink }) c.args.a.now _ (length c.args.text.now) c.a.view_is (omega (arith, ints, x, w, r.low, r.high)),
+      written (record { x = c.ambient.inside.x; y = c.ambient.inside.y; margin = c.ambient.inside.margin; origin_x = c.ambient.inside.origin_x; origin_y = c.ambient.inside.origin_y; ink = c.ambient.inside.ink }) c.args.ambient.now _ (length c.args.text.now) c.ambient.view_is (omega (arith, ints, x, w, r.low, r.high)),
     )

@@ -8,9 +8,9 @@ use Rattle.cl_medium.proofs.placing.place_text.Goals as goal
 
 pub returns : goal.returns
 returns c =
-    let sx : SFits w64 c.a.inside.x = search rules in
-    let sy : SFits w64 c.a.inside.y = search rules in
-    rw (← c.a.view_is)
-    (placed_text (record { x = c.a.inside.x; y = c.a.inside.y; margin = c.a.inside.margin; origin_x = c.a.inside.origin_x; origin_y = c.a.inside.origin_y; ink = c.a.inside.ink }) c.args.count _ _ _ _ c.a.invariant
+    let sx : SFits w64 c.ambient.inside.x = search rules in
+    let sy : SFits w64 c.ambient.inside.y = search rules in
+    rw (← c.ambient.view_is)
+    (placed_text (record { x = c.ambient.inside.x; y = c.ambient.inside.y; margin = c.ambient.inside.margin; origin_x = c.ambient.inside.origin_x; origin_y = c.ambient.inside.origin_y; ink = c.ambient.inside.ink }) c.args.count _ _ _ _ c.ambient.invariant
     (omega (arith, ints)) (omega (arith, ints)) (omega (arith, ints)) (omega (arith, ints))
     (near _ _ (omega (arith, ints)) c.in_ok-near_sum.ensures.1) (near _ _ (omega (arith, ints)) c.in_ok-near_sum-2.ensures.1))
