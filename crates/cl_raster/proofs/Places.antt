@@ -1,9 +1,9 @@
 -- Each place of a picture is one index of its cells.
-use Rattle.std.proofs.Common.{◌≡◌, ℕ, ◌+◌, ◌*◌, ◌%◌, ◌/◌, ◌<◌, ◌==◌, ◌&&◌, if◌then◌else◌, Bool, true, false, List, length, slice_index, slice_set, refl, sym, ◌∙◌, ap, arith, ◌≤◌}
+use Rattle.std.proofs.Common.{◌≡◌, ℕ, ◌+◌, ◌*◌, ◌%◌, ◌/◌, ◌<◌, ◌==◌, ◌&&◌, if◌then◌else◌, Bool, true, false, List, length, slice_set, refl, sym, ◌∙◌, ap, arith, ◌≤◌}
 use Rattle.std.proofs.lemmas.Nat.{div-mul-add, mod-mul-add, mul-le}
 use Rattle.std.proofs.lemmas.List.{get_or-set_same, get_or-set_other}
 use Rattle.std.proofs.lemmas.Bool.Decides.{nat_tests}
-use Rattle.cl_raster.specs.Raster.{Picture, Sets, at_place}
+use Rattle.cl_raster.specs.Raster.{Sets, at_place}
 
 same_column : (w x y i j : ℕ) → x < w → i < w → j * w + i ≡ y * w + x → i ≡ x
 same_column w x y i j hx hi e = sym (mod-mul-add j w i hi) ∙ (ap (λ n. n % w) e ∙ mod-mul-add y w x hx)

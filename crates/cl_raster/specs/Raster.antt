@@ -1,11 +1,25 @@
 -- Cells in rows: the glyphs of all rows one after another, and their inks.
-use Rattle.std.specs.Prelude.{◌≡◌, ℕ, ◌+◌, ◌*◌, ◌<◌, ◌==◌, ◌&&◌, if◌then◌else◌, List, slice_index, slice_range, replicate}
+use Rattle.std.specs.Prelude.{◌≡◌, ℕ, ◌+◌, ◌*◌, ◌<◌, ◌≤◌, ◌⊎◌, ◌==◌, ◌&&◌, if◌then◌else◌, ℤ, pos, negsuc, min, List, All, length, slice_index, slice_range, replicate}
+use Rattle.cl_outside.specs.Device.{IsGlyph}
+use Rattle.cl_region.specs.Places.{holds}
+use Rattle.cl_region.specs.declared.rects.Rect.{Rect}
 
 pub record Picture : Type 0 where
   pub width : ℕ
   pub height : ℕ
   pub glyphs : List ℕ
   pub inks : List ℕ
+
+-- a number from 0 to 7
+abbrev pub IsInk : ℕ → Type 0
+IsInk n = n ≤ 7
+
+-- as many cells as columns and rows have, each a glyph and an ink
+pub record AreCells (width height : ℕ) (glyphs inks : List ℕ) : Type 0 where
+  pub glyph_places : length glyphs ≡ width * height
+  pub ink_places : length inks ≡ width * height
+  pub are_glyphs : All IsGlyph glyphs
+  pub are_inks : All IsInk inks
 
 -- a picture of spaces with ink 0
 abbrev pub blank : ℕ → ℕ → Picture
@@ -31,6 +45,29 @@ pub record Sets (old new : Picture) (x y glyph ink : ℕ) : Type 0 where
   pub size : SameSize old new
   pub glyphs : (i j : ℕ) → i < old.width → glyph_at new i j ≡ (if (i == x) && (j == y) then glyph else glyph_at old i j)
   pub inks : (i j : ℕ) → i < old.width → ink_at new i j ≡ (if (i == x) && (j == y) then ink else ink_at old i j)
+
+-- the places that the rectangle holds are spaces with ink 0, and every other place has what it had
+pub record Blanks (old new : Picture) (rect : Rect) : Type 0 where
+  pub size : SameSize old new
+  pub glyphs : (i j : ℕ) → i < old.width → j < old.height → glyph_at new i j ≡ (if holds rect (pos i) (pos j) then 32 else glyph_at old i j)
+  pub inks : (i j : ℕ) → i < old.width → j < old.height → ink_at new i j ≡ (if holds rect (pos i) (pos j) then 0 else ink_at old i j)
+
+-- a number, or the end of 0 to a size that is nearest to it
+abbrev pub clipped : ℤ → ℕ → ℕ
+clipped (pos n) size = min n size
+clipped (negsuc n) size = 0
+
+-- columns x1 to x2 of rows y1 to y2, the ends left out, have this value, and every other place what it had
+pub record FillsBox (old new : List ℕ) (width x1 x2 y1 y2 value : ℕ) : Type 0 where
+  pub same_length : length new ≡ length old
+  pub inside : (i j : ℕ) → x1 ≤ i → i < x2 → y1 ≤ j → j < y2 → at_place new width i j ≡ value
+  pub outside : (i j : ℕ) → i < width → (x1 ≤ i → i < x2 → y1 ≤ j → j < y2 → ⊥) → at_place new width i j ≡ at_place old width i j
+
+-- so many places from one on have this value, and every other place what it had
+pub record Fills (old new : List ℕ) (at count value : ℕ) : Type 0 where
+  pub same_length : length new ≡ length old
+  pub inside : (k : ℕ) → k < count → slice_index new (at + k) ≡ value
+  pub outside : (k : ℕ) → (k < at) ⊎ (at + count ≤ k) → slice_index new k ≡ slice_index old k
 
 -- the cells of a row, from the first column on
 abbrev pub row_of : List ℕ → ℕ → ℕ → List ℕ

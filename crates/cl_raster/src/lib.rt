@@ -1,6 +1,9 @@
-// Cells of a screen.
+//! Cells of a screen.
 #![tactic(auto)]
 
+mod filling;
 pub mod rasters;
+#[cfg(test)]
+mod tests;
 
 pub use rasters::Raster;

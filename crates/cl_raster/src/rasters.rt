@@ -1,11 +1,14 @@
-ghost use Rattle.std.specs.Prelude.{◌≡◌, ◌<◌, ◌≤◌, IfOk, length, slice_set, vec_len};
-ghost use Rattle.cl_raster.specs.Raster.{Sets, blank, row_of};
+ghost use Rattle.std.specs.Prelude.{◌≡◌, ◌<◌, ◌≤◌, All, IfOk, length};
+ghost use Rattle.cl_outside.specs.Device.{IsGlyph};
+ghost use Rattle.cl_raster.specs.Raster.{Blanks, IsInk, Sets, blank, glyph_at, ink_at, row_of};
 
+use crate::filling::{clip, fill_box, put};
 use cl_outside::Cell;
+use cl_region::Rect;
 use std::alloc::{AllocError, Global};
 use std::marker::Model;
 
-/// Cells in rows, which contracts see as a `Picture`.
+/// Cells in rows, 1 to 512 columns and 1 to 256 rows, which contracts see as a `Picture`.
 #[derive(Drop)]
 pub struct Raster {
     width: u16,
@@ -15,14 +18,13 @@ pub struct Raster {
 }
 
 impl Model for Raster {
-    ghost use Rattle.std.specs.Prelude.{◌≡◌, ◌*◌, vec_len};
-    ghost use Rattle.cl_raster.specs.Raster.{Picture};
+    ghost use Rattle.cl_raster.specs.Raster.{AreCells, Picture};
 
     ghost Value = { Picture };
 
     ghost view = { λ r. record { width = r.width; height = r.height; glyphs = r.glyphs.items; inks = r.inks.items } };
 
-    ghost invariant = { λ r. (vec_len r.glyphs ≡ r.width * r.height) × (vec_len r.inks ≡ r.width * r.height) };
+    ghost invariant = { λ r. AreCells r.width r.height r.glyphs.items r.inks.items };
 }
 
 impl Raster {
@@ -53,7 +55,21 @@ impl Raster {
         self.height
     }
 
-    /// Gives one place this cell.
+    /// The cell at a place.
+    pub fn cell(&self, x: u16, y: u16) -> Cell
+        requires column { x < self.now.width }
+        requires row { y < self.now.height }
+        ensures glyph { result.glyph ≡ glyph_at self.now x y }
+        ensures ink { result.ink ≡ ink_at self.now x y }
+    {
+        let at = y as usize * self.width as usize + x as usize;
+        Cell {
+            glyph: self.glyphs[at],
+            ink: self.inks[at],
+        }
+    }
+
+    /// Gives one place this cell, and looks at no other.
     pub fn set(&mut self, x: u16, y: u16, cell: Cell)
         requires column { x < self.old.width }
         requires row { y < self.old.height }
@@ -69,6 +85,7 @@ impl Raster {
         requires { y < self.now.height }
         ensures cells { result.now ≡ row_of self.now.glyphs self.now.width y }
         ensures count { length result.now ≡ self.now.width }
+        ensures range { All IsGlyph result.now }
     {
         let from = y as usize * self.width as usize;
         &self.glyphs[from..from + self.width as usize]
@@ -79,9 +96,24 @@ impl Raster {
         requires { y < self.now.height }
         ensures cells { result.now ≡ row_of self.now.inks self.now.width y }
         ensures count { length result.now ≡ self.now.width }
+        ensures range { All IsInk result.now }
     {
         let from = y as usize * self.width as usize;
         &self.inks[from..from + self.width as usize]
+    }
+
+    /// The places of the rectangle that lie in the raster become blank cells. It walks these places
+    /// alone.
+    pub fn blank(&mut self, rect: &Rect)
+        ensures { Blanks self.old self.new rect.now }
+    {
+        let width = self.width as usize;
+        let x1 = clip(rect.x1, self.width);
+        let x2 = clip(rect.x2, self.width);
+        let y1 = clip(rect.y1, self.height);
+        let y2 = clip(rect.y2, self.height);
+        fill_box(&mut self.glyphs, width, x1, x2, y1, y2, b' ');
+        fill_box(&mut self.inks, width, x1, x2, y1, y2, 0);
     }
 
     /// Blanks every cell.
@@ -91,11 +123,4 @@ impl Raster {
         self.glyphs.fill(b' ');
         self.inks.fill(0);
     }
-}
-
-fn put(cells: &mut Vec<u8>, at: usize, value: u8)
-    requires { at < vec_len cells.old }
-    ensures { cells.new.items ≡ slice_set cells.old.items at value }
-{
-    cells[at] = value;
 }

@@ -11,4 +11,4 @@ returns c =
     c.self.view_is
     (sets-put c.self.inside.width c.self.inside.height c.args.x c.args.y c.args.cell.glyph c.args.cell.ink
     c.self.inside.glyphs.items c.self.inside.inks.items c.put.new.cells.items c.put-2.new.cells.items
-    r.column r.row (omega (arith, c.self.invariant.0)) (omega (arith, c.self.invariant.1)) c.put.ensures c.put-2.ensures)
+    r.column r.row (omega (arith, c.self.invariant.glyph_places)) (omega (arith, c.self.invariant.ink_places)) c.put.ensures c.put-2.ensures)

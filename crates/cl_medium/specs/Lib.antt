@@ -1,0 +1,5 @@
+pub mod Ambients
+pub mod Drawing
+pub mod Items
+pub mod ItemLaws
+pub mod Leaves

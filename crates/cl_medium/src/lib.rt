@@ -1,0 +1,28 @@
+//! What is drawn on a pane: items, and the state from which they are drawn.
+#![tactic(auto)]
+
+pub mod ambients;
+pub mod any_leaf;
+pub mod areas;
+pub mod boxes;
+pub mod drawing;
+pub mod fills;
+mod glyphs;
+mod laws;
+pub mod leaves;
+pub mod lines;
+mod placing;
+#[cfg(test)]
+mod tests;
+pub mod texts;
+
+pub use ambients::{Ambient, enter_room, indent, leave_room, newline};
+pub use any_leaf::AnyLeaf;
+pub use areas::Area;
+pub use boxes::BoxItem;
+pub use drawing::{Drawn, draw_box, draw_hline, draw_point, draw_text, draw_vline, fill_box};
+pub use fills::{FillItem, PointItem};
+pub use laws::{shapes_move_with_origin, text_moves_with_cursor};
+pub use leaves::Leaf;
+pub use lines::{Direction, LineItem};
+pub use texts::TextItem;

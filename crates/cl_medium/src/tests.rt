@@ -1,0 +1,70 @@
+use super::*;
+use cl_outside::Cell;
+use cl_region::Shift;
+use std::process::Abort;
+
+const STILL: Shift = Shift { dx: 0, dy: 0 };
+
+// Asks for the glyphs of an item in a row from the left edge of the pane on; a space where it paints
+// nothing.
+fn assert_row(rt: &impl Abort, drawn: &Drawn, y: i64, glyphs: &[u8]) {
+    if let Drawn::Item(leaf) = drawn {
+        let bounds = leaf.bounds();
+        if bounds.fits(STILL) {
+            for (x, glyph) in glyphs.iter().enumerate() {
+                let cell = leaf.cell_at(STILL, x as i64, y).unwrap_or(Cell::BLANK);
+                assert_eq!(rt; cell.glyph, *glyph);
+            }
+            return;
+        }
+    }
+    assert!(rt; false);
+}
+
+#[test]
+fn items(rt: HostRuntime) {
+    let ambient = Ambient::start();
+    let outline = draw_box(&ambient, 0, 0, 4, 3);
+    assert_row(&rt, &outline, 0, b"+--+ ");
+    assert_row(&rt, &outline, 1, b"|  | ");
+    assert_row(&rt, &outline, 2, b"+--+ ");
+    assert_row(&rt, &draw_box(&ambient, 0, 0, 1, 3), 1, b"| ");
+    assert_row(&rt, &draw_hline(&ambient, 1, 0, 2), 0, b" -- ");
+    assert_row(&rt, &draw_vline(&ambient, 1, 0, 2), 1, b" | ");
+    assert_row(&rt, &draw_point(&ambient, 1, 0, 200), 0, b" # ");
+    assert_row(&rt, &fill_box(&ambient, 1, 0, 2, 1, b'*'), 0, b" ** ");
+}
+
+#[test]
+fn cursor(rt: HostRuntime) {
+    let mut ambient = Ambient::start();
+    assert!(rt; indent(&mut ambient, 2));
+    assert_row(
+        &rt,
+        &draw_text(rt.alloc(), &mut ambient, b"a\tb"),
+        0,
+        b"a#b ",
+    );
+    assert_eq!(rt; (ambient.x, ambient.y), (3, 0));
+    assert!(rt; newline(&mut ambient));
+    assert_eq!(rt; (ambient.x, ambient.y), (2, 1));
+    let before = enter_room(&mut ambient);
+    leave_room(&mut ambient, &before, 7);
+    assert_eq!(rt; (ambient.x, ambient.y), (2, 7));
+    assert!(rt; !indent(&mut ambient, i64::MAX));
+}
+
+#[test]
+fn leaves(rt: HostRuntime) {
+    let ambient = Ambient::start();
+    if let Drawn::Item(mut leaf) = draw_point(&ambient, 1, 0, b'x') {
+        if let Drawn::Item(other) = draw_point(&ambient, 2, 0, b'x') {
+            assert!(rt; !leaf.same(&other));
+            let right = Shift { dx: 1, dy: 0 };
+            if leaf.bounds().fits(right) {
+                leaf.shift(right);
+            }
+            assert!(rt; leaf.same(&other));
+        }
+    }
+}

@@ -1,0 +1,287 @@
+-- What is left of rectangles outside of another one: its places, and that the pieces share none.
+use Rattle.std.proofs.Common.{◌≡◌, ◌*◌, ◌≤◌, ℤ, ◌≤ℤ◌, Bool, true, false, not, ◌&&◌, ◌||◌, if◌then◌else◌, List, [], ◌∷◌, ◌++◌, length, refl, sym, ◌∙◌, ap, arith, length-append}
+use Rattle.std.proofs.lemmas.Int.{ints, clamps, by_lt_z}
+use Rattle.cl_region.specs.declared.rects.Rect.{Rect}
+use Rattle.cl_region.specs.Places.{common, held, holds, is_thin}
+use Rattle.cl_region.specs.Pieces.{ArePieces, kept, around, cut, cut_all, cut_by_each}
+use Rattle.cl_region.proofs.Corners.{HasCell, Within, and_left, and_right, both, common-holds, corner_held, false_holds, has_cell, holds_within, same_bool, thin_test, within, wrong}
+
+by_test : (P : List Rect → Type 0) (b : Bool) (x y : List Rect) → (b ≡ true → P x) → (b ≡ false → P y) → P (if b then x else y)
+by_test P b x y =
+    elim b as (λ v. (v ≡ true → P x) → (v ≡ false → P y) → P (if v then x else y)) [ true ↦ λ f g. f refl | false ↦ λ f g. g refl ]
+
+or_elim : {P : Type 0} (p q : Bool) → (p ≡ true → P) → (q ≡ true → P) → p || q ≡ true → P
+or_elim true q f g h = f refl
+or_elim false q f g h = g h
+
+or_left : (p q : Bool) → p ≡ true → p || q ≡ true
+or_left p q h = rw h refl
+
+or_right : (p q : Bool) → q ≡ true → p || q ≡ true
+or_right true q h = refl
+or_right false q h = h
+
+or_assoc : (p q r : Bool) → (p || q) || r ≡ p || (q || r)
+or_assoc true q r = refl
+or_assoc false q r = refl
+
+or_false : (p : Bool) → p || false ≡ p
+or_false true = refl
+or_false false = refl
+
+outside_both : (p q n : Bool) → (p && n) || (q && n) ≡ (p || q) && n
+outside_both true true true = refl
+outside_both true true false = refl
+outside_both true false true = refl
+outside_both true false false = refl
+outside_both false q n = refl
+
+outside_two : (p m n : Bool) → (p && not m) && not n ≡ p && not (m || n)
+outside_two true true n = refl
+outside_two true false n = refl
+outside_two false m n = refl
+
+outside_common : (p q : Bool) → p && not (p && q) ≡ p && not q
+outside_common true q = refl
+outside_common false q = refl
+
+outside_none : (p q : Bool) → p && q ≡ false → p ≡ p && not q
+outside_none true q h = rw h refl
+outside_none false q h = refl
+
+or_new : (p q : Bool) → p || (q && not p) ≡ p || q
+or_new true q = refl
+or_new false true = refl
+or_new false false = refl
+
+and_true : (p : Bool) → p && true ≡ p
+and_true true = refl
+and_true false = refl
+
+not_held : (b : Bool) → not b ≡ true → b ≡ true → ⊥
+not_held true h k = wrong h
+not_held false h k = wrong k
+
+is_not : (b : Bool) → (b ≡ true → ⊥) → not b ≡ true
+is_not true h = absurd (h refl)
+is_not false h = refl
+
+pub held-append : (ps qs : List Rect) (x y : ℤ) → held (ps ++ qs) x y ≡ held ps x y || held qs x y
+held-append [] qs x y = refl
+held-append (p ∷ ps) qs x y =
+    ap (λ b. holds p x y || b) (held-append ps qs x y) ∙ sym (or_assoc (holds p x y) (held ps x y) (held qs x y))
+
+thin_none : (r : Rect) (x y : ℤ) → is_thin r ≡ true → holds r x y ≡ false
+thin_none r x y h = ((thin_test r (is_thin r) refl).0 h).holds_none x y
+
+thick_cell : (r : Rect) → is_thin r ≡ false → HasCell r
+thick_cell r h = has_cell r (λ e. false_holds (is_thin r) h ((thin_test r (is_thin r) refl).1 e))
+
+pub held-kept : (r : Rect) (x y : ℤ) → held (kept r) x y ≡ holds r x y
+held-kept r x y =
+    by_test (λ rs. held rs x y ≡ holds r x y) (is_thin r) [] (r ∷ [])
+    (λ h. sym (thin_none r x y h))
+    (λ h. or_false (holds r x y))
+
+-- the part lies inside
+record IsPart (r part : Rect) : Type 0 where
+  x1 : r.x1 ≤ℤ part.x1
+  y1 : r.y1 ≤ℤ part.y1
+  x2 : part.x2 ≤ℤ r.x2
+  y2 : part.y2 ≤ℤ r.y2
+  cell : HasCell part
+
+abbrev above : Rect → Rect → Rect
+above r part = record r { y2 = part.y1 }
+
+abbrev left_of : Rect → Rect → Rect
+left_of r part = record r { y1 = part.y1; y2 = part.y2; x2 = part.x1 }
+
+abbrev right_of : Rect → Rect → Rect
+right_of r part = record r { y1 = part.y1; y2 = part.y2; x1 = part.x2 }
+
+abbrev below : Rect → Rect → Rect
+below r part = record r { y1 = part.y2 }
+
+held_around : (r part : Rect) (x y : ℤ)
+    → held (around r part) x y ≡ ((holds (above r part) x y || holds (left_of r part) x y) || holds (right_of r part) x y) || holds (below r part) x y
+held_around r part x y =
+    held-append ((kept (above r part) ++ kept (left_of r part)) ++ kept (right_of r part)) (kept (below r part)) x y
+    ∙ (ap (λ b. b || held (kept (below r part)) x y) (held-append (kept (above r part) ++ kept (left_of r part)) (kept (right_of r part)) x y)
+    ∙ (ap (λ b. (b || held (kept (right_of r part)) x y) || held (kept (below r part)) x y) (held-append (kept (above r part)) (kept (left_of r part)) x y)
+    ∙ rw (held-kept (above r part) x y, held-kept (left_of r part) x y, held-kept (right_of r part) x y, held-kept (below r part) x y) refl))
+
+is_outside : (r part : Rect) (x y : ℤ) → IsPart r part → Within r x y → (Within part x y → ⊥) → holds r x y && not (holds part x y) ≡ true
+is_outside r part x y p w f =
+    both (holds r x y) (not (holds part x y)) (holds_within r x y w) (is_not (holds part x y) (λ h. f (within part x y h)))
+
+around_outside : (r part : Rect) (x y : ℤ) → IsPart r part
+    → ((holds (above r part) x y || holds (left_of r part) x y) || holds (right_of r part) x y) || holds (below r part) x y ≡ true
+    → holds r x y && not (holds part x y) ≡ true
+around_outside r part x y p =
+    or_elim ((holds (above r part) x y || holds (left_of r part) x y) || holds (right_of r part) x y) (holds (below r part) x y)
+    (or_elim (holds (above r part) x y || holds (left_of r part) x y) (holds (right_of r part) x y)
+    (or_elim (holds (above r part) x y) (holds (left_of r part) x y)
+    (λ h. let w = within (above r part) x y h in
+    is_outside r part x y p
+    (record { x1 = w.x1; x2 = w.x2; y1 = w.y1; y2 = omega (arith, ints, w.y2, p.cell.rows, p.y2) })
+    (λ v. omega (arith, ints, v.y1, w.y2)))
+    (λ h. let w = within (left_of r part) x y h in
+    is_outside r part x y p
+    (record { x1 = w.x1; x2 = omega (arith, ints, w.x2, p.cell.columns, p.x2); y1 = omega (arith, ints, w.y1, p.y1); y2 = omega (arith, ints, w.y2, p.y2) })
+    (λ v. omega (arith, ints, v.x1, w.x2))))
+    (λ h. let w = within (right_of r part) x y h in
+    is_outside r part x y p
+    (record { x1 = omega (arith, ints, w.x1, p.cell.columns, p.x1); x2 = w.x2; y1 = omega (arith, ints, w.y1, p.y1); y2 = omega (arith, ints, w.y2, p.y2) })
+    (λ v. omega (arith, ints, v.x2, w.x1))))
+    (λ h. let w = within (below r part) x y h in
+    is_outside r part x y p
+    (record { x1 = w.x1; x2 = w.x2; y1 = omega (arith, ints, w.y1, p.cell.rows, p.y1); y2 = w.y2 })
+    (λ v. omega (arith, ints, v.y2, w.y1)))
+
+outside_around : (r part : Rect) (x y : ℤ) → Within r x y → (Within part x y → ⊥)
+    → ((holds (above r part) x y || holds (left_of r part) x y) || holds (right_of r part) x y) || holds (below r part) x y ≡ true
+outside_around r part x y w f =
+    let a = holds (above r part) x y in
+    let b = holds (left_of r part) x y in
+    let d = holds (right_of r part) x y in
+    let e = holds (below r part) x y in
+    by_lt_z {P = ((a || b) || d) || e ≡ true} y part.y1
+    (λ up. or_left ((a || b) || d) e (or_left (a || b) d (or_left a b (holds_within (above r part) x y (record { x1 = w.x1; x2 = w.x2; y1 = w.y1; y2 = up })))))
+    (λ down. by_lt_z {P = ((a || b) || d) || e ≡ true} y part.y2
+    (λ beside. by_lt_z {P = ((a || b) || d) || e ≡ true} x part.x1
+    (λ west. or_left ((a || b) || d) e (or_left (a || b) d (or_right a b (holds_within (left_of r part) x y (record { x1 = w.x1; x2 = west; y1 = down; y2 = beside })))))
+    (λ east. by_lt_z {P = ((a || b) || d) || e ≡ true} x part.x2
+    (λ middle. absurd (f (record { x1 = east; x2 = middle; y1 = down; y2 = beside })))
+    (λ far. or_left ((a || b) || d) e (or_right (a || b) d (holds_within (right_of r part) x y (record { x1 = far; x2 = w.x2; y1 = down; y2 = beside }))))))
+    (λ low. or_right ((a || b) || d) e (holds_within (below r part) x y (record { x1 = w.x1; x2 = w.x2; y1 = low; y2 = w.y2 }))))
+
+held-around : (r part : Rect) (x y : ℤ) → IsPart r part → held (around r part) x y ≡ holds r x y && not (holds part x y)
+held-around r part x y p =
+    held_around r part x y
+    ∙ same_bool (((holds (above r part) x y || holds (left_of r part) x y) || holds (right_of r part) x y) || holds (below r part) x y)
+    (holds r x y && not (holds part x y))
+    (around_outside r part x y p)
+    (λ h. outside_around r part x y
+    (within r x y (and_left (holds r x y) (not (holds part x y)) h))
+    (λ w. not_held (holds part x y) (and_right (holds r x y) (not (holds part x y)) h) (holds_within part x y w)))
+
+common_part : (r hole : Rect) → is_thin (common r hole) ≡ false → IsPart r (common r hole)
+common_part r hole h = record {
+  x1 = omega (arith, ints, clamps);
+  y1 = omega (arith, ints, clamps);
+  x2 = omega (arith, ints, clamps);
+  y2 = omega (arith, ints, clamps);
+  cell = thick_cell (common r hole) h;
+}
+
+pub held-cut : (hole r : Rect) (x y : ℤ) → held (cut hole r) x y ≡ holds r x y && not (holds hole x y)
+held-cut hole r x y =
+    by_test (λ rs. held rs x y ≡ holds r x y && not (holds hole x y)) (is_thin (common r hole)) (kept r) (around r (common r hole))
+    (λ h. held-kept r x y ∙ outside_none (holds r x y) (holds hole x y) (sym (common-holds r hole x y) ∙ thin_none (common r hole) x y h))
+    (λ h. held-around r (common r hole) x y (common_part r hole h)
+    ∙ (ap (λ b. holds r x y && not b) (common-holds r hole x y) ∙ outside_common (holds r x y) (holds hole x y)))
+
+pub held-cut_all : (hole : Rect) (rs : List Rect) (x y : ℤ) → held (cut_all hole rs) x y ≡ held rs x y && not (holds hole x y)
+held-cut_all hole [] x y = refl
+held-cut_all hole (r ∷ rs) x y =
+    held-append (cut hole r) (cut_all hole rs) x y
+    ∙ (rw (held-cut hole r x y, held-cut_all hole rs x y) (outside_both (holds r x y) (held rs x y) (not (holds hole x y))))
+
+pub held-cut_by_each : (holes parts : List Rect) (x y : ℤ) → held (cut_by_each holes parts) x y ≡ held parts x y && not (held holes x y)
+held-cut_by_each [] parts x y = sym (and_true (held parts x y))
+held-cut_by_each (hole ∷ holes) parts x y =
+    held-cut_by_each holes (cut_all hole parts) x y
+    ∙ (ap (λ b. b && not (held holes x y)) (held-cut_all hole parts x y) ∙ outside_two (held parts x y) (holds hole x y) (held holes x y))
+
+pub pieces-append : (ps qs : List Rect) → ArePieces ps → ArePieces qs → ((x y : ℤ) → held ps x y ≡ true → held qs x y ≡ true → ⊥) → ArePieces (ps ++ qs)
+pieces-append [] qs a b f = b
+pieces-append (p ∷ ps) qs a b f = (
+  a.0,
+  record {
+    not_both = λ x y h k.
+        or_elim (held ps x y) (held qs x y) (a.1.not_both x y h) (f x y (or_left (holds p x y) (held ps x y) h)) (sym (held-append ps qs x y) ∙ k);
+  },
+  pieces-append ps qs a.2 b (λ x y h. f x y (or_right (holds p x y) (held ps x y) h)),
+)
+
+pub pieces-kept : (r : Rect) → ArePieces (kept r)
+pieces-kept r =
+    by_test ArePieces (is_thin r) [] (r ∷ []) (λ h. tt)
+    (λ h. (record { x = r.x1; y = r.y1; is_held = corner_held r (thick_cell r h) }, record { not_both = λ x y h k. wrong k }, tt))
+
+in_kept : (r : Rect) (x y : ℤ) → held (kept r) x y ≡ true → Within r x y
+in_kept r x y h = within r x y (sym (held-kept r x y) ∙ h)
+
+pieces-around : (r part : Rect) → IsPart r part → ArePieces (around r part)
+pieces-around r part p =
+    let a = kept (above r part) in
+    let b = kept (left_of r part) in
+    let d = kept (right_of r part) in
+    let e = kept (below r part) in
+    pieces-append ((a ++ b) ++ d) e
+    (pieces-append (a ++ b) d
+    (pieces-append a b (pieces-kept (above r part)) (pieces-kept (left_of r part))
+    (λ x y h k. let v = in_kept (above r part) x y h in let w = in_kept (left_of r part) x y k in omega (arith, ints, v.y2, w.y1)))
+    (pieces-kept (right_of r part))
+    (λ x y h k. let w = in_kept (right_of r part) x y k in
+    or_elim (held a x y) (held b x y)
+    (λ h. let v = in_kept (above r part) x y h in omega (arith, ints, v.y2, w.y1))
+    (λ h. let v = in_kept (left_of r part) x y h in omega (arith, ints, v.x2, w.x1, p.cell.columns))
+    (sym (held-append a b x y) ∙ h)))
+    (pieces-kept (below r part))
+    (λ x y h k. let w = in_kept (below r part) x y k in
+    or_elim (held (a ++ b) x y) (held d x y)
+    (λ h. or_elim (held a x y) (held b x y)
+    (λ h. let v = in_kept (above r part) x y h in omega (arith, ints, v.y2, w.y1, p.cell.rows))
+    (λ h. let v = in_kept (left_of r part) x y h in omega (arith, ints, v.y2, w.y1))
+    (sym (held-append a b x y) ∙ h))
+    (λ h. let v = in_kept (right_of r part) x y h in omega (arith, ints, v.y2, w.y1))
+    (sym (held-append (a ++ b) d x y) ∙ h))
+
+pub pieces-cut : (hole r : Rect) → ArePieces (cut hole r)
+pieces-cut hole r =
+    by_test ArePieces (is_thin (common r hole)) (kept r) (around r (common r hole))
+    (λ h. pieces-kept r)
+    (λ h. pieces-around r (common r hole) (common_part r hole h))
+
+pub pieces-cut_all : (hole : Rect) (rs : List Rect) → ArePieces rs → ArePieces (cut_all hole rs)
+pieces-cut_all hole [] a = tt
+pieces-cut_all hole (r ∷ rs) a =
+    pieces-append (cut hole r) (cut_all hole rs) (pieces-cut hole r) (pieces-cut_all hole rs a.2)
+    (λ x y h k. a.1.not_both x y
+    (and_left (holds r x y) (not (holds hole x y)) (sym (held-cut hole r x y) ∙ h))
+    (and_left (held rs x y) (not (holds hole x y)) (sym (held-cut_all hole rs x y) ∙ k)))
+
+pub pieces-cut_by_each : (holes parts : List Rect) → ArePieces parts → ArePieces (cut_by_each holes parts)
+pieces-cut_by_each [] parts a = a
+pieces-cut_by_each (hole ∷ holes) parts a = pieces-cut_by_each holes (cut_all hole parts) (pieces-cut_all hole parts a)
+
+few_kept : (r : Rect) → length (kept r) ≤ 1
+few_kept r = by_test (λ rs. length rs ≤ 1) (is_thin r) [] (r ∷ []) (λ h. omega arith) (λ h. omega arith)
+
+few_around : (r part : Rect) → length (around r part) ≤ 4
+few_around r part =
+    rw (length-append, length-append, length-append)
+    (omega (arith, few_kept (above r part), few_kept (left_of r part), few_kept (right_of r part), few_kept (below r part)))
+
+few_cut : (hole r : Rect) → length (cut hole r) ≤ 4
+few_cut hole r =
+    by_test (λ rs. length rs ≤ 4) (is_thin (common r hole)) (kept r) (around r (common r hole))
+    (λ h. omega (arith, few_kept r))
+    (λ h. few_around r (common r hole))
+
+pub few_pieces : (hole : Rect) (rs : List Rect) → length (cut_all hole rs) ≤ 4 * length rs
+few_pieces hole [] = omega arith
+few_pieces hole (r ∷ rs) = rw length-append (omega (arith, few_cut hole r, few_pieces hole rs))
+
+-- the rectangles, and behind them what is new of another one
+pub added_holds : (rs : List Rect) (r : Rect) (x y : ℤ) → held (rs ++ cut_by_each rs (kept r)) x y ≡ held rs x y || holds r x y
+added_holds rs r x y =
+    held-append rs (cut_by_each rs (kept r)) x y
+    ∙ (rw (held-cut_by_each rs (kept r) x y, held-kept r x y) (or_new (held rs x y) (holds r x y)))
+
+pub added_pieces : (rs : List Rect) (r : Rect) → ArePieces rs → ArePieces (rs ++ cut_by_each rs (kept r))
+added_pieces rs r a =
+    pieces-append rs (cut_by_each rs (kept r)) a (pieces-cut_by_each rs (kept r) (pieces-kept r))
+    (λ x y h k. not_held (held rs x y) (and_right (held (kept r) x y) (not (held rs x y)) (sym (held-cut_by_each rs (kept r) x y) ∙ k)) h)

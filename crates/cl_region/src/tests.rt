@@ -1,0 +1,53 @@
+use super::*;
+use std::test::Fail;
+
+fn rect(x1: i64, y1: i64, x2: i64, y2: i64) -> Rect {
+    Rect { x1, y1, x2, y2 }
+}
+
+#[test]
+fn rectangles(rt: HostRuntime) {
+    let table = rect(1, 1, 4, 3);
+    let cases = [
+        (rect(0, 0, 1, 9), false),
+        (rect(3, 2, 9, 9), true),
+        (rect(4, 1, 5, 2), false),
+        (rect(2, 2, 2, 9), false),
+    ];
+    for (other, shared) in &cases {
+        assert_eq!(rt; table.overlaps(other), *shared);
+    }
+    assert!(rt; table.contains(3, 2));
+    assert!(rt; !table.contains(4, 2));
+    assert_eq!(rt; table.meet(&rect(3, 0, 9, 2)), rect(3, 1, 4, 2));
+    assert_eq!(rt; table.join_box(&rect(6, 0, 7, 1)), rect(1, 0, 7, 3));
+    assert_eq!(rt; table.join_box(&rect(6, 0, 6, 1)), table);
+    let far = Shift {
+        dx: 999_996,
+        dy: -7,
+    };
+    assert!(rt; table.fits(far));
+    assert!(rt; !table.fits(Shift { dx: 999_997, dy: 0 }));
+    assert!(rt;
+        !table.fits(Shift {
+            dx: i64::MAX,
+            dy: 0
+        })
+    );
+}
+
+#[test]
+fn regions(rt: HostRuntime) -> Result<(), Fail> {
+    let mut region = Region::new(rt.alloc());
+    region.add(rect(0, 0, 5, 5))?;
+    region.add(rect(3, 3, 3, 9))?;
+    assert_eq!(rt; region.rects().len(), 1);
+    region.minus(rect(1, 1, 2, 2))?;
+    assert_eq!(rt; region.rects().len(), 4);
+    assert!(rt; !region.contains(1, 1));
+    assert!(rt; region.contains(2, 1));
+    region.add(rect(1, 1, 6, 2))?;
+    assert_eq!(rt; region.rects().len(), 6);
+    assert!(rt; region.contains(5, 1));
+    Ok(())
+}
