@@ -1,6 +1,6 @@
 //! Tables of declarations.
-ghost use Rattle.std.specs.Prelude.{◌≡◌, ◌↔◌, [], ◌∷◌, ◌++◌, length, None, OnOk, OnErr, IfErr, IsTrue, option_map};
-ghost use Rattle.cl_syntax.specs.Names.{named};
+ghost use Rattle.std.specs.Prelude.{◌≡◌, ◌↔◌, [], ◌∷◌, ◌++◌, length, None, OnOk, OnErr, IfErr, IsTrue, option_map, slice_get};
+ghost use Rattle.cl_syntax.specs.Names.{declarations, named};
 
 use cl_value::Text;
 use indexmap::IndexMap;
@@ -47,6 +47,16 @@ impl<D: Declared> Table<D> {
         ensures { option_map (λ d. d.now) result ≡ named name.now self.now }
     {
         self.entries.get(name)
+    }
+
+    /// The declaration in this place of the order, counted from 0.
+    pub fn at(&self, place: usize) -> Option<&D>
+        ensures { option_map (λ d. d.now) result ≡ slice_get (declarations self.now) place }
+    {
+        match self.entries.get_index(place) {
+            Some((_, declaration)) => Some(declaration),
+            None => None,
+        }
     }
 
     /// Puts a declaration behind the others. Where memory is wanting, it hands it back.
