@@ -2,7 +2,7 @@
 use Rattle.std.proofs.Common.{◌≡◌, ℕ, suc, ◌+◌, ◌<◌, ◌≤◌, ◌==◌, Bool, true, false, List, [], ◌∷◌, length, drop, ◌∙◌, ap, arith, Some, None, drop-cons}
 use Rattle.std.specs.Prelude.{slice_get, option_map, if◌then◌else◌}
 use Rattle.std.proofs.lemmas.Option.{slice_get-map, slice_get_within, get_or_from_slice_get}
-use Rattle.cl_syntax.specs.Names.{declarations}
+use Rattle.cl_syntax.specs.Names.{declared_at, declared_in}
 use Rattle.cl_syntax.specs.declared.declarations.CommandDecl.{CommandDecl}
 use Rattle.cl_command.specs.Naming.{after_name, line_names, lower}
 
@@ -12,13 +12,18 @@ drop-here xs i x h =
     let next : suc i ≡ i + 1 = omega arith in
     drop-cons xs i x within ∙ (ap (λ y. y ∷ drop (suc i) xs) (get_or_from_slice_get xs i x x h) ∙ ap (λ n. x ∷ drop n xs) next)
 
+name-declared : (entry : Option (List ℕ × CommandDecl)) (command : CommandDecl) → declared_in entry ≡ Some command
+    → option_map (λ (e : List ℕ × CommandDecl). e.1.line_name) entry ≡ Some command.line_name
+name-declared None command h = cc
+name-declared (Some e) command h = ap (option_map (λ (c : CommandDecl). c.line_name)) h
+
 -- the name of the command in a place, and the names behind it
 pub names-here : (commands : List (List ℕ × CommandDecl)) (place : ℕ) (command : CommandDecl)
-    → slice_get (declarations commands) place ≡ Some command
+    → declared_at place commands ≡ Some command
     → drop place (line_names commands) ≡ command.line_name ∷ drop (place + 1) (line_names commands)
 names-here commands place command h =
     drop-here (line_names commands) place command.line_name
-    (slice_get-map (λ (c : CommandDecl). c.line_name) (declarations commands) place ∙ ap (option_map (λ (c : CommandDecl). c.line_name)) h)
+    (slice_get-map (λ (e : List ℕ × CommandDecl). e.1.line_name) commands place ∙ name-declared (slice_get commands place) command h)
 
 -- a name that begins a line is no longer than it
 pub after_name-within : (name line rest : List ℕ) → after_name name line ≡ Some rest → length name ≤ length line

@@ -3,4 +3,5 @@ pub mod OneTree
 pub mod Trees
 pub mod Rows
 pub mod Shapes
-pub mod OneApplication
+pub mod OpeningLemmas
+pub mod OneOutcome

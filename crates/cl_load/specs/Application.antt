@@ -4,9 +4,7 @@ use Rattle.std.specs.List.{starts_with}
 use Rattle.std.specs.Str.{bytes_eq}
 use Rattle.std.specs.Ordering.{int_eq}
 use Rattle.cl_value.specs.Data.{int}
-use Rattle.cl_value.specs.declared.Value.TheVariants as value
-use Rattle.cl_sexp.specs.Tokens.{tokens_of}
-use Rattle.cl_sexp.specs.declared.Token.{Token}
+use Rattle.cl_syntax.specs.Names.{declared_at}
 use Rattle.cl_syntax.specs.Term.{Term, constant, slot, operation, terms_of}
 use Rattle.cl_syntax.specs.Form.{Form, write_text, newline}
 use Rattle.cl_syntax.specs.Statement.{Statement, setf}
@@ -20,7 +18,6 @@ use Rattle.cl_syntax.specs.declared.declarations.PaneDecl.{PaneDecl}
 use Rattle.cl_syntax.specs.declared.declarations.DisplayDecl.{DisplayDecl}
 use Rattle.cl_syntax.specs.declared.declarations.CommandDecl.{CommandDecl}
 use Rattle.cl_load.specs.Tree.{Tree, Trees, number, literal, name, form, none, item, trees_of, spelled_all}
-use Rattle.cl_load.specs.Spelled.{lexemes}
 use Rattle.cl_load.specs.declared.frames.Size.{Size}
 
 infixl 10 ◌>>=◌
@@ -185,7 +182,7 @@ int_in (form ts at) = None
 abbrev pub slot_decl : List Tree → Option SlotDecl
 slot_decl (n ∷ type ∷ o ∷ []) =
     if is_word (codes "integer") type
-    then (name_in n >>= λ x. int_in o >>= λ z. Some (record { name = x; spec = record { name = codes "integer" }; opening = value.Int z }))
+    then (name_in n >>= λ x. int_in o >>= λ z. Some (record { name = x; spec = record { name = codes "integer" }; opening = constant (int z); opening_at = 0 }))
     else None
 slot_decl parts = None
 
@@ -235,7 +232,7 @@ panes_in width height t = list_in t >>= panes_row width height
 abbrev pub frame_of : ℕ → Tree → Tree → Tree → Tree → Option FrameDecl
 frame_of at n size slots panes =
     name_in n >>= λ x. size_in size >>= λ s. slots_in slots >>= λ slot. panes_in s.width s.height panes >>= λ pane.
-    Some (record { name = x; width = s.width; height = s.height; slot = slot; pane = pane; at = at })
+    Some (record { name = x; width = s.width; height = s.height; slots = (slot.name, slot) ∷ []; pane = pane; at = at })
 
 -- `(define-application-frame NAME SIZE SLOTS PANES)`
 abbrev pub frame_row : ℕ → List Tree → Option FrameDecl
@@ -313,7 +310,15 @@ command_in x (name s at) = None
 
 -- the application of one display and one command, without records and functions
 abbrev pub app_of : FrameDecl → DisplayDecl → CommandDecl → App
-app_of frame display command = record { records = []; functions = []; displays = (display.name, display) ∷ []; command = command; frame = frame }
+app_of frame display command = record { records = []; functions = []; displays = (display.name, display) ∷ []; commands = (command.name, command) ∷ []; frame = frame }
+
+abbrev pub slot_named : Option SlotDecl → List ℕ
+slot_named None = []
+slot_named (Some d) = d.name
+
+-- the name of the one slot
+abbrev pub slot_name : FrameDecl → List ℕ
+slot_name frame = slot_named (declared_at 0 frame.slots)
 
 -- the pane shows the display
 abbrev pub agreed : FrameDecl → DisplayDecl → CommandDecl → Option App
@@ -321,18 +326,9 @@ agreed frame display command =
     if bytes_eq frame.pane.display display.name then Some (app_of frame display command) else None
 
 abbrev pub declared_by : FrameDecl → Tree → Tree → Option App
-declared_by frame d c = display_in frame.slot.name d >>= λ display. command_in frame.slot.name c >>= λ command. agreed frame display command
+declared_by frame d c = display_in (slot_name frame) d >>= λ display. command_in (slot_name frame) c >>= λ command. agreed frame display command
 
 -- the declarations, in this order
 abbrev pub application_in : List Tree → Option App
 application_in (f ∷ d ∷ c ∷ []) = frame_in f >>= λ frame. declared_by frame d c
 application_in forms = None
-
--- the application of a text: the text has tokens, these spell forms, and the forms declare it
-pub record IsApplication (bytes : List ℕ) (app : App) : Type 0 where
-  pub short : length bytes ≤ 1048576
-  pub tokens : List Token
-  pub read : tokens_of bytes ≡ Ok tokens
-  pub forms : List Tree
-  pub spelled : lexemes bytes tokens ≡ spelled_all (trees_of forms)
-  pub declared : application_in forms ≡ Some app

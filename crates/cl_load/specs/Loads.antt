@@ -1,21 +1,24 @@
 -- What a load answers.
-use Rattle.std.specs.Prelude.{◌≡◌, ◌≤◌, ℕ, List, length, Result, Ok, Err}
+use Rattle.std.specs.Prelude.{◌≡◌, ◌≤◌, ◌<◌, ◌⊎◌, ℕ, List, length, Option, Some, None, Result, Ok, Err}
 use Rattle.cl_sexp.specs.declared.Token.{Token}
 use Rattle.cl_sexp.specs.Tokens.{tokens_of}
 use Rattle.cl_syntax.specs.declared.applications.App.{App}
 use Rattle.cl_load.specs.Tree.{Tree, trees_of, spelled_all}
 use Rattle.cl_load.specs.Spelled.{lexemes}
-use Rattle.cl_load.specs.Application.{IsApplication}
+use Rattle.cl_load.specs.Application.{application_in}
+use Rattle.cl_load.specs.Opening.{with_openings}
 use Rattle.cl_load.specs.declared.application.Loaded.{Loaded}
-use Rattle.cl_load.specs.declared.decoding.Stop.{Stop}
-use Rattle.cl_load.specs.declared.decoding.Stop.TheVariants as stop
 use Rattle.cl_load.specs.declared.form.Forms.{Forms}
-use Rattle.cl_load.specs.declared.loading.LoadRefusal.{LoadRefusal}
-use Rattle.cl_load.specs.declared.loading.LoadRefusal.TheVariants.{Refused, Memory}
+use Rattle.cl_load.specs.declared.refusals.LoadRefusal.{LoadRefusal}
+use Rattle.cl_load.specs.declared.refusals.LoadRefusal.TheVariants.{Refused, Memory}
 
-abbrev pub refusal_of : Stop → LoadRefusal
-refusal_of stop.Refused = Refused 0 0
-refusal_of stop.Memory = Memory
+abbrev pub or_refused : Option App → Result App (ℕ × ℕ)
+or_refused None = Err (0, 0)
+or_refused (Some app) = with_openings app
+
+-- the application that forms declare, or the number of their refusal with its offset
+abbrev pub outcome : List Tree → Result App (ℕ × ℕ)
+outcome forms = or_refused (application_in forms)
 
 -- the forms of a text: the text has tokens, and these spell the forms
 pub record AreForms (bytes : List ℕ) (forms : List Tree) : Type 0 where
@@ -24,14 +27,51 @@ pub record AreForms (bytes : List ℕ) (forms : List Tree) : Type 0 where
   pub read : tokens_of bytes ≡ Ok tokens
   pub spelled : lexemes bytes tokens ≡ spelled_all (trees_of forms)
 
--- the forms, or that there are none
-abbrev pub Reads : List ℕ → Result Forms Stop → Type 0
-Reads bytes (Ok forms) = AreForms bytes forms
-Reads bytes (Err stop.Refused) = (forms : List Tree) → AreForms bytes forms → ⊥
-Reads bytes (Err stop.Memory) = Unit {0}
+-- the text is too long
+pub record IsTooLong (bytes : List ℕ) (number at : ℕ) : Type 0 where
+  pub long : 1048576 < length bytes
+  pub refused : (number ≡ 13) × (at ≡ 1048576)
 
--- the application, or that there is none; want of memory answers nothing
+-- the text has a fault where its tokens would be
+pub record IsUnread (bytes : List ℕ) (number at : ℕ) : Type 0 where
+  pub short : length bytes ≤ 1048576
+  pub fault : tokens_of bytes ≡ Err (number, at)
+
+-- the forms of the text come to this
+pub record ComesTo (bytes : List ℕ) (o : Result App (ℕ × ℕ)) : Type 0 where
+  pub forms : List Tree
+  pub read : AreForms bytes forms
+  pub comes : outcome forms ≡ o
+
+abbrev pub IsUnreadable : List ℕ → (number at : ℕ) → Type 0
+IsUnreadable bytes number at = IsTooLong bytes number at ⊎ IsUnread bytes number at
+
+-- an application of a text is what its forms come to
+abbrev pub HasOutcome : List ℕ → Result App (ℕ × ℕ) → Type 0
+HasOutcome bytes (Ok app) = ComesTo bytes (Ok app)
+HasOutcome bytes (Err (number, at)) = IsUnreadable bytes number at ⊎ ComesTo bytes (Err (number, at))
+
+abbrev pub IsApplication : List ℕ → App → Type 0
+IsApplication bytes app = HasOutcome bytes (Ok app)
+
+-- the first refusal of a text, and its offset
+abbrev pub IsRefusal : List ℕ → (number at : ℕ) → Type 0
+IsRefusal bytes number at = HasOutcome bytes (Err (number, at))
+
+-- the forms, or why there are none
+abbrev pub Reads : List ℕ → Result Forms LoadRefusal → Type 0
+Reads bytes (Ok forms) = AreForms bytes forms
+Reads bytes (Err (Refused number at)) = IsUnreadable bytes number at
+Reads bytes (Err Memory) = Unit {0}
+
+-- what forms come to; want of memory answers nothing
+abbrev pub Answers : Result Loaded LoadRefusal → Result App (ℕ × ℕ) → Type 0
+Answers (Ok loaded) o = o ≡ Ok loaded.app
+Answers (Err (Refused number at)) o = o ≡ Err (number, at)
+Answers (Err Memory) o = Unit {0}
+
+-- the application, or the refusal; want of memory answers nothing
 abbrev pub Loads : List ℕ → Result Loaded LoadRefusal → Type 0
 Loads bytes (Ok loaded) = IsApplication bytes loaded.app
-Loads bytes (Err (Refused number at)) = (number ≡ 0) × (at ≡ 0) × ((app : App) → IsApplication bytes app → ⊥)
+Loads bytes (Err (Refused number at)) = IsRefusal bytes number at
 Loads bytes (Err Memory) = Unit {0}

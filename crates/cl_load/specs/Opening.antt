@@ -1,8 +1,74 @@
 -- The opening values of the slots.
-use Rattle.std.specs.Prelude.{[], ◌∷◌}
-use Rattle.cl_syntax.specs.declared.applications.App.{App}
+use Rattle.std.specs.Prelude.{◌≡◌, ℕ, Bool, true, false, if◌then◌else◌, List, [], ◌∷◌, Option, Some, None, Result, Ok, Err}
+use Rattle.cl_value.specs.Data.{Data, null}
 use Rattle.cl_value.specs.Value.{data_of}
-use Rattle.cl_eval.specs.Slots.{Slots}
+use Rattle.cl_value.specs.declared.Value.{Value}
+use Rattle.cl_syntax.specs.declared.applications.App.{App}
+use Rattle.cl_syntax.specs.declared.declarations.SlotDecl.{SlotDecl}
+use Rattle.cl_syntax.specs.declared.type_specs.TypeSpec.{TypeSpec}
+use Rattle.cl_eval.specs.declared.metering.Limits.{Limits}
+use Rattle.cl_eval.specs.Evaluated.{meant}
+use Rattle.cl_eval.specs.Outcome.{Outcome, Gives, Traps}
+use Rattle.cl_eval.specs.Slots.{Slots, put}
+use Rattle.cl_load.specs.SlotTypes.{is_member}
+use Rattle.cl_load.specs.declared.refusals.LoadRefusal.{LoadRefusal}
+use Rattle.cl_load.specs.declared.refusals.LoadRefusal.TheVariants.{Refused, Memory}
+
+-- the limits of an opening value
+abbrev pub opening_limits : Limits
+opening_limits = record { budget = 10000; depth = 512 }
+
+-- an opening value is evaluated on no slots and no variables
+abbrev pub opening_of : App → SlotDecl → Outcome Data
+opening_of app d = meant opening_limits app [] [] d.opening
+
+-- a value; no opening value of an application that loads traps
+abbrev pub value_in : Outcome Data → Data
+value_in (Gives d cost deepest) = d
+value_in (Traps kind cost deepest) = null
+
+-- a value that is a member of the type
+abbrev pub is_fit : Outcome Data → TypeSpec → Bool
+is_fit (Gives d cost deepest) spec = is_member d spec
+is_fit (Traps kind cost deepest) spec = false
+
+-- the offset of the first opening value that traps or is no member of its slot's type
+abbrev pub first_unfit : App → List (List ℕ × SlotDecl) → Option ℕ
+first_unfit app [] = None
+first_unfit app (s ∷ more) = if is_fit (opening_of app s.1) s.1.spec then first_unfit app more else Some s.1.opening_at
+
+-- each slot with its opening value, beside those that stand
+abbrev pub opened : App → List (List ℕ × SlotDecl) → Slots → Slots
+opened app [] slots = slots
+opened app (s ∷ more) slots = opened app more (put s.1.name (value_in (opening_of app s.1)) slots)
 
 abbrev pub opening_slots : App → Slots
-opening_slots app = (app.frame.slot.name, data_of app.frame.slot.opening) ∷ []
+opening_slots app = opened app app.frame.slots []
+
+-- the application, or the refusal of its first opening value that is not fit
+abbrev pub with_fit : Option ℕ → App → Result App (ℕ × ℕ)
+with_fit None app = Ok app
+with_fit (Some at) app = Err (12, at)
+
+abbrev pub with_openings : App → Result App (ℕ × ℕ)
+with_openings app = with_fit (first_unfit app app.frame.slots) app
+
+-- ---- what the program answers
+
+-- the value, where it is a member of the slot's type
+abbrev pub IsMemberOf : Result Value LoadRefusal → Data → SlotDecl → Type 0
+IsMemberOf (Ok v) d slot = (data_of v ≡ d) × (is_member d slot.spec ≡ true)
+IsMemberOf (Err (Refused number at)) d slot = (number ≡ 12) × (at ≡ slot.opening_at) × (is_member d slot.spec ≡ false)
+IsMemberOf (Err Memory) d slot = Unit {0}
+
+-- the value of one slot
+abbrev pub OpensValue : Result Value LoadRefusal → Outcome Data → SlotDecl → Type 0
+OpensValue (Ok v) o d = (data_of v ≡ value_in o) × (is_fit o d.spec ≡ true)
+OpensValue (Err (Refused number at)) o d = (number ≡ 12) × (at ≡ d.opening_at) × (is_fit o d.spec ≡ false)
+OpensValue (Err Memory) o d = Unit {0}
+
+-- the slots
+abbrev pub OpensSlots : Result Slots LoadRefusal → App → Type 0
+OpensSlots (Ok slots) app = (first_unfit app app.frame.slots ≡ None) × (slots ≡ opening_slots app)
+OpensSlots (Err (Refused number at)) app = (number ≡ 12) × (first_unfit app app.frame.slots ≡ Some at)
+OpensSlots (Err Memory) app = Unit {0}

@@ -2,7 +2,7 @@
 ghost use Rattle.std.specs.Prelude.{◌≡◌, ◌∷◌, [], map, IfOk};
 ghost use Rattle.cl_load.specs.Form.{tree_of};
 ghost use Rattle.cl_load.specs.Decodes.{Decodes};
-ghost use Rattle.cl_load.specs.Application.{IsSize, is_operator, display_row, display_of, display_in, command_row, command_of, command_in, app_of, agreed, declared_by, application_in};
+ghost use Rattle.cl_load.specs.Application.{IsSize, is_operator, display_row, display_of, display_in, command_row, command_of, command_in, slot_name, app_of, agreed, declared_by, application_in};
 
 use crate::decoding::Stop;
 use crate::display_forms::shapes_in;
@@ -12,7 +12,8 @@ use crate::line_names::line_name_of;
 use crate::names::{is_empty_list, is_word, name_in};
 use crate::statements::act_in;
 use cl_syntax::{
-    Act, Acts, App, CommandDecl, DisplayDecl, Displays, FrameDecl, Functions, Names, Records,
+    Act, Acts, App, CommandDecl, Commands, DisplayDecl, Displays, FrameDecl, Functions, Names,
+    Records,
 };
 use cl_value::Text;
 use std::alloc::{AllocError, Global};
@@ -33,9 +34,19 @@ fn declared_by(alloc: Global, frame: FrameDecl, display: &Form, command: &Form) 
     ensures value { Decodes result (declared_by frame (tree_of display.now) (tree_of command.now)) }
     ensures size { IfOk result (λ app. app.frame ≡ frame) }
 {
-    let display = display_in(alloc, &frame.slot.name, display)?;
-    let command = command_in(alloc, &frame.slot.name, command)?;
+    let slot = slot_name(alloc, &frame)?;
+    let display = display_in(alloc, &slot, display)?;
+    let command = command_in(alloc, &slot, command)?;
     agreed(alloc, frame, display, command)
+}
+
+fn slot_name(alloc: Global, frame: &FrameDecl) -> Result<Text, AllocError>
+    ensures { IfOk result (λ name. name ≡ slot_name frame.now) }
+{
+    match frame.slots.at(0) {
+        Some(slot) => Ok(slot.name.copy()?),
+        None => Text::from_slice(alloc, b""),
+    }
 }
 
 /// The application, where the pane shows the display.
@@ -67,7 +78,7 @@ fn app_of(
         records: Records::new(alloc),
         functions: Functions::new(alloc),
         displays: table_of(alloc, display)?,
-        command,
+        commands: commands_of(alloc, command)?,
         frame,
     })
 }
@@ -78,6 +89,14 @@ fn table_of(alloc: Global, display: DisplayDecl) -> Result<Displays, AllocError>
     let mut displays = Displays::new(alloc);
     displays.add(display).map_err(|_| AllocError)?;
     Ok(displays)
+}
+
+fn commands_of(alloc: Global, command: CommandDecl) -> Result<Commands, AllocError>
+    ensures { IfOk result (λ commands. commands ≡ (command.name, command) ∷ []) }
+{
+    let mut commands = Commands::new(alloc);
+    commands.add(command).map_err(|_| AllocError)?;
+    Ok(commands)
 }
 
 /// The display that a form declares, where the one slot has this name.

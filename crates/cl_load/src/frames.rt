@@ -1,5 +1,5 @@
 //! The declaration of the frame, with its slot and its pane.
-ghost use Rattle.std.specs.Prelude.{◌≡◌, map, IfOk};
+ghost use Rattle.std.specs.Prelude.{◌≡◌, ◌∷◌, [], map, IfOk};
 ghost use Rattle.cl_load.specs.Form.{tree_of};
 ghost use Rattle.cl_load.specs.Decodes.{Decodes};
 ghost use Rattle.cl_load.specs.Application.{IsSize, size_row, size_in, slot_decl, slot_in, slots_row, slots_in, is_whole, pane_of, pane_decl, pane_in, panes_row, panes_in, frame_of, frame_row, frame_in};
@@ -7,9 +7,9 @@ ghost use Rattle.cl_load.specs.Application.{IsSize, size_row, size_in, slot_decl
 use crate::decoding::Stop;
 use crate::form::Form;
 use crate::names::{int_in, is_number, is_word, list_in, name_in, number_in};
-use cl_syntax::{FrameDecl, PaneDecl, SlotDecl, TypeSpec};
+use cl_syntax::{Expr, FrameDecl, PaneDecl, SlotDecl, SlotDecls, TypeSpec};
 use cl_value::{Text, Value};
-use std::alloc::Global;
+use std::alloc::{AllocError, Global};
 
 /// In cells.
 #[derive(Clone, Copy)]
@@ -60,16 +60,24 @@ fn frame_of(
 {
     let name = name_in(name)?;
     let Size { width, height } = size_in(size)?;
-    let slot = slots_in(alloc, slots)?;
+    let slots = slots_of(alloc, slots_in(alloc, slots)?)?;
     let pane = panes_in(width, height, panes)?;
     Ok(FrameDecl {
         name,
         width,
         height,
-        slot,
+        slots,
         pane,
         at,
     })
+}
+
+fn slots_of(alloc: Global, slot: SlotDecl) -> Result<SlotDecls, AllocError>
+    ensures { IfOk result (λ slots. slots ≡ (slot.name, slot) ∷ []) }
+{
+    let mut slots = SlotDecls::new(alloc);
+    slots.add(slot).map_err(|_| AllocError)?;
+    Ok(slots)
 }
 
 fn size_in(form: &Form) -> Result<Size, Stop>
@@ -146,7 +154,8 @@ fn slot_decl(alloc: Global, parts: &[Form]) -> Result<SlotDecl, Stop>
         spec: TypeSpec {
             name: Text::from_slice(alloc, b"integer")?,
         },
-        opening: Value::Int(opening),
+        opening: Expr::constant(Value::Int(opening)),
+        opening_at: 0,
     })
 }
 

@@ -13,13 +13,16 @@ mod laws;
 mod line_names;
 mod loading;
 mod names;
+mod opening;
 mod parse;
+mod refusals;
 mod slot_types;
 mod statements;
 #[cfg(test)]
 mod tests;
 
 pub use application::Loaded;
-pub use laws::one_tree;
-pub use loading::{LoadRefusal, load};
+pub use laws::{one_outcome, one_tree};
+pub use loading::load;
+pub use refusals::LoadRefusal;
 pub use slot_types::SlotTypes;

@@ -1,7 +1,7 @@
 -- The step of a world by a gesture: the next world and the lines that are said of it.
-use Rattle.std.specs.Prelude.{◌≡◌, ◌≤◌, ℕ, ◌+◌, Bool, true, false, ◌||◌, nat_le, is_none, if◌then◌else◌, List, [], ◌∷◌, ◌++◌, length, slice_get, Option, Some, None, codes}
+use Rattle.std.specs.Prelude.{◌≡◌, ◌≤◌, ℕ, ◌+◌, Bool, true, false, ◌||◌, nat_le, is_none, if◌then◌else◌, List, [], ◌∷◌, ◌++◌, length, Option, Some, None, codes}
 use Rattle.std.specs.Fmt.{decimal}
-use Rattle.cl_syntax.specs.Names.{declarations}
+use Rattle.cl_syntax.specs.Names.{declared_at}
 use Rattle.cl_syntax.specs.declared.applications.App.{App}
 use Rattle.cl_syntax.specs.declared.declarations.CommandDecl.{CommandDecl}
 use Rattle.cl_eval.specs.declared.metering.Limits.{Limits}
@@ -70,7 +70,7 @@ run_named app limits w (Some command) = run_of command.line_name w (command_run 
 
 -- the command in this place of the order, from 0
 abbrev pub command_at : App → ℕ → Option CommandDecl
-command_at app place = slice_get (declarations app.commands) place
+command_at app place = declared_at place app.commands
 
 abbrev pub returned : App → Limits → World → Finished → Handled
 returned app limits w (Command place) = run_named app limits w (command_at app place)

@@ -1,5 +1,5 @@
 -- Names, and what is found by name.
-use Rattle.std.specs.Prelude.{ℕ, ◌==◌, List, map, Option, position}
+use Rattle.std.specs.Prelude.{ℕ, ◌==◌, List, Option, Some, None, position, slice_get}
 use Rattle.std.specs.Cmp.Lexicographic.{pointwise}
 use Rattle.std.specs.Map.{lookup}
 
@@ -11,6 +11,10 @@ place_of x names = position (pointwise ◌==◌ x) names
 abbrev pub named : {D : Type 0} → List ℕ → List (List ℕ × D) → Option D
 named x table = lookup (pointwise ◌==◌ x) table
 
--- the declarations of a table, in their order
-abbrev pub declarations : {D : Type 0} → List (List ℕ × D) → List D
-declarations table = map (λ entry. entry.1) table
+abbrev pub declared_in : {D : Type 0} → Option (List ℕ × D) → Option D
+declared_in None = None
+declared_in (Some p) = Some p.1
+
+-- what stands at a place in a table, from 0; None past its end
+abbrev pub declared_at : {D : Type 0} → ℕ → List (List ℕ × D) → Option D
+declared_at place table = declared_in (slice_get table place)

@@ -110,12 +110,14 @@ pub struct FrameDecl {
     pub at: u32,
 }
 
-/// `(NAME TYPE OPENING)`: the opening value is an expression that reads no slot and no variable.
+/// `(NAME TYPE OPENING)`: the opening value is an expression that reads no slot and no variable;
+/// `opening_at` is its offset.
 #[derive(Drop)]
 pub struct SlotDecl {
     pub name: Text,
     pub spec: TypeSpec,
     pub opening: Expr,
+    pub opening_at: u32,
 }
 
 /// `(NAME X Y WIDTH HEIGHT DISPLAY)`, in cells of the frame.

@@ -1,6 +1,6 @@
 //! Tables of declarations.
-ghost use Rattle.std.specs.Prelude.{◌≡◌, ◌↔◌, [], ◌∷◌, ◌++◌, length, None, OnOk, OnErr, IfErr, IsTrue, option_map, slice_get};
-ghost use Rattle.cl_syntax.specs.Names.{declarations, named};
+ghost use Rattle.std.specs.Prelude.{◌≡◌, ◌↔◌, [], ◌∷◌, ◌++◌, length, None, OnOk, OnErr, IfErr, IsTrue, option_map};
+ghost use Rattle.cl_syntax.specs.Names.{declared_at, named};
 
 use cl_value::Text;
 use indexmap::IndexMap;
@@ -49,9 +49,9 @@ impl<D: Declared> Table<D> {
         self.entries.get(name)
     }
 
-    /// The declaration in this place of the order, counted from 0.
+    /// The declaration at a place in order of declaration, from 0.
     pub fn at(&self, place: usize) -> Option<&D>
-        ensures { option_map (λ d. d.now) result ≡ slice_get (declarations self.now) place }
+        ensures { option_map (λ d. d.now) result ≡ declared_at place self.now }
     {
         match self.entries.get_index(place) {
             Some((_, declaration)) => Some(declaration),
