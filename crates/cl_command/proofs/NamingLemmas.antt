@@ -1,6 +1,6 @@
 -- Going over the names of commands in their order.
 use Rattle.std.proofs.Common.{◌≡◌, ℕ, suc, ◌+◌, ◌<◌, ◌≤◌, ◌==◌, Bool, true, false, List, [], ◌∷◌, length, drop, ◌∙◌, ap, arith, Some, None, drop-cons}
-use Rattle.std.specs.Prelude.{slice_get, option_map, if◌then◌else◌}
+use Rattle.std.specs.Prelude.{Option, slice_get, option_map, if◌then◌else◌}
 use Rattle.std.proofs.lemmas.Option.{slice_get-map, slice_get_within, get_or_from_slice_get}
 use Rattle.cl_syntax.specs.Names.{declared_at, declared_in}
 use Rattle.cl_syntax.specs.declared.declarations.CommandDecl.{CommandDecl}
