@@ -4,6 +4,8 @@
 pub mod areas;
 pub mod blanking;
 pub mod painting;
+#[cfg(test)]
+mod tests;
 
 pub use areas::Area;
 pub use blanking::blank;
