@@ -2,5 +2,8 @@
 #![tactic(auto)]
 
 pub mod lines;
+mod naming;
+#[cfg(test)]
+mod tests;
 
 pub use lines::{Finished, Line, Pushed};

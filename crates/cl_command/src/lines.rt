@@ -1,6 +1,9 @@
-ghost use Rattle.std.specs.Prelude.{◌≡◌, [], IfOk, option_map};
-ghost use Rattle.cl_command.specs.Line.{Pushes, after_name, finish_at, finish_of, is_empty, lower, without_spaces};
+ghost use Rattle.std.specs.Prelude.{◌≡◌, [], IfOk};
+ghost use Rattle.cl_command.specs.Line.{Pushes, finish_of, finish_words, without_spaces};
+ghost use Rattle.cl_command.specs.Naming.{line_names};
 
+use crate::naming::{longest, place_of_length};
+use cl_syntax::Commands;
 use std::alloc::{AllocError, Global};
 use std::marker::Model;
 
@@ -18,8 +21,8 @@ pub enum Pushed {
 /// What a line finishes to (CLIM II specification, command processing).
 #[derive(Clone, Copy, PartialEq, Eq, Debug)]
 pub enum Finished {
-    /// The command, with all its arguments.
-    Command,
+    /// The command in this place of the order, counted from 0.
+    Command(usize),
     /// No command's name begins the line.
     Unknown,
     /// There are more tokens than arguments.
@@ -72,21 +75,29 @@ impl Line {
         self.elements.clear();
     }
 
-    /// What the line finishes to, where the one command has this command-line name.
-    pub fn finish(&self, name: &[u8]) -> Finished
-        ensures { result ≡ finish_of name.now self.now }
+    /// What the line finishes to. Its name is, of the command-line names that begin it behind leading
+    /// spaces, without regard to ASCII case, and end at a space or at the line's end, the longest; of
+    /// those that differ in case alone, the first in the order of the commands.
+    pub fn finish(&self, commands: &Commands) -> Finished
+        ensures { result ≡ finish_of (line_names commands.now) self.now }
     {
-        match rest_after(name, skip_spaces(&self.elements)) {
-            None => Finished::Unknown,
-            Some([]) => Finished::Command,
-            Some([b' ', rest @ ..]) => {
-                if skip_spaces(rest).is_empty() {
-                    Finished::Command
-                } else {
-                    Finished::Surplus
-                }
+        finish_words(commands, skip_spaces(&self.elements))
+    }
+}
+
+// What a line without leading spaces finishes to.
+fn finish_words(commands: &Commands, line: &[u8]) -> Finished
+    ensures { result ≡ finish_words (line_names commands.now) line.now }
+{
+    let count = longest(commands, line);
+    match place_of_length(commands, line, count) {
+        None => Finished::Unknown,
+        Some(place) => {
+            if skip_spaces(&line[count..]).is_empty() {
+                Finished::Command(place)
+            } else {
+                Finished::Surplus
             }
-            Some(_) => Finished::Unknown,
         }
     }
 }
@@ -99,33 +110,4 @@ fn skip_spaces(bytes: &[u8]) -> &[u8]
         rest = more;
     }
     rest
-}
-
-fn to_lower(byte: u8) -> u8
-    ensures { result ≡ lower byte }
-{
-    if byte >= b'A' && byte <= b'Z' {
-        byte + 32
-    } else {
-        byte
-    }
-}
-
-// What follows the name, where the line begins with it without regard to case.
-fn rest_after<'a>(name: &[u8], line: &'a [u8]) -> Option<&'a [u8]>
-    ensures { option_map (λ r. r.now) result ≡ after_name name.now line.now }
-{
-    let mut rest = line;
-    for byte in name {
-        match rest {
-            [first, more @ ..] => {
-                if to_lower(*byte) != to_lower(*first) {
-                    return None;
-                }
-                rest = more;
-            }
-            [] => return None,
-        }
-    }
-    Some(rest)
 }

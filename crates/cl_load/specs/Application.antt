@@ -207,6 +207,10 @@ is_number n (form ts at) = false
 abbrev pub is_whole : ℕ → ℕ → Tree → Tree → Tree → Tree → Bool
 is_whole width height left top w h = is_number 0 left && is_number 0 top && is_number width w && is_number height h
 
+-- the pane is a whole frame of this size
+abbrev pub IsWholeFrame : ℕ → ℕ → PaneDecl → Type 0
+IsWholeFrame width height pane = (pane.x ≡ 0) × (pane.y ≡ 0) × (pane.width ≡ width) × (pane.height ≡ height)
+
 abbrev pub pane_of : ℕ → ℕ → Tree → Tree → Option PaneDecl
 pane_of width height n d =
     name_in n >>= λ x. name_in d >>= λ display.

@@ -2,7 +2,7 @@
 ghost use Rattle.std.specs.Prelude.{◌≡◌, ◌∷◌, [], map, IfOk};
 ghost use Rattle.cl_load.specs.Form.{tree_of};
 ghost use Rattle.cl_load.specs.Decodes.{Decodes};
-ghost use Rattle.cl_load.specs.Application.{IsSize, is_operator, display_row, display_of, display_in, command_row, command_of, command_in, slot_name, app_of, agreed, declared_by, application_in};
+ghost use Rattle.cl_load.specs.Application.{IsSize, IsWholeFrame, is_operator, display_row, display_of, display_in, command_row, command_of, command_in, slot_name, app_of, agreed, declared_by, application_in};
 
 use crate::decoding::Stop;
 use crate::display_forms::shapes_in;
@@ -23,6 +23,7 @@ use std::alloc::{AllocError, Global};
 pub fn application_in(alloc: Global, forms: &[Form]) -> Result<App, Stop>
     ensures value { Decodes result (application_in (map tree_of forms.now)) }
     ensures size { IfOk result (λ app. IsSize app.frame.width app.frame.height) }
+    ensures pane { IfOk result (λ app. IsWholeFrame app.frame.width app.frame.height app.frame.pane) }
 {
     let [frame, display, command] = forms else {
         return Err(Stop::Refused);

@@ -2,7 +2,7 @@
 ghost use Rattle.std.specs.Prelude.{◌≡◌, ◌∷◌, [], map, IfOk};
 ghost use Rattle.cl_load.specs.Form.{tree_of};
 ghost use Rattle.cl_load.specs.Decodes.{Decodes};
-ghost use Rattle.cl_load.specs.Application.{IsSize, size_row, size_in, slot_decl, slot_in, slots_row, slots_in, is_whole, pane_of, pane_decl, pane_in, panes_row, panes_in, frame_of, frame_row, frame_in};
+ghost use Rattle.cl_load.specs.Application.{IsSize, IsWholeFrame, size_row, size_in, slot_decl, slot_in, slots_row, slots_in, is_whole, pane_of, pane_decl, pane_in, panes_row, panes_in, frame_of, frame_row, frame_in};
 
 use crate::decoding::Stop;
 use crate::form::Form;
@@ -23,6 +23,7 @@ pub struct Size {
 pub fn frame_in(alloc: Global, form: &Form) -> Result<FrameDecl, Stop>
     ensures value { Decodes result (frame_in (tree_of form.now)) }
     ensures size { IfOk result (λ f. IsSize f.width f.height) }
+    ensures pane { IfOk result (λ f. IsWholeFrame f.width f.height f.pane) }
 {
     match form {
         Form::Parts(parts, at) => frame_row(alloc, *at, parts.as_slice()),
@@ -37,6 +38,7 @@ pub fn frame_in(alloc: Global, form: &Form) -> Result<FrameDecl, Stop>
 fn frame_row(alloc: Global, at: u32, parts: &[Form]) -> Result<FrameDecl, Stop>
     ensures value { Decodes result (frame_row at (map tree_of parts.now)) }
     ensures size { IfOk result (λ f. IsSize f.width f.height) }
+    ensures pane { IfOk result (λ f. IsWholeFrame f.width f.height f.pane) }
 {
     let [head, name, size, slots, panes] = parts else {
         return Err(Stop::Refused);
@@ -57,6 +59,7 @@ fn frame_of(
 ) -> Result<FrameDecl, Stop>
     ensures value { Decodes result (frame_of at (tree_of name.now) (tree_of size.now) (tree_of slots.now) (tree_of panes.now)) }
     ensures size { IfOk result (λ f. IsSize f.width f.height) }
+    ensures pane { IfOk result (λ f. IsWholeFrame f.width f.height f.pane) }
 {
     let name = name_in(name)?;
     let Size { width, height } = size_in(size)?;
@@ -160,7 +163,8 @@ fn slot_decl(alloc: Global, parts: &[Form]) -> Result<SlotDecl, Stop>
 }
 
 fn panes_in(width: u16, height: u16, form: &Form) -> Result<PaneDecl, Stop>
-    ensures { Decodes result (panes_in width height (tree_of form.now)) }
+    ensures value { Decodes result (panes_in width height (tree_of form.now)) }
+    ensures whole { IfOk result (IsWholeFrame width height) }
 {
     match list_in(form) {
         Some(parts) => panes_row(width, height, parts),
@@ -171,7 +175,8 @@ fn panes_in(width: u16, height: u16, form: &Form) -> Result<PaneDecl, Stop>
 /// `(:panes PANE)`
 #[tactic(auto, using(crate::proofs::Rows::panes_counts))]
 fn panes_row(width: u16, height: u16, parts: &[Form]) -> Result<PaneDecl, Stop>
-    ensures { Decodes result (panes_row width height (map tree_of parts.now)) }
+    ensures value { Decodes result (panes_row width height (map tree_of parts.now)) }
+    ensures whole { IfOk result (IsWholeFrame width height) }
 {
     let [key, pane] = parts else {
         return Err(Stop::Refused);
@@ -183,7 +188,8 @@ fn panes_row(width: u16, height: u16, parts: &[Form]) -> Result<PaneDecl, Stop>
 }
 
 fn pane_in(width: u16, height: u16, form: &Form) -> Result<PaneDecl, Stop>
-    ensures { Decodes result (pane_in width height (tree_of form.now)) }
+    ensures value { Decodes result (pane_in width height (tree_of form.now)) }
+    ensures whole { IfOk result (IsWholeFrame width height) }
 {
     match list_in(form) {
         Some(parts) => pane_decl(width, height, parts),
@@ -200,7 +206,8 @@ fn is_whole(width: u16, height: u16, left: &Form, top: &Form, across: &Form, dow
 /// `(NAME 0 0 WIDTH HEIGHT DISPLAY)`, as large as the frame.
 #[tactic(auto, using(crate::proofs::Rows::pane_counts))]
 fn pane_decl(width: u16, height: u16, parts: &[Form]) -> Result<PaneDecl, Stop>
-    ensures { Decodes result (pane_decl width height (map tree_of parts.now)) }
+    ensures value { Decodes result (pane_decl width height (map tree_of parts.now)) }
+    ensures whole { IfOk result (IsWholeFrame width height) }
 {
     let [name, left, top, across, down, display] = parts else {
         return Err(Stop::Refused);
@@ -212,7 +219,8 @@ fn pane_decl(width: u16, height: u16, parts: &[Form]) -> Result<PaneDecl, Stop>
 }
 
 fn pane_of(width: u16, height: u16, name: &Form, display: &Form) -> Result<PaneDecl, Stop>
-    ensures { Decodes result (pane_of width height (tree_of name.now) (tree_of display.now)) }
+    ensures value { Decodes result (pane_of width height (tree_of name.now) (tree_of display.now)) }
+    ensures whole { IfOk result (IsWholeFrame width height) }
 {
     let name = name_in(name)?;
     let display = name_in(display)?;

@@ -1,7 +1,7 @@
 -- What a pane of a session is, and what settling it comes to.
 use Rattle.std.specs.Prelude.{◌≡◌, ℕ, ◌+◌, ◌≤◌, Option, Some, None, List, length}
 use Rattle.cl_eval.specs.Outcome.{Outcome, Gives, Traps}
-use Rattle.cl_redisplay.specs.Paint.{Shows}
+use Rattle.cl_redisplay.specs.Paint.{LiesIn, Shows}
 use Rattle.cl_display.specs.declared.drawings.Drawing.{Drawing}
 use Rattle.cl_display.specs.declared.histories.TextItem.{TextItem}
 use Rattle.cl_display.specs.Script.{trap_history}
@@ -10,9 +10,10 @@ use Rattle.cl_session.specs.declared.answers.PaneReport.TheVariants as report
 use Rattle.cl_session.specs.declared.panes.Pane.{Pane}
 use Rattle.cl_session.specs.World.{items_in}
 
--- the cells of a pane are those of its history
-abbrev pub IsPainted : Pane → Type 0
-IsPainted p = Shows p.raster (items_in p.history)
+-- a pane lies on its screen, whose cells are there those of its history, and blank elsewhere
+pub record IsPainted (p : Pane) : Type 0 where
+  pub lies : LiesIn p.area p.screen
+  pub shows : Shows p.screen p.area (items_in p.history)
 
 -- the history and the report after settling, by what evaluating the display came to
 abbrev pub SettlesTo : Option (List TextItem) → Option (List TextItem) → Outcome Drawing → PaneReport → Type 0

@@ -9,7 +9,7 @@ use Rattle.cl_gesture.specs.declared.answers.Gesture.{Gesture}
 use Rattle.cl_session.specs.declared.answers.PaneReport.{PaneReport}
 use Rattle.cl_session.specs.declared.answers.Replies.{Replies}
 use Rattle.cl_session.specs.declared.sessions.Session.{Session}
-use Rattle.cl_session.specs.World.{World}
+use Rattle.cl_session.specs.World.{World, area_of}
 use Rattle.cl_session.specs.Step.{next, settled_if}
 use Rattle.cl_session.specs.Pane.{IsPainted}
 use Rattle.cl_session.specs.Replies.{lines_of, met_memory, met_of, report_lines}
@@ -21,12 +21,14 @@ world_of session slots = record { slots = slots; line = session.line; pane = ses
 abbrev pub IsCurrent : App → Limits → Slots → Option (List TextItem) → Type 0
 IsCurrent app limits slots history = (history ≡ None) ⊎ (history ≡ Some (pane_script limits app slots))
 
--- A session fits an application and slots: its pane is as large as the frame, its cells are those of its history, its history
--- is the script of these slots, unless it is blank for want of memory, and no bytes wait to be written.
+-- A session fits an application and slots: its screen is as large as the frame, its pane is where the frame has it, the cells there
+-- are those of its history and all is blank elsewhere, its history is the script of these slots, unless it is blank for want of
+-- memory, and no bytes wait to be written.
 pub record Fits (app : App) (slots : Slots) (session : Session) : Type 0 where
   pub depth : session.limits.depth ≤ 512
-  pub width : session.pane.raster.width ≡ app.frame.width
-  pub height : session.pane.raster.height ≡ app.frame.height
+  pub width : session.pane.screen.width ≡ app.frame.width
+  pub height : session.pane.screen.height ≡ app.frame.height
+  pub area : session.pane.area ≡ area_of app.frame.pane
   pub painted : IsPainted session.pane
   pub current : IsCurrent app session.limits slots session.pane.history
   pub none_waits : session.outgoing ≡ []

@@ -1,7 +1,9 @@
 -- The step of a world by a gesture: the next world and the lines that are said of it.
 use Rattle.std.specs.Prelude.{◌≡◌, ◌≤◌, ℕ, ◌+◌, Bool, true, false, ◌||◌, nat_le, is_none, if◌then◌else◌, List, [], ◌∷◌, ◌++◌, length, Option, Some, None, codes}
 use Rattle.std.specs.Fmt.{decimal}
+use Rattle.cl_syntax.specs.Names.{declared_at}
 use Rattle.cl_syntax.specs.declared.applications.App.{App}
+use Rattle.cl_syntax.specs.declared.declarations.CommandDecl.{CommandDecl}
 use Rattle.cl_eval.specs.declared.metering.Limits.{Limits}
 use Rattle.cl_eval.specs.Outcome.{Outcome, Gives, Traps, cost_of}
 use Rattle.cl_eval.specs.Slots.{Slots}
@@ -15,9 +17,10 @@ use Rattle.cl_redisplay.specs.Paint.{shown_rows}
 use Rattle.cl_command.specs.declared.lines.Finished.{Finished}
 use Rattle.cl_command.specs.declared.lines.Finished.TheVariants.{Command, Unknown, Surplus}
 use Rattle.cl_command.specs.Line.{finish_of}
+use Rattle.cl_command.specs.Naming.{line_names}
 use Rattle.cl_gesture.specs.declared.answers.Gesture.{Gesture}
 use Rattle.cl_gesture.specs.declared.answers.Gesture.TheVariants as gesture
-use Rattle.cl_session.specs.World.{World, items_in}
+use Rattle.cl_session.specs.World.{World, area_of, items_in}
 
 -- what met want of memory in a gesture: its handling, and the settling of the pane
 pub record Met : Type 0 where
@@ -50,24 +53,33 @@ text_lines (t ∷ ts) = (codes "= " ++ t) ∷ text_lines ts
 abbrev pub ok_lines : List ℕ → List (List ℕ) → List (List ℕ)
 ok_lines name replies = (codes "ok " ++ name) ∷ text_lines replies
 
--- the run of the command: an end without a trap commits the slots and empties the line, a trap leaves both
-abbrev pub run_of : App → World → Outcome Effects → Handled
-run_of app w (Gives effects cost deepest) =
-    record { replies = ok_lines app.command.line_name effects.replies; slots = effects.slots; line = []; commits = true; cost = cost }
-run_of app w (Traps kind cost deepest) = refused w cost (codes "! trap " ++ decimal kind)
+-- the run of a command of this command-line name: an end without a trap commits the slots and empties the line, a trap leaves both
+abbrev pub run_of : List ℕ → World → Outcome Effects → Handled
+run_of name w (Gives effects cost deepest) =
+    record { replies = ok_lines name effects.replies; slots = effects.slots; line = []; commits = true; cost = cost }
+run_of name w (Traps kind cost deepest) = refused w cost (codes "! trap " ++ decimal kind)
 
--- the run of the command's statements, with no variables
-abbrev pub command_run : Limits → App → Slots → Outcome Effects
-command_run limits app slots = ran limits app is_member app.command.body [] slots
+-- the run of a command's statements, with no variables
+abbrev pub command_run : Limits → App → CommandDecl → Slots → Outcome Effects
+command_run limits app command slots = ran limits app is_member command.body [] slots
+
+-- a command that a line names is run
+abbrev pub run_named : App → Limits → World → Option CommandDecl → Handled
+run_named app limits w None = refused w 0 (codes "! unknown")
+run_named app limits w (Some command) = run_of command.line_name w (command_run limits app command w.slots)
+
+-- the command in this place of the order, from 0
+abbrev pub command_at : App → ℕ → Option CommandDecl
+command_at app place = declared_at place app.commands
 
 abbrev pub returned : App → Limits → World → Finished → Handled
-returned app limits w Command = run_of app w (command_run limits app w.slots)
+returned app limits w (Command place) = run_named app limits w (command_at app place)
 returned app limits w Unknown = refused w 0 (codes "! unknown")
 returned app limits w Surplus = refused w 0 (codes "! surplus")
 
 abbrev pub framed : App → World → Handled
 framed app w = record {
-  replies = shown_rows (items_in w.pane) app.frame.width app.frame.height;
+  replies = shown_rows (area_of app.frame.pane) (items_in w.pane) app.frame.width app.frame.height;
   slots = w.slots;
   line = w.line;
   commits = false;
@@ -76,7 +88,7 @@ framed app w = record {
 
 abbrev pub handled : App → Limits → World → Gesture → Handled
 handled app limits w (gesture.«Type» text) = typed w text
-handled app limits w gesture.Return = returned app limits w (finish_of app.command.line_name w.line)
+handled app limits w gesture.Return = returned app limits w (finish_of (line_names app.commands) w.line)
 handled app limits w gesture.Frame = framed app w
 
 -- a handling that met want of memory changes nothing

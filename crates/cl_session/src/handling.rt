@@ -2,7 +2,8 @@ ghost use Rattle.std.specs.Prelude.{◌≡◌, ◌≤◌, ◌++◌, ◌∷◌, [
 ghost use Rattle.std.specs.Fmt.{decimal};
 ghost use Rattle.cl_command.specs.Line.{finish_of};
 ghost use Rattle.cl_redisplay.specs.Paint.{shown_rows};
-ghost use Rattle.cl_session.specs.World.{items_in};
+ghost use Rattle.cl_command.specs.Naming.{line_names};
+ghost use Rattle.cl_session.specs.World.{area_of, items_in};
 ghost use Rattle.cl_session.specs.Step.{command_run, handled, ok_lines, returned, run_of, text_lines, typed};
 ghost use Rattle.cl_session.specs.Pane.{IsPainted};
 ghost use Rattle.cl_session.specs.Handling.{HandlesTo, HandlingRises, IsReply};
@@ -13,7 +14,7 @@ use cl_eval::{Env, Executed, Limits, Lines, Slots, exec};
 use cl_gesture::Gesture;
 use cl_load::SlotTypes;
 use cl_outside::{Ledger, Steps};
-use cl_syntax::App;
+use cl_syntax::{App, CommandDecl};
 use cl_value::Text;
 use std::alloc::{AllocError, Global};
 
@@ -41,8 +42,9 @@ pub fn handle<L: Ledger>(
 ) -> Handling
     requires depth { limits.depth ≤ 512 }
     requires painted { IsPainted pane.now }
-    requires width { pane.now.raster.width ≡ app.now.frame.width }
-    requires height { pane.now.raster.height ≡ app.now.frame.height }
+    requires width { pane.now.screen.width ≡ app.now.frame.width }
+    requires height { pane.now.screen.height ≡ app.now.frame.height }
+    requires area { pane.now.area ≡ area_of app.now.frame.pane }
     ensures handles { HandlesTo (handled app.now limits (record { slots = slots.old; line = line.old; pane = pane.now.history }) gesture.now) result slots.old slots.new line.old line.new }
     ensures ledger { HandlingRises result steps.old steps.new (handled app.now limits (record { slots = slots.old; line = line.old; pane = pane.now.history }) gesture.now).cost }
 {
@@ -76,19 +78,23 @@ fn finish_line<L: Ledger>(
     steps: &mut Steps<L>,
 ) -> Handling
     requires { limits.depth ≤ 512 }
-    ensures handles { HandlesTo (returned app.now limits (record { slots = slots.old; line = line.old; pane = pane.now.history }) (finish_of app.now.command.line_name line.old)) result slots.old slots.new line.old line.new }
-    ensures ledger { HandlingRises result steps.old steps.new (returned app.now limits (record { slots = slots.old; line = line.old; pane = pane.now.history }) (finish_of app.now.command.line_name line.old)).cost }
+    ensures handles { HandlesTo (returned app.now limits (record { slots = slots.old; line = line.old; pane = pane.now.history }) (finish_of (line_names app.now.commands) line.old)) result slots.old slots.new line.old line.new }
+    ensures ledger { HandlingRises result steps.old steps.new (returned app.now limits (record { slots = slots.old; line = line.old; pane = pane.now.history }) (finish_of (line_names app.now.commands) line.old)).cost }
 {
-    match line.finish(app.command.line_name.as_slice()) {
+    match line.finish(&app.commands) {
         Finished::Unknown => reply(alloc, b"! unknown"),
         Finished::Surplus => reply(alloc, b"! surplus"),
-        Finished::Command => run_command(alloc, app, limits, pane, slots, line, steps),
+        Finished::Command(place) => match app.commands.at(place) {
+            None => reply(alloc, b"! unknown"),
+            Some(command) => run_command(alloc, app, command, limits, pane, slots, line, steps),
+        },
     }
 }
 
 fn run_command<L: Ledger>(
     alloc: Global,
     app: &App,
+    command: &CommandDecl,
     limits: Limits,
     pane: &Pane,
     slots: &mut Slots,
@@ -96,14 +102,14 @@ fn run_command<L: Ledger>(
     steps: &mut Steps<L>,
 ) -> Handling
     requires { limits.depth ≤ 512 }
-    ensures handles { HandlesTo (run_of app.now (record { slots = slots.old; line = line.old; pane = pane.now.history }) (command_run limits app.now slots.old)) result slots.old slots.new line.old line.new }
-    ensures ledger { HandlingRises result steps.old steps.new (run_of app.now (record { slots = slots.old; line = line.old; pane = pane.now.history }) (command_run limits app.now slots.old)).cost }
+    ensures handles { HandlesTo (run_of command.now.line_name (record { slots = slots.old; line = line.old; pane = pane.now.history }) (command_run limits app.now command.now slots.old)) result slots.old slots.new line.old line.new }
+    ensures ledger { HandlingRises result steps.old steps.new (run_of command.now.line_name (record { slots = slots.old; line = line.old; pane = pane.now.history }) (command_run limits app.now command.now slots.old)).cost }
 {
     let env = Env::new(alloc);
     match exec(
         alloc,
         app,
-        &app.command.body,
+        &command.body,
         &env,
         slots,
         &SlotTypes,
@@ -112,7 +118,7 @@ fn run_command<L: Ledger>(
     ) {
         Executed::Done(next, replies, _) => match ok_lines(
             alloc,
-            app.command.line_name.as_slice(),
+            command.line_name.as_slice(),
             replies.as_slice(),
         ) {
             Ok(lines) => {
@@ -180,10 +186,10 @@ fn trap_line(alloc: Global, kind: u8) -> Result<Lines, AllocError>
 // The rows of cells.
 fn frame_lines(alloc: Global, pane: &Pane) -> Result<Lines, AllocError>
     requires { IsPainted pane.now }
-    ensures { IfOk result (λ l. l ≡ shown_rows (items_in pane.now.history) pane.now.raster.width pane.now.raster.height) }
+    ensures { IfOk result (λ l. l ≡ shown_rows pane.now.area (items_in pane.now.history) pane.now.screen.width pane.now.screen.height) }
 {
     let mut lines = Lines::new(alloc);
-    for y in 0..pane.raster.height() {
+    for y in 0..pane.screen.height() {
         lines.push(Text::from_slice(alloc, pane.row(y))?)?;
     }
     Ok(lines)

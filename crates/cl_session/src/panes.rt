@@ -1,9 +1,9 @@
-ghost use Rattle.std.specs.Prelude.{◌≡◌, ◌≤◌, ◌<◌, length, IfOk};
+ghost use Rattle.std.specs.Prelude.{◌≡◌, ◌≤◌, ◌<◌, ◌+◌, length, IfOk};
 ghost use Rattle.cl_eval.specs.Outcome.{cost_of};
 ghost use Rattle.cl_display.specs.Script.{pane_fresh};
 ghost use Rattle.cl_raster.specs.Raster.{SameSize};
 ghost use Rattle.cl_redisplay.specs.Paint.{shown_row};
-ghost use Rattle.cl_session.specs.World.{items_in};
+ghost use Rattle.cl_session.specs.World.{area_of, items_in};
 ghost use Rattle.cl_session.specs.Pane.{IsPainted, Rises, SettlesTo};
 
 use crate::answers::{PaneReport, Report};
@@ -11,30 +11,46 @@ use cl_display::{History, Shown, display};
 use cl_eval::{Env, Limits, Slots};
 use cl_outside::{Ledger, Steps};
 use cl_raster::Raster;
-use cl_redisplay::paint;
-use cl_syntax::App;
+use cl_redisplay::{Area, blank, paint};
+use cl_syntax::{App, PaneDecl};
 use std::alloc::{AllocError, Global};
 
-/// A pane that is the whole screen: its history, None where it is blank for want of memory, and its
-/// cells.
+/// A pane, the only one of its screen: its history, None where it is blank for want of memory, its
+/// area of the screen, and the cells of the screen, which are blank outside of it.
 #[derive(Drop)]
 pub struct Pane {
     pub history: Option<History>,
-    pub raster: Raster,
+    pub area: Area,
+    pub screen: Raster,
+}
+
+/// The area of the screen that a pane is declared to have.
+pub fn area_of(pane: &PaneDecl) -> Area
+    ensures { result ≡ area_of pane.now }
+{
+    Area {
+        x: pane.x,
+        y: pane.y,
+        width: pane.width,
+        height: pane.height,
+    }
 }
 
 impl Pane {
-    /// A blank pane of so many columns and rows.
-    pub fn new(alloc: Global, width: u16, height: u16) -> Result<Pane, AllocError>
+    /// A blank pane in this area of a screen of so many columns and rows.
+    pub fn new(alloc: Global, width: u16, height: u16, area: Area) -> Result<Pane, AllocError>
         requires columns { (1 ≤ width) × (width ≤ 512) }
         requires rows { (1 ≤ height) × (height ≤ 256) }
+        requires within { (area.x + area.width ≤ width) × (area.y + area.height ≤ height) }
         ensures blank { IfOk result (λ p. p.history ≡ None) }
         ensures painted { IfOk result (λ p. IsPainted p) }
-        ensures size { IfOk result (λ p. (p.raster.width ≡ width) × (p.raster.height ≡ height)) }
+        ensures size { IfOk result (λ p. (p.screen.width ≡ width) × (p.screen.height ≡ height)) }
+        ensures area { IfOk result (λ p. p.area ≡ area) }
     {
         Ok(Pane {
             history: None,
-            raster: Raster::new(alloc, width, height)?,
+            area,
+            screen: Raster::new(alloc, width, height)?,
         })
     }
 
@@ -49,20 +65,24 @@ impl Pane {
     }
 
     fn show(&mut self, history: History)
+        requires { IsPainted self.old }
         ensures history { self.new.history ≡ Some history }
         ensures painted { IsPainted self.new }
-        ensures size { SameSize self.old.raster self.new.raster }
+        ensures size { SameSize self.old.screen self.new.screen }
+        ensures area { self.new.area ≡ self.old.area }
     {
-        paint(&mut self.raster, &history);
+        paint(&mut self.screen, self.area, &history);
         self.history = Some(history);
     }
 
     fn blank(&mut self)
+        requires { IsPainted self.old }
         ensures history { self.new.history ≡ None }
         ensures painted { IsPainted self.new }
-        ensures size { SameSize self.old.raster self.new.raster }
+        ensures size { SameSize self.old.screen self.new.screen }
+        ensures area { self.new.area ≡ self.old.area }
     {
-        self.raster.clear();
+        blank(&mut self.screen, self.area);
         self.history = None;
     }
 
@@ -76,10 +96,12 @@ impl Pane {
         limits: Limits,
         steps: &mut Steps<L>,
     ) -> PaneReport
-        requires { limits.depth ≤ 512 }
+        requires depth { limits.depth ≤ 512 }
+        requires painted { IsPainted self.old }
         ensures settles { SettlesTo self.old.history self.new.history (pane_fresh limits app.now slots.now) result }
         ensures painted { IsPainted self.new }
-        ensures size { SameSize self.old.raster self.new.raster }
+        ensures size { SameSize self.old.screen self.new.screen }
+        ensures area { self.new.area ≡ self.old.area }
         ensures ledger { Rises result steps.old steps.new (cost_of (pane_fresh limits app.now slots.now)) }
         ensures later { steps.old ≤ steps.new }
     {
@@ -107,12 +129,12 @@ impl Pane {
         }
     }
 
-    /// The glyphs of a row of cells.
+    /// The glyphs of a row of the screen.
     pub fn row(&self, y: u16) -> &[u8]
         requires painted { IsPainted self.now }
-        requires row { y < self.now.raster.height }
-        ensures { result.now ≡ shown_row (items_in self.now.history) self.now.raster.width y }
+        requires row { y < self.now.screen.height }
+        ensures { result.now ≡ shown_row self.now.area (items_in self.now.history) self.now.screen.width y }
     {
-        self.raster.row(y)
+        self.screen.row(y)
     }
 }

@@ -9,7 +9,7 @@ ghost use Rattle.cl_session.specs.Session.{Fits, IsCurrent, SettlesIf, Steps as 
 
 use crate::answers::{PaneReport, Replies};
 use crate::handling::{Handling, handle};
-use crate::panes::Pane;
+use crate::panes::{Pane, area_of};
 use crate::writing::Outgoing;
 use cl_command::Line;
 use cl_eval::{Limits, Lines, Slots};
@@ -51,7 +51,8 @@ impl Session {
     {
         let line = Line::new(alloc)?;
         let outgoing = Outgoing::new(alloc)?;
-        let mut pane = Pane::new(alloc, loaded.app.frame.width, loaded.app.frame.height)?;
+        let frame = &loaded.app.frame;
+        let mut pane = Pane::new(alloc, frame.width, frame.height, area_of(&frame.pane))?;
         let limits = Limits {
             budget,
             depth: DEPTH,
@@ -135,7 +136,8 @@ impl Session {
         requires current { due ≡ false → IsCurrent app.now self.old.limits slots.now self.old.pane.history }
         ensures settles { SettlesIf due app.now self.old.limits slots.now self.old.pane.history self.new.pane.history result }
         ensures painted { IsPainted self.new.pane }
-        ensures size { SameSize self.old.pane.raster self.new.pane.raster }
+        ensures size { SameSize self.old.pane.screen self.new.pane.screen }
+        ensures area { self.new.pane.area ≡ self.old.pane.area }
         ensures current { IsCurrent app.now self.old.limits slots.now self.new.pane.history }
         ensures line { self.new.line ≡ self.old.line }
         ensures limits { self.new.limits ≡ self.old.limits }

@@ -1,5 +1,5 @@
 -- How serving ended, as what a run comes to.
-use Rattle.std.proofs.Common.{◌≡◌, ◌<◌, ◌≤◌, ℕ, ◌+◌, List, [], ◌++◌, length, sym, ◌∙◌, ap, arith, append-nil, Option, Bool, true, false, inl, inr}
+use Rattle.std.proofs.Common.{◌≡◌, ◌<◌, ◌≤◌, ℕ, ◌+◌, List, [], ◌++◌, length, sym, ◌∙◌, ap, arith, append-nil, Option, Bool, true, false, inl, inr, subst}
 use Rattle.std.specs.Io.KnownBytes.{Consumes}
 use Rattle.cl_outside.specs.Causes.{Rose}
 use Rattle.cl_syntax.specs.declared.applications.App.{App}
@@ -156,6 +156,13 @@ pub EndsAs-served : (app : App) (limits : Limits) (w : World) (old new : Progres
 EndsAs-served app limits w old new taken_old taken_new x y h i j how l e o none zero most s left_old left_new faults_old faults_new a b c d =
     rw (a, b, c, d) (served app limits w old new taken_old taken_new x y h i j how l e o none zero most s)
 
+-- the same of an application that is equal
+pub EndsAs-same : (a b : App) (old : ℕ → Streams) (new : Streams) (how : End) (opened : ℕ) → a ≡ b
+    → ((spent : ℕ) → opened ≡ spent + opening_cost a → EndsAs a (old spent) new how)
+    → (spent : ℕ) → opened ≡ spent + opening_cost b → EndsAs b (old spent) new how
+EndsAs-same a b old new how opened e f =
+    subst (λ (x : App). (spent : ℕ) → opened ≡ spent + opening_cost x → EndsAs x (old spent) new how) e f
+
 -- a run of a text that the words name
 pub Ran-text : (words : List (List ℕ)) (file : List ℕ → Option (Option (List ℕ))) (faults_old faults_new : List ℕ → ℕ) (old new : Streams)
     (name text : List ℕ) (how : How) → IsRun words name → IsTextOf (file name) text → RanText text old new how → Ran words file faults_old faults_new old new how
@@ -163,9 +170,9 @@ Ran-text words file faults_old faults_new old new name text how.Usage run of r =
 Ran-text words file faults_old faults_new old new name text how.UsageCut run of r = absurd r
 Ran-text words file faults_old faults_new old new name text how.AppFault run of r = absurd r
 Ran-text words file faults_old faults_new old new name text how.Refused run of r =
-    (record { name = name; command = run; text = text; of_file = of; none = r.0 }, r.1)
+    record { number = r.0; at = r.1; refused = record { name = name; command = run; text = text; of_file = of; refusal = r.2 }; said = r.3 }
 Ran-text words file faults_old faults_new old new name text how.RefusalCut run of r =
-    (record { name = name; command = run; text = text; of_file = of; none = r.0 }, r.1)
+    record { number = r.0; at = r.1; refused = record { name = name; command = run; text = text; of_file = of; refusal = r.2 }; said = r.3 }
 Ran-text words file faults_old faults_new old new name text how.Memory run of (inl same) = ((name, run), inl same)
 Ran-text words file faults_old faults_new old new name text how.Memory run of (inr r) =
     let serving : RanOutServing words file old new =

@@ -1,50 +1,62 @@
 -- When a status is due.
-use Rattle.std.proofs.Common.{◌≡◌, ◌<◌, ◌≤◌, ℕ, List, [], ◌∷◌, ◌++◌, length, sym, ◌∙◌, arith, append_assoc, Some, None, Option, subst}
-use Rattle.std.specs.Prelude.{codes}
+use Rattle.std.proofs.Common.{◌≡◌, refl, ◌<◌, ◌≤◌, ℕ, List, [], ◌∷◌, ◌++◌, length, sym, ◌∙◌, arith, append_assoc, Some, None, Option, subst}
+use Rattle.std.specs.Prelude.{codes, Result, Ok, Err}
 use Rattle.std.specs.Io.KnownBytes.{Consumes}
 use Rattle.cl_syntax.specs.declared.applications.App.{App}
 use Rattle.cl_gesture.specs.Lines.{ended, pieces, held_from}
 use Rattle.cl_gesture.proofs.Cutting.{pieces-further}
-use Rattle.cl_load.specs.Application.{IsApplication}
+use Rattle.cl_load.specs.Loads.{IsApplication, IsRefusal}
+use Rattle.cl_load.proofs.OneOutcome.{one_outcome}
 use Rattle.cl_session.specs.declared.serving.End.{End}
 use Rattle.cl_session.specs.declared.serving.End.TheVariants as end
 use Rattle.clim_run.specs.Command.{IsRun}
-use Rattle.clim_run.specs.Texts.{IsTextOf}
-use Rattle.clim_run.specs.Run.{Streams, IsRefused, IsNoApplication, ReadToLimit, Serves}
-use Rattle.clim_run.specs.Statuses.{DeclaresApplication, DeclaresNone, HasFewLines}
+use Rattle.clim_run.specs.Texts.{IsTextOf, first_bytes}
+use Rattle.clim_run.specs.Run.{Streams, Refuses, ReadToLimit, Serves}
+use Rattle.clim_run.specs.Statuses.{DeclaresApplication, HasFewLines, HasRefusal}
 
 -- words name one file at most
 pub one_name : (words : List (List ℕ)) (a b : List ℕ) → IsRun words a → IsRun words b → a ≡ b
 one_name words a b p q = let both : codes "run" ∷ a ∷ [] ≡ codes "run" ∷ b ∷ [] = sym p.words_are ∙ q.words_are in cc
 
-none_declared : (file : Option (Option (List ℕ))) (text : List ℕ) → IsTextOf file text → IsNoApplication text → DeclaresApplication file → ⊥
-none_declared None text of none d = d
-none_declared (Some None) text of none d = d
-none_declared (Some (Some bytes)) text of none d =
-    let P : List ℕ → Type 0 = λ xs. IsApplication xs d.0 in none d.0 (subst P (sym of) d.1)
+apart : (app : App) (refusal : ℕ × ℕ) (a b : Result App (ℕ × ℕ)) → a ≡ Ok app → b ≡ Err refusal → a ≡ b → ⊥
+apart app refusal a b x y same = cc
 
-some_declared : (file : Option (Option (List ℕ))) (text : List ℕ) (app : App) → IsTextOf file text → IsApplication text app → DeclaresNone file → ⊥
-some_declared None text app of is d = d
-some_declared (Some None) text app of is d = d
-some_declared (Some (Some bytes)) text app of is d =
-    let P : List ℕ → Type 0 = λ xs. IsApplication xs app in d app (subst P of is)
+-- a text that has a refusal declares no application
+not_both : (text : List ℕ) (app : App) (number at : ℕ) → IsApplication text app → IsRefusal text number at → ⊥
+not_both text app number at is refusal =
+    apart app (number, at) (Ok app) (Err (number, at)) refl refl (one_outcome text (Ok app) (Err (number, at)) is refusal)
+
+none_declared : (file : Option (Option (List ℕ))) (text : List ℕ) (number at : ℕ) → IsTextOf file text → IsRefusal text number at
+    → DeclaresApplication file → ⊥
+none_declared None text number at of refusal d = d
+none_declared (Some None) text number at of refusal d = d
+none_declared (Some (Some bytes)) text number at of refusal d =
+    let P : List ℕ → Type 0 = λ xs. IsApplication xs d.0 in not_both text d.0 number at (subst P (sym of) d.1) refusal
+
+some_declared : (file : Option (Option (List ℕ))) (text : List ℕ) (app : App) (number at : ℕ) → IsTextOf file text → IsApplication text app
+    → HasRefusal file number at → ⊥
+some_declared None text app number at of is d = d
+some_declared (Some None) text app number at of is d = d
+some_declared (Some (Some bytes)) text app number at of is d =
+    let P : List ℕ → Type 0 = λ xs. IsApplication xs app in not_both (first_bytes bytes) app number at (subst P of is) d
 
 -- a text that is refused declares no application
-pub refused_declares : (words : List (List ℕ)) (file : List ℕ → Option (Option (List ℕ))) (name : List ℕ) → IsRefused words file → IsRun words name
-    → DeclaresApplication (file name) → ⊥
-refused_declares words file name r run d =
+pub refused_declares : (words : List (List ℕ)) (file : List ℕ → Option (Option (List ℕ))) (old new : Streams) (name : List ℕ)
+    → Refuses words file old new → IsRun words name → DeclaresApplication (file name) → ⊥
+refused_declares words file old new name said run d =
+    let r = said.refused in
     let same : name ≡ r.name = one_name words name r.name run r.command in
     let P : List ℕ → Type 0 = λ n. DeclaresApplication (file n) in
-    none_declared (file r.name) r.text r.of_file r.none (subst P same d)
+    none_declared (file r.name) r.text said.number said.at r.of_file r.refusal (subst P same d)
 
 -- a text that was opened declares one
 pub served_declares : (words : List (List ℕ)) (file : List ℕ → Option (Option (List ℕ))) (old new : Streams) (how : End) (name : List ℕ)
-    → Serves words file old new how → IsRun words name → DeclaresNone (file name) → ⊥
-served_declares words file old new how name s run d =
+    (number at : ℕ) → Serves words file old new how → IsRun words name → HasRefusal (file name) number at → ⊥
+served_declares words file old new how name number at s run d =
     let o = s.opened in
     let same : name ≡ o.name = one_name words name o.name run o.command in
-    let P : List ℕ → Type 0 = λ n. DeclaresNone (file n) in
-    some_declared (file o.name) o.text s.app o.of_file o.declared (subst P same d)
+    let P : List ℕ → Type 0 = λ n. HasRefusal (file n) number at in
+    some_declared (file o.name) o.text s.app number at o.of_file o.declared (subst P same d)
 
 more_lines : (left_old left_new : Option (List ℕ)) (read further : List ℕ) → Consumes left_old left_new (read ++ further) → held_from [] read ≡ []
     → length (ended read) ≡ 1000000 → 0 < length further → HasFewLines left_old → ⊥

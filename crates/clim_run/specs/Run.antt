@@ -7,7 +7,7 @@ use Rattle.cl_display.specs.Script.{pane_fresh}
 use Rattle.cl_eval.specs.declared.metering.Limits.{Limits}
 use Rattle.cl_eval.specs.Outcome.{cost_of}
 use Rattle.cl_gesture.specs.Lines.{Piece, pieces, ended, held_from}
-use Rattle.cl_load.specs.Application.{IsApplication}
+use Rattle.cl_load.specs.Loads.{IsApplication, IsRefusal}
 use Rattle.cl_load.specs.Opening.{opening_slots}
 use Rattle.cl_session.specs.Step.{opening}
 use Rattle.cl_session.specs.Transcript.{IsTranscript}
@@ -60,16 +60,13 @@ pub record Opens (words : List (List ℕ)) (file : List ℕ → Option (Option (
 abbrev pub IsCommand : List (List ℕ) → Type 0
 IsCommand words = (name : List ℕ) × IsRun words name
 
-abbrev pub IsNoApplication : List ℕ → Type 0
-IsNoApplication text = (app : App) → IsApplication text app → ⊥
-
--- the words name a file, and its text declares no application
-pub record IsRefused (words : List (List ℕ)) (file : List ℕ → Option (Option (List ℕ))) : Type 0 where
+-- the words name a file, and its text has this refusal at this offset
+pub record IsRefused (words : List (List ℕ)) (file : List ℕ → Option (Option (List ℕ))) (number at : ℕ) : Type 0 where
   pub name : List ℕ
   pub command : IsRun words name
   pub text : List ℕ
   pub of_file : IsTextOf (file name) text
-  pub none : IsNoApplication text
+  pub refusal : IsRefusal text number at
 
 -- the words name a file, with which the place failed
 pub record AppFaultRose (words : List (List ℕ)) (faults_old faults_new : List ℕ → ℕ) : Type 0 where
@@ -174,6 +171,20 @@ SaysWhole old new line = IsUnread old new × Says true old.taken new.taken line 
 abbrev pub SaysCut : Streams → Streams → List ℕ → Type 0
 SaysCut old new line = IsUnread old new × Says false old.taken new.taken line old.output_faults new.output_faults
 
+-- the text that the words name is refused, and the line of its refusal was written whole
+pub record Refuses (words : List (List ℕ)) (file : List ℕ → Option (Option (List ℕ))) (old new : Streams) : Type 0 where
+  pub number : ℕ
+  pub at : ℕ
+  pub refused : IsRefused words file number at
+  pub said : SaysWhole old new (refusal_line number at)
+
+-- the text that the words name is refused, and the output failed in the line of its refusal
+pub record RefusesCut (words : List (List ℕ)) (file : List ℕ → Option (Option (List ℕ))) (old new : Streams) : Type 0 where
+  pub number : ℕ
+  pub at : ℕ
+  pub refused : IsRefused words file number at
+  pub said : SaysCut old new (refusal_line number at)
+
 -- want of memory before the first gesture: the ledger stays, or the opening of an application met it
 abbrev pub RanOutOfMemory : List (List ℕ) → (List ℕ → Option (Option (List ℕ))) → Streams → Streams → Type 0
 RanOutOfMemory words file old new = IsCommand words × ((new ≡ old) ⊎ RanOutServing words file old new)
@@ -183,8 +194,8 @@ abbrev pub Ran : List (List ℕ) → (List ℕ → Option (Option (List ℕ))) �
 Ran words file faults_old faults_new old new how.Usage = IsNoCommand words × SaysWhole old new usage_line
 Ran words file faults_old faults_new old new how.UsageCut = IsNoCommand words × SaysCut old new usage_line
 Ran words file faults_old faults_new old new how.AppFault = AppFaultRose words faults_old faults_new × (new ≡ old)
-Ran words file faults_old faults_new old new how.Refused = IsRefused words file × SaysWhole old new (refusal_line 0 0)
-Ran words file faults_old faults_new old new how.RefusalCut = IsRefused words file × SaysCut old new (refusal_line 0 0)
+Ran words file faults_old faults_new old new how.Refused = Refuses words file old new
+Ran words file faults_old faults_new old new how.RefusalCut = RefusesCut words file old new
 Ran words file faults_old faults_new old new how.Memory = RanOutOfMemory words file old new
 Ran words file faults_old faults_new old new (how.Ended end) = Serves words file old new end
 
@@ -193,8 +204,8 @@ abbrev pub RanText : List ℕ → Streams → Streams → How → Type 0
 RanText text old new how.Usage = ⊥
 RanText text old new how.UsageCut = ⊥
 RanText text old new how.AppFault = ⊥
-RanText text old new how.Refused = IsNoApplication text × SaysWhole old new (refusal_line 0 0)
-RanText text old new how.RefusalCut = IsNoApplication text × SaysCut old new (refusal_line 0 0)
+RanText text old new how.Refused = (number : ℕ) × (at : ℕ) × IsRefusal text number at × SaysWhole old new (refusal_line number at)
+RanText text old new how.RefusalCut = (number : ℕ) × (at : ℕ) × IsRefusal text number at × SaysCut old new (refusal_line number at)
 RanText text old new how.Memory = (new ≡ old) ⊎ RanOutOpening text old new
 RanText text old new (how.Ended end) = (app : App) × IsApplication text app × EndsAs app old new end
 

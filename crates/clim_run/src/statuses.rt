@@ -1,9 +1,9 @@
 ghost use Rattle.std.specs.Prelude.{◌≡◌, ◌≤◌, ◌⊎◌, ℕ, List, map};
 ghost use Rattle.cl_outside.specs.Causes.{Rose};
 ghost use Rattle.cl_session.specs.declared.serving.End.TheVariants as end;
-ghost use Rattle.clim_run.specs.Command.{IsNoCommand, IsRun, refusal_line, usage_line};
-ghost use Rattle.clim_run.specs.Run.{AppFaultRose, IsRefused, RanOutOfMemory, SaysWhole, Serves, streams};
-ghost use Rattle.clim_run.specs.Statuses.{DeclaresApplication, DeclaresNone, HasFewLines, IsStatus, OutputFailed};
+ghost use Rattle.clim_run.specs.Command.{IsNoCommand, IsRun, usage_line};
+ghost use Rattle.clim_run.specs.Run.{AppFaultRose, RanOutOfMemory, Refuses, SaysWhole, Serves, streams};
+ghost use Rattle.clim_run.specs.Statuses.{DeclaresApplication, HasFewLines, HasRefusal, IsStatus, OutputFailed};
 
 use crate::running::{How, run_words};
 use cl_outside::{Ledger, Place, Sink, Source, Steps};
@@ -32,7 +32,7 @@ pub fn clim_main<P: Place, G: Source, O: Sink, L: Ledger>(
 ) -> Status
     // What each status says.
     ensures status_0 { result.0 ≡ 0 → Serves (map (λ w. w.now) words.now) (P.file place.old) (streams (G.left gestures.old) (G.faults gestures.old) (O.taken out.old) (O.faults out.old) steps.old) (streams (G.left gestures.new) (G.faults gestures.new) (O.taken out.new) (O.faults out.new) steps.new) end.Done }
-    ensures status_1 { result.0 ≡ 1 → IsRefused (map (λ w. w.now) words.now) (P.file place.old) × SaysWhole (streams (G.left gestures.old) (G.faults gestures.old) (O.taken out.old) (O.faults out.old) steps.old) (streams (G.left gestures.new) (G.faults gestures.new) (O.taken out.new) (O.faults out.new) steps.new) (refusal_line 0 0) }
+    ensures status_1 { result.0 ≡ 1 → Refuses (map (λ w. w.now) words.now) (P.file place.old) (streams (G.left gestures.old) (G.faults gestures.old) (O.taken out.old) (O.faults out.old) steps.old) (streams (G.left gestures.new) (G.faults gestures.new) (O.taken out.new) (O.faults out.new) steps.new) }
     ensures status_2 { result.0 ≡ 2 → IsNoCommand (map (λ w. w.now) words.now) × SaysWhole (streams (G.left gestures.old) (G.faults gestures.old) (O.taken out.old) (O.faults out.old) steps.old) (streams (G.left gestures.new) (G.faults gestures.new) (O.taken out.new) (O.faults out.new) steps.new) usage_line }
     ensures status_3 { result.0 ≡ 3 → AppFaultRose (map (λ w. w.now) words.now) (P.app_faults place.old) (P.app_faults place.new) × (streams (G.left gestures.new) (G.faults gestures.new) (O.taken out.new) (O.faults out.new) steps.new ≡ streams (G.left gestures.old) (G.faults gestures.old) (O.taken out.old) (O.faults out.old) steps.old) }
     ensures status_4 { result.0 ≡ 4 → Serves (map (λ w. w.now) words.now) (P.file place.old) (streams (G.left gestures.old) (G.faults gestures.old) (O.taken out.old) (O.faults out.old) steps.old) (streams (G.left gestures.new) (G.faults gestures.new) (O.taken out.new) (O.faults out.new) steps.new) end.ReadFault }
@@ -43,8 +43,8 @@ pub fn clim_main<P: Place, G: Source, O: Sink, L: Ledger>(
 
     // When they are due.
     ensures usage_due { IsNoCommand (map (λ w. w.now) words.now) → (result.0 ≡ 2) ⊎ (result.0 ≡ 5) }
-    ensures refusal_due { (name : List ℕ) → IsRun (map (λ w. w.now) words.now) name → (Rose (P.app_faults place.old name) (P.app_faults place.new name) → ⊥)
-        → DeclaresNone (P.file place.old name) → (result.0 ≡ 1) ⊎ (result.0 ≡ 5) ⊎ (result.0 ≡ 7) }
+    ensures refusal_due { (name : List ℕ) (number at : ℕ) → IsRun (map (λ w. w.now) words.now) name → (Rose (P.app_faults place.old name) (P.app_faults place.new name) → ⊥)
+        → HasRefusal (P.file place.old name) number at → (result.0 ≡ 1) ⊎ (result.0 ≡ 5) ⊎ (result.0 ≡ 7) }
     ensures complete { (name : List ℕ) → IsRun (map (λ w. w.now) words.now) name → (Rose (P.app_faults place.old name) (P.app_faults place.new name) → ⊥)
         → (Rose (G.faults gestures.old) (G.faults gestures.new) → ⊥) → (Rose (O.faults out.old) (O.faults out.new) → ⊥)
         → DeclaresApplication (P.file place.old name) → HasFewLines (G.left gestures.old) → (result.0 ≡ 0) ⊎ (result.0 ≡ 7) }

@@ -224,7 +224,7 @@ fn traps_of_commands_and_displays(rt: HostRuntime) -> Result<(), Fail> {
 #[test]
 fn statuses_without_gestures(rt: HostRuntime) -> Result<(), Fail> {
     let run = Memory::new(COUNTER, "type Add\nreturn\n");
-    expect_run(&rt, &Memory { text: "", ..run }, 1, "refused 0 at 0\n")?;
+    expect_run(&rt, &Memory { text: "(", ..run }, 1, "refused 2 at 1\n")?;
     expect_run(
         &rt,
         &Memory {

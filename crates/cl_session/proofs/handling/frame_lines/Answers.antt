@@ -6,12 +6,12 @@ use Rattle.cl_session.proofs.handling.frame_lines.Goals as goal
 
 pub loop-y-preserved : goal.loop-y-preserved
 loop-y-preserved c =
-    let text : c.in_ok-from_slice.field-0 ≡ shown_row (items_in c.args.pane.now.history) c.args.pane.now.raster.width c.loop-y.y =
+    let text : c.in_ok-from_slice.field-0 ≡ shown_row c.args.pane.now.area (items_in c.args.pane.now.history) c.args.pane.now.screen.width c.loop-y.y =
     c.in_ok-from_slice.ensures ∙ c.row.ensures in
     rw (
       c.in_ok-push.ensures.ok,
       append_assoc,
       text,
-      ← rows_from-next (items_in c.args.pane.now.history) c.args.pane.now.raster.width c.loop-y.y c.height-y-end.result c.loop-y-test.true,
+      ← rows_from-next c.args.pane.now.area (items_in c.args.pane.now.history) c.args.pane.now.screen.width c.loop-y.y c.height-y-end.result c.loop-y-test.true,
     )
     c.loop-y.invariant

@@ -4,5 +4,5 @@ use Rattle.cl_session.proofs.panes.Pane.row.Goals as goal
 
 pub returns : goal.returns
 returns c =
-    row-shown_row (items_in c.args.self.now.history) c.args.self.now.raster c.args.y c.row.result.now
-    c.requires.painted c.requires.row c.row.ensures.cells c.row.ensures.count
+    row-shown_row c.args.self.now.area (items_in c.args.self.now.history) c.args.self.now.screen c.args.y c.row.result.now
+    c.requires.painted.shows c.requires.row c.row.ensures.cells c.row.ensures.count

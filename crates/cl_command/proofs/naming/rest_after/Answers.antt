@@ -1,6 +1,6 @@
 use Rattle.std.proofs.Common.{◌≡◌, ℕ, ◌<◌, List, [], ◌∷◌, length, drop, None, refl, sym, ◌∙◌, arith, length-drop}
-use Rattle.cl_command.specs.Line.{after_name}
-use Rattle.cl_command.proofs.lines.rest_after.Goals as goal
+use Rattle.cl_command.specs.Naming.{after_name}
+use Rattle.cl_command.proofs.naming.rest_after.Goals as goal
 
 at_end : (ns : List ℕ) → 0 < length ns → after_name ns [] ≡ None
 at_end [] h = absurd (omega arith)
