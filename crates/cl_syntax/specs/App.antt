@@ -1,12 +1,13 @@
 -- What is found in an application.
-use Rattle.std.specs.Prelude.{ℕ, ◌==◌, List, [], Option, Some, None, if◌then◌else◌}
-use Rattle.std.specs.Cmp.Lexicographic.{pointwise}
+use Rattle.std.specs.Prelude.{ℕ, List, [], Option, Some, None}
 use Rattle.cl_syntax.specs.Form.{Form}
 use Rattle.cl_syntax.specs.Names.{named}
 use Rattle.cl_syntax.specs.declared.applications.App.{App}
 use Rattle.cl_syntax.specs.declared.declarations.RecordDecl.{RecordDecl}
 use Rattle.cl_syntax.specs.declared.declarations.FunctionDecl.{FunctionDecl}
 use Rattle.cl_syntax.specs.declared.declarations.DisplayDecl.{DisplayDecl}
+use Rattle.cl_syntax.specs.declared.declarations.CommandDecl.{CommandDecl}
+use Rattle.cl_syntax.specs.declared.declarations.SlotDecl.{SlotDecl}
 use Rattle.cl_syntax.specs.declared.type_specs.TypeSpec.{TypeSpec}
 
 abbrev pub record_named : List ℕ → App → Option RecordDecl
@@ -18,9 +19,16 @@ function_named x app = named x app.functions
 abbrev pub display_named : List ℕ → App → Option DisplayDecl
 display_named x app = named x app.displays
 
+abbrev pub command_named : List ℕ → App → Option CommandDecl
+command_named x app = named x app.commands
+
+abbrev pub type_of_slot : Option SlotDecl → Option TypeSpec
+type_of_slot None = None
+type_of_slot (Some d) = Some d.spec
+
 -- the type of the slot of that name; None where there is no such slot
 abbrev pub slot_type : List ℕ → App → Option TypeSpec
-slot_type x app = if pointwise ◌==◌ x app.frame.slot.name then Some app.frame.slot.spec else None
+slot_type x app = type_of_slot (named x app.frame.slots)
 
 abbrev pub body_of : Option DisplayDecl → List Form
 body_of None = []

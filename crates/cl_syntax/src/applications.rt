@@ -1,9 +1,10 @@
 //! Applications.
 ghost use Rattle.std.specs.Prelude.{◌≡◌, option_map};
-ghost use Rattle.cl_syntax.specs.App.{record_named, function_named, display_named, slot_type, pane_forms};
+ghost use Rattle.cl_syntax.specs.App.{record_named, function_named, display_named, command_named, slot_type, pane_forms};
 
 use crate::declarations::{
-    CommandDecl, DisplayDecl, Displays, FrameDecl, FunctionDecl, Functions, RecordDecl, Records,
+    CommandDecl, Commands, DisplayDecl, Displays, FrameDecl, FunctionDecl, Functions, RecordDecl,
+    Records,
 };
 use crate::display_forms::Shape;
 use crate::type_specs::TypeSpec;
@@ -15,7 +16,7 @@ pub struct App {
     pub records: Records,
     pub functions: Functions,
     pub displays: Displays,
-    pub command: CommandDecl,
+    pub commands: Commands,
     pub frame: FrameDecl,
 }
 
@@ -41,14 +42,20 @@ impl App {
         self.displays.get(name)
     }
 
+    /// The command of that name.
+    pub fn command(&self, name: &Text) -> Option<&CommandDecl>
+        ensures { option_map (λ d. d.now) result ≡ command_named name.now self.now }
+    {
+        self.commands.get(name)
+    }
+
     /// The type of the frame's slot of that name.
     pub fn slot_spec(&self, name: &Text) -> Option<&TypeSpec>
         ensures { option_map (λ t. t.now) result ≡ slot_type name.now self.now }
     {
-        if name == &self.frame.slot.name {
-            Some(&self.frame.slot.spec)
-        } else {
-            None
+        match self.frame.slots.get(name) {
+            Some(slot) => Some(&slot.spec),
+            None => None,
         }
     }
 

@@ -5,7 +5,7 @@ use crate::names::Names;
 use crate::statements::Acts;
 use crate::tables::{Declared, Table};
 use crate::type_specs::TypeSpec;
-use cl_value::{Text, Value};
+use cl_value::Text;
 
 /// `(define-record NAME FIELD ...)`
 #[derive(Drop)]
@@ -42,6 +42,12 @@ pub type Functions = Table<FunctionDecl>;
 /// The displays of an application by name.
 pub type Displays = Table<DisplayDecl>;
 
+/// The commands of an application by name.
+pub type Commands = Table<CommandDecl>;
+
+/// The slots of a frame by name.
+pub type SlotDecls = Table<SlotDecl>;
+
 impl Declared for RecordDecl {
     ghost own_name = { λ d. d.name };
 
@@ -66,6 +72,22 @@ impl Declared for DisplayDecl {
     }
 }
 
+impl Declared for CommandDecl {
+    ghost own_name = { λ d. d.name };
+
+    fn name(&self) -> &Text {
+        &self.name
+    }
+}
+
+impl Declared for SlotDecl {
+    ghost own_name = { λ d. d.name };
+
+    fn name(&self) -> &Text {
+        &self.name
+    }
+}
+
 /// `(define-command NAME () STATEMENT ...)`. The command-line name is made from the symbol: a leading
 /// `com-` is dropped, hyphens become spaces, and the first letter of each word becomes a capital.
 #[derive(Drop)]
@@ -76,24 +98,24 @@ pub struct CommandDecl {
     pub at: u32,
 }
 
-/// `(define-application-frame NAME (:size WIDTH HEIGHT) (:slots SLOT) (:panes PANE))`, sizes in
+/// `(define-application-frame NAME (:size WIDTH HEIGHT) (:slots SLOT ...) (:panes PANE))`, sizes in
 /// cells.
 #[derive(Drop)]
 pub struct FrameDecl {
     pub name: Text,
     pub width: u16,
     pub height: u16,
-    pub slot: SlotDecl,
+    pub slots: SlotDecls,
     pub pane: PaneDecl,
     pub at: u32,
 }
 
-/// `(NAME TYPE OPENING)`
+/// `(NAME TYPE OPENING)`: the opening value is an expression that reads no slot and no variable.
 #[derive(Drop)]
 pub struct SlotDecl {
     pub name: Text,
     pub spec: TypeSpec,
-    pub opening: Value,
+    pub opening: Expr,
 }
 
 /// `(NAME X Y WIDTH HEIGHT DISPLAY)`, in cells of the frame.

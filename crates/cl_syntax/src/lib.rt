@@ -15,8 +15,8 @@ pub mod type_specs;
 
 pub use applications::App;
 pub use declarations::{
-    CommandDecl, DisplayDecl, Displays, FrameDecl, FunctionDecl, Functions, PaneDecl, RecordDecl,
-    Records, SlotDecl,
+    CommandDecl, Commands, DisplayDecl, Displays, FrameDecl, FunctionDecl, Functions, PaneDecl,
+    RecordDecl, Records, SlotDecl, SlotDecls,
 };
 pub use display_forms::{Shape, ShapeKind, Shapes};
 pub use expressions::{Binding, Expr, ExprKind};
