@@ -13,6 +13,8 @@ mod operators;
 mod programs;
 mod records;
 mod slot_table;
+#[cfg(test)]
+mod tests;
 mod texts;
 mod variables;
 
