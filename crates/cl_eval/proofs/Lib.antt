@@ -4,5 +4,6 @@ pub mod CostLemmas
 pub mod StopLemmas
 pub mod StatementLemmas
 pub mod LimitLemmas
+pub mod NameLemmas
 pub mod ListLemmas
 pub mod NumberLemmas

@@ -7,3 +7,4 @@ pub mod Agrees
 pub mod Evaluated
 pub mod Statements
 pub mod Executed
+pub mod Uses

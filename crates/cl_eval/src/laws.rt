@@ -7,6 +7,7 @@ ghost use Rattle.cl_eval.specs.Outcome.{Gives};
 ghost use Rattle.cl_eval.specs.Slots.{Env, Slots};
 ghost use Rattle.cl_eval.specs.Meaning.{means};
 ghost use Rattle.cl_eval.specs.Operators.{quotient, remainder};
+ghost use Rattle.cl_eval.specs.Uses.{AgreeOn};
 
 /// The quotient is rounded down: what it leaves lies between 0, which it may be, and the divisor, which it is not.
 #[tactic(auto, using(crate::proofs::NumberLemmas::whole, crate::proofs::NumberLemmas::within_above, crate::proofs::NumberLemmas::within_below))]
@@ -22,4 +23,13 @@ pub fn limits_can_be_wider()
     ensures { (depth budget wider_depth wider_budget : ℕ) (app : App) (slots : Slots) (env : Env) (t : Term) (d : Data) (cost reach : ℕ)
         → means depth budget app slots 0 env t 0 0 ≡ Gives d cost reach → cost ≤ wider_budget → reach ≤ wider_depth
         → means wider_depth wider_budget app slots 0 env t 0 0 ≡ Gives d cost reach }
+{}
+
+/// The outcome of an expression depends on the variables and slots that it names alone: where these have the same values, or
+/// have none, it ends with the same value or trap, cost and reach, whatever the limits. What it names counts whether or not a
+/// branch is taken, and through calls the slots that functions name.
+pub fn names_alone_matter()
+    ensures { (depth budget level : ℕ) (app : App) (t : Term) (slots : Slots) (env : Env) (other_slots : Slots) (other_env : Env)
+        → AgreeOn app t slots env other_slots other_env → (cost reach : ℕ)
+        → means depth budget app slots level env t cost reach ≡ means depth budget app other_slots level other_env t cost reach }
 {}

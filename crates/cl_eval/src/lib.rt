@@ -13,6 +13,8 @@ mod operators;
 mod programs;
 mod records;
 mod slot_table;
+#[cfg(test)]
+mod tests;
 mod texts;
 mod variables;
 
@@ -20,7 +22,7 @@ pub use effects::{Effects, Lines};
 pub use evaluating::{Evaluated, eval};
 pub use evaluation::{Context, evaluate, evaluate_each, evaluate_list, evaluate_test};
 pub use execution::{Executed, Types, exec};
-pub use laws::{limits_can_be_wider, quotient_is_rounded_down};
+pub use laws::{limits_can_be_wider, names_alone_matter, quotient_is_rounded_down};
 pub use metering::{Limits, Meter, Stop};
 pub use slot_table::Slots;
 pub use variables::{Env, Scope};

@@ -1,0 +1,69 @@
+-- Which variables and slots an expression names. Where a form binds a variable, its body's is another one. A function that is
+-- called names slots alone, since its parameters are all the variables that its body sees.
+use Rattle.std.specs.Prelude.{◌≡◌, ℕ, zero, suc, false, ◌⊎◌, List, Option, Some, None}
+use Rattle.cl_value.specs.Data.{Data}
+use Rattle.cl_syntax.specs.Term as term
+use Rattle.cl_syntax.specs.Term.{Term, Terms, Bindings, none, part, unbound, binding}
+use Rattle.cl_syntax.specs.App.{function_named}
+use Rattle.cl_syntax.specs.declared.applications.App.{App}
+use Rattle.cl_syntax.specs.declared.declarations.FunctionDecl.{FunctionDecl}
+use Rattle.cl_eval.specs.Slots.{Slots, Env, is_name, found}
+
+-- where an expression reads a value
+pub data Root : Type 0 where
+  variable : List ℕ → Root
+  slot : List ℕ → Root
+
+-- what binding a variable does not hide
+abbrev pub Apart : List ℕ → Root → Type 0
+Apart x (variable y) = is_name x y ≡ false
+Apart x (slot y) = Unit {0}
+
+-- by what the functions that are called name
+abbrev mutual
+  pub Names : (List ℕ → Type 0) → Root → Term → Type 0
+  Names calls r (term.constant d) = ⊥
+  Names calls r (term.variable x) = r ≡ variable x
+  Names calls r (term.slot x) = r ≡ slot x
+  Names calls r (term.choice t u v) = Names calls r t ⊎ (Names calls r u ⊎ Names calls r v)
+  Names calls r (term.bind bs t) = NamesBound calls r bs (Names calls r t)
+  Names calls r (term.every ts) = NamesAmong calls r ts
+  Names calls r (term.some ts) = NamesAmong calls r ts
+  Names calls r (term.map x t body) = Names calls r t ⊎ (Apart x r × Names calls r body)
+  Names calls r (term.filter x t body) = Names calls r t ⊎ (Apart x r × Names calls r body)
+  Names calls r (term.fold x t accumulator opening body) =
+      Names calls r t ⊎ (Names calls r opening ⊎ (Apart x r × Apart accumulator r × Names calls r body))
+  Names calls r (term.operation o ts) = NamesAmong calls r ts
+  Names calls r (term.call f ts) = NamesAmong calls r ts ⊎ calls f
+
+  pub NamesAmong : (List ℕ → Type 0) → Root → Terms → Type 0
+  NamesAmong calls r none = ⊥
+  NamesAmong calls r (part t ts) = Names calls r t ⊎ NamesAmong calls r ts
+
+  -- the bindings, each of which sees the ones before it, and what stands behind them all
+  pub NamesBound : (List ℕ → Type 0) → Root → Bindings → Type 0 → Type 0
+  NamesBound calls r unbound Behind = Behind
+  NamesBound calls r (binding x t bs) Behind = Names calls r t ⊎ (Apart x r × NamesBound calls r bs Behind)
+
+abbrev pub InBody : (List ℕ → Type 0) → Root → Option FunctionDecl → Type 0
+InBody calls (variable x) f = ⊥
+InBody calls (slot x) None = ⊥
+InBody calls (slot x) (Some f) = Names calls (slot x) f.body
+
+-- the function of that name, and those that it calls in turn, so many one within the other
+abbrev pub Within : ℕ → App → Root → List ℕ → Type 0
+Within zero app r f = ⊥
+Within (suc n) app r f = InBody (Within n app r) r (function_named f app)
+
+-- an expression names it itself, or through calls
+pub record Uses (app : App) (r : Root) (t : Term) : Type 0 where
+  pub calls : ℕ
+  pub named : Names (Within calls app r) r t
+
+abbrev pub value_at : Root → Slots → Env → Option Data
+value_at (variable x) slots env = found x env
+value_at (slot x) slots env = found x slots
+
+-- the same value, or none in both, wherever the expression reads one
+abbrev pub AgreeOn : App → Term → Slots → Env → Slots → Env → Type 0
+AgreeOn app t slots env slots' env' = (r : Root) → Uses app r t → value_at r slots env ≡ value_at r slots' env'
