@@ -22,7 +22,9 @@ mod statements;
 mod tests;
 
 pub use application::Loaded;
+pub use form::{Form, Forms};
 pub use laws::{one_outcome, one_tree};
 pub use loading::load;
+pub use parse::all_forms;
 pub use refusals::LoadRefusal;
 pub use slot_types::SlotTypes;

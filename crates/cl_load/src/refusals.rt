@@ -1,6 +1,8 @@
 //! Why a text is not loaded.
 use crate::decoding::Stop;
-use std::alloc::AllocError;
+use cl_syntax::{Binding, Expr};
+use cl_value::Text;
+use std::alloc::{AllocError, AllocFailed};
 use thiserror::Error;
 
 /// Why a text is not loaded.
@@ -20,6 +22,39 @@ impl From<AllocError> for LoadRefusal {
     ghost from_gives = { λ _ e. e ≡ Memory };
 
     fn from(_: AllocError) -> LoadRefusal {
+        LoadRefusal::Memory
+    }
+}
+
+impl From<AllocFailed<Expr>> for LoadRefusal {
+    ghost use Rattle.std.specs.Prelude.{◌≡◌};
+    ghost use Rattle.cl_load.specs.declared.refusals.LoadRefusal.TheVariants.{Memory};
+
+    ghost from_gives = { λ _ e. e ≡ Memory };
+
+    fn from(_: AllocFailed<Expr>) -> LoadRefusal {
+        LoadRefusal::Memory
+    }
+}
+
+impl From<AllocFailed<Binding>> for LoadRefusal {
+    ghost use Rattle.std.specs.Prelude.{◌≡◌};
+    ghost use Rattle.cl_load.specs.declared.refusals.LoadRefusal.TheVariants.{Memory};
+
+    ghost from_gives = { λ _ e. e ≡ Memory };
+
+    fn from(_: AllocFailed<Binding>) -> LoadRefusal {
+        LoadRefusal::Memory
+    }
+}
+
+impl From<AllocFailed<Text>> for LoadRefusal {
+    ghost use Rattle.std.specs.Prelude.{◌≡◌};
+    ghost use Rattle.cl_load.specs.declared.refusals.LoadRefusal.TheVariants.{Memory};
+
+    ghost from_gives = { λ _ e. e ≡ Memory };
+
+    fn from(_: AllocFailed<Text>) -> LoadRefusal {
         LoadRefusal::Memory
     }
 }

@@ -2,11 +2,7 @@ ghost use Rattle.std.specs.Prelude.{IfOk};
 ghost use Rattle.cl_outside.specs.Memory.{AllPositive};
 
 use super::*;
-use cl_gesture::Gesture;
-use cl_load::load;
 use cl_outside::{MemPlace, MemSink, MemSource, OwnLedger, Steps};
-use cl_session::sessions::Session;
-use cl_value::Text;
 use std::alloc::{AllocError, Global};
 use std::process::Abort;
 use std::test::Fail;
@@ -145,22 +141,6 @@ fn steps_of_a_run(rt: HostRuntime) -> Result<(), Fail> {
     expect_steps(&rt, COUNTER, "type Add\nreturn\nframe\n", 10)?;
     expect_steps(&rt, highest.as_str(), "type Add\nreturn\nframe\n", 7)?;
     expect_steps(&rt, "", "type Add\nreturn\n", 0)
-}
-
-#[test]
-fn steps_of_an_opening_and_of_gestures(rt: HostRuntime) -> Result<(), Fail> {
-    let alloc = rt.alloc();
-    let loaded = load(alloc, COUNTER.as_bytes())?;
-    let mut slots = loaded.slots.copy(alloc)?;
-    let mut steps = own_steps();
-    let mut session = Session::new(alloc, &loaded, &slots, 1_000_000, &mut steps)?;
-    assert_eq!(rt; steps.ledger().seen(), 3);
-    let typed = Gesture::Type(Text::from_slice(alloc, b"Add")?);
-    let _typed = session.step(alloc, &loaded, &typed, &mut slots, &mut steps);
-    assert_eq!(rt; steps.ledger().seen(), 3);
-    let _returned = session.step(alloc, &loaded, &Gesture::Return, &mut slots, &mut steps);
-    assert_eq!(rt; steps.ledger().seen(), 10);
-    Ok(())
 }
 
 #[test]
