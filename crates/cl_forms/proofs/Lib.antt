@@ -1,0 +1,5 @@
+pub mod Data
+pub mod ScopeLemmas
+pub mod TermRows
+pub mod Onto
+pub mod BindingLemmas

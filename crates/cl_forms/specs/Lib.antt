@@ -1,0 +1,12 @@
+pub mod Words
+pub mod Datum
+pub mod DatumView
+pub mod DatumFalls
+pub mod Grouped
+pub mod Load
+pub mod TypeNames
+pub mod World
+pub mod Scopes
+pub mod Expressions
+pub mod Named
+pub mod TermViews

@@ -1,0 +1,142 @@
+-- What the outermost forms of a text declare: functions, displays, records and slots by name, whether their forms are right or
+-- not. Of two of one name in one space the first counts.
+use Rattle.std.specs.Prelude.{ℕ, Bool, true, false, ◌&&◌, is_some, if◌then◌else◌, List, [], ◌∷◌, ◌++◌, length, Option, Some, None, codes}
+use Rattle.std.specs.Str.{bytes_eq}
+use Rattle.cl_syntax.specs.Names.{named}
+use Rattle.cl_forms.specs.Datum.{Datum, word, list, number, literal, quoted, stray, in_order, parts_of}
+use Rattle.cl_forms.specs.Words.{is_name, is_operator}
+use Rattle.cl_forms.specs.TypeNames.{is_standard_type}
+use Rattle.cl_forms.specs.declared.worlds.World.{World}
+use Rattle.cl_forms.specs.declared.worlds.Callee.{Callee}
+use Rattle.cl_forms.specs.declared.worlds.CalleeKind.{CalleeKind}
+use Rattle.cl_forms.specs.declared.worlds.CalleeKind.TheVariants.{Function, Display}
+use Rattle.cl_forms.specs.declared.worlds.RecordHead.{RecordHead}
+use Rattle.cl_forms.specs.declared.worlds.SlotHead.{SlotHead}
+
+abbrev pub some_if : {A : Type 0} → Bool → A → Option A
+some_if true x = Some x
+some_if false x = None
+
+-- the name that a datum is
+abbrev pub name_in : Datum → Option (List ℕ)
+name_in (word s at) = some_if (is_name s) s
+name_in (number z at) = None
+name_in (literal s at) = None
+name_in (quoted s at name_at) = None
+name_in (stray at) = None
+name_in (list ds at) = None
+
+-- the bytes of a symbol; nothing of anything else
+abbrev pub symbol_of : Datum → List ℕ
+symbol_of (word s at) = s
+symbol_of (number z at) = []
+symbol_of (literal s at) = []
+symbol_of (quoted s at name_at) = []
+symbol_of (stray at) = []
+symbol_of (list ds at) = []
+
+abbrev pub are_names : List Datum → Bool
+are_names [] = true
+are_names (d ∷ ds) = is_some (name_in d) && are_names ds
+
+-- how many names there are; None where a part is no name
+abbrev pub names_counted : List Datum → Option ℕ
+names_counted ds = if are_names ds then Some (length ds) else None
+
+abbrev pub list_counted : Datum → Option ℕ
+list_counted (list ds at) = names_counted (in_order ds)
+list_counted (word s at) = None
+list_counted (number z at) = None
+list_counted (literal s at) = None
+list_counted (quoted s at name_at) = None
+list_counted (stray at) = None
+
+-- how many parameters stand first
+abbrev pub parameters_counted : List Datum → Option ℕ
+parameters_counted [] = None
+parameters_counted (d ∷ ds) = list_counted d
+
+abbrev pub with_callee : World → CalleeKind → Option (List ℕ) → Option ℕ → World
+with_callee w kind None count = w
+with_callee w kind (Some x) count =
+    if is_some (named x w.callees) then w
+    else record w { callees = w.callees ++ (x, record { name = x; kind = kind; count = count }) ∷ [] }
+
+abbrev pub with_record : World → Option (List ℕ) → Option ℕ → World
+with_record w None count = w
+with_record w (Some x) count =
+    if is_some (named x w.records) then w else record w { records = w.records ++ (x, record { name = x; count = count }) ∷ [] }
+
+abbrev pub with_slot : World → Option (List ℕ) → World
+with_slot w None = w
+with_slot w (Some x) = if is_some (named x w.slots) then w else record w { slots = w.slots ++ (x, record { name = x }) ∷ [] }
+
+-- the slot of a part of `(:slots ..)`, which is a list that begins with its name
+abbrev pub with_slot_of : World → List Datum → World
+with_slot_of w [] = w
+with_slot_of w (n ∷ more) = with_slot w (name_in n)
+
+abbrev pub with_slots : World → List Datum → World
+with_slots w [] = w
+with_slots w (d ∷ ds) = with_slots (with_slot_of w (parts_of d)) ds
+
+-- the slots of a section of a frame
+abbrev pub with_section : World → List Datum → World
+with_section w [] = w
+with_section w (key ∷ slots) = if bytes_eq (symbol_of key) (codes ":slots") then with_slots w slots else w
+
+abbrev pub with_sections : World → List Datum → World
+with_sections w [] = w
+with_sections w (d ∷ ds) = with_sections (with_section w (parts_of d)) ds
+
+-- a declaration of this head and name, with what follows
+abbrev pub with_head : World → List ℕ → Datum → List Datum → World
+with_head w head n more =
+    if bytes_eq head (codes "define-record") then with_record w (name_in n) (names_counted more)
+    else (if bytes_eq head (codes "define-function") then with_callee w Function (name_in n) (parameters_counted more)
+    else (if bytes_eq head (codes "define-display") then with_callee w Display (name_in n) (parameters_counted more)
+    else (if bytes_eq head (codes "define-application-frame") then with_sections w more else w)))
+
+abbrev pub with_declaration : World → List Datum → World
+with_declaration w [] = w
+with_declaration w (head ∷ []) = w
+with_declaration w (head ∷ n ∷ more) = with_head w (symbol_of head) n more
+
+abbrev pub with_declarations : World → List Datum → World
+with_declarations w [] = w
+with_declarations w (d ∷ ds) = with_declarations (with_declaration w (parts_of d)) ds
+
+abbrev pub nothing_declared : World
+nothing_declared = record { callees = []; records = []; slots = [] }
+
+abbrev pub world_of : List Datum → World
+world_of ds = with_declarations nothing_declared ds
+
+-- ---- what a name stands for
+
+-- a function, with the count of its parameters where that can be told
+abbrev pub function_count : Option Callee → Option (Option ℕ)
+function_count None = None
+function_count (Some c) = elim c.kind [ Function ↦ Some c.count | Display ↦ None ]
+
+abbrev pub display_count : Option Callee → Option (Option ℕ)
+display_count None = None
+display_count (Some c) = elim c.kind [ Function ↦ None | Display ↦ Some c.count ]
+
+-- an operator keeps its meaning
+abbrev pub function_in : World → List ℕ → Option (Option ℕ)
+function_in w x = if is_operator x then None else function_count (named x w.callees)
+
+abbrev pub display_in : World → List ℕ → Option (Option ℕ)
+display_in w x = if is_operator x then None else display_count (named x w.callees)
+
+abbrev pub record_count : Option RecordHead → Option (Option ℕ)
+record_count None = None
+record_count (Some r) = Some r.count
+
+-- a standard type keeps its meaning
+abbrev pub record_in : World → List ℕ → Option (Option ℕ)
+record_in w x = if is_standard_type x then None else record_count (named x w.records)
+
+abbrev pub slot_in : World → List ℕ → Bool
+slot_in w x = is_some (named x w.slots)

@@ -1,0 +1,332 @@
+//! What the outermost forms of a text declare, whether they are right or not.
+ghost use Rattle.std.specs.Prelude.{◌≡◌, ◌∷◌, [], IfOk, OnOk, map, option_map};
+ghost use Rattle.cl_forms.specs.DatumView.{datum_of};
+ghost use Rattle.cl_forms.specs.World.{names_counted, are_names, name_in, symbol_of, list_counted, parameters_counted, with_callee, with_record, with_slot, with_slot_of, with_slots, with_section, with_sections, with_head, with_declaration, with_declarations, world_of, nothing_declared, function_in, display_in, function_count, display_count, record_in, record_count, slot_in};
+
+use crate::datum::Datum;
+use crate::type_names::is_standard_type;
+use crate::words::{is_name, is_operator};
+use cl_syntax::{Declared, Table};
+use cl_value::Text;
+use std::alloc::{AllocError, Global};
+
+/// What the forms of a text may name.
+#[derive(Drop)]
+pub struct World {
+    pub callees: Table<Callee>,
+    pub records: Table<RecordHead>,
+    pub slots: Table<SlotHead>,
+}
+
+#[derive(Clone, Copy)]
+pub enum CalleeKind {
+    Function,
+    Display,
+}
+
+/// A function or a display, with the count of its parameters where that can be told.
+#[derive(Drop)]
+pub struct Callee {
+    pub name: Text,
+    pub kind: CalleeKind,
+    pub count: Option<usize>,
+}
+
+/// A record, with the count of its fields where that can be told.
+#[derive(Drop)]
+pub struct RecordHead {
+    pub name: Text,
+    pub count: Option<usize>,
+}
+
+#[derive(Drop)]
+pub struct SlotHead {
+    pub name: Text,
+}
+
+impl Declared for Callee {
+    ghost own_name = { λ c. c.name };
+
+    fn name(&self) -> &Text {
+        &self.name
+    }
+}
+
+impl Declared for RecordHead {
+    ghost own_name = { λ r. r.name };
+
+    fn name(&self) -> &Text {
+        &self.name
+    }
+}
+
+impl Declared for SlotHead {
+    ghost own_name = { λ s. s.name };
+
+    fn name(&self) -> &Text {
+        &self.name
+    }
+}
+
+/// What the outermost forms declare.
+pub fn world_of(alloc: Global, forms: &[Datum]) -> Result<World, AllocError>
+    ensures { IfOk result (λ w. w ≡ world_of (map datum_of forms.now)) }
+{
+    let mut world = World {
+        callees: Table::new(alloc),
+        records: Table::new(alloc),
+        slots: Table::new(alloc),
+    };
+    for form in forms {
+        add_declaration(&mut world, form.parts())?;
+    }
+    Ok(world)
+}
+
+fn add_declaration(world: &mut World, parts: &[Datum]) -> Result<(), AllocError>
+    ensures { OnOk result (world.new ≡ with_declaration world.old (map datum_of parts.now)) }
+{
+    match parts {
+        [] => Ok(()),
+        [_] => Ok(()),
+        [head, name, more @ ..] => add_head(world, symbol_of(head), name, more),
+    }
+}
+
+fn add_head(world: &mut World, head: &[u8], name: &Datum, more: &[Datum]) -> Result<(), AllocError>
+    ensures { OnOk result (world.new ≡ with_head world.old head.now (datum_of name.now) (map datum_of more.now)) }
+{
+    if head == b"define-record".as_slice() {
+        add_record(world, name, names_counted(more))
+    } else if head == b"define-function".as_slice() {
+        add_callee(world, CalleeKind::Function, name, parameters_counted(more))
+    } else if head == b"define-display".as_slice() {
+        add_callee(world, CalleeKind::Display, name, parameters_counted(more))
+    } else if head == b"define-application-frame".as_slice() {
+        add_sections(world, more)
+    } else {
+        Ok(())
+    }
+}
+
+fn add_record(world: &mut World, name: &Datum, count: Option<usize>) -> Result<(), AllocError>
+    ensures { OnOk result (world.new ≡ with_record world.old (name_in (datum_of name.now)) count) }
+{
+    let Some(name) = name_in(name) else {
+        return Ok(());
+    };
+    if world.records.get(name).is_some() {
+        return Ok(());
+    }
+    let name = name.copy()?;
+    let record = RecordHead { name, count };
+    world.records.add(record).map_err(|_| AllocError)
+}
+
+fn add_callee(
+    world: &mut World,
+    kind: CalleeKind,
+    name: &Datum,
+    count: Option<usize>,
+) -> Result<(), AllocError>
+    ensures { OnOk result (world.new ≡ with_callee world.old kind (name_in (datum_of name.now)) count) }
+{
+    let Some(name) = name_in(name) else {
+        return Ok(());
+    };
+    if world.callees.get(name).is_some() {
+        return Ok(());
+    }
+    let name = name.copy()?;
+    let callee = Callee { name, kind, count };
+    world.callees.add(callee).map_err(|_| AllocError)
+}
+
+fn add_slot(world: &mut World, parts: &[Datum]) -> Result<(), AllocError>
+    ensures { OnOk result (world.new ≡ with_slot_of world.old (map datum_of parts.now)) }
+{
+    match parts {
+        [] => Ok(()),
+        [name, ..] => add_slot_named(world, name),
+    }
+}
+
+fn add_slot_named(world: &mut World, name: &Datum) -> Result<(), AllocError>
+    ensures { OnOk result (world.new ≡ with_slot world.old (name_in (datum_of name.now))) }
+{
+    let Some(name) = name_in(name) else {
+        return Ok(());
+    };
+    if world.slots.get(name).is_some() {
+        return Ok(());
+    }
+    let name = name.copy()?;
+    world.slots.add(SlotHead { name }).map_err(|_| AllocError)
+}
+
+fn add_slots(world: &mut World, slots: &[Datum]) -> Result<(), AllocError>
+    ensures { OnOk result (world.new ≡ with_slots world.old (map datum_of slots.now)) }
+{
+    for slot in slots {
+        add_slot(world, slot.parts())?;
+    }
+    Ok(())
+}
+
+fn add_section(world: &mut World, parts: &[Datum]) -> Result<(), AllocError>
+    ensures { OnOk result (world.new ≡ with_section world.old (map datum_of parts.now)) }
+{
+    match parts {
+        [] => Ok(()),
+        [key, slots @ ..] => {
+            if symbol_of(key) == b":slots".as_slice() {
+                add_slots(world, slots)
+            } else {
+                Ok(())
+            }
+        }
+    }
+}
+
+fn add_sections(world: &mut World, sections: &[Datum]) -> Result<(), AllocError>
+    ensures { OnOk result (world.new ≡ with_sections world.old (map datum_of sections.now)) }
+{
+    for section in sections {
+        add_section(world, section.parts())?;
+    }
+    Ok(())
+}
+
+/// The name that a datum is: a symbol that is no key and no constant.
+pub fn name_in(datum: &Datum) -> Option<&Text>
+    ensures { option_map (λ n. n.now) result ≡ name_in (datum_of datum.now) }
+{
+    match datum {
+        Datum::Word(word, _) => {
+            if is_name(word.as_slice()) {
+                Some(word)
+            } else {
+                None
+            }
+        }
+        Datum::Number(_, _) => None,
+        Datum::Literal(_, _) => None,
+        Datum::Quoted(_, _, _) => None,
+        Datum::Stray(_) => None,
+        Datum::List(_, _) => None,
+    }
+}
+
+/// The bytes of a symbol, and none of anything else.
+pub fn symbol_of(datum: &Datum) -> &[u8]
+    ensures { result.now ≡ symbol_of (datum_of datum.now) }
+{
+    match datum {
+        Datum::Word(word, _) => word.as_slice(),
+        Datum::Number(_, _) => &[],
+        Datum::Literal(_, _) => &[],
+        Datum::Quoted(_, _, _) => &[],
+        Datum::Stray(_) => &[],
+        Datum::List(_, _) => &[],
+    }
+}
+
+/// Whether all data are names.
+pub fn are_names(parts: &[Datum]) -> bool
+    ensures { result ≡ are_names (map datum_of parts.now) }
+{
+    for part in parts {
+        if name_in(part).is_none() {
+            return false;
+        }
+    }
+    true
+}
+
+fn names_counted(parts: &[Datum]) -> Option<usize>
+    ensures { result ≡ names_counted (map datum_of parts.now) }
+{
+    if are_names(parts) {
+        Some(parts.len())
+    } else {
+        None
+    }
+}
+
+#[tactic(auto, using(crate::proofs::Data::data_in_order))]
+fn list_counted(datum: &Datum) -> Option<usize>
+    ensures { result ≡ list_counted (datum_of datum.now) }
+{
+    match datum {
+        Datum::List(parts, _) => names_counted(parts.as_slice()),
+        Datum::Number(_, _) => None,
+        Datum::Literal(_, _) => None,
+        Datum::Word(_, _) => None,
+        Datum::Quoted(_, _, _) => None,
+        Datum::Stray(_) => None,
+    }
+}
+
+fn parameters_counted(parts: &[Datum]) -> Option<usize>
+    ensures { result ≡ parameters_counted (map datum_of parts.now) }
+{
+    match parts {
+        [] => None,
+        [parameters, ..] => list_counted(parameters),
+    }
+}
+
+impl World {
+    /// The count of a function's parameters; None where there is no such function, and in it None
+    /// where the count cannot be told.
+    pub fn function(&self, name: &Text) -> Option<Option<usize>>
+        ensures { result ≡ function_in self.now name.now }
+    {
+        if is_operator(name.as_slice()) {
+            return None;
+        }
+        match self.callees.get(name) {
+            Some(callee) => match callee.kind {
+                CalleeKind::Function => Some(callee.count),
+                CalleeKind::Display => None,
+            },
+            None => None,
+        }
+    }
+
+    /// The same of a display.
+    pub fn display(&self, name: &Text) -> Option<Option<usize>>
+        ensures { result ≡ display_in self.now name.now }
+    {
+        if is_operator(name.as_slice()) {
+            return None;
+        }
+        match self.callees.get(name) {
+            Some(callee) => match callee.kind {
+                CalleeKind::Display => Some(callee.count),
+                CalleeKind::Function => None,
+            },
+            None => None,
+        }
+    }
+
+    /// The same of a record and its fields.
+    pub fn record_fields(&self, name: &Text) -> Option<Option<usize>>
+        ensures { result ≡ record_in self.now name.now }
+    {
+        if is_standard_type(name.as_slice()) {
+            return None;
+        }
+        match self.records.get(name) {
+            Some(head) => Some(head.count),
+            None => None,
+        }
+    }
+
+    /// Whether there is a slot of this name.
+    pub fn has_slot(&self, name: &Text) -> bool
+        ensures { result ≡ slot_in self.now name.now }
+    {
+        self.slots.get(name).is_some()
+    }
+}
