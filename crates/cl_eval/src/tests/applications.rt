@@ -60,6 +60,7 @@ fn slot_decls(alloc: Global) -> Result<SlotDecls, Fail> {
             name: text(alloc, b"t")?,
         },
         opening: Expr::constant(Value::Int(5)),
+        opening_at: 0,
     };
     let mut slots = SlotDecls::new(alloc);
     match slots.add(count) {
