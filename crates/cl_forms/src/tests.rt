@@ -96,53 +96,53 @@ x => 8 at 0
 (div 1 0) => read";
 
 /// What the reading of an expression answers.
-enum Answer {
+enum Reading {
     Read,
     Refused(u8, u32),
     Memory,
 }
 
 /// The answer to the last form of a text, as an expression without variables.
-fn answer(alloc: Global, text: &[u8]) -> Answer {
+fn answer(alloc: Global, text: &[u8]) -> Reading {
     if text.len() > 4096 {
-        return Answer::Memory;
+        return Reading::Memory;
     }
     let Ok(tokens) = read_forms(alloc, text) else {
-        return Answer::Memory;
+        return Reading::Memory;
     };
     let Ok(forms) = all_forms(alloc, text, tokens.as_slice()) else {
-        return Answer::Memory;
+        return Reading::Memory;
     };
     let Ok(data) = data_in(alloc, forms.as_slice()) else {
-        return Answer::Memory;
+        return Reading::Memory;
     };
     let Ok(world) = world_of(alloc, data.as_slice()) else {
-        return Answer::Memory;
+        return Reading::Memory;
     };
     let Some(last) = data.as_slice().last() else {
-        return Answer::Memory;
+        return Reading::Memory;
     };
     let mut unknown = None;
     match expr_in(alloc, &world, last, &Scope::Empty, &mut unknown) {
         Ok(_) => match unknown {
-            Some(at) => Answer::Refused(8, at),
-            None => Answer::Read,
+            Some(at) => Reading::Refused(8, at),
+            None => Reading::Read,
         },
-        Err(LoadRefusal::Refused(number, at)) => Answer::Refused(number, at),
-        Err(LoadRefusal::Memory) => Answer::Memory,
+        Err(LoadRefusal::Refused(number, at)) => Reading::Refused(number, at),
+        Err(LoadRefusal::Memory) => Reading::Memory,
     }
 }
 
 /// The answer in words, with the offset from the end of the declarations.
-fn words(alloc: Global, answer: Answer) -> Result<String, Fail> {
+fn words(alloc: Global, answer: Reading) -> Result<String, Fail> {
     let start = DECLARATIONS.len() as u32;
     match answer {
-        Answer::Read => Ok(format!(in alloc; "read")?),
-        Answer::Refused(number, at) => {
+        Reading::Read => Ok(format!(in alloc; "read")?),
+        Reading::Refused(number, at) => {
             let offset = at.saturating_sub(start);
             Ok(format!(in alloc; "{number} at {offset}")?)
         }
-        Answer::Memory => Ok(format!(in alloc; "memory")?),
+        Reading::Memory => Ok(format!(in alloc; "memory")?),
     }
 }
 
