@@ -4,6 +4,8 @@
 pub mod displays;
 pub mod drawings;
 pub mod histories;
+#[cfg(test)]
+mod tests;
 
 pub use displays::{Shown, display};
 pub use histories::{History, TextItem};
