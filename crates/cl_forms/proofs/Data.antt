@@ -1,8 +1,8 @@
 -- The data in a row are the data that they were made of.
 use Rattle.std.proofs.Common.{◌≡◌, ◌≤◌, ◌<◌, ℕ, zero, suc, length, map, get_or, List, [], ◌∷◌, refl, ap, arith}
-use Rattle.cl_load.specs.Tree.{weight, weights, trees_of}
-use Rattle.cl_load.specs.Form.{tree_of}
-use Rattle.cl_load.specs.declared.form.Form.{Form}
+use Rattle.cl_forms.specs.Tree.{weight, weights, trees_of}
+use Rattle.cl_forms.specs.Form.{tree_of}
+use Rattle.cl_forms.specs.declared.form.Form.{Form}
 use Rattle.cl_forms.specs.Datum.{Datum, datums_of, in_order}
 use Rattle.cl_forms.specs.Datum as datum
 use Rattle.cl_forms.specs.DatumView.{datum_of}

@@ -1,3 +1,5 @@
+pub mod Reading
+pub mod OneTree
 pub mod Data
 pub mod ScopeLemmas
 pub mod TermRows

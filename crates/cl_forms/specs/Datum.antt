@@ -5,6 +5,7 @@ use Rattle.std.specs.Coded.{Coded, coded_ℕ, coded_ℤ, coded_list}
 use Rattle.std.proofs.Common.{ap}
 use Rattle.std.proofs.lemmas.Bool.{eqb-false}
 use base.Stored.{Gv, gnil, gnum, gcons}
+use Rattle.cl_forms.specs.Tree.{bytes_code, code_head, code_tail, code_number, has_parts}
 
 mutual
   pub data Datum : Type 0 where
@@ -64,9 +65,6 @@ offset (list ds at) = at
 
 -- ---- how the logic stores a datum
 
-abbrev pub bytes_code : List ℕ → Gv
-bytes_code s = (coded_list coded_ℕ).code s
-
 abbrev mutual
   pub code : Datum → Gv
   code (number z at) = gcons (gnum 0) (gcons (coded_ℤ.code z) (gnum at))
@@ -79,26 +77,6 @@ abbrev mutual
   pub codes_of : Datums → Gv
   codes_of none = gnil
   codes_of (item d ds) = gcons (code d) (codes_of ds)
-
-abbrev pub code_head : Gv → Gv
-code_head gnil = gnil
-code_head (gnum n) = gnil
-code_head (gcons a b) = a
-
-abbrev pub code_tail : Gv → Gv
-code_tail gnil = gnil
-code_tail (gnum n) = gnil
-code_tail (gcons a b) = b
-
-abbrev pub code_number : Gv → ℕ
-code_number gnil = 0
-code_number (gnum n) = n
-code_number (gcons a b) = 0
-
-abbrev pub has_parts : Gv → ℕ
-has_parts gnil = 0
-has_parts (gnum n) = 0
-has_parts (gcons a b) = 1
 
 -- the number of a kind
 abbrev pub kind_of : Datum → ℕ

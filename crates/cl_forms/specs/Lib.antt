@@ -1,3 +1,7 @@
+pub mod Tree
+pub mod Form
+pub mod Falls
+pub mod Spelled
 pub mod Words
 pub mod Datum
 pub mod DatumView
@@ -10,3 +14,4 @@ pub mod Scopes
 pub mod Expressions
 pub mod Named
 pub mod TermViews
+pub mod LineNames

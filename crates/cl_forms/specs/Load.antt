@@ -1,7 +1,7 @@
 -- The reading of a form: what it is, and the first name in it that is not declared; or its first fault.
 use Rattle.std.specs.Prelude.{◌≡◌, ℕ, Bool, true, false, Option, Some, None, Result, Ok, Err}
-use Rattle.cl_load.specs.declared.refusals.LoadRefusal.{LoadRefusal}
-use Rattle.cl_load.specs.declared.refusals.LoadRefusal.TheVariants.{Refused, Memory}
+use Rattle.cl_forms.specs.declared.refusals.LoadRefusal.{LoadRefusal}
+use Rattle.cl_forms.specs.declared.refusals.LoadRefusal.TheVariants.{Refused, Memory}
 
 -- the number of a refusal, and its offset
 abbrev pub Fault : Type 0

@@ -2,8 +2,8 @@
 use Rattle.std.specs.Prelude.{◌≡◌, ℕ, List, Option, Some, None, Result, Ok, Err}
 use Rattle.cl_forms.specs.Datum.{Datum}
 use Rattle.cl_forms.specs.World.{name_in}
-use Rattle.cl_load.specs.declared.refusals.LoadRefusal.{LoadRefusal}
-use Rattle.cl_load.specs.declared.refusals.LoadRefusal.TheVariants.{Refused, Memory}
+use Rattle.cl_forms.specs.declared.refusals.LoadRefusal.{LoadRefusal}
+use Rattle.cl_forms.specs.declared.refusals.LoadRefusal.TheVariants.{Refused, Memory}
 
 -- the name, or the refusal of the form at this offset
 abbrev pub NamesPart : Result (List ℕ) LoadRefusal → ℕ → Datum → Type 0

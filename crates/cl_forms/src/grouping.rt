@@ -1,14 +1,14 @@
 //! The data that the forms of a text are.
 ghost use Rattle.std.specs.Prelude.{◌≡◌, ◌++◌, IfOk, OnOk, map};
-ghost use Rattle.cl_load.specs.Tree.{trees_of};
-ghost use Rattle.cl_load.specs.Form.{tree_of};
+ghost use Rattle.cl_forms.specs.Tree.{trees_of};
+ghost use Rattle.cl_forms.specs.Form.{tree_of};
 ghost use Rattle.cl_forms.specs.DatumView.{datum_of};
 ghost use Rattle.cl_forms.specs.declared.grouping.Waiting.TheVariants.{Nothing};
 ghost use Rattle.cl_forms.specs.Grouped.{one_more, waits, waits_after, behind, symbol_behind, symbol_taken, left_over, taken, grouped};
 
 use crate::datum::{Datum, Datums};
+use crate::form::Form;
 use crate::words::{is_constant, is_quote};
-use cl_load::Form;
 use cl_value::Text;
 use std::alloc::{AllocError, Global};
 

@@ -6,8 +6,8 @@ ghost use Rattle.cl_forms.specs.Expressions.{fits};
 ghost use Rattle.cl_forms.specs.Named.{NamesPart};
 
 use crate::datum::Datum;
+use crate::refusals::LoadRefusal;
 use crate::worlds::name_in;
-use cl_load::LoadRefusal;
 use cl_value::Text;
 
 /// The name that a datum is, where the form at this offset asks for one.

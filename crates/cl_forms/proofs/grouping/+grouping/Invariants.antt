@@ -1,6 +1,6 @@
 use Rattle.std.proofs.Common.{◌≡◌, ◌+◌, ◌*◌, ◌++◌, drop, map}
-use Rattle.cl_load.specs.Tree.{weight, weights, trees_of}
-use Rattle.cl_load.specs.Form.{tree_of}
+use Rattle.cl_forms.specs.Tree.{weight, weights, trees_of}
+use Rattle.cl_forms.specs.Form.{tree_of}
 use Rattle.cl_forms.specs.Grouped.{grouped}
 use Rattle.cl_forms.specs.declared.grouping.Waiting.TheVariants.{Nothing}
 use Rattle.cl_forms.proofs.grouping.+grouping.Given as goal

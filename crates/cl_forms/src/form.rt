@@ -1,6 +1,6 @@
 //! The tree of forms of a text.
 ghost use Rattle.std.specs.Prelude.{◌≡◌, ◌++◌, ◌∷◌, [], OnOk, OnErr, map};
-ghost use Rattle.cl_load.specs.Form.{tree_of};
+ghost use Rattle.cl_forms.specs.Form.{tree_of};
 
 use cl_value::Text;
 use std::alloc::{AllocFailed, Global};
@@ -28,19 +28,19 @@ pub struct Forms {
 impl Model for Forms {
     ghost use Rattle.std.specs.Prelude.{List, map};
     ghost use Rattle.std.specs.Coded.{coded_list};
-    ghost use Rattle.cl_load.specs.Tree.{Tree, tree_code, trees_of, weights};
+    ghost use Rattle.cl_forms.specs.Tree.{Tree, tree_code, trees_of, weights};
 
     ghost Value = { List Tree };
 
     ghost coded = { coded_list tree_code };
 
-    ghost use Rattle.cl_load.specs.Form.{tree_of};
+    ghost use Rattle.cl_forms.specs.Form.{tree_of};
 
     ghost view = { λ a. map tree_of a.items.items };
 
     ghost size = { λ ts. weights (trees_of ts) };
 
-    ghost use Rattle.cl_load.specs.Falls.{forms-weight};
+    ghost use Rattle.cl_forms.specs.Falls.{forms-weight};
 
     ghost size_decreases = { λ a h. forms-weight a };
 }
