@@ -1,0 +1,89 @@
+-- Entries of a table by name.
+use Rattle.std.proofs.Common.{◌≡◌, ◌≤◌, ◌+◌, ◌++◌, ◌==◌, ℕ, Bool, true, false, cond, List, [], ◌∷◌, Option, Some, None, refl, sym, ap, ◌∙◌, arith}
+use Rattle.std.specs.Prelude.{is_some}
+use Rattle.std.specs.Cmp.Lexicographic.{pointwise}
+use Rattle.std.proofs.lemmas.Slice.Eq.{bytes_eq-Decides}
+use Rattle.cl_syntax.specs.Names.{named}
+
+pub same_name : (x y : List ℕ) → pointwise ◌==◌ x y ≡ true → x ≡ y
+same_name x y h = (bytes_eq-Decides x y).0 h
+
+pub own_name : (x : List ℕ) → pointwise ◌==◌ x x ≡ true
+own_name x = (bytes_eq-Decides x x).1 refl
+
+module _ {D : Type 0} where
+  abbrev pub has : List ℕ → List (List ℕ × D) → Bool
+  has x es = is_some (named x es)
+
+  has_front : (b : Bool) (d : D) (o o' : Option D) → (is_some o ≡ true → is_some o' ≡ true) → is_some (cond b (Some d) o) ≡ true → is_some (cond b (Some d) o') ≡ true
+  has_front true d o o' more h = refl
+  has_front false d o o' more h = more h
+
+  -- what is there stays
+  pub has_more : (x : List ℕ) (es more : List (List ℕ × D)) → has x es ≡ true → has x (es ++ more) ≡ true
+  has_more x [] more h = cc
+  has_more x (e ∷ es) more h = has_front (pointwise ◌==◌ x e.0) e.1 (named x es) (named x (es ++ more)) (has_more x es more) h
+
+  has_here : (b : Bool) (d : D) (o : Option D) → b ≡ true → is_some (cond b (Some d) o) ≡ true
+  has_here true d o h = refl
+  has_here false d o h = cc
+
+  has_there : (b : Bool) (d : D) (o : Option D) → is_some o ≡ true → is_some (cond b (Some d) o) ≡ true
+  has_there true d o h = refl
+  has_there false d o h = h
+
+  -- what was added is there
+  pub has_last : (x : List ℕ) (d : D) (es : List (List ℕ × D)) → has x (es ++ (x, d) ∷ []) ≡ true
+  has_last x d [] = has_here (pointwise ◌==◌ x x) d None (own_name x)
+  has_last x d (e ∷ es) = has_there (pointwise ◌==◌ x e.0) e.1 (named x (es ++ (x, d) ∷ [])) (has_last x d es)
+
+-- how many of a table's names are not among others
+abbrev pub one_unless : Bool → ℕ
+one_unless true = 0
+one_unless false = 1
+
+one_less : (a b : Bool) → (a ≡ true → b ≡ true) → one_unless b ≤ one_unless a
+one_less true true h = omega arith
+one_less true false h = let no : false ≡ true = h refl in cc
+one_less false true h = omega arith
+one_less false false h = omega arith
+
+none_left : (b : Bool) → b ≡ true → one_unless b ≡ 0
+none_left true h = refl
+none_left false h = cc
+
+one_left : (b : Bool) → b ≡ false → one_unless b ≡ 1
+one_left true h = cc
+one_left false h = refl
+
+module _ {C D : Type 0} where
+  abbrev pub missing : List (List ℕ × C) → List (List ℕ × D) → ℕ
+  missing [] es = 0
+  missing (c ∷ cs) es = one_unless (has c.0 es) + missing cs es
+
+  pub missing_more : (cs : List (List ℕ × C)) (es more : List (List ℕ × D)) → missing cs (es ++ more) ≤ missing cs es
+  missing_more [] es more = omega arith
+  missing_more (c ∷ cs) es more =
+      omega (arith, missing_more cs es more, one_less (has c.0 es) (has c.0 (es ++ more)) (has_more c.0 es more))
+
+  missing_head : (x : List ℕ) (d : D) (c : List ℕ × C) (cs : List (List ℕ × C)) (es : List (List ℕ × D)) → x ≡ c.0 → has x es ≡ false
+      → missing (c ∷ cs) (es ++ (x, d) ∷ []) + 1 ≤ missing (c ∷ cs) es
+  missing_head x d c cs es e h =
+      let here : one_unless (has c.0 (es ++ (x, d) ∷ [])) ≡ 0 = none_left (has c.0 (es ++ (x, d) ∷ [])) (ap (λ (y : List ℕ). has y (es ++ (x, d) ∷ [])) (sym e) ∙ has_last x d es) in
+      let before : one_unless (has c.0 es) ≡ 1 = one_left (has c.0 es) (ap (λ (y : List ℕ). has y es) (sym e) ∙ h) in
+      omega (arith, missing_more cs es ((x, d) ∷ []), here, before)
+
+  missing_by : (b : Bool) (x : List ℕ) (d : D) (c : List ℕ × C) (cs : List (List ℕ × C)) (es : List (List ℕ × D)) → pointwise ◌==◌ x c.0 ≡ b
+      → is_some (cond b (Some c.1) (named x cs)) ≡ true → has x es ≡ false
+      → (has x cs ≡ true → missing cs (es ++ (x, d) ∷ []) + 1 ≤ missing cs es)
+      → missing (c ∷ cs) (es ++ (x, d) ∷ []) + 1 ≤ missing (c ∷ cs) es
+  missing_by true x d c cs es same h new rest = missing_head x d c cs es (same_name x c.0 same) new
+  missing_by false x d c cs es same h new rest =
+      omega (arith, rest h, one_less (has c.0 es) (has c.0 (es ++ (x, d) ∷ [])) (has_more c.0 es ((x, d) ∷ [])))
+
+  -- one fewer, where a name of the table is added
+  pub missing_less : (x : List ℕ) (d : D) (cs : List (List ℕ × C)) (es : List (List ℕ × D)) → has x cs ≡ true → has x es ≡ false
+      → missing cs (es ++ (x, d) ∷ []) + 1 ≤ missing cs es
+  missing_less x d [] es h new = cc
+  missing_less x d (c ∷ cs) es h new =
+      missing_by (pointwise ◌==◌ x c.0) x d c cs es refl h new (λ there. missing_less x d cs es there new)

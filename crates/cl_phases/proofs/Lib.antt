@@ -1,0 +1,6 @@
+pub mod Parts
+pub mod Entries
+pub mod SlotSearch
+pub mod UseLemmas
+pub mod EarlierLemmas
+pub mod RepeatLemmas

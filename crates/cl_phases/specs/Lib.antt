@@ -1,0 +1,6 @@
+pub mod SlotReads
+pub mod Earlier
+pub mod Limits
+pub mod Repeats
+pub mod DeclaredNames
+pub mod Twice

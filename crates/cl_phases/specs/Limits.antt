@@ -1,0 +1,63 @@
+-- What is past a limit in the outermost forms of a text: lengths of symbols and texts, counts of forms and of their parts.
+use Rattle.std.specs.Prelude.{ℕ, nat_lt, if◌then◌else◌, List, [], ◌∷◌, length, slice_get, Option, Some, None, codes}
+use Rattle.std.specs.Str.{bytes_eq}
+use Rattle.cl_forms.specs.Datum.{Datum, Datums, number, literal, word, quoted, stray, list, none, item, datums_of, offset, parts_of}
+use Rattle.cl_forms.specs.World.{symbol_of}
+use Rattle.cl_phases.specs.Earlier.{earlier, at_if}
+
+-- a symbol has at most 64 bytes, a text 4,096
+abbrev mutual
+  pub long_in : Datum → Option ℕ
+  long_in (number z at) = None
+  long_in (literal s at) = at_if (nat_lt 4096 (length s)) at
+  long_in (word s at) = at_if (nat_lt 64 (length s)) at
+  long_in (quoted s at name_at) = at_if (nat_lt 64 (length s)) name_at
+  long_in (stray at) = None
+  long_in (list ds at) = long_among ds
+
+  pub long_among : Datums → Option ℕ
+  long_among none = None
+  long_among (item d ds) = earlier (long_in d) (long_among ds)
+
+abbrev pub offset_in : Option Datum → Option ℕ
+offset_in None = None
+offset_in (Some d) = Some (offset d)
+
+-- the first of more than so many
+abbrev pub past : ℕ → List Datum → Option ℕ
+past count ds = offset_in (slice_get ds count)
+
+-- a function or a display has at most 16 parameters, which stand first behind its name
+abbrev pub past_parameters : List Datum → Option ℕ
+past_parameters [] = None
+past_parameters (d ∷ ds) = past 16 (parts_of d)
+
+-- a frame has at most 256 slots
+abbrev pub past_section : List Datum → Option ℕ
+past_section [] = None
+past_section (key ∷ slots) = if bytes_eq (symbol_of key) (codes ":slots") then past 256 slots else None
+
+abbrev pub past_sections : List Datum → Option ℕ
+past_sections [] = None
+past_sections (d ∷ ds) = earlier (past_section (parts_of d)) (past_sections ds)
+
+-- a record has at most 16 fields
+abbrev pub past_head : List ℕ → List Datum → Option ℕ
+past_head head more =
+    if bytes_eq head (codes "define-record") then past 16 more
+    else (if bytes_eq head (codes "define-function") then past_parameters more
+    else (if bytes_eq head (codes "define-display") then past_parameters more
+    else (if bytes_eq head (codes "define-application-frame") then past_sections more else None)))
+
+abbrev pub past_declaration : List Datum → Option ℕ
+past_declaration [] = None
+past_declaration (head ∷ []) = None
+past_declaration (head ∷ name ∷ more) = past_head (symbol_of head) more
+
+abbrev pub past_declarations : List Datum → Option ℕ
+past_declarations [] = None
+past_declarations (d ∷ ds) = earlier (past_declaration (parts_of d)) (past_declarations ds)
+
+-- a text has at most 4,096 outermost forms
+abbrev pub first_past : List Datum → Option ℕ
+first_past ds = earlier (past 4096 ds) (earlier (long_among (datums_of ds)) (past_declarations ds))

@@ -1,0 +1,139 @@
+//! Lengths and counts that are past their limits.
+ghost use Rattle.std.specs.Prelude.{◌≡◌, map};
+ghost use Rattle.cl_forms.specs.Datum.{datums_of};
+ghost use Rattle.cl_forms.specs.DatumView.{datum_of};
+ghost use Rattle.cl_phases.specs.Limits.{first_past, long_among, long_in, past, past_declaration, past_declarations, past_head, past_parameters, past_section, past_sections};
+
+use crate::earlier::{at_if, earlier};
+use cl_forms::{Datum, symbol_of};
+
+/// The most bytes of a symbol.
+const LONGEST_SYMBOL: usize = 64;
+/// The most bytes of a literal text.
+const LONGEST_TEXT: usize = 4_096;
+/// The most outermost forms.
+const MOST_FORMS: usize = 4_096;
+/// The most fields of a record, and the most parameters of a function or a display.
+const MOST_NAMES: usize = 16;
+/// The most slots of a frame.
+const MOST_SLOTS: usize = 256;
+
+/// The least offset of what is past a limit: a symbol or a text that is too long, and the first
+/// form, field, parameter or slot that is one too many.
+pub fn first_past(forms: &[Datum]) -> Option<u32>
+    ensures { result ≡ first_past (map datum_of forms.now) }
+{
+    let long = long_among(forms);
+    let counted = past_declarations(forms);
+    earlier(past(MOST_FORMS, forms), earlier(long, counted))
+}
+
+/// The first symbol or text in a datum that is too long.
+#[cycle(long)]
+fn long_in(datum: &Datum) -> Option<u32>
+    ensures { result ≡ long_in (datum_of datum.now) }
+{
+    match datum {
+        Datum::Number(_, _) => None,
+        Datum::Literal(text, at) => at_if(text.as_slice().len() > LONGEST_TEXT, *at),
+        Datum::Word(word, at) => at_if(word.as_slice().len() > LONGEST_SYMBOL, *at),
+        Datum::Quoted(name, _, at) => at_if(name.as_slice().len() > LONGEST_SYMBOL, *at),
+        Datum::Stray(_) => None,
+        Datum::List(parts, _) => long_among(parts.as_slice()),
+    }
+}
+
+#[cycle(long)]
+#[tactic(auto, using(cl_forms::proofs::Data::datum_weighs, crate::proofs::EarlierLemmas::earlier_assoc, crate::proofs::EarlierLemmas::earlier_none))]
+fn long_among(parts: &[Datum]) -> Option<u32>
+    ensures { result ≡ long_among (datums_of (map datum_of parts.now)) }
+{
+    let mut first = None;
+    for part in parts {
+        first = earlier(first, long_in(part));
+    }
+    first
+}
+
+/// The first part behind so many.
+fn past(count: usize, parts: &[Datum]) -> Option<u32>
+    ensures { result ≡ past count (map datum_of parts.now) }
+{
+    match parts.get(count) {
+        Some(part) => Some(part.offset()),
+        None => None,
+    }
+}
+
+/// The first declaration's part that is one too many.
+#[tactic(auto, using(crate::proofs::EarlierLemmas::earlier_assoc, crate::proofs::EarlierLemmas::earlier_none))]
+fn past_declarations(forms: &[Datum]) -> Option<u32>
+    ensures { result ≡ past_declarations (map datum_of forms.now) }
+{
+    let mut first = None;
+    for form in forms {
+        first = earlier(first, past_declaration(form.parts()));
+    }
+    first
+}
+
+fn past_declaration(parts: &[Datum]) -> Option<u32>
+    ensures { result ≡ past_declaration (map datum_of parts.now) }
+{
+    match parts {
+        [] => None,
+        [_] => None,
+        [head, _, more @ ..] => past_head(symbol_of(head), more),
+    }
+}
+
+fn past_head(head: &[u8], more: &[Datum]) -> Option<u32>
+    ensures { result ≡ past_head head.now (map datum_of more.now) }
+{
+    if head == b"define-record".as_slice() {
+        past(MOST_NAMES, more)
+    } else if head == b"define-function".as_slice() {
+        past_parameters(more)
+    } else if head == b"define-display".as_slice() {
+        past_parameters(more)
+    } else if head == b"define-application-frame".as_slice() {
+        past_sections(more)
+    } else {
+        None
+    }
+}
+
+fn past_parameters(more: &[Datum]) -> Option<u32>
+    ensures { result ≡ past_parameters (map datum_of more.now) }
+{
+    match more {
+        [] => None,
+        [parameters, ..] => past(MOST_NAMES, parameters.parts()),
+    }
+}
+
+#[tactic(auto, using(crate::proofs::EarlierLemmas::earlier_assoc, crate::proofs::EarlierLemmas::earlier_none))]
+fn past_sections(sections: &[Datum]) -> Option<u32>
+    ensures { result ≡ past_sections (map datum_of sections.now) }
+{
+    let mut first = None;
+    for section in sections {
+        first = earlier(first, past_section(section.parts()));
+    }
+    first
+}
+
+fn past_section(parts: &[Datum]) -> Option<u32>
+    ensures { result ≡ past_section (map datum_of parts.now) }
+{
+    match parts {
+        [] => None,
+        [key, slots @ ..] => {
+            if symbol_of(key) == b":slots".as_slice() {
+                past(MOST_SLOTS, slots)
+            } else {
+                None
+            }
+        }
+    }
+}

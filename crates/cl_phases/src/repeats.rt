@@ -1,0 +1,57 @@
+//! Names that stand twice among names.
+ghost use Rattle.std.specs.Prelude.{◌≡◌, ◌∷◌, ◌++◌, [], None, IfOk, OnOk, is_some};
+ghost use Rattle.cl_syntax.specs.Names.{named};
+ghost use Rattle.cl_phases.specs.Repeats.{first_repeated};
+
+use cl_syntax::{Declared, Table};
+use cl_value::Text;
+use std::alloc::{AllocError, Global};
+
+/// A name, with its offset.
+#[derive(Drop)]
+pub struct NameAt {
+    pub name: Text,
+    pub at: u32,
+}
+
+/// A name that was met.
+#[derive(Drop)]
+struct Met {
+    name: Text,
+}
+
+impl Declared for Met {
+    ghost own_name = { λ m. m.name };
+
+    fn name(&self) -> &Text {
+        &self.name
+    }
+}
+
+/// The offset of the first name that stands before it too.
+pub fn first_repeated(alloc: Global, names: &[NameAt]) -> Result<Option<u32>, AllocError>
+    ensures { IfOk result (λ r. r ≡ first_repeated names.now) }
+{
+    let mut met = Table::new(alloc);
+    for name in names {
+        if was_met(&met, &name.name) {
+            return Ok(Some(name.at));
+        }
+        add_met(&mut met, &name.name)?;
+    }
+    Ok(None)
+}
+
+fn was_met(met: &Table<Met>, name: &Text) -> bool
+    ensures { result ≡ is_some (named name.now met.now) }
+{
+    met.get(name).is_some()
+}
+
+fn add_met(met: &mut Table<Met>, name: &Text) -> Result<(), AllocError>
+    requires { named name.now met.old ≡ None }
+    ensures { OnOk result (met.new ≡ met.old ++ (name.now, record { name = name.now }) ∷ []) }
+{
+    let name = name.copy()?;
+    met.add(Met { name }).map_err(|_| AllocError)
+}

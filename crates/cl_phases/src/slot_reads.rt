@@ -1,0 +1,208 @@
+//! Whether an expression reads a slot, through calls too.
+ghost use Rattle.std.specs.Prelude.{◌≡◌, ◌↔◌, ◌++◌, IfOk, IsTrue, OnOk, option_map};
+ghost use Rattle.cl_syntax.specs.Term.{terms_of};
+ghost use Rattle.cl_syntax.specs.Expr.{bindings_of};
+ghost use Rattle.cl_phases.specs.SlotReads.{ReadsSlot, body_at, calls, calls_among, calls_bound, names_slot, names_slot_among, names_slot_bound, with_call, with_calls};
+
+use cl_syntax::{Binding, Declared, Expr, ExprKind, Functions, Names, Table};
+use cl_value::Text;
+use std::alloc::{AllocError, Global};
+
+/// A function that is reached through calls.
+#[derive(Drop)]
+struct Reached {
+    name: Text,
+}
+
+impl Declared for Reached {
+    ghost own_name = { λ r. r.name };
+
+    fn name(&self) -> &Text {
+        &self.name
+    }
+}
+
+/// Whether a slot stands in the expression, or in the body of a function that is reached from it
+/// through calls. Each body is looked at once.
+pub fn reads_slot(alloc: Global, functions: &Functions, expr: &Expr) -> Result<bool, AllocError>
+    ensures { IfOk result (λ b. IsTrue b ↔ ReadsSlot functions.now expr.now) }
+{
+    if names_slot(expr) {
+        return Ok(true);
+    }
+    let mut reached = Table::new(alloc);
+    reach(alloc, functions, expr, &mut reached)?;
+    let mut place = 0;
+    while place < reached.len() {
+        let Some(body) = body_at(functions, &reached, place) else {
+            unreachable!()
+        };
+        if names_slot(body) {
+            return Ok(true);
+        }
+        reach(alloc, functions, body, &mut reached)?;
+        place += 1;
+    }
+    Ok(false)
+}
+
+/// The body of the function that was reached at a place.
+fn body_at<'a>(functions: &'a Functions, reached: &Table<Reached>, place: usize) -> Option<&'a Expr>
+    ensures { option_map (λ e. e.now) result ≡ body_at functions.now reached.now place }
+{
+    match reached.at(place) {
+        Some(one) => match functions.get(&one.name) {
+            Some(function) => Some(&function.body),
+            None => None,
+        },
+        None => None,
+    }
+}
+
+/// Adds the functions that an expression calls.
+fn reach(
+    alloc: Global,
+    functions: &Functions,
+    expr: &Expr,
+    reached: &mut Table<Reached>,
+) -> Result<(), AllocError>
+    ensures { OnOk result (reached.new ≡ with_calls functions.now (calls expr.now) reached.old) }
+{
+    let mut names = Names::new(alloc);
+    add_calls(expr, &mut names)?;
+    for name in names.as_slice() {
+        add_reached(functions, name, reached)?;
+    }
+    Ok(())
+}
+
+fn add_reached(
+    functions: &Functions,
+    name: &Text,
+    reached: &mut Table<Reached>,
+) -> Result<(), AllocError>
+    ensures { OnOk result (reached.new ≡ with_call functions.now name.now reached.old) }
+{
+    if functions.get(name).is_none() {
+        return Ok(());
+    }
+    if reached.get(name).is_some() {
+        return Ok(());
+    }
+    let name = name.copy()?;
+    reached.add(Reached { name }).map_err(|_| AllocError)
+}
+
+/// Whether a slot stands in the expression.
+#[cycle(names_slot)]
+fn names_slot(expr: &Expr) -> bool
+    ensures { result ≡ names_slot expr.now }
+{
+    match &expr.kind {
+        ExprKind::Constant(_) => false,
+        ExprKind::Variable(_) => false,
+        ExprKind::Slot(_) => true,
+        ExprKind::If(test, then, other) => {
+            names_slot(test) || names_slot(then) || names_slot(other)
+        }
+        ExprKind::Let(bindings, body) => names_slot_bound(bindings) || names_slot(body),
+        ExprKind::And(parts) => names_slot_among(parts),
+        ExprKind::Or(parts) => names_slot_among(parts),
+        ExprKind::Map(_, list, body) => names_slot(list) || names_slot(body),
+        ExprKind::Filter(_, list, body) => names_slot(list) || names_slot(body),
+        ExprKind::Fold(_, list, _, opening, body) => {
+            names_slot(list) || names_slot(opening) || names_slot(body)
+        }
+        ExprKind::Operation(_, parts) => names_slot_among(parts),
+        ExprKind::Call(_, parts) => names_slot_among(parts),
+    }
+}
+
+#[cycle(names_slot)]
+#[tactic(auto, using(crate::proofs::Parts::part_nodes))]
+fn names_slot_among(parts: &[Expr]) -> bool
+    ensures { result ≡ names_slot_among (terms_of parts.now) }
+{
+    for part in parts {
+        if names_slot(part) {
+            return true;
+        }
+    }
+    false
+}
+
+#[cycle(names_slot)]
+#[tactic(auto, using(crate::proofs::Parts::binding_nodes))]
+fn names_slot_bound(bindings: &[Binding]) -> bool
+    ensures { result ≡ names_slot_bound (bindings_of bindings.now) }
+{
+    for binding in bindings {
+        if names_slot(&binding.value) {
+            return true;
+        }
+    }
+    false
+}
+
+/// Adds the names of the functions that an expression calls.
+#[cycle(add_calls)]
+fn add_calls(expr: &Expr, names: &mut Names) -> Result<(), AllocError>
+    ensures { OnOk result (names.new ≡ names.old ++ calls expr.now) }
+{
+    match &expr.kind {
+        ExprKind::Constant(_) => Ok(()),
+        ExprKind::Variable(_) => Ok(()),
+        ExprKind::Slot(_) => Ok(()),
+        ExprKind::If(test, then, other) => {
+            add_calls(test, names)?;
+            add_calls(then, names)?;
+            add_calls(other, names)
+        }
+        ExprKind::Let(bindings, body) => {
+            add_calls_bound(bindings, names)?;
+            add_calls(body, names)
+        }
+        ExprKind::And(parts) => add_calls_among(parts, names),
+        ExprKind::Or(parts) => add_calls_among(parts, names),
+        ExprKind::Map(_, list, body) => {
+            add_calls(list, names)?;
+            add_calls(body, names)
+        }
+        ExprKind::Filter(_, list, body) => {
+            add_calls(list, names)?;
+            add_calls(body, names)
+        }
+        ExprKind::Fold(_, list, _, opening, body) => {
+            add_calls(list, names)?;
+            add_calls(opening, names)?;
+            add_calls(body, names)
+        }
+        ExprKind::Operation(_, parts) => add_calls_among(parts, names),
+        ExprKind::Call(name, parts) => {
+            names.push(name.copy()?)?;
+            add_calls_among(parts, names)
+        }
+    }
+}
+
+#[cycle(add_calls)]
+#[tactic(auto, using(crate::proofs::Parts::part_nodes))]
+fn add_calls_among(parts: &[Expr], names: &mut Names) -> Result<(), AllocError>
+    ensures { OnOk result (names.new ≡ names.old ++ calls_among (terms_of parts.now)) }
+{
+    for part in parts {
+        add_calls(part, names)?;
+    }
+    Ok(())
+}
+
+#[cycle(add_calls)]
+#[tactic(auto, using(crate::proofs::Parts::binding_nodes))]
+fn add_calls_bound(bindings: &[Binding], names: &mut Names) -> Result<(), AllocError>
+    ensures { OnOk result (names.new ≡ names.old ++ calls_bound (bindings_of bindings.now)) }
+{
+    for binding in bindings {
+        add_calls(&binding.value, names)?;
+    }
+    Ok(())
+}
