@@ -1,0 +1,6 @@
+pub mod BodySteps
+pub mod DisplayRows
+pub mod CommandRows
+pub mod FrameRows
+pub mod DatumLists
+pub mod DeclareSteps

@@ -1,0 +1,6 @@
+pub mod Displays
+pub mod Commands
+pub mod SlotTypes
+pub mod Leaves
+pub mod Frames
+pub mod Declarations

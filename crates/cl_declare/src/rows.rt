@@ -1,0 +1,225 @@
+//! Records, functions, displays and commands, as forms declare them.
+ghost use Rattle.std.specs.Prelude.{◌≡◌, ◌∷◌, [], map};
+ghost use Rattle.cl_forms.specs.DatumView.{datum_of};
+ghost use Rattle.cl_forms.specs.Load.{Gives, Unknown, itself};
+ghost use Rattle.cl_declare.specs.Declarations.{record_row, function_row, display_row, command_row, command_headed, command_listed, command_named, none_yet};
+ghost use Rattle.cl_declare.specs.Leaves.{Notes};
+
+use crate::display_forms::shapes_in;
+use crate::parts::{behind_first, first_symbol, is_command_head, is_list, is_name_list, names_in};
+use crate::statements::acts_in;
+use cl_forms::{
+    Datum, LoadRefusal, Scope, World, are_names, expr_in, is_name, line_name_of, name_in, symbol_of,
+};
+use cl_syntax::{CommandDecl, DisplayDecl, FunctionDecl, RecordDecl};
+use cl_value::Text;
+use std::alloc::Global;
+
+/// `(define-record NAME FIELD FIELD ...)`
+pub fn record_row(alloc: Global, at: u32, parts: &[Datum]) -> Result<RecordDecl, LoadRefusal>
+    ensures { (u : Unknown) → Gives itself result u (record_row at (map datum_of parts.now) u) }
+{
+    match parts {
+        [] => Err(LoadRefusal::Refused(6, at)),
+        [_] => Err(LoadRefusal::Refused(6, at)),
+        [name, fields @ ..] => {
+            if !are_names(parts) {
+                return Err(LoadRefusal::Refused(6, at));
+            }
+            Ok(RecordDecl {
+                name: Text::from_slice(alloc, symbol_of(name))?,
+                fields: names_in(alloc, fields)?,
+                at,
+            })
+        }
+    }
+}
+
+/// `(define-function NAME (PARAMETER ...) BODY)`
+#[tactic(auto, using(crate::proofs::FrameRows::function_counts))]
+pub fn function_row(
+    alloc: Global,
+    world: &World,
+    at: u32,
+    parts: &[Datum],
+    unknown: &mut Option<u32>,
+) -> Result<FunctionDecl, LoadRefusal>
+    ensures { Gives itself result unknown.new (function_row world.now at (map datum_of parts.now) unknown.old) }
+{
+    match parts {
+        [name, parameters, body] => {
+            if name_in(name).is_none() || !is_name_list(parameters) {
+                return Err(LoadRefusal::Refused(6, at));
+            }
+            let parameters = names_in(alloc, parameters.parts())?;
+            let variables = Scope::Names(parameters.as_slice(), &Scope::Empty);
+            let body = expr_in(alloc, world, body, &variables, unknown)?;
+            Ok(FunctionDecl {
+                name: Text::from_slice(alloc, symbol_of(name))?,
+                parameters,
+                body,
+                at,
+            })
+        }
+        [] => Err(LoadRefusal::Refused(6, at)),
+        [_] => Err(LoadRefusal::Refused(6, at)),
+        [_, _] => Err(LoadRefusal::Refused(6, at)),
+        [_, _, _, _, ..] => Err(LoadRefusal::Refused(6, at)),
+    }
+}
+
+/// `(define-display NAME (PARAMETER ...) FORM ...)`
+pub fn display_row(
+    alloc: Global,
+    world: &World,
+    at: u32,
+    parts: &[Datum],
+    unknown: &mut Option<u32>,
+) -> Result<DisplayDecl, LoadRefusal>
+    ensures { Gives itself result unknown.new (display_row world.now at (map datum_of parts.now) unknown.old) }
+{
+    match parts {
+        [] => Err(LoadRefusal::Refused(6, at)),
+        [_] => Err(LoadRefusal::Refused(6, at)),
+        [name, parameters, body @ ..] => {
+            if name_in(name).is_none() || !is_name_list(parameters) {
+                return Err(LoadRefusal::Refused(6, at));
+            }
+            let parameters = names_in(alloc, parameters.parts())?;
+            let variables = Scope::Names(parameters.as_slice(), &Scope::Empty);
+            let body = shapes_in(alloc, world, body, &variables, unknown)?;
+            Ok(DisplayDecl {
+                name: Text::from_slice(alloc, symbol_of(name))?,
+                parameters,
+                body,
+                at,
+            })
+        }
+    }
+}
+
+/// `(define-command NAME () STATEMENT ...)`
+pub fn command_row(
+    alloc: Global,
+    world: &World,
+    at: u32,
+    parts: &[Datum],
+    unknown: &mut Option<u32>,
+) -> Result<CommandDecl, LoadRefusal>
+    ensures { Gives itself result unknown.new (command_row world.now at (map datum_of parts.now) unknown.old) }
+{
+    match parts {
+        [] => Err(LoadRefusal::Refused(6, at)),
+        [_] => Err(LoadRefusal::Refused(6, at)),
+        [head, arguments, body @ ..] => {
+            if !is_list(arguments) {
+                return Err(LoadRefusal::Refused(6, at));
+            }
+            command_headed(alloc, world, at, head, arguments, body, unknown)
+        }
+    }
+}
+
+/// The name of a command is `NAME`, or `(NAME KEY VALUE ...)`.
+#[tactic(auto, using(crate::proofs::DatumLists::data_in_order))]
+fn command_headed(
+    alloc: Global,
+    world: &World,
+    at: u32,
+    head: &Datum,
+    arguments: &Datum,
+    body: &[Datum],
+    unknown: &mut Option<u32>,
+) -> Result<CommandDecl, LoadRefusal>
+    ensures { Gives itself result unknown.new (command_headed world.now at (datum_of head.now) (datum_of arguments.now) (map datum_of body.now) unknown.old) }
+{
+    match head {
+        Datum::List(parts, _) => command_listed(
+            alloc,
+            world,
+            at,
+            parts.as_slice(),
+            arguments,
+            body,
+            unknown,
+        ),
+        Datum::Word(word, _) => {
+            if !is_name(word.as_slice()) {
+                return Err(LoadRefusal::Refused(6, at));
+            }
+            command_named(
+                alloc,
+                world,
+                at,
+                word.as_slice(),
+                &[],
+                arguments,
+                body,
+                unknown,
+            )
+        }
+        Datum::Number(_, _) => Err(LoadRefusal::Refused(6, at)),
+        Datum::Literal(_, _) => Err(LoadRefusal::Refused(6, at)),
+        Datum::Quoted(_, _, _) => Err(LoadRefusal::Refused(6, at)),
+        Datum::Stray(_) => Err(LoadRefusal::Refused(6, at)),
+    }
+}
+
+fn command_listed(
+    alloc: Global,
+    world: &World,
+    at: u32,
+    parts: &[Datum],
+    arguments: &Datum,
+    body: &[Datum],
+    unknown: &mut Option<u32>,
+) -> Result<CommandDecl, LoadRefusal>
+    ensures { Gives itself result unknown.new (command_listed world.now at (map datum_of parts.now) (datum_of arguments.now) (map datum_of body.now) unknown.old) }
+{
+    if !is_command_head(parts) {
+        return Err(LoadRefusal::Refused(6, at));
+    }
+    command_named(
+        alloc,
+        world,
+        at,
+        first_symbol(parts),
+        behind_first(parts),
+        arguments,
+        body,
+        unknown,
+    )
+}
+
+/// Keys and arguments are not built yet.
+fn command_named(
+    alloc: Global,
+    world: &World,
+    at: u32,
+    name: &[u8],
+    keys: &[Datum],
+    arguments: &Datum,
+    body: &[Datum],
+    unknown: &mut Option<u32>,
+) -> Result<CommandDecl, LoadRefusal>
+    ensures { Gives itself result unknown.new (command_named world.now at name.now (map datum_of keys.now) (datum_of arguments.now) (map datum_of body.now) unknown.old) }
+{
+    none_yet(keys)?;
+    none_yet(arguments.parts())?;
+    let body = acts_in(alloc, world, body, &Scope::Empty, unknown)?;
+    Ok(CommandDecl {
+        name: Text::from_slice(alloc, name)?,
+        line_name: line_name_of(alloc, name)?,
+        body,
+        at,
+    })
+}
+
+fn none_yet(parts: &[Datum]) -> Result<(), LoadRefusal>
+    ensures { (u : Unknown) → Notes result u (none_yet (map datum_of parts.now) u) }
+{
+    match parts {
+        [] => Ok(()),
+        [part, ..] => Err(LoadRefusal::Refused(0, part.offset())),
+    }
+}
