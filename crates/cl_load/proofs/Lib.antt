@@ -1,7 +1,5 @@
-pub mod Reading
-pub mod OneTree
-pub mod Trees
-pub mod Rows
-pub mod Shapes
 pub mod OpeningLemmas
 pub mod OneOutcome
+pub mod ReadingLemmas
+pub mod SettlingLemmas
+pub mod ReviewLemmas

@@ -6,13 +6,10 @@ use Rattle.cl_syntax.specs.declared.applications.App.{App}
 use Rattle.cl_syntax.specs.declared.declarations.SlotDecl.{SlotDecl}
 use Rattle.cl_value.specs.Data.{Data}
 use Rattle.cl_eval.specs.Slots.{Slots, put}
-use Rattle.cl_load.specs.Loads.{Answers, or_refused, outcome}
-use Rattle.cl_load.specs.Form.{tree_of}
-use Rattle.cl_load.specs.declared.form.Form.{Form}
-use Rattle.cl_load.specs.Application.{application_in}
+use Rattle.cl_load.specs.Settling.{Opens}
 use Rattle.cl_load.specs.Opening.{first_unfit, opened, opening_of, is_fit, value_in, opening_slots, with_fit, OpensValue, OpensSlots}
-use Rattle.cl_load.specs.declared.refusals.LoadRefusal.{LoadRefusal}
-use Rattle.cl_load.specs.declared.refusals.LoadRefusal.TheVariants.{Refused, Memory}
+use Rattle.cl_forms.specs.declared.refusals.LoadRefusal.{LoadRefusal}
+use Rattle.cl_forms.specs.declared.refusals.LoadRefusal.TheVariants.{Refused, Memory}
 
 pub unfit_next : (app : App) (t : List (List ℕ × SlotDecl)) (i : ℕ) (d : SlotDecl) → Some d ≡ declared_at i t
     → first_unfit app (drop i t) ≡ (if is_fit (opening_of app d) d.spec then first_unfit app (drop (suc i) t) else Some d.opening_at)
@@ -44,6 +41,6 @@ fit_here app i d name v slots new h same fits named stored =
     rw next (sym o ∙ same.0, sym u ∙ same.1)
 
 -- an application whose slots are refused is refused so
-pub refused_slots : (e : LoadRefusal) (forms : List Form) (app : App) → application_in (map tree_of forms) ≡ Some app → OpensSlots (Err e) app → Answers (Err e) (outcome (map tree_of forms))
-refused_slots (Refused number at) forms app h s = rw (h, s.1, s.0) refl
-refused_slots Memory forms app h s = tt
+pub refused_slots : (e : LoadRefusal) (app : App) → OpensSlots (Err e) app → Opens (Err e) app
+refused_slots (Refused number at) app s = rw (s.1, s.0) refl
+refused_slots Memory app s = tt

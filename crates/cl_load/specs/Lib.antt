@@ -1,9 +1,9 @@
-pub mod Tree
-pub mod Form
-pub mod Falls
-pub mod Spelled
-pub mod Opening
-pub mod Decodes
-pub mod Application
+pub mod Answers
 pub mod SlotTypes
+pub mod Opening
+pub mod Placing
+pub mod Review
+pub mod Readings
+pub mod Outcome
+pub mod Settling
 pub mod Loads

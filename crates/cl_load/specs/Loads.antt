@@ -1,24 +1,18 @@
 -- What a load answers.
-use Rattle.std.specs.Prelude.{◌≡◌, ◌≤◌, ◌<◌, ◌⊎◌, ℕ, List, length, Option, Some, None, Result, Ok, Err}
+use Rattle.std.specs.Prelude.{◌≡◌, ◌≤◌, ◌<◌, ◌⊎◌, ℕ, List, length, Result, Ok, Err}
 use Rattle.cl_sexp.specs.declared.Token.{Token}
 use Rattle.cl_sexp.specs.Tokens.{tokens_of}
 use Rattle.cl_syntax.specs.declared.applications.App.{App}
-use Rattle.cl_load.specs.Tree.{Tree, trees_of, spelled_all}
-use Rattle.cl_load.specs.Spelled.{lexemes}
-use Rattle.cl_load.specs.Application.{application_in}
-use Rattle.cl_load.specs.Opening.{with_openings}
+use Rattle.cl_forms.specs.Datum.{Datum}
+use Rattle.cl_forms.specs.Grouped.{grouped}
+use Rattle.cl_forms.specs.Tree.{Tree, trees_of, spelled_all}
+use Rattle.cl_forms.specs.Spelled.{lexemes}
+use Rattle.cl_forms.specs.declared.form.Forms.{Forms}
+use Rattle.cl_forms.specs.declared.grouping.Waiting.TheVariants.{Nothing}
+use Rattle.cl_forms.specs.declared.refusals.LoadRefusal.{LoadRefusal}
+use Rattle.cl_forms.specs.declared.refusals.LoadRefusal.TheVariants.{Refused, Memory}
+use Rattle.cl_load.specs.Outcome.{Outcome}
 use Rattle.cl_load.specs.declared.application.Loaded.{Loaded}
-use Rattle.cl_load.specs.declared.form.Forms.{Forms}
-use Rattle.cl_load.specs.declared.refusals.LoadRefusal.{LoadRefusal}
-use Rattle.cl_load.specs.declared.refusals.LoadRefusal.TheVariants.{Refused, Memory}
-
-abbrev pub or_refused : Option App → Result App (ℕ × ℕ)
-or_refused None = Err (0, 0)
-or_refused (Some app) = with_openings app
-
--- the application that forms declare, or the number of their refusal with its offset
-abbrev pub outcome : List Tree → Result App (ℕ × ℕ)
-outcome forms = or_refused (application_in forms)
 
 -- the forms of a text: the text has tokens, and these spell the forms
 pub record AreForms (bytes : List ℕ) (forms : List Tree) : Type 0 where
@@ -37,16 +31,20 @@ pub record IsUnread (bytes : List ℕ) (number at : ℕ) : Type 0 where
   pub short : length bytes ≤ 1048576
   pub fault : tokens_of bytes ≡ Err (number, at)
 
--- the forms of the text come to this
+-- the data that forms are
+abbrev pub data_of : List Tree → List Datum
+data_of forms = grouped Nothing (trees_of forms)
+
+-- the data of the text come to this
 pub record ComesTo (bytes : List ℕ) (o : Result App (ℕ × ℕ)) : Type 0 where
   pub forms : List Tree
   pub read : AreForms bytes forms
-  pub comes : outcome forms ≡ o
+  pub comes : Outcome (length bytes) (data_of forms) o
 
 abbrev pub IsUnreadable : List ℕ → (number at : ℕ) → Type 0
 IsUnreadable bytes number at = IsTooLong bytes number at ⊎ IsUnread bytes number at
 
--- an application of a text is what its forms come to
+-- an application of a text is what its data come to
 abbrev pub HasOutcome : List ℕ → Result App (ℕ × ℕ) → Type 0
 HasOutcome bytes (Ok app) = ComesTo bytes (Ok app)
 HasOutcome bytes (Err (number, at)) = IsUnreadable bytes number at ⊎ ComesTo bytes (Err (number, at))
@@ -64,11 +62,11 @@ Reads bytes (Ok forms) = AreForms bytes forms
 Reads bytes (Err (Refused number at)) = IsUnreadable bytes number at
 Reads bytes (Err Memory) = Unit {0}
 
--- what forms come to; want of memory answers nothing
-abbrev pub Answers : Result Loaded LoadRefusal → Result App (ℕ × ℕ) → Type 0
-Answers (Ok loaded) o = o ≡ Ok loaded.app
-Answers (Err (Refused number at)) o = o ≡ Err (number, at)
-Answers (Err Memory) o = Unit {0}
+-- what data of a text of this length come to; want of memory answers nothing
+abbrev pub Concludes : Result Loaded LoadRefusal → ℕ → List Datum → Type 0
+Concludes (Ok loaded) size ds = Outcome size ds (Ok loaded.app)
+Concludes (Err (Refused number at)) size ds = Outcome size ds (Err (number, at))
+Concludes (Err Memory) size ds = Unit {0}
 
 -- the application, or the refusal; want of memory answers nothing
 abbrev pub Loads : List ℕ → Result Loaded LoadRefusal → Type 0

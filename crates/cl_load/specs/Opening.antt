@@ -11,8 +11,8 @@ use Rattle.cl_eval.specs.Evaluated.{meant}
 use Rattle.cl_eval.specs.Outcome.{Outcome, Gives, Traps}
 use Rattle.cl_eval.specs.Slots.{Slots, put}
 use Rattle.cl_load.specs.SlotTypes.{is_member}
-use Rattle.cl_load.specs.declared.refusals.LoadRefusal.{LoadRefusal}
-use Rattle.cl_load.specs.declared.refusals.LoadRefusal.TheVariants.{Refused, Memory}
+use Rattle.cl_forms.specs.declared.refusals.LoadRefusal.{LoadRefusal}
+use Rattle.cl_forms.specs.declared.refusals.LoadRefusal.TheVariants.{Refused, Memory}
 
 -- the limits of an opening value
 abbrev pub opening_limits : Limits

@@ -3,9 +3,9 @@ ghost use Rattle.std.specs.Prelude.{◌≡◌};
 ghost use Rattle.cl_load.specs.Opening.{opening_of, IsMemberOf, OpensSlots, OpensValue};
 ghost use Rattle.cl_value.specs.Value.{data_of};
 
-use crate::refusals::LoadRefusal;
 use crate::slot_types::SlotTypes;
 use cl_eval::{Env, Evaluated, Limits, Slots, Types, eval};
+use cl_forms::LoadRefusal;
 use cl_outside::own_steps;
 use cl_syntax::{App, SlotDecl};
 use cl_value::{Held, Value};

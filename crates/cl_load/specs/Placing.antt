@@ -1,0 +1,53 @@
+-- The device of a frame, and its pane in it.
+use Rattle.std.specs.Prelude.{◌≡◌, ℕ, ◌+◌, ◌≤◌, ℤ, pos, negsuc, Bool, true, false, ◌&&◌, nat_le, Option, Some, None, Result, Ok, Err}
+use Rattle.cl_forms.specs.Load.{Fault}
+use Rattle.cl_syntax.specs.declared.declarations.FrameDecl.{FrameDecl}
+use Rattle.cl_syntax.specs.declared.declarations.PaneDecl.{PaneDecl}
+use Rattle.cl_declare.specs.declared.frames.FrameForm.{FrameForm}
+use Rattle.cl_declare.specs.declared.frames.PaneForm.{PaneForm}
+use Rattle.cl_load.specs.declared.placing.Span.{Span}
+
+abbrev pub some_if : {A : Type 0} → Bool → A → Option A
+some_if true x = Some x
+some_if false x = None
+
+-- a side of the device has at least one cell, and no more than the most
+abbrev pub side : ℕ → ℤ → Option ℕ
+side most (pos n) = some_if (nat_le 1 n && nat_le n most) n
+side most (negsuc n) = None
+
+-- a side of the pane has at least one cell, and lies within that of the frame
+abbrev pub span_of : ℕ → ℤ → ℤ → Option Span
+span_of most (pos from) (pos count) = some_if (nat_le 1 count && nat_le (from + count) most) (record { from = from; count = count })
+span_of most (pos from) (negsuc count) = None
+span_of most (negsuc from) count = None
+
+abbrev pub pane_at : PaneForm → Span → Span → PaneDecl
+pane_at p across down = record { name = p.name; x = across.from; y = down.from; width = across.count; height = down.count; display = p.display }
+
+abbrev pub spanned : FrameForm → ℕ → ℕ → Option Span → Option Span → Result FrameDecl Fault
+spanned f w h (Some across) (Some down) =
+    Ok (record { name = f.name; width = w; height = h; slots = f.slots; pane = pane_at f.pane across down; at = f.at })
+spanned f w h (Some across) None = Err (15, f.pane.at)
+spanned f w h None down = Err (15, f.pane.at)
+
+abbrev pub sized : FrameForm → Option ℕ → Option ℕ → Result FrameDecl Fault
+sized f (Some w) (Some h) = spanned f w h (span_of w f.pane.x f.pane.width) (span_of h f.pane.y f.pane.height)
+sized f (Some w) None = Err (15, f.at)
+sized f None h = Err (15, f.at)
+
+-- the frame, or 15 at the frame whose device is too large or has a side below 1, or at the pane that has a side below 1 or leaves it
+abbrev pub placed : FrameForm → Result FrameDecl Fault
+placed f = sized f (side 512 f.width) (side 256 f.height)
+
+-- ---- what the program keeps
+
+abbrev pub IsSize : ℕ → ℕ → Type 0
+IsSize width height = (1 ≤ width) × (width ≤ 512) × (1 ≤ height) × (height ≤ 256)
+
+abbrev pub Lies : ℕ → Span → Type 0
+Lies most s = (1 ≤ s.count) × (s.from + s.count ≤ most)
+
+abbrev pub IsWithin : FrameDecl → Type 0
+IsWithin f =
+    (1 ≤ f.pane.width) × (f.pane.x + f.pane.width ≤ f.width) × (1 ≤ f.pane.height) × (f.pane.y + f.pane.height ≤ f.height)

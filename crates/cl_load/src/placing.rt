@@ -1,0 +1,85 @@
+//! The device of a frame, and its pane in it.
+ghost use Rattle.std.specs.Prelude.{◌≡◌, ◌≤◌, IfOk, IfSome};
+ghost use Rattle.cl_load.specs.Placing.{side, span_of, spanned, placed, IsSize, Lies, IsWithin};
+ghost use Rattle.cl_forms.specs.Load.{itself};
+ghost use Rattle.cl_load.specs.Answers.{Makes};
+
+use cl_declare::FrameForm;
+use cl_forms::LoadRefusal;
+use cl_syntax::{FrameDecl, PaneDecl};
+
+/// Cells along a side of the frame.
+#[derive(Clone, Copy)]
+pub struct Span {
+    pub from: u16,
+    pub count: u16,
+}
+
+/// The frame on its device, or refusal 15.
+pub fn placed(frame: FrameForm) -> Result<FrameDecl, LoadRefusal>
+    ensures value { Makes itself result (placed frame) }
+    ensures size { IfOk result (λ f. IsSize f.width f.height) }
+    ensures pane { IfOk result (λ f. IsWithin f) }
+{
+    let Some(width) = side(512, frame.width) else {
+        return Err(LoadRefusal::Refused(15, frame.at));
+    };
+    let Some(height) = side(256, frame.height) else {
+        return Err(LoadRefusal::Refused(15, frame.at));
+    };
+    spanned(frame, width, height)
+}
+
+fn spanned(frame: FrameForm, width: u16, height: u16) -> Result<FrameDecl, LoadRefusal>
+    ensures value { Makes itself result (spanned frame width height (span_of width frame.pane.x frame.pane.width) (span_of height frame.pane.y frame.pane.height)) }
+    ensures size { IfOk result (λ f. (f.width ≡ width) × (f.height ≡ height)) }
+    ensures pane { IfOk result (λ f. IsWithin f) }
+{
+    let Some(across) = span_of(width, frame.pane.x, frame.pane.width) else {
+        return Err(LoadRefusal::Refused(15, frame.pane.at));
+    };
+    let Some(down) = span_of(height, frame.pane.y, frame.pane.height) else {
+        return Err(LoadRefusal::Refused(15, frame.pane.at));
+    };
+    Ok(FrameDecl {
+        name: frame.name,
+        width,
+        height,
+        slots: frame.slots,
+        pane: PaneDecl {
+            name: frame.pane.name,
+            x: across.from,
+            y: down.from,
+            width: across.count,
+            height: down.count,
+            display: frame.pane.display,
+        },
+        at: frame.at,
+    })
+}
+
+/// A side of the device, from 1 to the most.
+fn side(most: u16, number: i64) -> Option<u16>
+    ensures value { result ≡ side most number }
+    ensures bounded { IfSome result (λ n. (1 ≤ n) × (n ≤ most)) }
+{
+    match u16::try_from(number) {
+        Ok(n) if 1 <= n && n <= most => Some(n),
+        _ => None,
+    }
+}
+
+/// A side of the pane, of at least one cell and within the frame's.
+fn span_of(most: u16, from: i64, count: i64) -> Option<Span>
+    ensures value { result ≡ span_of most from count }
+    ensures bounded { IfSome result (Lies most) }
+{
+    let (Ok(from), Ok(count)) = (u16::try_from(from), u16::try_from(count)) else {
+        return None;
+    };
+    if 1 <= count && count <= most && from <= most - count {
+        Some(Span { from, count })
+    } else {
+        None
+    }
+}
