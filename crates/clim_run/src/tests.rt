@@ -1,6 +1,12 @@
 ghost use Rattle.std.specs.Prelude.{IfOk};
 ghost use Rattle.cl_outside.specs.Memory.{AllPositive};
 
+mod applications;
+mod displays;
+mod expressions;
+mod numbers;
+mod statements;
+
 use super::*;
 use cl_outside::{MemPlace, MemSink, MemSource, OwnLedger, Steps};
 use std::alloc::{AllocError, Global};
@@ -99,6 +105,20 @@ fn expect_run(
     let (code, took) = run.run(rt.alloc(), &mut own_steps())?;
     assert_eq!(rt; took.as_str(), written);
     assert_eq!(rt; code, status);
+    Ok(())
+}
+
+// The run of this text ends with status 0 and wrote this; the row says which text it is.
+fn expect_row(
+    rt: &(impl Abort + AllocGlobal),
+    row: &str,
+    text: &str,
+    gestures: &str,
+    written: &str,
+) -> Result<(), Fail> {
+    let (code, took) = Memory::new(text, gestures).run(rt.alloc(), &mut own_steps())?;
+    assert_eq!(rt; took.as_str(), written, "{row}");
+    assert_eq!(rt; code, 0, "{row}");
     Ok(())
 }
 
