@@ -1,14 +1,15 @@
 #!/usr/bin/env bash
-# Three application texts of 1,048,576 bytes, the most that is read, through the built program: user and system processor time
-# of each run, beside the bound of 200 ms. The program is built where it is not yet.
-#   lists: comments and long lists of words, numbers and texts, which declare nothing and so are refused
-#   brackets: empty lists, so that each byte is a token; refused as well
-#   counter: the counter, made as long by a comment; it opens
+# Four application texts of 1,048,576 bytes, the most that is read, through the built program: user and system processor time
+# of each run, beside its bound. The program is built where it is not yet.
+#   lists: comments and long lists of words, numbers and texts, which declare nothing and so are refused; 200 ms
+#   brackets: empty lists, so that each byte is a token; refused as well; 200 ms
+#   counter: the counter, made as long by a comment; it opens; 200 ms
+#   functions: 4,096 declarations, the most that a text may have, of which 4,094 are functions that all call the one before; the
+#     opening value of a slot names the last, so that all are looked through for slots; it opens; 500 ms
 set -euo pipefail
 cd "$(dirname "$0")/.."
 program=crates/clim_run/out/clim_run
 length=1048576
-bound=200
 if [ ! -x "$program" ]; then
     echo "bench: building; this takes minutes" >&2
     (counter=$PWD/examples/counter/counter.clim; cd crates/clim_run && rt run -- run "$counter" </dev/null) >&2
@@ -22,7 +23,7 @@ pad() {
     { printf ';'; head -c "$missing" /dev/zero | tr '\0' '.'; } >>"$1"
 }
 
-# measure NAME STATUS: runs the text of this name, which ends with this status
+# measure NAME STATUS BOUND: runs the text of this name, which ends with this status, in so many ms
 measure() {
     local spent status=0
     local TIMEFORMAT='%U %S'
@@ -31,7 +32,7 @@ measure() {
         echo "bench: $1 ended with status $status, not $2" >&2
         exit 1
     fi
-    awk -v name="$1" -v bound="$bound" '{ printf "%-8s %4d ms (bound %d ms)\n", name, ($1 + $2) * 1000 + 0.5, bound }' <<<"$spent"
+    awk -v name="$1" -v bound="$3" '{ printf "%-9s %4d ms (bound %d ms)\n", name, ($1 + $2) * 1000 + 0.5, bound }' <<<"$spent"
 }
 
 # whole blocks, as many as there is room for
@@ -50,6 +51,21 @@ pad "$texts/brackets"
 cp examples/counter/counter.clim "$texts/counter"
 pad "$texts/counter"
 
-measure lists 1
-measure brackets 1
-measure counter 0
+awk 'BEGIN {
+    print "(define-application-frame many (:size 12 1) (:slots (n integer (if true 7 (count-4094 1 2)))) (:panes (p 0 0 12 1 show)))"
+    print "(define-display show () (write-text (text (slot n))))"
+    print "(define-function count-1 (one two) (+ one two))"
+    for (i = 2; i <= 4094; i++) {
+        print "(define-function count-" i " (one two)"
+        print "  (let ((sum (+ one " i ")) (seen (count-" i - 1 " two one)))"
+        print "    (if (and (< sum seen) (not (= one two)))"
+        print "      (fold x (map y (list sum seen " i ") (* y 2)) a 0 (max a x))"
+        print "      (length (concat \"number \" (text sum))))))"
+    }
+}' >"$texts/functions"
+pad "$texts/functions"
+
+measure lists 1 200
+measure brackets 1 200
+measure counter 0 200
+measure functions 0 500
