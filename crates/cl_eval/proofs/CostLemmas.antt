@@ -13,7 +13,7 @@ use Rattle.cl_eval.specs.declared.metering.Stop.TheVariants.{Trap, Memory}
 use Rattle.cl_eval.specs.Outcome.{Outcome, Gives, Traps, Run, give, trap, lift, after, ◌>>=◌, cost_of}
 use Rattle.cl_eval.specs.Slots.{Slots, Env, found, given}
 use Rattle.cl_eval.specs.Operators.{limited, or_trap, truth, elements, operated}
-use Rattle.cl_eval.specs.Meaning.{Go, entering, tested, listed, each, every, some, let_in, mapped, filtered, folded, called, parts, means}
+use Rattle.cl_eval.specs.Meaning.{Go, entering, tested, listed, each, every, some, bound, let_in, mapped, filtered, folded, called, parts, means}
 use Rattle.cl_eval.specs.Agrees.{Agrees, Comes, Entered}
 
 abbrev pub Grows : {A : Type 0} → Run A → Type 0
@@ -74,10 +74,13 @@ grows-some go g level env (part t ts) =
     grows-then (tested go level env t) (λ b. if b then give (bool true) else some go level env ts) (grows-tested go g level env t)
     (λ b. grows-choice b (give (bool true)) (some go level env ts) (grows-give (bool true)) (grows-some go g level env ts))
 
+pub grows-bound : (go : Go) → GoGrows go → (level : ℕ) (bs : Bindings) (env : Env) → Grows (bound go level bs env)
+grows-bound go g level unbound env = grows-give env
+grows-bound go g level (binding x t bs) env =
+    grows-then (go level env t) (λ d. bound go level bs ((x, d) ∷ env)) (g level env t) (λ d. grows-bound go g level bs ((x, d) ∷ env))
+
 pub grows-let_in : (go : Go) → GoGrows go → (level : ℕ) (bs : Bindings) (t : Term) (env : Env) → Grows (let_in go level bs t env)
-grows-let_in go g level unbound t env = g level env t
-grows-let_in go g level (binding x s bs) t env =
-    grows-then (go level env s) (λ d. let_in go level bs t ((x, d) ∷ env)) (g level env s) (λ d. grows-let_in go g level bs t ((x, d) ∷ env))
+grows-let_in go g level bs t env = grows-then (bound go level bs env) (λ inner. go level inner t) (grows-bound go g level bs env) (λ inner. g level inner t)
 
 pub grows-mapped : (go : Go) → GoGrows go → (level : ℕ) (env : Env) (x : List ℕ) (t : Term) (ds es : List Data) → Grows (mapped go level env x t ds es)
 grows-mapped go g level env x t [] es = grows-give es

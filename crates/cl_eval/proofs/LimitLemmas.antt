@@ -11,7 +11,7 @@ use Rattle.cl_syntax.specs.declared.declarations.FunctionDecl.{FunctionDecl}
 use Rattle.cl_eval.specs.Outcome.{Outcome, Gives, Traps, Run, give, trap, lift, after, ◌>>=◌, cost_of}
 use Rattle.cl_eval.specs.Slots.{Slots, Env, found, given}
 use Rattle.cl_eval.specs.Operators.{limited, or_trap, truth, elements, operated}
-use Rattle.cl_eval.specs.Meaning.{Go, entering, tested, listed, each, every, some, let_in, mapped, filtered, folded, called, parts, means}
+use Rattle.cl_eval.specs.Meaning.{Go, entering, tested, listed, each, every, some, bound, let_in, mapped, filtered, folded, called, parts, means}
 
 -- from a cost and a level to a value: neither falls, and within the limits the second run comes to the same
 pub record Reaches {A : Type 0} (second : Run A) (budget depth c d : ℕ) (v : A) (n l : ℕ) : Type 0 where
@@ -122,11 +122,15 @@ goes-some budget depth go go' level g env none =
 goes-some budget depth go go' level g env (part t ts) =
     goes-then budget depth (tested go level env t) (tested go' level env t) (λ b. if b then give (bool true) else some go level env ts) (λ b. if b then give (bool true) else some go' level env ts) (goes-tested budget depth go go' level g env t) (λ b. goes-choice budget depth b (give (bool true)) (give (bool true)) (some go level env ts) (some go' level env ts) (goes-give budget depth (bool true)) (goes-some budget depth go go' level g env ts))
 
+pub goes-bound : (budget depth : ℕ) (go go' : Go) → (level : ℕ) → GoGoes budget depth level go go' → (bs : Bindings) (env : Env) → Goes budget depth (bound go level bs env) (bound go' level bs env)
+goes-bound budget depth go go' level g unbound env =
+    goes-give budget depth env
+goes-bound budget depth go go' level g (binding x t bs) env =
+    goes-then budget depth (go level env t) (go' level env t) (λ d. bound go level bs ((x, d) ∷ env)) (λ d. bound go' level bs ((x, d) ∷ env)) (g env t) (λ d. goes-bound budget depth go go' level g bs ((x, d) ∷ env))
+
 pub goes-let_in : (budget depth : ℕ) (go go' : Go) → (level : ℕ) → GoGoes budget depth level go go' → (bs : Bindings) (t : Term) (env : Env) → Goes budget depth (let_in go level bs t env) (let_in go' level bs t env)
-goes-let_in budget depth go go' level g unbound t env =
-    g env t
-goes-let_in budget depth go go' level g (binding x s bs) t env =
-    goes-then budget depth (go level env s) (go' level env s) (λ d. let_in go level bs t ((x, d) ∷ env)) (λ d. let_in go' level bs t ((x, d) ∷ env)) (g env s) (λ d. goes-let_in budget depth go go' level g bs t ((x, d) ∷ env))
+goes-let_in budget depth go go' level g bs t env =
+    goes-then budget depth (bound go level bs env) (bound go' level bs env) (λ inner. go level inner t) (λ inner. go' level inner t) (goes-bound budget depth go go' level g bs env) (λ inner. g inner t)
 
 pub goes-mapped : (budget depth : ℕ) (go go' : Go) → (level : ℕ) → GoGoes budget depth level go go' → (env : Env) (x : List ℕ) (t : Term) (ds es : List Data) → Goes budget depth (mapped go level env x t ds es) (mapped go' level env x t ds es)
 goes-mapped budget depth go go' level g env x t [] es =

@@ -1,11 +1,13 @@
 -- Parts of lists and records: as items and as a row, from a place on, and with one of them changed.
-use Rattle.std.proofs.Common.{◌≡◌, ℕ, zero, suc, ◌+◌, ◌-◌, ◌<◌, ◌≤◌, List, [], ◌∷◌, ◌++◌, length, get_or, take, drop, map, if◌then◌else◌, true, false, refl, ap, ℤ, pos, ◌+ℤ◌, arith, add-one, drop-cons, nat_le, Ok, rules, tests, length-drop}
+use Rattle.std.proofs.Common.{◌≡◌, ℕ, Bool, Option, Some, None, sym, zero, suc, ◌+◌, ◌-◌, ◌<◌, ◌≤◌, List, [], ◌∷◌, ◌++◌, length, get_or, take, drop, map, if◌then◌else◌, true, false, refl, ap, ℤ, pos, ◌+ℤ◌, arith, add-one, drop-cons, nat_le, Ok, rules, tests, length-drop}
 use Rattle.std.proofs.Math.Seq.{take-length}
 use Rattle.std.proofs.lemmas.List.{drop_all}
+use Rattle.std.proofs.lemmas.Option.{none-some}
 use Rattle.std.proofs.lemmas.Int.{ints}
 use Rattle.cl_value.specs.Data.{Data, int, list, items_of, size_of_items, depth_of_items}
 use Rattle.cl_value.specs.Value.{data_of}
 use Rattle.cl_value.specs.declared.Value.{Value}
+use Rattle.cl_eval.specs.Slots.{is_name, found}
 use Rattle.cl_eval.specs.Operators.{list_of, same, has_part, numbers_from, with_part, limited}
 
 pub list_of_items : (ds : List Data) → list_of (items_of ds) ≡ ds
@@ -56,3 +58,21 @@ rest_whole vs k = rw (← length-drop k vs) (take-length (drop k vs))
 -- the parts before a place, the new one, and the parts after it
 pub with_part_split : (d : Data) (vs : List Value) (k : ℕ) → k < length vs → with_part k d (map data_of vs) ≡ map data_of (take k vs) ++ d ∷ map data_of (drop (k + 1) vs)
 with_part_split d vs k h = rw add-one (with_part_suc d vs k h)
+
+-- ---- a frame of variables in front of others
+
+in_front : (b : Bool) (v : Data) (o o' : Option Data) (d : Data) → (o ≡ Some d → o' ≡ Some d) → (if b then Some v else o) ≡ Some d → (if b then Some v else o') ≡ Some d
+in_front true v o o' d f h = h
+in_front false v o o' d f h = f h
+
+behind : (b : Bool) (v : Data) (o o' p : Option Data) → (o ≡ None → o' ≡ p) → (if b then Some v else o) ≡ None → (if b then Some v else o') ≡ p
+behind true v o o' p f h = absurd (none-some v (sym h))
+behind false v o o' p f h = f h
+
+pub found_in_frame : (x : List ℕ) (e around : List (List ℕ × Data)) (d : Data) → found x e ≡ Some d → found x (e ++ around) ≡ Some d
+found_in_frame x [] around d h = absurd (none-some d h)
+found_in_frame x (v ∷ e) around d h = in_front (is_name v.0 x) v.1 (found x e) (found x (e ++ around)) d (found_in_frame x e around d) h
+
+pub found_behind_frame : (x : List ℕ) (e around : List (List ℕ × Data)) → found x e ≡ None → found x (e ++ around) ≡ found x around
+found_behind_frame x [] around h = refl
+found_behind_frame x (v ∷ e) around h = behind (is_name v.0 x) v.1 (found x e) (found x (e ++ around)) (found x around) (found_behind_frame x e around) h

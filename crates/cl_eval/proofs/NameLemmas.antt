@@ -1,21 +1,30 @@
 -- An expression comes to the same where the variables and slots that it names have the same values.
-use Rattle.std.proofs.Common.{◌≡◌, ℕ, zero, suc, ◌+◌, ◌==◌, Bool, true, false, if◌then◌else◌, ◌⊎◌, inl, inr, List, [], ◌∷◌, ◌++◌, length, Option, Some, None, refl}
+use Rattle.std.proofs.Common.{◌≡◌, ℕ, zero, suc, ◌+◌, ◌==◌, Bool, true, false, if◌then◌else◌, ◌⊎◌, inl, inr, List, [], ◌∷◌, ◌++◌, length, Option, Some, None, refl, sym, ◌∙◌}
 use Rattle.cl_value.specs.Data.{Data, bool, list, items_of}
 use Rattle.cl_syntax.specs.Term as term
 use Rattle.cl_syntax.specs.Term.{Term, Terms, Bindings, none, part, unbound, binding}
 use Rattle.cl_syntax.specs.App.{function_named}
 use Rattle.cl_syntax.specs.declared.applications.App.{App}
 use Rattle.cl_syntax.specs.declared.declarations.FunctionDecl.{FunctionDecl}
-use Rattle.cl_eval.specs.Outcome.{Run, give, trap, lift, ◌>>=◌}
+use Rattle.cl_eval.specs.Outcome.{Outcome, Gives, Traps, Run, give, trap, lift, after, ◌>>=◌}
 use Rattle.cl_eval.specs.Slots.{Slots, Env, is_name, found, given}
 use Rattle.cl_eval.specs.Operators.{limited, or_trap, truth, elements, operated}
-use Rattle.cl_eval.specs.Meaning.{Go, entering, tested, listed, each, every, some, let_in, mapped, filtered, folded, called, parts, means}
+use Rattle.cl_eval.specs.Meaning.{Go, entering, tested, listed, each, every, some, bound, let_in, mapped, filtered, folded, called, parts, means}
 use Rattle.cl_eval.specs.Uses.{Root, variable, slot, Apart, Names, NamesAmong, NamesBound, InBody, Within, value_at}
 
 -- where a binding does not hide it
 hidden : (b : Bool) (d : Data) (o o' : Option Data) → (b ≡ false → o ≡ o') → (if b then Some d else o) ≡ (if b then Some d else o')
 hidden true d o o' same = refl
 hidden false d o o' same = same refl
+
+after-after : {A B C : Type 0} (o : Outcome A) (f : A → Run B) (h : B → Run C) → after (after o f) h ≡ after o (λ x. f x >>= h)
+after-after (Gives x c d) f h = refl
+after-after (Traps k c d) f h = refl
+
+-- the first binding, and the rest behind its value
+let_in-binding : (go : Go) (level : ℕ) (x : List ℕ) (u : Term) (bs : Bindings) (t : Term) (e : Env)
+    → let_in go level (binding x u bs) t e ≡ (go level e u >>= λ d. let_in go level bs t ((x, d) ∷ e))
+let_in-binding go level x u bs t e = λ i c d. after-after (go level e u c d) (λ v. bound go level bs ((x, v) ∷ e)) (λ inner. go level inner t) i
 
 module _ (app : App) (s s' : Slots) where
   -- the same values at these roots, each named through so many calls
@@ -34,9 +43,9 @@ module _ (app : App) (s s' : Slots) where
   abbrev pub Behind : List ℕ → (Root → ℕ → Type 0) → Root → ℕ → Type 0
   Behind x P r n = Apart x r × P r n
 
-  bound : (P : Root → ℕ → Type 0) (x : List ℕ) (d : Data) (e e' : Env) → On (Behind x P) e e' → On P ((x, d) ∷ e) ((x, d) ∷ e')
-  bound P x d e e' a (variable y) n p = hidden (is_name x y) d (found y e) (found y e') (λ apart. a (variable y) n (apart, p))
-  bound P x d e e' a (slot y) n p = a (slot y) n (tt, p)
+  behind : (P : Root → ℕ → Type 0) (x : List ℕ) (d : Data) (e e' : Env) → On (Behind x P) e e' → On P ((x, d) ∷ e) ((x, d) ∷ e')
+  behind P x d e e' a (variable y) n p = hidden (is_name x y) d (found y e) (found y e') (λ apart. a (variable y) n (apart, p))
+  behind P x d e e' a (slot y) n p = a (slot y) n (tt, p)
 
   abbrev pub SameGo : Go → Go → ℕ → Type 0
   SameGo go go' level = (e e' : Env) (t : Term) → On (In t) e e' → go level e t ≡ go' level e' t
@@ -67,17 +76,19 @@ module _ (app : App) (s s' : Slots) where
     same-let : (bs : Bindings) (t : Term) (e e' : Env) → On (InLet bs t) e e' → let_in go level bs t e ≡ let_in go' level bs t e'
     same-let unbound t e e' a = g e e' t a
     same-let (binding x u bs) t e e' a =
-        λ i. g e e' u (λ r n p. a r n (inl p)) i >>= λ d. same-let bs t ((x, d) ∷ e) ((x, d) ∷ e') (bound (InLet bs t) x d e e' (λ r n p. a r n (inr p))) i
+        let each_value : (go level e u >>= λ d. let_in go level bs t ((x, d) ∷ e)) ≡ (go' level e' u >>= λ d. let_in go' level bs t ((x, d) ∷ e')) =
+        λ i. g e e' u (λ r n p. a r n (inl p)) i >>= λ d. same-let bs t ((x, d) ∷ e) ((x, d) ∷ e') (behind (InLet bs t) x d e e' (λ r n p. a r n (inr p))) i in
+        let_in-binding go level x u bs t e ∙ each_value ∙ sym (let_in-binding go' level x u bs t e')
 
     same-mapped : (e e' : Env) (x : List ℕ) (t : Term) → On (Behind x (In t)) e e' → (ds es : List Data) → mapped go level e x t ds es ≡ mapped go' level e' x t ds es
     same-mapped e e' x t a [] es = refl
     same-mapped e e' x t a (d ∷ ds) es =
-        λ i. g ((x, d) ∷ e) ((x, d) ∷ e') t (bound (In t) x d e e' a) i >>= λ v. same-mapped e e' x t a ds (es ++ v ∷ []) i
+        λ i. g ((x, d) ∷ e) ((x, d) ∷ e') t (behind (In t) x d e e' a) i >>= λ v. same-mapped e e' x t a ds (es ++ v ∷ []) i
 
     same-filtered : (e e' : Env) (x : List ℕ) (t : Term) → On (Behind x (In t)) e e' → (ds es : List Data) → filtered go level e x t ds es ≡ filtered go' level e' x t ds es
     same-filtered e e' x t a [] es = refl
     same-filtered e e' x t a (d ∷ ds) es =
-        λ i. same-tested ((x, d) ∷ e) ((x, d) ∷ e') t (bound (In t) x d e e' a) i
+        λ i. same-tested ((x, d) ∷ e) ((x, d) ∷ e') t (behind (In t) x d e e' a) i
         >>= λ b. same-filtered e e' x t a ds (if b then es ++ d ∷ [] else es) i
 
     same-folded : (e e' : Env) (x y : List ℕ) (t : Term) → On (Behind x (Behind y (In t))) e e' → (ds : List Data) (d : Data)
@@ -85,7 +96,7 @@ module _ (app : App) (s s' : Slots) where
     same-folded e e' x y t a [] d = refl
     same-folded e e' x y t a (c ∷ ds) d =
         λ i. g ((y, d) ∷ (x, c) ∷ e) ((y, d) ∷ (x, c) ∷ e') t
-        (bound (In t) y d ((x, c) ∷ e) ((x, c) ∷ e') (bound (Behind y (In t)) x c e e' a)) i >>= λ v. same-folded e e' x y t a ds v i
+        (behind (In t) y d ((x, c) ∷ e) ((x, c) ∷ e') (behind (Behind y (In t)) x c e e' a)) i >>= λ v. same-folded e e' x y t a ds v i
 
     -- what a function's body names are slots
     inside : (f : FunctionDecl) (e : Env) → ((x : List ℕ) (n : ℕ) → InBody (Within n app (slot x)) (slot x) (Some f) → found x s ≡ found x s') → On (In f.body) e e

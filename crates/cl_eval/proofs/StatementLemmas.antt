@@ -1,10 +1,10 @@
 -- Statements: the cost never falls, a statement that could be entered does what its parts do, and a part that stops, stops the whole.
-use Rattle.std.proofs.Common.{◌≡◌, ℕ, zero, suc, ◌+◌, ◌-◌, Bool, if◌then◌else◌, nat_le, List, [], ◌∷◌, Err, arith}
+use Rattle.std.proofs.Common.{◌≡◌, ℕ, zero, suc, ◌+◌, ◌-◌, Bool, if◌then◌else◌, nat_le, List, [], ◌∷◌, ◌++◌, Err, arith}
 use Rattle.cl_value.specs.Data.{Data}
 use Rattle.cl_value.specs.Value.{data_of}
 use Rattle.cl_syntax.specs.Statement as act
 use Rattle.cl_syntax.specs.Statement.{Statement, Statements, none, statement}
-use Rattle.cl_syntax.specs.Term.{Term, Bindings, unbound, binding}
+use Rattle.cl_syntax.specs.Term.{Term, Bindings}
 use Rattle.cl_syntax.specs.App.{slot_type}
 use Rattle.cl_syntax.specs.declared.applications.App.{App}
 use Rattle.cl_eval.specs.declared.effects.Effects.{Effects}
@@ -12,10 +12,10 @@ use Rattle.cl_eval.specs.declared.metering.Meter.{Meter}
 use Rattle.cl_eval.specs.declared.metering.Stop.{Stop}
 use Rattle.cl_eval.specs.Outcome.{Gives, Traps, give, lift}
 use Rattle.cl_eval.specs.Slots.{Slots, Env}
-use Rattle.cl_eval.specs.Meaning.{Go, entering, tested, listed, means}
+use Rattle.cl_eval.specs.Meaning.{Go, bound, entering, tested, listed, means}
 use Rattle.cl_eval.specs.Statements.{Member, Does, assigned, replied, in_turn, for_each, acts_in, act_parts, does}
 use Rattle.cl_eval.specs.Agrees.{Agrees, always, itself}
-use Rattle.cl_eval.proofs.CostLemmas.{Grows, GoGrows, Agrees-stop, grows-then, grows-give, grows-lift, grows-choice, grows-entering, grows-tested, grows-listed, grows-means}
+use Rattle.cl_eval.proofs.CostLemmas.{Grows, GoGrows, Agrees-stop, grows-then, grows-give, grows-lift, grows-choice, grows-entering, grows-tested, grows-listed, grows-bound, grows-means}
 use Rattle.cl_eval.proofs.EnteringLemmas.{no_entry}
 
 abbrev pub DoesGrows : Does → Type 0
@@ -33,9 +33,8 @@ grows-for_each go g level env x body (d ∷ ds) s =
 
 pub grows-acts_in : (value : Go) → GoGrows value → (go : Does) → DoesGrows go → (level : ℕ) (bs : Bindings) (body : Statements) (env : Env) (s : Effects)
     → Grows (acts_in value go level bs body env s)
-grows-acts_in value v go g level unbound body env s = grows-in_turn go g level env body s
-grows-acts_in value v go g level (binding x t bs) body env s =
-    grows-then (value level env t) (λ d. acts_in value go level bs body ((x, d) ∷ env) s) (v level env t) (λ d. grows-acts_in value v go g level bs body ((x, d) ∷ env) s)
+grows-acts_in value v go g level bs body env s =
+    grows-then (bound value level bs env) (λ inner. in_turn go level inner body s) (grows-bound value v level bs env) (λ inner. grows-in_turn go g level inner body s)
 
 pub grows-then_act : (go : Does) → DoesGrows go → (level : ℕ) (env : Env) (a b : Statement) (s : Effects) (test : Bool) → Grows (if test then go level env a s else go level env b s)
 grows-then_act go g level env a b s test = grows-choice test (go level env a s) (go level env b s) (g level env a s) (g level env b s)
@@ -94,10 +93,10 @@ pub stop-for_each : (go : Does) → DoesGrows go → (level : ℕ) (env : Env) (
 stop-for_each go g level env x body v ds s s' e m c d =
     Agrees-stop (always {A = Unit {0}} s') (always {A = Unit {0}} s') e m (in_turn go level ((x, v) ∷ env) body s c d) (for_each go level env x body ds) (grows-for_each go g level env x body ds)
 
-pub stop-acts_in : (value : Go) → GoGrows value → (go : Does) → DoesGrows go → (level : ℕ) (x : List ℕ) (t : Term) (bs : Bindings) (body : Statements) (env : Env) (s s' : Effects) (e : Stop) (m : Meter) (c d : ℕ)
-    → Agrees data_of (Err e) m (value level env t c d) → Agrees (always {A = Unit {0}} s') (Err e) m (acts_in value go level (binding x t bs) body env s c d)
-stop-acts_in value v go g level x t bs body env s s' e m c d =
-    Agrees-stop data_of (always {A = Unit {0}} s') e m (value level env t c d) (λ d. acts_in value go level bs body ((x, d) ∷ env) s) (λ d. grows-acts_in value v go g level bs body ((x, d) ∷ env) s)
+pub stop-acts_in : (value : Go) (go : Does) → DoesGrows go → (level : ℕ) (bs : Bindings) (body : Statements) (env around : Env) (s s' : Effects) (e : Stop) (m : Meter) (c d : ℕ)
+    → Agrees (λ frame. frame ++ around) (Err e) m (bound value level bs env c d) → Agrees (always {A = Unit {0}} s') (Err e) m (acts_in value go level bs body env s c d)
+stop-acts_in value go g level bs body env around s s' e m c d =
+    Agrees-stop (λ frame. frame ++ around) (always {A = Unit {0}} s') e m (bound value level bs env c d) (λ inner. in_turn go level inner body s) (λ inner. grows-in_turn go g level inner body s)
 
 pub stop-choice : (app : App) (member : Member) (value : Slots → Go) (go : Does) → DoesGrows go → (level : ℕ) (env : Env) (t : Term) (a b : Statement) (s s' : Effects) (e : Stop) (m : Meter) (c d : ℕ)
     → Agrees itself (Err e) m (tested (value s.slots) level env t c d) → Agrees (always {A = Unit {0}} s') (Err e) m (act_parts app member value go level env (act.choice t a b) s c d)

@@ -1,20 +1,22 @@
 -- A part that stops, stops the whole: what each row and each turn of a loop comes to then.
-use Rattle.std.proofs.Common.{◌≡◌, ℕ, ◌≤◌, Bool, true, false, if◌then◌else◌, List, [], ◌∷◌, ◌++◌, Ok, Err, refl}
+use Rattle.std.proofs.Common.{◌≡◌, ℕ, ◌≤◌, ◌<◌, Bool, true, false, if◌then◌else◌, List, [], ◌∷◌, ◌++◌, length, get_or, Result, Ok, Err, refl, sym, arith}
 use Rattle.cl_value.specs.Data.{Data, bool, list, items_of}
 use Rattle.cl_value.specs.Value.{data_of}
+use Rattle.cl_value.specs.declared.Value.{Value}
 use Rattle.cl_syntax.specs.Term as term
-use Rattle.cl_syntax.specs.Term.{Term, Terms, Bindings, part, binding}
+use Rattle.cl_syntax.specs.Term.{Term, Terms, Bindings, none, part, terms_of, binding}
 use Rattle.cl_syntax.specs.App.{function_named}
 use Rattle.cl_syntax.specs.declared.applications.App.{App}
+use Rattle.cl_syntax.specs.declared.operators.Operator.{Operator}
 use Rattle.cl_eval.specs.declared.metering.Meter.{Meter}
 use Rattle.cl_eval.specs.declared.metering.Stop.{Stop}
 use Rattle.cl_eval.specs.declared.metering.Stop.TheVariants.{Trap, Memory}
 use Rattle.cl_eval.specs.Outcome.{Gives, give, lift, ◌>>=◌, cost_of}
 use Rattle.cl_eval.specs.Slots.{Slots, Env}
-use Rattle.cl_eval.specs.Operators.{limited, elements}
-use Rattle.cl_eval.specs.Meaning.{Go, tested, listed, each, every, some, let_in, mapped, filtered, folded, called, parts}
+use Rattle.cl_eval.specs.Operators.{limited, elements, operated}
+use Rattle.cl_eval.specs.Meaning.{Go, tested, listed, each, every, some, bound, let_in, operation_on, mapped, filtered, folded, called, parts}
 use Rattle.cl_eval.specs.Agrees.{Agrees, Comes, itself, items_are}
-use Rattle.cl_eval.proofs.CostLemmas.{GoGrows, Agrees-stop, Agrees-lift, grows-choice, grows-give, grows-each, grows-every, grows-some, grows-let_in, grows-mapped, grows-filtered, grows-folded, grows-called, grows-then_choice, grows-then_map, grows-then_filter, grows-then_fold, grows-then_opening}
+use Rattle.cl_eval.proofs.CostLemmas.{GoGrows, Agrees-stop, Agrees-lift, grows-choice, grows-give, grows-each, grows-every, grows-some, grows-bound, grows-lift, grows-mapped, grows-filtered, grows-folded, grows-called, grows-then_choice, grows-then_map, grows-then_filter, grows-then_fold, grows-then_opening}
 
 -- ---- loops: the turn stops, or memory is wanting behind it
 
@@ -39,10 +41,47 @@ stop-some go g level env t ts e m c d =
     Agrees-stop itself data_of e m (tested go level env t c d) (λ b. if b then give (bool true) else some go level env ts)
     (λ b. grows-choice b (give (bool true)) (some go level env ts) (grows-give (bool true)) (grows-some go g level env ts))
 
-pub stop-let_in : (go : Go) → GoGrows go → (level : ℕ) (x : List ℕ) (s : Term) (bs : Bindings) (t : Term) (env : Env) (e : Stop) (m : Meter) (c d : ℕ)
-    → Agrees data_of (Err e) m (go level env s c d) → Agrees data_of (Err e) m (let_in go level (binding x s bs) t env c d)
-stop-let_in go g level x s bs t env e m c d =
-    Agrees-stop data_of data_of e m (go level env s c d) (λ v. let_in go level bs t ((x, v) ∷ env)) (λ v. grows-let_in go g level bs t ((x, v) ∷ env))
+pub stop-bound : (go : Go) → GoGrows go → (level : ℕ) (x : List ℕ) (t : Term) (bs : Bindings) (env around : Env) (e : Stop) (m : Meter) (c d : ℕ)
+    → Agrees data_of (Err e) m (go level env t c d) → Agrees (λ frame. frame ++ around) (Err e) m (bound go level (binding x t bs) env c d)
+stop-bound go g level x t bs env around e m c d =
+    Agrees-stop data_of (λ frame. frame ++ around) e m (go level env t c d) (λ v. bound go level bs ((x, v) ∷ env)) (λ v. grows-bound go g level bs ((x, v) ∷ env))
+
+pub full-bound : (go : Go) → GoGrows go → (level : ℕ) (x : List ℕ) (t : Term) (bs : Bindings) (env : Env) (v : Data) (c d n l : ℕ)
+    → go level env t c d ≡ Gives v n l → n ≤ cost_of (bound go level (binding x t bs) env c d)
+full-bound go g level x t bs env v c d n l p = rw p (grows-bound go g level bs ((x, v) ∷ env) n l)
+
+pub stop-let_in : (go : Go) → GoGrows go → (level : ℕ) (bs : Bindings) (t : Term) (env around : Env) (e : Stop) (m : Meter) (c d : ℕ)
+    → Agrees (λ frame. frame ++ around) (Err e) m (bound go level bs env c d) → Agrees data_of (Err e) m (let_in go level bs t env c d)
+stop-let_in go g level bs t env around e m c d =
+    Agrees-stop (λ frame. frame ++ around) data_of e m (bound go level bs env c d) (λ inner. go level inner t) (λ inner. g level inner t)
+
+-- the first part of an operation, the second, and any
+pub stop-operation : (app : App) (go : Go) (level : ℕ) (env : Env) (o : Operator) (ts : Terms) (e : Stop) (m : Meter) (c d : ℕ)
+    → Agrees items_are (Err e) m (each go level env ts [] c d) → Agrees data_of (Err e) m (operation_on app go level env o ts c d)
+stop-operation app go level env o ts e m c d =
+    Agrees-stop items_are data_of e m (each go level env ts [] c d) (λ ds. lift (operated app o ds)) (λ ds. grows-lift (operated app o ds))
+
+pub stop-first : (app : App) (go : Go) → GoGrows go → (level : ℕ) (env : Env) (o : Operator) (t : Term) (ts : Terms) (e : Stop) (m : Meter) (c d : ℕ)
+    → Agrees data_of (Err e) m (go level env t c d) → Agrees data_of (Err e) m (operation_on app go level env o (part t ts) c d)
+stop-first app go g level env o t ts e m c d p = stop-operation app go level env o (part t ts) e m c d (stop-each go g level env t ts [] e m c d p)
+
+pub stop-second : (app : App) (go : Go) → GoGrows go → (level : ℕ) (env : Env) (o : Operator) (t u : Term) (ts : Terms) (x : Data) (e : Stop) (m : Meter) (c d n l : ℕ)
+    → go level env t c d ≡ Gives x n l → Agrees data_of (Err e) m (go level env u n l) → Agrees data_of (Err e) m (operation_on app go level env o (part t (part u ts)) c d)
+stop-second app go g level env o t u ts x e m c d n l p q =
+    let stop : Agrees items_are (Err e) m (each go level env (part t (part u ts)) [] c d) = rw p (stop-each go g level env u ts (x ∷ []) e m n l q) in
+    stop-operation app go level env o (part t (part u ts)) e m c d stop
+
+-- an operator over the values of two parts
+pub done-second : (app : App) (go : Go) (level : ℕ) (env : Env) (o : Operator) (t u : Term) (x y : Data) (r : Result Value Stop) (m : Meter) (c d n l : ℕ)
+    → go level env t c d ≡ Gives x n l → go level env u n l ≡ Gives y m.cost m.deepest → Comes data_of r (operated app o (x ∷ y ∷ []))
+    → Agrees data_of r m (operation_on app go level env o (part t (part u none)) c d)
+done-second app go level env o t u x y r m c d n l p q h = rw (p, q) (Agrees-lift data_of r m (operated app o (x ∷ y ∷ [])) h)
+
+pub pair : (ts : List Term) (t u : Term) → 1 < length ts → length ts < 3 → t ≡ get_or ts 0 t → u ≡ get_or ts 1 u → terms_of ts ≡ part t (part u none)
+pair [] t u h k p q = absurd (omega (arith, h))
+pair (x ∷ []) t u h k p q = absurd (omega (arith, h))
+pair (x ∷ y ∷ []) t u h k p q = λ i. part (sym p i) (part (sym q i) none)
+pair (x ∷ y ∷ z ∷ ts) t u h k p q = absurd (omega (arith, k))
 
 pub stop-mapped : (go : Go) → GoGrows go → (level : ℕ) (env : Env) (x : List ℕ) (t : Term) (a : Data) (ds es : List Data) (e : Stop) (m : Meter) (c d : ℕ)
     → Agrees data_of (Err e) m (go level ((x, a) ∷ env) t c d) → Agrees itself (Err e) m (mapped go level env x t (a ∷ ds) es c d)

@@ -8,6 +8,7 @@ use Rattle.cl_syntax.specs.Term.{Term, Terms, Bindings, none, part, unbound, bin
 use Rattle.cl_syntax.specs.App.{function_named}
 use Rattle.cl_syntax.specs.declared.applications.App.{App}
 use Rattle.cl_syntax.specs.declared.declarations.FunctionDecl.{FunctionDecl}
+use Rattle.cl_syntax.specs.declared.operators.Operator.{Operator}
 use Rattle.cl_eval.specs.Outcome.{Gives, Traps, Run, give, trap, lift, ◌>>=◌}
 use Rattle.cl_eval.specs.Slots.{Slots, Env, found, given}
 use Rattle.cl_eval.specs.Operators.{limited, or_trap, truth, elements, operated}
@@ -45,10 +46,18 @@ abbrev pub some : Go → ℕ → Env → Terms → Run Data
 some go level env none = give (bool false)
 some go level env (part t ts) = tested go level env t >>= λ b. if b then give (bool true) else some go level env ts
 
--- the body behind bindings, each of which sees the ones before it
+-- the variables behind bindings, each of which sees the ones before it
+abbrev pub bound : Go → ℕ → Bindings → Env → Run Env
+bound go level unbound env = give env
+bound go level (binding x t bs) env = go level env t >>= λ d. bound go level bs ((x, d) ∷ env)
+
+-- the body behind bindings
 abbrev pub let_in : Go → ℕ → Bindings → Term → Env → Run Data
-let_in go level unbound t env = go level env t
-let_in go level (binding x s bs) t env = go level env s >>= λ d. let_in go level bs t ((x, d) ∷ env)
+let_in go level bs t env = bound go level bs env >>= λ inner. go level inner t
+
+-- an operator over the values of its parts
+abbrev pub operation_on : App → Go → ℕ → Env → Operator → Terms → Run Data
+operation_on app go level env o ts = each go level env ts [] >>= λ ds. lift (operated app o ds)
 
 -- the values of a body for each of these, behind those that are there
 abbrev pub mapped : Go → ℕ → Env → List ℕ → Term → List Data → List Data → Run (List Data)
@@ -87,7 +96,7 @@ parts app slots go level env (term.filter x t body) =
     listed go level env t >>= λ ds. filtered go level env x body ds [] >>= λ es. lift (limited (list (items_of es)))
 parts app slots go level env (term.fold x t accumulator opening body) =
     go level env t >>= λ d. go level env opening >>= λ a. lift (elements d) >>= λ ds. folded go level env x accumulator body ds a
-parts app slots go level env (term.operation o ts) = each go level env ts [] >>= λ ds. lift (operated app o ds)
+parts app slots go level env (term.operation o ts) = operation_on app go level env o ts
 parts app slots go level env (term.call f ts) = each go level env ts [] >>= λ ds. called go level (function_named f app) ds
 
 -- an expression, where so many levels are left, below this level

@@ -4,14 +4,14 @@ use Rattle.std.specs.Prelude.{ℕ, zero, suc, ◌+◌, Bool, nat_le, if◌then�
 use Rattle.cl_value.specs.Data.{Data, text}
 use Rattle.cl_syntax.specs.Statement as act
 use Rattle.cl_syntax.specs.Statement.{Statement, Statements, none, statement}
-use Rattle.cl_syntax.specs.Term.{Bindings, unbound, binding}
+use Rattle.cl_syntax.specs.Term.{Bindings}
 use Rattle.cl_syntax.specs.App.{slot_type}
 use Rattle.cl_syntax.specs.declared.applications.App.{App}
 use Rattle.cl_syntax.specs.declared.type_specs.TypeSpec.{TypeSpec}
 use Rattle.cl_eval.specs.declared.effects.Effects.{Effects}
 use Rattle.cl_eval.specs.Outcome.{Run, give, trap, lift, ◌>>=◌}
 use Rattle.cl_eval.specs.Slots.{Slots, Env, put}
-use Rattle.cl_eval.specs.Meaning.{Go, entering, tested, listed, means}
+use Rattle.cl_eval.specs.Meaning.{Go, bound, entering, tested, listed, means}
 
 -- whether a value is a member of a type
 abbrev pub Member : Type 0
@@ -44,10 +44,9 @@ abbrev pub for_each : Does → ℕ → Env → List ℕ → Statements → List 
 for_each go level env x body [] s = give s
 for_each go level env x body (d ∷ ds) s = in_turn go level ((x, d) ∷ env) body s >>= for_each go level env x body ds
 
--- the statements behind bindings, each of which sees the ones before it
+-- the statements behind bindings
 abbrev pub acts_in : Go → Does → ℕ → Bindings → Statements → Env → Effects → Run Effects
-acts_in value go level unbound body env s = in_turn go level env body s
-acts_in value go level (binding x t bs) body env s = value level env t >>= λ d. acts_in value go level bs body ((x, d) ∷ env) s
+acts_in value go level bs body env s = bound value level bs env >>= λ inner. in_turn go level inner body s
 
 -- a statement that was entered, by the meaning of its expressions on the slots so far and of the statements inside
 abbrev pub act_parts : App → Member → (Slots → Go) → Does → ℕ → Env → Statement → Effects → Run Effects

@@ -1,19 +1,19 @@
 //! Evaluation of expressions.
-ghost use Rattle.std.specs.Prelude.{◌≡◌, ◌+◌, ◌<◌, ◌^◌, [], map};
+ghost use Rattle.std.specs.Prelude.{◌≡◌, ◌+◌, ◌<◌, ◌^◌, ◌++◌, [], map};
 ghost use Rattle.cl_value.specs.Value.{data_of};
 ghost use Rattle.cl_syntax.specs.Term.{terms_of};
 ghost use Rattle.cl_syntax.specs.Expr.{bindings_of};
 ghost use Rattle.cl_syntax.specs.App.{function_named};
 ghost use Rattle.cl_eval.specs.Scope.{variables_of};
-ghost use Rattle.cl_eval.specs.Meaning.{called, each, every, filtered, folded, let_in, listed, mapped, means, parts, some, tested};
+ghost use Rattle.cl_eval.specs.Meaning.{bound, called, each, every, filtered, folded, let_in, listed, mapped, means, operation_on, parts, some, tested};
 ghost use Rattle.cl_eval.specs.Agrees.{Agrees, itself, items_are};
 
 use crate::metering::{Meter, Stop};
 use crate::operators::{add, add_if, elements, find_value, limit, operate, truth};
 use crate::slot_table::Slots;
-use crate::variables::Scope;
+use crate::variables::{Env, Scope};
 use cl_outside::{Ledger, Steps};
-use cl_syntax::{App, Binding, Expr, ExprKind};
+use cl_syntax::{App, Binding, Expr, ExprKind, Operator};
 use cl_value::{Text, Value, Values};
 use std::alloc::Global;
 
@@ -125,8 +125,7 @@ fn evaluate_parts<L: Ledger>(
             )
         }
         ExprKind::Operation(operator, parts) => {
-            let values = evaluate_each(context, parts, scope, left, level, meter, steps)?;
-            operate(context.alloc, context.app, operator, values.as_slice())
+            evaluate_operation(context, operator, parts, scope, left, level, meter, steps)
         }
         ExprKind::Call(name, parts) => {
             let values = evaluate_each(context, parts, scope, left, level, meter, steps)?;
@@ -173,7 +172,7 @@ pub fn evaluate_list<L: Ledger>(
     elements(value)
 }
 
-// The body behind bindings, each of which sees the ones before it.
+// The body behind bindings.
 #[cycle(evaluate)]
 fn evaluate_let<L: Ledger>(
     context: &Context<'_>,
@@ -189,14 +188,33 @@ fn evaluate_let<L: Ledger>(
     ensures meaning { Agrees data_of result meter.new (let_in (means left context.now.budget context.now.app.now context.now.slots.now) level (bindings_of bindings.now) body.now (variables_of scope.now) meter.old.cost meter.old.deepest) }
     ensures ledger { steps.new + meter.old.cost ≡ steps.old + meter.new.cost }
 {
-    match bindings {
-        [] => evaluate(context, body, scope, left, level, meter, steps),
-        [first, rest @ ..] => {
-            let value = evaluate(context, &first.value, scope, left, level, meter, steps)?;
-            let inner = Scope::Bound(&first.name, &value, &*scope);
-            evaluate_let(context, rest, body, &inner, left, level, meter, steps)
-        }
+    let frame = evaluate_bindings(context, bindings, scope, left, level, meter, steps)?;
+    let inner = Scope::Frame(&frame, &*scope);
+    evaluate(context, body, &inner, left, level, meter, steps)
+}
+
+/// The variables of bindings, each of which sees the ones before it.
+#[cycle(evaluate)]
+pub fn evaluate_bindings<L: Ledger>(
+    context: &Context<'_>,
+    bindings: &[Binding],
+    scope: &Scope<'_>,
+    left: u32,
+    level: u32,
+    meter: &mut Meter,
+    steps: &mut Steps<L>,
+) -> Result<Env, Stop>
+    requires { level + left < 2 ^ 32 }
+    ensures meaning { Agrees (λ frame. frame ++ variables_of scope.now) result meter.new (bound (means left context.now.budget context.now.app.now context.now.slots.now) level (bindings_of bindings.now) (variables_of scope.now) meter.old.cost meter.old.deepest) }
+    ensures ledger { steps.new + meter.old.cost ≡ steps.old + meter.new.cost }
+{
+    let mut frame = Env::new(context.alloc);
+    for binding in bindings {
+        let inner = Scope::Frame(&frame, &*scope);
+        let value = evaluate(context, &binding.value, &inner, left, level, meter, steps)?;
+        frame.bind(binding.name.copy()?, value)?;
     }
+    Ok(frame)
 }
 
 /// The values of parts, in order.
@@ -220,6 +238,39 @@ pub fn evaluate_each<L: Ledger>(
         values.push(value)?;
     }
     Ok(values)
+}
+
+// An operator over the values of its parts. Of one part or two, as most operators have, the values take no memory.
+#[cycle(evaluate)]
+fn evaluate_operation<L: Ledger>(
+    context: &Context<'_>,
+    operator: &Operator,
+    parts: &[Expr],
+    scope: &Scope<'_>,
+    left: u32,
+    level: u32,
+    meter: &mut Meter,
+    steps: &mut Steps<L>,
+) -> Result<Value, Stop>
+    requires { level + left < 2 ^ 32 }
+    ensures meaning { Agrees data_of result meter.new (operation_on context.now.app.now (means left context.now.budget context.now.app.now context.now.slots.now) level (variables_of scope.now) operator.now (terms_of parts.now) meter.old.cost meter.old.deepest) }
+    ensures ledger { steps.new + meter.old.cost ≡ steps.old + meter.new.cost }
+{
+    match parts {
+        [only] => {
+            let only = evaluate(context, only, scope, left, level, meter, steps)?;
+            operate(context.alloc, context.app, operator, &[only])
+        }
+        [first, second] => {
+            let first = evaluate(context, first, scope, left, level, meter, steps)?;
+            let second = evaluate(context, second, scope, left, level, meter, steps)?;
+            operate(context.alloc, context.app, operator, &[first, second])
+        }
+        _ => {
+            let values = evaluate_each(context, parts, scope, left, level, meter, steps)?;
+            operate(context.alloc, context.app, operator, values.as_slice())
+        }
+    }
 }
 
 // True where each part is, up to the first that is not.

@@ -15,7 +15,7 @@ ghost use Rattle.cl_eval.specs.Executed.{Decides, Executes, Rises, ran};
 
 use crate::effects::{Effects, Lines, reply};
 use crate::metering::{Limits, Meter, Stop};
-use crate::programs::{Program, assign, is_true, list_of, value_of};
+use crate::programs::{Program, assign, frame_of, is_true, list_of, value_of};
 use crate::slot_table::Slots;
 use crate::variables::{Env, Scope};
 use cl_outside::{Ledger, Steps};
@@ -273,7 +273,7 @@ fn act_all<T: Types, L: Ledger>(
     Ok(())
 }
 
-// The statements behind bindings, each of which sees the ones before it.
+// The statements behind bindings.
 #[cycle(act)]
 fn act_in<T: Types, L: Ledger>(
     program: &Program<'_, T>,
@@ -290,25 +290,18 @@ fn act_in<T: Types, L: Ledger>(
     ensures meaning { Agrees (always effects.new) result meter.new (acts_in ((means left program.now.budget program.now.app.now) effects.old.slots) (does left program.now.budget program.now.app.now (T.holds program.now.types.now)) level (bindings_of bindings.now) (statements_of body.now) (variables_of scope.now) effects.old meter.old.cost meter.old.deepest) }
     ensures ledger { steps.new + meter.old.cost ≡ steps.old + meter.new.cost }
 {
-    match bindings {
-        [] => act_all(program, body, scope, left, level, effects, meter, steps),
-        [first, rest @ ..] => {
-            let value = value_of(
-                program,
-                &first.value,
-                &effects.slots,
-                scope,
-                left,
-                level,
-                meter,
-                steps,
-            )?;
-            let inner = Scope::Bound(&first.name, &value, &*scope);
-            act_in(
-                program, rest, body, &inner, left, level, effects, meter, steps,
-            )
-        }
-    }
+    let frame = frame_of(
+        program,
+        bindings,
+        &effects.slots,
+        scope,
+        left,
+        level,
+        meter,
+        steps,
+    )?;
+    let inner = Scope::Frame(&frame, &*scope);
+    act_all(program, body, &inner, left, level, effects, meter, steps)
 }
 
 // The statements for each of these values.

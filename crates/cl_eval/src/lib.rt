@@ -20,7 +20,9 @@ mod variables;
 
 pub use effects::{Effects, Lines};
 pub use evaluating::{Evaluated, eval};
-pub use evaluation::{Context, evaluate, evaluate_each, evaluate_list, evaluate_test};
+pub use evaluation::{
+    Context, evaluate, evaluate_bindings, evaluate_each, evaluate_list, evaluate_test,
+};
 pub use execution::{Executed, Types, exec};
 pub use laws::{limits_can_be_wider, names_alone_matter, quotient_is_rounded_down};
 pub use metering::{Limits, Meter, Stop};

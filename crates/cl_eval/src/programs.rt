@@ -1,20 +1,21 @@
 //! What statements ask for: values of expressions on the slots as they are, and slots with new values.
-ghost use Rattle.std.specs.Prelude.{◌≡◌, ◌+◌, ◌<◌, ◌^◌};
+ghost use Rattle.std.specs.Prelude.{◌≡◌, ◌+◌, ◌<◌, ◌^◌, ◌++◌};
 ghost use Rattle.cl_value.specs.Value.{data_of};
 ghost use Rattle.cl_syntax.specs.App.{slot_type};
+ghost use Rattle.cl_syntax.specs.Expr.{bindings_of};
 ghost use Rattle.cl_eval.specs.Scope.{variables_of};
-ghost use Rattle.cl_eval.specs.Meaning.{listed, means, tested};
+ghost use Rattle.cl_eval.specs.Meaning.{bound, listed, means, tested};
 ghost use Rattle.cl_eval.specs.Statements.{assigned};
 ghost use Rattle.cl_eval.specs.Agrees.{Agrees, Comes, always, itself};
 
 use crate::effects::Effects;
-use crate::evaluation::{Context, evaluate, evaluate_list, evaluate_test};
+use crate::evaluation::{Context, evaluate, evaluate_bindings, evaluate_list, evaluate_test};
 use crate::execution::Types;
 use crate::metering::{Meter, Stop};
 use crate::slot_table::Slots;
-use crate::variables::Scope;
+use crate::variables::{Env, Scope};
 use cl_outside::{Ledger, Steps};
-use cl_syntax::{App, Expr};
+use cl_syntax::{App, Binding, Expr};
 use cl_value::{Held, Text, Value, Values};
 use std::alloc::Global;
 
@@ -97,6 +98,30 @@ pub fn list_of<T: Types, L: Ledger>(
         budget: program.budget,
     };
     evaluate_list(&context, expr, scope, left, level, meter, steps)
+}
+
+/// The variables of bindings on these slots.
+pub fn frame_of<T: Types, L: Ledger>(
+    program: &Program<'_, T>,
+    bindings: &[Binding],
+    slots: &Slots,
+    scope: &Scope<'_>,
+    left: u32,
+    level: u32,
+    meter: &mut Meter,
+    steps: &mut Steps<L>,
+) -> Result<Env, Stop>
+    requires { level + left < 2 ^ 32 }
+    ensures meaning { Agrees (λ frame. frame ++ variables_of scope.now) result meter.new (bound (means left program.now.budget program.now.app.now slots.now) level (bindings_of bindings.now) (variables_of scope.now) meter.old.cost meter.old.deepest) }
+    ensures ledger { steps.new + meter.old.cost ≡ steps.old + meter.new.cost }
+{
+    let context = Context {
+        alloc: program.alloc,
+        app: program.app,
+        slots,
+        budget: program.budget,
+    };
+    evaluate_bindings(&context, bindings, scope, left, level, meter, steps)
 }
 
 /// A slot with a new value, where that is a member of its type.

@@ -79,12 +79,15 @@ pub enum Scope<'a> {
     Given(&'a Env),
     /// One more, in front of others.
     Bound(&'a Text, &'a Value, &'a Scope<'a>),
+    /// Those of a frame, in front of others.
+    Frame(&'a Env, &'a Scope<'a>),
     /// A function's parameters with their values.
     Parameters(&'a Names, &'a [Value]),
 }
 
 impl Scope<'_> {
     /// The value of the newest variable of that name, and None exactly where there is none.
+    #[tactic(auto, using(crate::proofs::ListLemmas::found_in_frame, crate::proofs::ListLemmas::found_behind_frame))]
     pub fn get(&self, name: &[u8]) -> Option<&Value>
         ensures { option_map (λ v. data_of v.now) result ≡ found name.now (variables_of self.now) }
     {
@@ -97,6 +100,10 @@ impl Scope<'_> {
                     outer.get(name)
                 }
             }
+            Scope::Frame(frame, outer) => match frame.get(name) {
+                Some(value) => Some(value),
+                None => outer.get(name),
+            },
             Scope::Parameters(names, values) => find(names.as_slice(), values, name),
         }
     }

@@ -1,9 +1,9 @@
-use Rattle.std.proofs.Common.{◌≡◌, ◌∙◌, ◌∷◌, ◌++◌, ◌<◌, [], suc, drop, drop-cons, length, map, ap, sym, arith, if◌then◌else◌}
+use Rattle.std.proofs.Common.{◌≡◌, ◌∙◌, ◌∷◌, ◌++◌, [], suc, drop, drop-cons, map, ap, sym, arith, if◌then◌else◌}
 use Rattle.std.proofs.lemmas.Result.{err_from_is_err_and}
 use Rattle.cl_value.specs.Value.{data_of}
 use Rattle.cl_value.specs.declared.Value.{Value}
 use Rattle.cl_syntax.specs.Term as term
-use Rattle.cl_syntax.specs.Term.{terms_of}
+use Rattle.cl_syntax.specs.Term.{none, part, terms_of}
 use Rattle.cl_syntax.specs.Expr.{term_of, bindings_of}
 use Rattle.cl_syntax.specs.declared.expressions.Binding.{Binding}
 use Rattle.cl_syntax.specs.declared.expressions.Expr.{Expr}
@@ -11,7 +11,7 @@ use Rattle.cl_eval.specs.Scope.{variables_of}
 use Rattle.cl_eval.specs.Meaning.{means}
 use Rattle.cl_eval.proofs.EnteringLemmas.{means-entered}
 use Rattle.cl_eval.proofs.CostLemmas.{grows-means}
-use Rattle.cl_eval.proofs.StopLemmas.{stop-each, full-each, stop-every, stop-some, stop-let_in, stop-mapped, full-mapped, stop-filtered, full-filtered, stop-folded, stop-choice, stop-map, stop-filter, stop-fold, stop-opening, stop-elements, stop-call, is_memory}
+use Rattle.cl_eval.proofs.StopLemmas.{stop-each, full-each, stop-every, stop-some, stop-bound, full-bound, stop-let_in, stop-first, stop-second, done-second, pair, stop-mapped, full-mapped, stop-filtered, full-filtered, stop-folded, stop-choice, stop-map, stop-filter, stop-fold, stop-opening, stop-elements, stop-call, is_memory}
 use Rattle.cl_eval.proofs.evaluation.+evaluate.Goals as goal
 
 pub evaluate-returns-clause-meaning : goal.evaluate-returns-clause-meaning
@@ -64,16 +64,71 @@ evaluate_some-returns-in_err-truth-clause-meaning g t c =
     (stop-some (means c.args.left c.args.context.now.budget c.args.context.now.app.now c.args.context.now.slots.now) (grows-means c.args.left c.args.context.now.budget c.args.context.now.app.now c.args.context.now.slots.now) c.args.level (variables_of c.args.scope.now) c.part-item.result (terms_of rest) c.in_err-truth.field-0.0 c.evaluate_test.new.meter c.loop-part.meter.cost c.loop-part.meter.deepest
     c.in_err-truth.ensures.meaning)
 
-pub evaluate_let-returns-in_err-value-in-len1-up-clause-meaning : goal.evaluate_let-returns-in_err-value-in-len1-up-clause-meaning
-evaluate_let-returns-in_err-value-in-len1-up-clause-meaning g t c =
+pub evaluate_let-returns-in_err-frame-clause-meaning : goal.evaluate_let-returns-in_err-frame-clause-meaning
+evaluate_let-returns-in_err-frame-clause-meaning g t c =
     let p = err_from_is_err_and c.from_residual.result c.from_residual.ensures.1 in
-    let some : 0 < length c.args.bindings.now = omega (arith, c.in-len1-up.len_at_least) in
-    let rest = drop 1 c.args.bindings.now in
-    let step : c.args.bindings.now ≡ c.first-item.result ∷ rest =
-    drop-cons c.args.bindings.now 0 c.first-item.result some ∙ ap (λ (a : Binding). a ∷ rest) (sym c.first-item.is) in
-    rw (p.1, p.2, step)
-    (stop-let_in (means c.args.left c.args.context.now.budget c.args.context.now.app.now c.args.context.now.slots.now) (grows-means c.args.left c.args.context.now.budget c.args.context.now.app.now c.args.context.now.slots.now) c.args.level c.first-item.result.name c.first-item.result.value (bindings_of rest) c.args.body.now (variables_of c.args.scope.now)
-    c.in_err-value-in-len1-up.field-0.0 c.evaluate-in-len1-up.new.meter c.args.meter.now.cost c.args.meter.now.deepest c.in_err-value-in-len1-up.ensures.meaning)
+    rw (p.1, p.2)
+    (stop-let_in (means c.args.left c.args.context.now.budget c.args.context.now.app.now c.args.context.now.slots.now) (grows-means c.args.left c.args.context.now.budget c.args.context.now.app.now c.args.context.now.slots.now) c.args.level (bindings_of c.args.bindings.now) c.args.body.now (variables_of c.args.scope.now) (variables_of c.args.scope.now) c.in_err-frame.field-0.0 c.evaluate_bindings.new.meter c.args.meter.now.cost c.args.meter.now.deepest
+    c.in_err-frame.ensures.meaning)
+
+pub evaluate_bindings-returns-in_err-value-clause-meaning : goal.evaluate_bindings-returns-in_err-value-clause-meaning
+evaluate_bindings-returns-in_err-value-clause-meaning g t c =
+    let p = err_from_is_err_and c.from_residual.result c.from_residual.ensures.1 in
+    let at = c.loop-binding.binding-index in
+    let rest = drop (suc at) c.args.bindings.now in
+    let step : drop at c.args.bindings.now ≡ c.binding-item.result ∷ rest =
+    drop-cons c.args.bindings.now at c.binding-item.result c.loop-binding-test.true ∙ ap (λ (a : Binding). a ∷ rest) (sym c.binding-item.is) in
+    rw (p.1, p.2, ← c.loop-binding.invariant.meaning, step)
+    (stop-bound (means c.args.left c.args.context.now.budget c.args.context.now.app.now c.args.context.now.slots.now) (grows-means c.args.left c.args.context.now.budget c.args.context.now.app.now c.args.context.now.slots.now) c.args.level c.binding-item.result.name c.binding-item.result.value (bindings_of rest) (c.loop-binding.frame ++ (variables_of c.args.scope.now)) (variables_of c.args.scope.now) c.in_err-value.field-0.0 c.evaluate.new.meter c.loop-binding.meter.cost c.loop-binding.meter.deepest
+    c.in_err-value.ensures.meaning)
+
+pub evaluate_bindings-returns-in_err-copy-clause-meaning : goal.evaluate_bindings-returns-in_err-copy-clause-meaning
+evaluate_bindings-returns-in_err-copy-clause-meaning g t c =
+    let p = err_from_is_err_and c.from_residual-in_err-copy.result c.from_residual-in_err-copy.ensures.1 in
+    let at = c.loop-binding.binding-index in
+    let rest = drop (suc at) c.args.bindings.now in
+    let step : drop at c.args.bindings.now ≡ c.binding-item.result ∷ rest =
+    drop-cons c.args.bindings.now at c.binding-item.result c.loop-binding-test.true ∙ ap (λ (a : Binding). a ∷ rest) (sym c.binding-item.is) in
+    rw (p.1, p.2, ← c.loop-binding.invariant.meaning, step)
+    (full-bound (means c.args.left c.args.context.now.budget c.args.context.now.app.now c.args.context.now.slots.now) (grows-means c.args.left c.args.context.now.budget c.args.context.now.app.now c.args.context.now.slots.now) c.args.level c.binding-item.result.name c.binding-item.result.value (bindings_of rest) (c.loop-binding.frame ++ (variables_of c.args.scope.now)) (data_of c.in_ok-value.value) c.loop-binding.meter.cost c.loop-binding.meter.deepest c.evaluate.new.meter.cost c.evaluate.new.meter.deepest
+    c.in_ok-value.ensures.meaning)
+
+pub evaluate_bindings-returns-in_err-bind-clause-meaning : goal.evaluate_bindings-returns-in_err-bind-clause-meaning
+evaluate_bindings-returns-in_err-bind-clause-meaning g t c =
+    let p = err_from_is_err_and c.from_residual-in_err-bind.result c.from_residual-in_err-bind.ensures.1 in
+    let at = c.loop-binding.binding-index in
+    let rest = drop (suc at) c.args.bindings.now in
+    let step : drop at c.args.bindings.now ≡ c.binding-item.result ∷ rest =
+    drop-cons c.args.bindings.now at c.binding-item.result c.loop-binding-test.true ∙ ap (λ (a : Binding). a ∷ rest) (sym c.binding-item.is) in
+    rw (p.1, p.2, ← c.loop-binding.invariant.meaning, step)
+    (full-bound (means c.args.left c.args.context.now.budget c.args.context.now.app.now c.args.context.now.slots.now) (grows-means c.args.left c.args.context.now.budget c.args.context.now.app.now c.args.context.now.slots.now) c.args.level c.binding-item.result.name c.binding-item.result.value (bindings_of rest) (c.loop-binding.frame ++ (variables_of c.args.scope.now)) (data_of c.in_ok-value.value) c.loop-binding.meter.cost c.loop-binding.meter.deepest c.evaluate.new.meter.cost c.evaluate.new.meter.deepest
+    c.in_ok-value.ensures.meaning)
+
+pub evaluate_operation-returns-in_err-first-in-len2-clause-meaning : goal.evaluate_operation-returns-in_err-first-in-len2-clause-meaning
+evaluate_operation-returns-in_err-first-in-len2-clause-meaning g t c =
+    let p = err_from_is_err_and c.from_residual-in_err-first-in-len2.result c.from_residual-in_err-first-in-len2.ensures.1 in
+    let whole : terms_of c.args.parts.now ≡ part c.first-item.result (part c.second-item.result none) =
+    pair c.args.parts.now c.first-item.result c.second-item.result (omega (arith, c.in-len2.len_at_least)) (omega (arith, c.in-len2.len_below)) c.first-item.is c.second-item.is in
+    rw (p.1, p.2, whole)
+    (stop-first c.args.context.now.app.now (means c.args.left c.args.context.now.budget c.args.context.now.app.now c.args.context.now.slots.now) (grows-means c.args.left c.args.context.now.budget c.args.context.now.app.now c.args.context.now.slots.now) c.args.level (variables_of c.args.scope.now) c.args.operator.now c.first-item.result (part c.second-item.result none) c.in_err-first-in-len2.field-0.0 c.evaluate-in-len2.new.meter c.args.meter.now.cost c.args.meter.now.deepest
+    c.in_err-first-in-len2.ensures.meaning)
+
+pub evaluate_operation-returns-in_err-second-in-len2-clause-meaning : goal.evaluate_operation-returns-in_err-second-in-len2-clause-meaning
+evaluate_operation-returns-in_err-second-in-len2-clause-meaning g t c =
+    let p = err_from_is_err_and c.from_residual-in_err-second-in-len2.result c.from_residual-in_err-second-in-len2.ensures.1 in
+    let whole : terms_of c.args.parts.now ≡ part c.first-item.result (part c.second-item.result none) =
+    pair c.args.parts.now c.first-item.result c.second-item.result (omega (arith, c.in-len2.len_at_least)) (omega (arith, c.in-len2.len_below)) c.first-item.is c.second-item.is in
+    rw (p.1, p.2, whole)
+    (stop-second c.args.context.now.app.now (means c.args.left c.args.context.now.budget c.args.context.now.app.now c.args.context.now.slots.now) (grows-means c.args.left c.args.context.now.budget c.args.context.now.app.now c.args.context.now.slots.now) c.args.level (variables_of c.args.scope.now) c.args.operator.now c.first-item.result c.second-item.result none (data_of c.in_ok-first-in-len2.first) c.in_err-second-in-len2.field-0.0 c.evaluate-in-len2-2.new.meter c.args.meter.now.cost c.args.meter.now.deepest c.evaluate-in-len2.new.meter.cost c.evaluate-in-len2.new.meter.deepest
+    c.in_ok-first-in-len2.ensures.meaning c.in_err-second-in-len2.ensures.meaning)
+
+pub evaluate_operation-returns-in_ok-second-in-len2-clause-meaning : goal.evaluate_operation-returns-in_ok-second-in-len2-clause-meaning
+evaluate_operation-returns-in_ok-second-in-len2-clause-meaning g t c =
+    let whole : terms_of c.args.parts.now ≡ part c.first-item.result (part c.second-item.result none) =
+    pair c.args.parts.now c.first-item.result c.second-item.result (omega (arith, c.in-len2.len_at_least)) (omega (arith, c.in-len2.len_below)) c.first-item.is c.second-item.is in
+    rw whole
+    (done-second c.args.context.now.app.now (means c.args.left c.args.context.now.budget c.args.context.now.app.now c.args.context.now.slots.now) c.args.level (variables_of c.args.scope.now) c.args.operator.now c.first-item.result c.second-item.result (data_of c.in_ok-first-in-len2.first) (data_of c.in_ok-second-in-len2.second) c.operate-in-len2.result c.evaluate-in-len2-2.new.meter c.args.meter.now.cost c.args.meter.now.deepest c.evaluate-in-len2.new.meter.cost c.evaluate-in-len2.new.meter.deepest
+    c.in_ok-first-in-len2.ensures.meaning c.in_ok-second-in-len2.ensures.meaning c.operate-in-len2.ensures)
 
 pub evaluate_parts-returns-in_err-evaluate_test-in-If-clause-meaning : goal.evaluate_parts-returns-in_err-evaluate_test-in-If-clause-meaning
 evaluate_parts-returns-in_err-evaluate_test-in-If-clause-meaning g t c =
@@ -133,7 +188,7 @@ evaluate_parts-returns-in_err-values-in-Call-clause-meaning g t c =
     let whole : c.args.expr.now ≡ term.call c.in-Call.name (terms_of c.in-Call.parts.items) = sym c.expr.view_is ∙ ap term_of c.in-Call.is in
     let stop = rw c.deref-in-Call.ensures.value at c.in_err-values-in-Call.ensures.meaning in
     rw (p.1, p.2, whole)
-    (stop-call c.args.context.now.app.now c.args.context.now.slots.now (means c.args.left c.args.context.now.budget c.args.context.now.app.now c.args.context.now.slots.now) (grows-means c.args.left c.args.context.now.budget c.args.context.now.app.now c.args.context.now.slots.now) c.args.level (variables_of c.args.scope.now) c.in-Call.name (terms_of c.in-Call.parts.items) c.in_err-values-in-Call.field-0.0 c.evaluate_each-in-Call.new.meter c.args.meter.now.cost c.args.meter.now.deepest stop)
+    (stop-call c.args.context.now.app.now c.args.context.now.slots.now (means c.args.left c.args.context.now.budget c.args.context.now.app.now c.args.context.now.slots.now) (grows-means c.args.left c.args.context.now.budget c.args.context.now.app.now c.args.context.now.slots.now) c.args.level (variables_of c.args.scope.now) c.in-Call.name (terms_of c.in-Call.parts.items) c.in_err-values-in-Call.field-0.0 c.evaluate_each.new.meter c.args.meter.now.cost c.args.meter.now.deepest stop)
 
 pub filter_over-returns-in_err-kept-clause-meaning : goal.filter_over-returns-in_err-kept-clause-meaning
 filter_over-returns-in_err-kept-clause-meaning g t c =

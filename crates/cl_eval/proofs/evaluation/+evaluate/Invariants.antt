@@ -1,8 +1,9 @@
-use Rattle.std.proofs.Common.{◌≡◌, ◌+◌, ◌*◌, ◌^◌, [], drop, length, map}
+use Rattle.std.proofs.Common.{◌≡◌, ◌+◌, ◌*◌, ◌^◌, ◌++◌, [], drop, map}
 use Rattle.cl_value.specs.Value.{data_of}
 use Rattle.cl_syntax.specs.Term.{terms_of}
+use Rattle.cl_syntax.specs.Expr.{bindings_of}
 use Rattle.cl_eval.specs.Scope.{variables_of}
-use Rattle.cl_eval.specs.Meaning.{each, every, some, mapped, filtered, folded, means}
+use Rattle.cl_eval.specs.Meaning.{bound, each, every, some, mapped, filtered, folded, means}
 use Rattle.cl_eval.proofs.evaluation.+evaluate.Given as goal
 
 abbrev pub decreases-evaluate : goal.decreases-evaluate
@@ -18,7 +19,13 @@ abbrev pub decreases-evaluate_list : goal.decreases-evaluate_list
 decreases-evaluate_list g l = l.left * 2 ^ 66 + 1
 
 abbrev pub decreases-evaluate_let : goal.decreases-evaluate_let
-decreases-evaluate_let g l = l.left * 2 ^ 66 + length l.bindings.now + 1
+decreases-evaluate_let g l = l.left * 2 ^ 66 + 3
+
+abbrev pub decreases-evaluate_bindings : goal.decreases-evaluate_bindings
+decreases-evaluate_bindings g l = l.left * 2 ^ 66 + 2
+
+abbrev pub decreases-evaluate_operation : goal.decreases-evaluate_operation
+decreases-evaluate_operation g l = l.left * 2 ^ 66 + 3
 
 abbrev pub decreases-evaluate_each : goal.decreases-evaluate_each
 decreases-evaluate_each g l = l.left * 2 ^ 66 + 2
@@ -44,6 +51,12 @@ decreases-call g l = l.left * 2 ^ 66 + 1
 abbrev pub invariant-evaluate_each-loop-part : goal.invariant-evaluate_each-loop-part
 invariant-evaluate_each-loop-part g l = record {
   meaning : each (means l.left l.context.budget l.context.app.now l.context.slots.now) l.level (variables_of l.scope) (terms_of (drop l.part-index l.parts)) (map data_of l.values.items) l.meter.cost l.meter.deepest ≡ each (means l.left l.context.budget l.context.app.now l.context.slots.now) l.level (variables_of l.scope) (terms_of l.parts) [] l.initial.meter.cost l.initial.meter.deepest;
+  ledger : l.steps + l.initial.meter.cost ≡ l.initial.steps + l.meter.cost;
+}
+
+abbrev pub invariant-evaluate_bindings-loop-binding : goal.invariant-evaluate_bindings-loop-binding
+invariant-evaluate_bindings-loop-binding g l = record {
+  meaning : bound (means l.left l.context.budget l.context.app.now l.context.slots.now) l.level (bindings_of (drop l.binding-index l.bindings)) (l.frame ++ variables_of l.scope) l.meter.cost l.meter.deepest ≡ bound (means l.left l.context.budget l.context.app.now l.context.slots.now) l.level (bindings_of l.bindings) (variables_of l.scope) l.initial.meter.cost l.initial.meter.deepest;
   ledger : l.steps + l.initial.meter.cost ≡ l.initial.steps + l.meter.cost;
 }
 

@@ -1,4 +1,4 @@
-use Rattle.std.proofs.Common.{◌≡◌, ◌∙◌, ◌∷◌, ◌<◌, suc, drop, drop-cons, length, map, ap, sym, arith}
+use Rattle.std.proofs.Common.{◌≡◌, ◌∙◌, ◌∷◌, suc, drop, drop-cons, map, ap, sym}
 use Rattle.std.proofs.lemmas.Result.{err_from_is_err_and}
 use Rattle.cl_value.specs.Value.{data_of}
 use Rattle.cl_value.specs.declared.Value.{Value}
@@ -6,7 +6,6 @@ use Rattle.cl_syntax.specs.Statement as act
 use Rattle.cl_syntax.specs.Statement.{statements_of}
 use Rattle.cl_syntax.specs.Act.{statement_of}
 use Rattle.cl_syntax.specs.Expr.{bindings_of}
-use Rattle.cl_syntax.specs.declared.expressions.Binding.{Binding}
 use Rattle.cl_syntax.specs.declared.statements.Act.{Act}
 use Rattle.cl_eval.specs.Scope.{variables_of}
 use Rattle.cl_eval.specs.Meaning.{means}
@@ -55,16 +54,12 @@ act_all-returns-in_err-act-clause-meaning g t c =
     (stop-in_turn (does c.args.left c.args.program.now.budget c.args.program.now.app.now (g.T.Types.holds c.args.program.now.types.now)) (grows-does c.args.left c.args.program.now.budget c.args.program.now.app.now (g.T.Types.holds c.args.program.now.types.now)) c.args.level (variables_of c.args.scope.now) c.statement-item.result (statements_of rest) c.loop-statement.effects c.act.new.effects c.in_err-act.field-0.0 c.act.new.meter c.loop-statement.meter.cost c.loop-statement.meter.deepest
     c.in_err-act.ensures.meaning)
 
-pub act_in-returns-in_err-value-in-len1-up-clause-meaning : goal.act_in-returns-in_err-value-in-len1-up-clause-meaning
-act_in-returns-in_err-value-in-len1-up-clause-meaning g t c =
+pub act_in-returns-in_err-frame-clause-meaning : goal.act_in-returns-in_err-frame-clause-meaning
+act_in-returns-in_err-frame-clause-meaning g t c =
     let p = err_from_is_err_and c.from_residual.result c.from_residual.ensures.1 in
-    let some : 0 < length c.args.bindings.now = omega (arith, c.in-len1-up.len_at_least) in
-    let rest = drop 1 c.args.bindings.now in
-    let step : c.args.bindings.now ≡ c.first-item.result ∷ rest =
-    drop-cons c.args.bindings.now 0 c.first-item.result some ∙ ap (λ (a : Binding). a ∷ rest) (sym c.first-item.is) in
-    rw (p.1, p.2, step)
-    (stop-acts_in (means c.args.left c.args.program.now.budget c.args.program.now.app.now c.args.effects.now.slots) (grows-means c.args.left c.args.program.now.budget c.args.program.now.app.now c.args.effects.now.slots) (does c.args.left c.args.program.now.budget c.args.program.now.app.now (g.T.Types.holds c.args.program.now.types.now)) (grows-does c.args.left c.args.program.now.budget c.args.program.now.app.now (g.T.Types.holds c.args.program.now.types.now)) c.args.level c.first-item.result.name c.first-item.result.value (bindings_of rest) (statements_of c.args.body.now)
-    (variables_of c.args.scope.now) c.args.effects.now c.args.effects.now c.in_err-value-in-len1-up.field-0.0 c.value_of.new.meter c.args.meter.now.cost c.args.meter.now.deepest c.in_err-value-in-len1-up.ensures.meaning)
+    rw (p.1, p.2)
+    (stop-acts_in (means c.args.left c.args.program.now.budget c.args.program.now.app.now c.args.effects.now.slots) (does c.args.left c.args.program.now.budget c.args.program.now.app.now (g.T.Types.holds c.args.program.now.types.now)) (grows-does c.args.left c.args.program.now.budget c.args.program.now.app.now (g.T.Types.holds c.args.program.now.types.now)) c.args.level (bindings_of c.args.bindings.now) (statements_of c.args.body.now)
+    (variables_of c.args.scope.now) (variables_of c.args.scope.now) c.args.effects.now c.args.effects.now c.in_err-frame.field-0.0 c.frame_of.new.meter c.args.meter.now.cost c.args.meter.now.deepest c.in_err-frame.ensures.meaning)
 
 pub act_each-returns-in_err-act_all-clause-meaning : goal.act_each-returns-in_err-act_all-clause-meaning
 act_each-returns-in_err-act_all-clause-meaning g t c =

@@ -1,4 +1,4 @@
-use Rattle.std.proofs.Common.{◌≡◌, ◌+◌, ◌*◌, ◌^◌, drop, length, map}
+use Rattle.std.proofs.Common.{◌≡◌, ◌+◌, ◌*◌, ◌^◌, drop, map}
 use Rattle.cl_value.specs.Value.{data_of}
 use Rattle.cl_syntax.specs.Statement.{statements_of}
 use Rattle.cl_eval.specs.Scope.{variables_of}
@@ -15,7 +15,7 @@ abbrev pub decreases-act_all : goal.decreases-act_all
 decreases-act_all g l = l.left * 2 ^ 66 + 2
 
 abbrev pub decreases-act_in : goal.decreases-act_in
-decreases-act_in g l = l.left * 2 ^ 66 + length l.bindings.now + 4
+decreases-act_in g l = l.left * 2 ^ 66 + 3
 
 abbrev pub decreases-act_each : goal.decreases-act_each
 decreases-act_each g l = l.left * 2 ^ 66 + 3
