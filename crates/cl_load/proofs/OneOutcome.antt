@@ -13,7 +13,7 @@ use Rattle.cl_declare.specs.declared.frames.FrameForm.{FrameForm}
 use Rattle.cl_phases.specs.SlotReads.{Functions}
 use Rattle.cl_load.specs.Loads.{AreForms, IsTooLong, IsUnread, IsUnreadable, ComesTo, HasOutcome, data_of}
 use Rattle.cl_load.specs.Outcome.{Comes, Outcome, Reading, Settled}
-use Rattle.cl_load.specs.Readings.{Read, IsFirstReading, NoneReads}
+use Rattle.cl_load.specs.Readings.{IsFirstReading, NoneReads}
 use Rattle.cl_load.specs.Review.{review}
 
 -- trees in a row

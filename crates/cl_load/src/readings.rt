@@ -1,10 +1,10 @@
 //! Opening values that read a slot.
-ghost use Rattle.std.specs.Prelude.{◌≡◌, IfOk};
-ghost use Rattle.cl_load.specs.Readings.{Read, Reads, Finds};
+ghost use Rattle.std.specs.Prelude.{IfOk};
+ghost use Rattle.cl_load.specs.Readings.{Finds};
 
 use cl_declare::FrameForm;
-use cl_phases::reads_slot;
-use cl_syntax::{Functions, SlotDecls};
+use cl_phases::any_reads_slot;
+use cl_syntax::Functions;
 use std::alloc::{AllocError, Global};
 
 /// The offset of the first frame with an opening value that reads a slot, through calls too.
@@ -16,24 +16,9 @@ pub fn first_reading(
     ensures { IfOk result (Finds functions.now frames.now) }
 {
     for frame in frames {
-        if reads(alloc, functions, &frame.slots)? {
+        if any_reads_slot(alloc, functions, &frame.slots)? {
             return Ok(Some(frame.at));
         }
     }
     Ok(None)
-}
-
-/// Whether one of these opening values reads a slot.
-fn reads(alloc: Global, functions: &Functions, slots: &SlotDecls) -> Result<bool, AllocError>
-    ensures { IfOk result (Reads functions.now slots.now) }
-{
-    for place in 0..slots.len() {
-        let Some(slot) = slots.at(place) else {
-            unreachable!()
-        };
-        if reads_slot(alloc, functions, &slot.opening)? {
-            return Ok(true);
-        }
-    }
-    Ok(false)
 }

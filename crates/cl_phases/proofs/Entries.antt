@@ -4,6 +4,7 @@ use Rattle.std.specs.Prelude.{is_some}
 use Rattle.std.specs.Cmp.Lexicographic.{pointwise}
 use Rattle.std.proofs.lemmas.Slice.Eq.{bytes_eq-Decides}
 use Rattle.cl_syntax.specs.Names.{named}
+use Rattle.cl_phases.specs.SlotReads.{has}
 
 pub same_name : (x y : List ℕ) → pointwise ◌==◌ x y ≡ true → x ≡ y
 same_name x y h = (bytes_eq-Decides x y).0 h
@@ -12,9 +13,6 @@ pub own_name : (x : List ℕ) → pointwise ◌==◌ x x ≡ true
 own_name x = (bytes_eq-Decides x x).1 refl
 
 module _ {D : Type 0} where
-  abbrev pub has : List ℕ → List (List ℕ × D) → Bool
-  has x es = is_some (named x es)
-
   has_front : (b : Bool) (d : D) (o o' : Option D) → (is_some o ≡ true → is_some o' ≡ true) → is_some (cond b (Some d) o) ≡ true → is_some (cond b (Some d) o') ≡ true
   has_front true d o o' more h = refl
   has_front false d o o' more h = more h

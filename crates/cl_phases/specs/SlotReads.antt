@@ -1,10 +1,11 @@
 -- Whether an expression reads a slot: one stands in it, or in the body of a function that it calls, through calls in turn. What a
 -- branch names counts whether or not it is taken.
-use Rattle.std.specs.Prelude.{◌≡◌, ℕ, Bool, true, false, ◌||◌, is_some, if◌then◌else◌, List, [], ◌∷◌, ◌++◌, Contains, Option, Some, None}
+use Rattle.std.specs.Prelude.{◌≡◌, ◌⊎◌, ℕ, Bool, true, false, ◌||◌, is_some, if◌then◌else◌, List, [], ◌∷◌, ◌++◌, All, Contains, Option, Some, None}
 use Rattle.cl_syntax.specs.Names.{named, declared_at}
 use Rattle.cl_syntax.specs.Term as term
 use Rattle.cl_syntax.specs.Term.{Term, Terms, Bindings, none, part, unbound, binding}
 use Rattle.cl_syntax.specs.declared.declarations.FunctionDecl.{FunctionDecl}
+use Rattle.cl_syntax.specs.declared.declarations.SlotDecl.{SlotDecl}
 use Rattle.cl_phases.specs.declared.slot_reads.Reached.{Reached}
 
 abbrev pub Functions : Type 0
@@ -68,6 +69,17 @@ pub record ReadsSlot (fs : Functions) (t : Term) : Type 0 where
   pub reaches : Reaches fs t reached
   pub names : names_slot reached ≡ true
 
+-- one of these opening values reads a slot
+abbrev pub AnyReads : Functions → List (List ℕ × SlotDecl) → Type 0
+AnyReads fs [] = ⊥
+AnyReads fs (s ∷ more) = ReadsSlot fs s.1.opening ⊎ AnyReads fs more
+
+-- ---- what the program answers
+
+abbrev pub Tells : Functions → List (List ℕ × SlotDecl) → Bool → Type 0
+Tells fs slots true = AnyReads fs slots
+Tells fs slots false = AnyReads fs slots → ⊥
+
 -- ---- the search
 
 -- the functions that are reached so far, in the order in which they are found
@@ -94,3 +106,25 @@ body_named fs (Some r) = body_of (named r.name fs)
 -- the body of the function that was found at a place
 abbrev pub body_at : Functions → Found → ℕ → Option Term
 body_at fs found place = body_named fs (declared_at place found)
+
+-- something stands under a name in a table
+abbrev pub has : {D : Type 0} → List ℕ → List (List ℕ × D) → Bool
+has x table = is_some (named x table)
+
+-- an expression names no slot, and the functions that it calls are found
+pub record IsClosed (fs : Functions) (found : Found) (t : Term) : Type 0 where
+  pub no_slot : names_slot t ≡ false
+  pub finds : All (λ x. has x fs ≡ true → has x found ≡ true) (calls t)
+
+-- a function that is found was looked into
+abbrev pub IsLookedInto : Functions → Found → List ℕ × Reached → Type 0
+IsLookedInto fs found e = (f : FunctionDecl) → named e.0 fs ≡ Some f → IsClosed fs found f.body
+
+-- no function that is found reads a slot, through calls too: each was looked into
+abbrev pub AreClear : Functions → Found → Type 0
+AreClear fs found = All (IsLookedInto fs found) found
+
+-- where the answer is no
+abbrev pub StaysClear : Functions → Found → Bool → Type 0
+StaysClear fs found true = Unit {0}
+StaysClear fs found false = AreClear fs found

@@ -13,5 +13,5 @@ mod twice;
 
 pub use laws::reads_are_uses;
 pub use limits::first_past;
-pub use slot_reads::reads_slot;
+pub use slot_reads::any_reads_slot;
 pub use twice::first_twice;

@@ -1,10 +1,10 @@
-//! Whether an expression reads a slot, through calls too.
+//! Whether an opening value reads a slot, through calls too.
 ghost use Rattle.std.specs.Prelude.{◌≡◌, ◌↔◌, ◌++◌, IfOk, IsTrue, OnOk, option_map};
 ghost use Rattle.cl_syntax.specs.Term.{terms_of};
 ghost use Rattle.cl_syntax.specs.Expr.{bindings_of};
-ghost use Rattle.cl_phases.specs.SlotReads.{ReadsSlot, body_at, calls, calls_among, calls_bound, names_slot, names_slot_among, names_slot_bound, with_call, with_calls};
+ghost use Rattle.cl_phases.specs.SlotReads.{AreClear, ReadsSlot, StaysClear, Tells, body_at, calls, calls_among, calls_bound, names_slot, names_slot_among, names_slot_bound, with_call, with_calls};
 
-use cl_syntax::{Binding, Declared, Expr, ExprKind, Functions, Names, Table};
+use cl_syntax::{Binding, Declared, Expr, ExprKind, Functions, Names, SlotDecls, Table};
 use cl_value::Text;
 use std::alloc::{AllocError, Global};
 
@@ -22,25 +22,51 @@ impl Declared for Reached {
     }
 }
 
-/// Whether a slot stands in the expression, or in the body of a function that is reached from it
-/// through calls. Each body is looked at once.
-pub fn reads_slot(alloc: Global, functions: &Functions, expr: &Expr) -> Result<bool, AllocError>
-    ensures { IfOk result (λ b. IsTrue b ↔ ReadsSlot functions.now expr.now) }
+/// Whether one of these opening values reads a slot: one stands in it, or in the body of a function
+/// that is reached from it through calls. Each body is looked at once for all of them.
+pub fn any_reads_slot(
+    alloc: Global,
+    functions: &Functions,
+    slots: &SlotDecls,
+) -> Result<bool, AllocError>
+    ensures { IfOk result (Tells functions.now slots.now) }
+{
+    let mut reached = Table::new(alloc);
+    for place in 0..slots.len() {
+        let Some(slot) = slots.at(place) else {
+            unreachable!()
+        };
+        if reads_slot(alloc, functions, &slot.opening, &mut reached)? {
+            return Ok(true);
+        }
+    }
+    Ok(false)
+}
+
+/// Whether the expression reads a slot. What was reached before reads none and is not looked at again.
+fn reads_slot(
+    alloc: Global,
+    functions: &Functions,
+    expr: &Expr,
+    reached: &mut Table<Reached>,
+) -> Result<bool, AllocError>
+    requires { AreClear functions.now reached.old }
+    ensures reads { IfOk result (λ b. IsTrue b ↔ ReadsSlot functions.now expr.now) }
+    ensures clear { IfOk result (StaysClear functions.now reached.new) }
 {
     if names_slot(expr) {
         return Ok(true);
     }
-    let mut reached = Table::new(alloc);
-    reach(alloc, functions, expr, &mut reached)?;
-    let mut place = 0;
+    let mut place = reached.len();
+    reach(alloc, functions, expr, reached)?;
     while place < reached.len() {
-        let Some(body) = body_at(functions, &reached, place) else {
+        let Some(body) = body_at(functions, reached, place) else {
             unreachable!()
         };
         if names_slot(body) {
             return Ok(true);
         }
-        reach(alloc, functions, body, &mut reached)?;
+        reach(alloc, functions, body, reached)?;
         place += 1;
     }
     Ok(false)

@@ -1,8 +1,9 @@
 //! What is found in whole texts. Offsets are those of a separate reference.
-use crate::{first_past, first_twice, reads_slot};
+use crate::{any_reads_slot, first_past, first_twice};
 use cl_forms::{Datum, Datums, Scope, World, all_forms, data_in, expr_in, name_in, world_of};
 use cl_sexp::read_forms;
-use cl_syntax::{Expr, FunctionDecl, Functions, Names};
+use cl_syntax::{Expr, FunctionDecl, Functions, Names, SlotDecl, SlotDecls, TypeSpec};
+use cl_value::Text;
 use std::alloc::Global;
 use std::test::Fail;
 
@@ -33,20 +34,25 @@ const TWICE: &str = "\
 (define-application-frame w (:size 9 9))(define-application-frame w (:size 9 9)) => 66
 (a) 5 => none";
 
-/// Functions and an expression behind them, with whether it reads a slot.
+/// Functions and a list of opening values behind them, with whether one of these reads a slot.
 const READS: &str = "\
-1 => none
-(slot n) => yes
-(if true 1 (+ 2 (slot n))) => yes
-(let ((x (slot n))) 1) => yes
-(fold x (list) a 0 (slot n)) => yes
-(define-function f () 1) (f) => none
-(define-function f () (slot n)) (f) => yes
-(define-function f () (slot n)) 1 => none
-(define-function f () (g)) (define-function g () (h)) (define-function h () (slot n)) (f) => yes
-(define-function f () (g)) (define-function g () (f)) (f) => none
-(define-function f () (or (g) (h))) (define-function g () (f)) (define-function h () (slot n)) (g) => yes
-(define-function f () (f)) (define-function g () (slot n)) (list (f) (f)) => none";
+() => none
+(1) => none
+((slot n)) => yes
+((if true 1 (+ 2 (slot n)))) => yes
+((let ((x (slot n))) 1)) => yes
+((fold x (list) a 0 (slot n))) => yes
+(1 2 (slot n)) => yes
+(define-function f () 1) ((f)) => none
+(define-function f () (slot n)) ((f)) => yes
+(define-function f () (slot n)) (1) => none
+(define-function f () (g)) (define-function g () (h)) (define-function h () (slot n)) ((f)) => yes
+(define-function f () (g)) (define-function g () (f)) ((f)) => none
+(define-function f () (or (g) (h))) (define-function g () (f)) (define-function h () (slot n)) ((g)) => yes
+(define-function f () (f)) (define-function g () (slot n)) ((list (f) (f))) => none
+(define-function f () (g)) (define-function g () 1) ((f) (g) (f)) => none
+(define-function f () (g)) (define-function g () 1) (define-function h () (slot n)) ((f) (g) (list (g) (h))) => yes
+(define-function f () 1) (define-function g () (list (f) (h))) (define-function h () (slot n)) ((f) (g)) => yes";
 
 /// The beginning of a text, what stands how often behind it, the end, and the offset of what is past
 /// a limit.
@@ -173,6 +179,42 @@ fn functions_in(alloc: Global, world: &World, forms: &[Datum]) -> Functions {
     functions
 }
 
+fn slot(alloc: Global, world: &World, name: &[u8], opening: &Datum) -> Option<SlotDecl> {
+    let Ok(name) = Text::from_slice(alloc, name) else {
+        return None;
+    };
+    let Ok(of) = name.copy() else {
+        return None;
+    };
+    let Some(opening) = expression(alloc, world, opening) else {
+        return None;
+    };
+    Some(SlotDecl {
+        name,
+        spec: TypeSpec { name: of },
+        opening,
+        opening_at: 0,
+    })
+}
+
+/// Slots with these opening values, whose names are each longer than the one before.
+fn slots_in(alloc: Global, world: &World, openings: &[Datum]) -> Option<SlotDecls> {
+    let mut slots = SlotDecls::new(alloc);
+    let mut name = Vec::new(alloc);
+    for opening in openings {
+        if name.push(b's').is_err() {
+            return None;
+        }
+        let Some(slot) = slot(alloc, world, name.as_slice(), opening) else {
+            return None;
+        };
+        if slots.get(&slot.name).is_some() || slots.add(slot).is_err() {
+            return None;
+        }
+    }
+    Some(slots)
+}
+
 fn reads_in(alloc: Global, forms: &[Datum]) -> Found {
     let [declarations @ .., last] = forms else {
         return Found::Failed;
@@ -180,11 +222,11 @@ fn reads_in(alloc: Global, forms: &[Datum]) -> Found {
     let Ok(world) = world_of(alloc, declarations) else {
         return Found::Failed;
     };
-    let Some(expr) = expression(alloc, &world, last) else {
+    let Some(slots) = slots_in(alloc, &world, last.parts()) else {
         return Found::Failed;
     };
     let functions = functions_in(alloc, &world, declarations);
-    match reads_slot(alloc, &functions, &expr) {
+    match any_reads_slot(alloc, &functions, &slots) {
         Ok(true) => Found::Yes,
         Ok(false) => Found::Nothing,
         Err(_) => Found::Failed,

@@ -1,0 +1,18 @@
+use Rattle.cl_phases.proofs.SlotSearch.{none_found, read_here, read_next, not_both}
+use Rattle.cl_phases.proofs.slot_reads.any_reads_slot.Goals as goal
+
+pub loop-place-init : goal.loop-place-init
+loop-place-init c = record { clear = rw c.new-reached.ensures (none_found c.args.functions.now); left = λ r. r }
+
+pub returns-then-branch : goal.returns-then-branch
+returns-then-branch c =
+    read_here c.args.functions.now c.args.slots.now c.loop-place.place c.in-Some.slot.now c.in-Some.ensures (c.in_ok-reads_slot.ensures.reads.0 c.if-branch.true)
+
+pub loop-place-preserved : goal.loop-place-preserved
+loop-place-preserved c = record {
+  clear = rw c.if-branch.false at c.in_ok-reads_slot.ensures.clear;
+  left = λ r.
+      read_next c.args.functions.now c.args.slots.now c.loop-place.place c.in-Some.slot.now c.in-Some.ensures
+      (λ s. not_both c.in_ok-reads_slot.field-0 c.if-branch.false (c.in_ok-reads_slot.ensures.reads.1 s))
+      (c.loop-place.invariant.left r);
+}
