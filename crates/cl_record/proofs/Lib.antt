@@ -1,0 +1,5 @@
+pub mod Moves
+pub mod Rows
+pub mod Replayed
+pub mod Regions
+pub mod Lined

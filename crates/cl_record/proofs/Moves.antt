@@ -1,0 +1,128 @@
+-- Moves of marks and trees.
+use Rattle.std.proofs.Common.{◌≡◌, ℤ, pos, ◌+ℤ◌, List, [], ◌∷◌, ◌++◌, Option, Some, None, refl, ◌∙◌, ap, sym, subst, arith}
+use Rattle.std.proofs.lemmas.Int.{ints}
+use Rattle.cl_region.specs.Places.{IsInRange, moved}
+use Rattle.cl_region.specs.declared.rects.Rect.{Rect}
+use Rattle.cl_region.specs.declared.rects.Shift.{Shift}
+use Rattle.cl_record.specs.Heads.{HeadAt, Point, head_moved, margin_moved, origin_moved, point_moved}
+use Rattle.cl_record.specs.Marks.{Mark, all_moved, begins, closes, draw, mark_moved, marks_of, marks_of_all, opens}
+use Rattle.cl_record.specs.Shifts.{IsShift, joined, still}
+use Rattle.cl_record.specs.Trees.{StayInRange, StaysInRange, Tree, leaf, piece, shown, tree_moved}
+
+pub shift_is : (v : Shift) (a b : ℤ) → a ≡ v.dx → b ≡ v.dy → ◌≡◌ {A = Shift} (record { dx = a; dy = b }) v
+shift_is v a b e f = rw (e, f) refl
+
+joined_up : (a b c : ℤ) → (a +ℤ b) +ℤ c ≡ a +ℤ (b +ℤ c)
+joined_up a b c = omega (arith, ints)
+
+unmoved : (a : ℤ) → a +ℤ pos 0 ≡ a
+unmoved a = omega (arith, ints)
+
+pub joined-still : (v : Shift) → joined v still ≡ v
+joined-still v = rw (unmoved v.dx, unmoved v.dy) refl
+
+pub moved-still : (r : Rect) → moved still r ≡ r
+moved-still r = rw (unmoved r.x1, unmoved r.y1, unmoved r.x2, unmoved r.y2) refl
+
+module _ {A : Type 0} (move : Shift → A → A) where
+  pub all_moved-append : (v : Shift) (ms ns : List (Mark A)) → all_moved move v (ms ++ ns) ≡ all_moved move v ms ++ all_moved move v ns
+  all_moved-append v [] ns = refl
+  all_moved-append v (m ∷ ms) ns = ap (λ (ks : List (Mark A)). mark_moved move v m ∷ ks) (all_moved-append v ms ns)
+
+-- ---- two moves are one
+
+moved_twice : (v w : Shift) (r : Rect) → moved w (moved v r) ≡ moved (joined v w) r
+moved_twice v w r =
+    rw (joined_up r.x1 v.dx w.dx, joined_up r.y1 v.dy w.dy, joined_up r.x2 v.dx w.dx, joined_up r.y2 v.dy w.dy) refl
+
+point_twice : (v w : Shift) (p : Point) → point_moved w (point_moved v p) ≡ point_moved (joined v w) p
+point_twice v w p = rw (joined_up p.x v.dx w.dx, joined_up p.y v.dy w.dy) refl
+
+margin_twice : (v w : Shift) (m : Option ℤ) → margin_moved w (margin_moved v m) ≡ margin_moved (joined v w) m
+margin_twice v w None = refl
+margin_twice v w (Some x) = rw (joined_up x v.dx w.dx) refl
+
+origin_twice : (v w : Shift) (o : Option Point) → origin_moved w (origin_moved v o) ≡ origin_moved (joined v w) o
+origin_twice v w None = refl
+origin_twice v w (Some p) = ap (λ (q : Point). Some q) (point_twice v w p)
+
+head_twice : (v w : Shift) (h : HeadAt) → head_moved w (head_moved v h) ≡ head_moved (joined v w) h
+head_twice v w h =
+    let m = h.measures in
+    let extents = moved_twice v w m.extent in
+    let starts = point_twice v w m.start in
+    let ends = point_twice v w m.end in
+    let margins = margin_twice v w m.margin in
+    let origins = origin_twice v w m.origin in
+    λ i. record h {
+      measures = record m { extent = extents i; start = starts i; end = ends i; margin = margins i; origin = origins i };
+    }
+
+module _ {A : Type 0} (move : Shift → A → A) (twice : (v w : Shift) (a : A) → move w (move v a) ≡ move (record { dx = v.dx +ℤ w.dx; dy = v.dy +ℤ w.dy }) a) where
+  mark_twice : (v w : Shift) (m : Mark A) → mark_moved move w (mark_moved move v m) ≡ mark_moved move (joined v w) m
+  mark_twice v w (draw a) = ap (λ (b : A). draw b) (twice v w a)
+  mark_twice v w (opens l) = refl
+  mark_twice v w (begins h) = ap (λ (k : HeadAt). begins k) (head_twice v w h)
+  mark_twice v w closes = refl
+
+  pub all_twice : (v w : Shift) (ms : List (Mark A)) → all_moved move w (all_moved move v ms) ≡ all_moved move (joined v w) ms
+  all_twice v w [] = refl
+  all_twice v w (m ∷ ms) =
+      let first = mark_twice v w m in
+      let rest = all_twice v w ms in
+      λ i. first i ∷ rest i
+
+  -- a tree that is moved draws the same elsewhere
+  pub marks-tree_moved : (v : Shift) (t : Tree A) → marks_of move (tree_moved move v t) ≡ all_moved move v (marks_of move t)
+  marks-tree_moved v (leaf a) = refl
+  marks-tree_moved v (shown l p ts) = sym (all_twice p v (opens l ∷ (marks_of_all move ts ++ closes ∷ [])))
+  marks-tree_moved v (piece h p ts) = sym (all_twice p v (begins h ∷ (marks_of_all move ts ++ closes ∷ [])))
+
+margin-still : (m : Option ℤ) → margin_moved still m ≡ m
+margin-still None = refl
+margin-still (Some x) = ap (λ (z : ℤ). Some z) (unmoved x)
+
+point-still : (p : Point) → point_moved still p ≡ p
+point-still p = rw (unmoved p.x, unmoved p.y) refl
+
+origin-still : (o : Option Point) → origin_moved still o ≡ o
+origin-still None = refl
+origin-still (Some p) = ap (λ (q : Point). Some q) (point-still p)
+
+head-still : (h : HeadAt) → head_moved still h ≡ h
+head-still h =
+    let m = h.measures in
+    let extents = moved-still m.extent in
+    let starts = point-still m.start in
+    let ends = point-still m.end in
+    let margins = margin-still m.margin in
+    let origins = origin-still m.origin in
+    λ i. record h {
+      measures = record m { extent = extents i; start = starts i; end = ends i; margin = margins i; origin = origins i };
+    }
+
+module _ {A : Type 0} (move : Shift → A → A) (stays : (a : A) → move (record { dx = pos 0; dy = pos 0 }) a ≡ a) where
+  mark-still : (m : Mark A) → mark_moved move still m ≡ m
+  mark-still (draw a) = ap (λ (b : A). draw b) (stays a)
+  mark-still (opens l) = refl
+  mark-still (begins h) = ap (λ (k : HeadAt). begins k) (head-still h)
+  mark-still closes = refl
+
+  -- no move changes nothing
+  pub all-still : (ms : List (Mark A)) → all_moved move still ms ≡ ms
+  all-still [] = refl
+  all-still (m ∷ ms) =
+      let first = mark-still m in
+      let rest = all-still ms in
+      λ i. first i ∷ rest i
+
+module _ {A : Type 0} (bounds : A → Rect) (move : Shift → A → A) (bounds_move : (v : Shift) (a : A) → bounds (move v a) ≡ moved v (bounds a)) where
+  -- where a tree may be moved to, it may stand
+  pub stays-tree_moved : (v : Shift) (t : Tree A) → StaysInRange bounds v t → StaysInRange bounds still (tree_moved move v t)
+  stays-tree_moved v (leaf a) h = subst IsInRange (sym (moved-still (bounds (move v a)) ∙ bounds_move v a)) h
+  stays-tree_moved v (shown l p ts) h =
+      let P : Shift → Type 0 = λ s. IsShift s × StayInRange bounds s ts in
+      subst P (sym (joined-still (joined p v))) h
+  stays-tree_moved v (piece k p ts) h =
+      let P : Shift → Type 0 = λ s. IsShift s × IsInRange (moved s k.measures.extent) × StayInRange bounds s ts in
+      subst P (sym (joined-still (joined p v))) h

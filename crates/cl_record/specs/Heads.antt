@@ -1,0 +1,121 @@
+-- What an update says of itself.
+use Rattle.std.specs.Prelude.{ℕ, ℤ, ◌+ℤ◌, List, Option, Some, None, if◌then◌else◌, refl}
+use Rattle.std.specs.Coded.{Coded, code_by, coded_list, coded_option, coded_ℕ, coded_ℤ, coded×}
+use Rattle.cl_value.specs.Data.{Data, data_code}
+use Rattle.cl_region.specs.Places.{moved}
+use Rattle.cl_region.specs.declared.rects.Rect.{Rect}
+use Rattle.cl_region.specs.declared.rects.Shift.{Shift}
+use Rattle.cl_record.specs.declared.heads.Measures.{Measures}
+use Rattle.cl_record.specs.declared.heads.Site.{Site}
+
+-- a cursor or an origin
+pub record Point : Type 0 where
+  pub x : ℤ
+  pub y : ℤ
+
+-- what the evaluation of the body came to: the forms entered and the levels below it, the weight of the marks inside, the extent,
+-- the cursor and the ink at the start, the margin and the origin there if they were used, and the cursor at the end
+pub record MeasuresAt : Type 0 where
+  pub cost : ℕ
+  pub reach : ℕ
+  pub weight : ℕ
+  pub extent : Rect
+  pub start : Point
+  pub ink : ℕ
+  pub margin : Option ℤ
+  pub origin : Option Point
+  pub end : Point
+
+-- the form that made it, the id, the values of the cache, if there is one, and the measures
+pub record HeadAt : Type 0 where
+  pub site : Site
+  pub id : Data
+  pub cache : Option (List Data)
+  pub measures : MeasuresAt
+
+abbrev pub measured : Measures → MeasuresAt
+measured m = record {
+  cost = m.cost;
+  reach = m.reach;
+  weight = m.weight;
+  extent = m.extent;
+  start = record { x = m.start.x; y = m.start.y };
+  ink = m.start.ink;
+  margin = if m.margin_used then Some m.start.margin else None;
+  origin = if m.origin_used then Some (record { x = m.start.origin_x; y = m.start.origin_y }) else None;
+  end = record { x = m.end_x; y = m.end_y };
+}
+
+-- ---- moved
+
+abbrev pub point_moved : Shift → Point → Point
+point_moved v p = record { x = p.x +ℤ v.dx; y = p.y +ℤ v.dy }
+
+abbrev pub margin_moved : Shift → Option ℤ → Option ℤ
+margin_moved v None = None
+margin_moved v (Some x) = Some (x +ℤ v.dx)
+
+abbrev pub origin_moved : Shift → Option Point → Option Point
+origin_moved v None = None
+origin_moved v (Some p) = Some (point_moved v p)
+
+abbrev pub measures_moved : Shift → MeasuresAt → MeasuresAt
+measures_moved v m = record m {
+  extent = moved v m.extent;
+  start = point_moved v m.start;
+  margin = margin_moved v m.margin;
+  origin = origin_moved v m.origin;
+  end = point_moved v m.end;
+}
+
+-- the extent, the cursors, and a used margin and origin are elsewhere, all else is the same
+abbrev pub head_moved : Shift → HeadAt → HeadAt
+head_moved v h = record h { measures = measures_moved v h.measures }
+
+-- ---- how the logic stores heads
+
+abbrev pub site_code : Coded Site
+site_code = code_by (ℕ × ℕ) (coded× coded_ℕ coded_ℕ) (λ s. (s.form, s.query)) (λ p. record { form = p.0; query = p.1 }) (λ _. refl)
+
+abbrev pub point_code : Coded Point
+point_code = code_by (ℤ × ℤ) (coded× coded_ℤ coded_ℤ) (λ q. (q.x, q.y)) (λ p. record { x = p.0; y = p.1 }) (λ _. refl)
+
+abbrev pub rect_code : Coded Rect
+rect_code =
+    code_by ((ℤ × ℤ) × (ℤ × ℤ)) (coded× (coded× coded_ℤ coded_ℤ) (coded× coded_ℤ coded_ℤ)) (λ r. ((r.x1, r.y1), (r.x2, r.y2)))
+    (λ p. record { x1 = p.0.0; y1 = p.0.1; x2 = p.1.0; y2 = p.1.1 }) (λ _. refl)
+
+abbrev pub Numbers : Type 0
+Numbers = ℕ × (ℕ × (ℕ × ℕ))
+
+abbrev pub numbers_code : Coded Numbers
+numbers_code = coded× coded_ℕ (coded× coded_ℕ (coded× coded_ℕ coded_ℕ))
+
+abbrev pub States : Type 0
+States = Point × (Point × (Option ℤ × Option Point))
+
+abbrev pub states_code : Coded States
+states_code = coded× point_code (coded× point_code (coded× (coded_option coded_ℤ) (coded_option point_code)))
+
+abbrev pub measures_code : Coded MeasuresAt
+measures_code =
+    code_by (Numbers × (Rect × States)) (coded× numbers_code (coded× rect_code states_code))
+    (λ m. ((m.cost, (m.reach, (m.weight, m.ink))), (m.extent, (m.start, (m.end, (m.margin, m.origin))))))
+    (λ p. record {
+      cost = p.0.0;
+      reach = p.0.1.0;
+      weight = p.0.1.1.0;
+      ink = p.0.1.1.1;
+      extent = p.1.0;
+      start = p.1.1.0;
+      end = p.1.1.1.0;
+      margin = p.1.1.1.1.0;
+      origin = p.1.1.1.1.1;
+    }) (λ _. refl)
+
+abbrev pub head_code : Coded HeadAt
+head_code =
+    code_by (Site × (Data × (Option (List Data) × MeasuresAt)))
+    (coded× site_code (coded× data_code (coded× (coded_option (coded_list data_code)) measures_code)))
+    (λ h. (h.site, (h.id, (h.cache, h.measures))))
+    (λ p. record { site = p.0; id = p.1.0; cache = p.1.1.0; measures = p.1.1.1 }) (λ _. refl)

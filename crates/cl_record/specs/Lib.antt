@@ -1,0 +1,12 @@
+pub mod Shifts
+pub mod Labels
+pub mod Heads
+pub mod Trees
+pub mod Marks
+pub mod Replays
+pub mod Printed
+pub mod Lines
+pub mod TreeLines
+pub mod Placed
+pub mod Seen
+pub mod Falls

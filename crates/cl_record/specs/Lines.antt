@@ -1,0 +1,72 @@
+-- A history as lines of text.
+use Rattle.std.specs.Prelude.{ℕ, zero, suc, ℤ, pos, List, [], ◌∷◌, ◌++◌, codes}
+use Rattle.std.specs.Fmt.{decimal, signed_decimal}
+use Rattle.cl_medium.specs.Items.{Shape, bytes, filled, line, outlined}
+use Rattle.cl_medium.specs.declared.any_leaf.AnyLeaf.{AnyLeaf}
+use Rattle.cl_medium.specs.declared.any_leaf.AnyLeaf.TheVariants.{Text, Point, Line, Outline, Fill}
+use Rattle.cl_medium.specs.declared.areas.Area.{Area}
+use Rattle.cl_medium.specs.declared.lines.Direction.TheVariants.{Horizontal, Vertical}
+use Rattle.cl_region.specs.declared.rects.Shift.{Shift}
+use Rattle.cl_record.specs.Heads.{HeadAt}
+use Rattle.cl_record.specs.Labels.{LabelAt}
+use Rattle.cl_record.specs.Marks.{Mark, begins, closes, draw, history_marks, opens}
+use Rattle.cl_record.specs.Printed.{printed}
+use Rattle.cl_record.specs.Trees.{Tree}
+
+-- each number behind a space
+abbrev pub numbers : List ℤ → List ℕ
+numbers [] = []
+numbers (z ∷ zs) = 32 ∷ (signed_decimal z ++ numbers zs)
+
+-- the bytes of a text, or the one that fills an area
+abbrev pub shape_bytes : Shape → List ℕ
+shape_bytes (bytes bs) = bs
+shape_bytes (filled byte) = byte ∷ []
+shape_bytes (line direction) = []
+shape_bytes outlined = []
+
+-- a line by its way and its length
+abbrev pub ruled_line : Shape → Area → List ℕ
+ruled_line (bytes bs) a = []
+ruled_line (filled byte) a = []
+ruled_line (line Horizontal) a = codes "hline" ++ numbers (a.x ∷ a.y ∷ a.width ∷ pos a.ink ∷ [])
+ruled_line (line Vertical) a = codes "vline" ++ numbers (a.x ∷ a.y ∷ a.height ∷ pos a.ink ∷ [])
+ruled_line outlined a = []
+
+-- the kind, the place, the sizes, the ink and the bytes
+abbrev pub item_line : AnyLeaf → List ℕ
+item_line (Text i) = codes "text" ++ numbers (i.area.x ∷ i.area.y ∷ pos i.area.ink ∷ []) ++ 32 ∷ shape_bytes i.shape
+item_line (Point i) = codes "point" ++ numbers (i.area.x ∷ i.area.y ∷ pos i.area.ink ∷ []) ++ 32 ∷ shape_bytes i.shape
+item_line (Line i) = ruled_line i.shape i.area
+item_line (Outline i) = codes "box" ++ numbers (i.area.x ∷ i.area.y ∷ i.area.width ∷ i.area.height ∷ pos i.area.ink ∷ [])
+item_line (Fill i) =
+    codes "fill" ++ numbers (i.area.x ∷ i.area.y ∷ i.area.width ∷ i.area.height ∷ pos i.area.ink ∷ []) ++ 32 ∷ shape_bytes i.shape
+
+-- the type's name and what is presented
+abbrev pub label_line : LabelAt → List ℕ
+label_line l = codes "presentation " ++ l.type_name ++ 32 ∷ printed l.object
+
+-- the form with its query and the id
+abbrev pub head_line : HeadAt → List ℕ
+head_line h = codes "update " ++ decimal h.site.form ++ 46 ∷ decimal h.site.query ++ 32 ∷ printed h.id
+
+-- two spaces for each level
+abbrev pub margin : ℕ → List ℕ
+margin zero = []
+margin (suc depth) = 32 ∷ 32 ∷ margin depth
+
+abbrev pub outer : ℕ → ℕ
+outer zero = zero
+outer (suc depth) = depth
+
+module _ {A : Type 0} (line_of : A → List ℕ) where
+  -- a line for each item and each opening, with a margin by how many presentations and updates are open
+  abbrev pub lines_from : (depth : ℕ) → List (Mark A) → List (List ℕ)
+  lines_from depth [] = []
+  lines_from depth (draw a ∷ ms) = (margin depth ++ line_of a) ∷ lines_from depth ms
+  lines_from depth (opens l ∷ ms) = (margin depth ++ label_line l) ∷ lines_from (suc depth) ms
+  lines_from depth (begins h ∷ ms) = (margin depth ++ head_line h) ∷ lines_from (suc depth) ms
+  lines_from depth (closes ∷ ms) = lines_from (outer depth) ms
+
+  abbrev pub history_lines : (Shift → A → A) → List (Tree A) → List (List ℕ)
+  history_lines move ts = lines_from 0 (history_marks move ts)

@@ -1,0 +1,20 @@
+-- Sums of moves.
+use Rattle.std.specs.Prelude.{ℤ, pos, neg_ℤ, ◌+ℤ◌, ◌≤ℤ◌}
+use Rattle.cl_region.specs.declared.rects.Shift.{Shift}
+
+-- no move
+abbrev pub still : Shift
+still = record { dx = pos 0; dy = pos 0 }
+
+-- one move after the other
+abbrev pub joined : Shift → Shift → Shift
+joined v w = record { dx = v.dx +ℤ w.dx; dy = v.dy +ℤ w.dy }
+
+-- a number from -2,000,000 to 2,000,000: no further are two near numbers from each other
+pub record IsFar (z : ℤ) : Type 0 where
+  pub low : neg_ℤ (pos 2000000) ≤ℤ z
+  pub high : z ≤ℤ pos 2000000
+
+pub record IsShift (v : Shift) : Type 0 where
+  pub dx : IsFar v.dx
+  pub dy : IsFar v.dy

@@ -1,0 +1,23 @@
+//! What records are painted on.
+ghost use Rattle.cl_region.specs.Places.{IsInRange, moved};
+ghost use Rattle.std.specs.Prelude.{◌∷◌, []};
+ghost use Rattle.cl_record.specs.Replays.{Paints};
+
+use cl_medium::Leaf;
+use cl_region::Shift;
+
+/// Cells in columns and rows, of which it may show some alone.
+pub trait Canvas<L: Leaf> {
+    ghost use Rattle.std.specs.Prelude.{ℤ, Bool};
+    ghost use Rattle.cl_medium.specs.Items.{Painted};
+
+    // whether it shows a column of a row
+    ghost shows: { Self → ℤ → ℤ → Bool };
+    // the cell there
+    ghost cell: { Self → ℤ → ℤ → Painted };
+
+    /// Gives each place that it shows, and that the leaf, moved by `at`, paints, the leaf's cell.
+    fn paint(&mut self, leaf: &L, at: Shift)
+        requires { IsInRange (moved at (L.bounds leaf.now)) }
+        ensures { Paints shows cell L.cell self.old self.new (L.moved_by at leaf.now ∷ []) };
+}

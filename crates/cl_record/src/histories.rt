@@ -1,0 +1,99 @@
+//! The history of a pane.
+ghost use Rattle.std.specs.Prelude.{◌≡◌, ◌++◌, ℤ, [], OnOk, true};
+ghost use Rattle.cl_region.specs.Places.{held};
+ghost use Rattle.cl_record.specs.Lines.{history_lines};
+ghost use Rattle.cl_record.specs.Marks.{history_marks};
+ghost use Rattle.cl_record.specs.Replays.{Paints, drawn, painted, touching};
+
+use crate::canvases::Canvas;
+use crate::lines::Printable;
+use crate::nodes::Nodes;
+use crate::printing::print_inside;
+use crate::replaying::replay_inside;
+use crate::shifts::STILL;
+use cl_medium::Leaf;
+use cl_region::Region;
+use cl_value::Text;
+use std::alloc::{AllocError, Global};
+use std::marker::Model;
+
+/// What a pane's display drew, in order. A contract sees its trees, or by `history_marks` the one flat
+/// list of marks in the pane's coordinates.
+#[derive(Drop)]
+pub struct History<L: Leaf> {
+    nodes: Nodes<L>,
+}
+
+impl<L: Leaf> Model for History<L> {
+    ghost use Rattle.std.specs.Prelude.{List};
+    ghost use Rattle.std.specs.Coded.{coded_list};
+    ghost use Rattle.cl_record.specs.Trees.{Tree, tree_code};
+
+    ghost Value = { List (Tree L) };
+
+    ghost coded = { coded_list (tree_code L.code) };
+
+    ghost view = { λ h. h.nodes };
+}
+
+impl<L: Leaf> History<L> {
+    /// Nothing drawn, which takes no memory.
+    pub fn empty(alloc: Global) -> History<L>
+        ensures { result ≡ [] }
+    {
+        History {
+            nodes: Nodes::new(alloc),
+        }
+    }
+
+    /// The history of these records.
+    pub fn from_nodes(nodes: Nodes<L>) -> History<L>
+        ensures { result ≡ nodes }
+    {
+        History { nodes }
+    }
+
+    /// The outermost records, which are not copied.
+    pub fn into_nodes(self) -> Nodes<L>
+        ensures { result ≡ self }
+    {
+        self.nodes
+    }
+
+    /// The outermost records.
+    pub fn nodes(&self) -> &Nodes<L>
+        ensures { result.now ≡ self.now }
+    {
+        &self.nodes
+    }
+
+    /// Gives all records up.
+    pub fn clear(&mut self)
+        ensures { self.new ≡ [] }
+    {
+        self.nodes.clear();
+    }
+
+    /// Paints exactly the leaves whose bounds share a place with the region, in order. So each place of
+    /// the region that the canvas shows has the cell of the last leaf of the whole history that paints
+    /// it, or else the cell that it had. It takes no memory.
+    pub fn replay<C: Canvas<L>>(&self, region: &Region, canvas: &mut C)
+        ensures paints { Paints C.shows C.cell L.cell canvas.old canvas.new (touching L.bounds region.now (drawn (history_marks L.moved_by self.now))) }
+        ensures region { (x y : ℤ) → C.shows canvas.old x y ≡ true → held region.now x y ≡ true
+            → C.cell canvas.new x y ≡ painted L.cell (drawn (history_marks L.moved_by self.now)) x y (C.cell canvas.old x y) }
+    {
+        let _ = self.nodes.as_slice();
+        replay_inside(&self.nodes, STILL, STILL, region.rects(), canvas);
+    }
+}
+
+impl<L: Printable> History<L> {
+    /// Puts its lines behind the others: one for each item and for the opening of each presentation and
+    /// update, in order, each behind two spaces for each presentation and update around it.
+    pub fn print(&self, alloc: Global, out: &mut Vec<Text>) -> Result<(), AllocError>
+        ensures { OnOk result (out.new.items ≡ out.old.items ++ history_lines L.line_of L.moved_by self.now) }
+    {
+        let _ = self.nodes.as_slice();
+        print_inside(alloc, &self.nodes, STILL, STILL, b"", out)
+    }
+}

@@ -1,0 +1,19 @@
+//! Sums of moves.
+ghost use Rattle.std.specs.Prelude.{◌≡◌};
+ghost use Rattle.cl_record.specs.Shifts.{IsShift, joined, still};
+
+use cl_region::Shift;
+
+/// No move.
+pub const STILL: Shift = Shift { dx: 0, dy: 0 };
+
+/// One move after the other.
+pub(crate) fn joined(first: Shift, second: Shift) -> Shift
+    requires { IsShift (joined first second) }
+    ensures { result ≡ joined first second }
+{
+    Shift {
+        dx: first.dx + second.dx,
+        dy: first.dy + second.dy,
+    }
+}
