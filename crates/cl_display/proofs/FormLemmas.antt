@@ -1,56 +1,54 @@
 -- Display forms: the cost never falls, a form that could be entered draws what its parts draw, and a part that stops, stops the whole.
-use Rattle.std.proofs.Common.{◌≡◌, ℕ, zero, suc, ◌+◌, ◌-◌, ◌≤◌, ◌==◌, Bool, true, false, if◌then◌else◌, nat_le, List, [], ◌∷◌, length, Option, Some, None, Result, Ok, Err, arith}
+use Rattle.std.proofs.Common.{◌≡◌, ℕ, zero, suc, ◌+◌, ◌-◌, ◌==◌, Bool, if◌then◌else◌, nat_le, List, [], ◌∷◌, ◌++◌, length, Option, Some, None, Err, arith}
 use Rattle.cl_value.specs.Data.{Data}
-use Rattle.cl_value.specs.Value.{data_of}
 use Rattle.cl_syntax.specs.Form as shape
 use Rattle.cl_syntax.specs.Form.{Form, Forms, none, form, forms_of}
-use Rattle.cl_syntax.specs.Term.{Term, Terms, Bindings, unbound, binding}
+use Rattle.cl_syntax.specs.Term.{Term, Terms, Bindings}
 use Rattle.cl_syntax.specs.App.{display_named}
 use Rattle.cl_syntax.specs.declared.applications.App.{App}
 use Rattle.cl_syntax.specs.declared.declarations.DisplayDecl.{DisplayDecl}
 use Rattle.cl_eval.specs.declared.metering.Meter.{Meter}
 use Rattle.cl_eval.specs.declared.metering.Stop.{Stop}
-use Rattle.cl_eval.specs.Outcome.{Outcome, Gives, Traps, Run, give, trap, lift, after, ◌>>=◌, cost_of}
+use Rattle.cl_eval.specs.Outcome.{Gives, Traps, give, trap, lift}
 use Rattle.cl_eval.specs.Slots.{Slots, Env, given}
-use Rattle.cl_eval.specs.Meaning.{Go, each, entering, tested, listed, means}
+use Rattle.cl_eval.specs.Meaning.{Go, bound, each, entering, tested, listed, means}
 use Rattle.cl_eval.specs.Agrees.{Agrees, always, itself, items_are}
-use Rattle.cl_eval.proofs.CostLemmas.{Grows, GoGrows, Agrees-stop, grows-then, grows-give, grows-lift, grows-choice, grows-each, grows-entering, grows-tested, grows-listed, grows-means}
+use Rattle.cl_eval.proofs.CostLemmas.{Grows, GoGrows, Agrees-stop, grows-then, grows-give, grows-lift, grows-choice, grows-each, grows-entering, grows-tested, grows-listed, grows-bound, grows-means}
 use Rattle.cl_eval.proofs.EnteringLemmas.{no_entry}
-use Rattle.cl_display.specs.declared.drawings.Drawing.{Drawing}
-use Rattle.cl_display.specs.Fresh.{Draws, written, lined, in_order, for_each, draws_in, called, shape_parts, draws}
+use Rattle.cl_display.specs.Drawings.{DrawingAt, lined}
+use Rattle.cl_display.specs.Fresh.{Draws, written, in_order, for_each, draws_in, called, shape_parts, draws}
 
 abbrev pub DrawsGrow : Draws → Type 0
-DrawsGrow go = (level : ℕ) (env : Env) (f : Form) (s : Drawing) → Grows (go level env f s)
+DrawsGrow go = (level : ℕ) (env : Env) (f : Form) (s : DrawingAt) → Grows (go level env f s)
 
-pub grows-in_order : (go : Draws) → DrawsGrow go → (level : ℕ) (env : Env) (body : Forms) (s : Drawing) → Grows (in_order go level env body s)
+pub grows-in_order : (go : Draws) → DrawsGrow go → (level : ℕ) (env : Env) (body : Forms) (s : DrawingAt) → Grows (in_order go level env body s)
 grows-in_order go g level env none s = grows-give s
 grows-in_order go g level env (form f rest) s =
     grows-then (go level env f s) (in_order go level env rest) (g level env f s) (grows-in_order go g level env rest)
 
-pub grows-for_each : (go : Draws) → DrawsGrow go → (level : ℕ) (env : Env) (x : List ℕ) (body : Forms) (ds : List Data) (s : Drawing) → Grows (for_each go level env x body ds s)
+pub grows-for_each : (go : Draws) → DrawsGrow go → (level : ℕ) (env : Env) (x : List ℕ) (body : Forms) (ds : List Data) (s : DrawingAt) → Grows (for_each go level env x body ds s)
 grows-for_each go g level env x body [] s = grows-give s
 grows-for_each go g level env x body (d ∷ ds) s =
     grows-then (in_order go level ((x, d) ∷ env) body s) (for_each go level env x body ds) (grows-in_order go g level ((x, d) ∷ env) body s) (grows-for_each go g level env x body ds)
 
-pub grows-draws_in : (value : Go) → GoGrows value → (go : Draws) → DrawsGrow go → (level : ℕ) (bs : Bindings) (body : Forms) (env : Env) (s : Drawing)
+pub grows-draws_in : (value : Go) → GoGrows value → (go : Draws) → DrawsGrow go → (level : ℕ) (bs : Bindings) (body : Forms) (env : Env) (s : DrawingAt)
     → Grows (draws_in value go level bs body env s)
-grows-draws_in value v go g level unbound body env s = grows-in_order go g level env body s
-grows-draws_in value v go g level (binding x t bs) body env s =
-    grows-then (value level env t) (λ d. draws_in value go level bs body ((x, d) ∷ env) s) (v level env t) (λ d. grows-draws_in value v go g level bs body ((x, d) ∷ env) s)
+grows-draws_in value v go g level bs body env s =
+    grows-then (bound value level bs env) (λ inner. in_order go level inner body s) (grows-bound value v level bs env) (λ inner. grows-in_order go g level inner body s)
 
-pub grows-called : (go : Draws) → DrawsGrow go → (level : ℕ) (f : Option DisplayDecl) (s : Drawing) (ds : List Data) → Grows (called go level f ds s)
+pub grows-called : (go : Draws) → DrawsGrow go → (level : ℕ) (f : Option DisplayDecl) (s : DrawingAt) (ds : List Data) → Grows (called go level f ds s)
 grows-called go g level None s ds = λ c d. omega arith
 grows-called go g level (Some f) s ds =
     grows-choice (length ds == length f.parameters) (in_order go level (given f.parameters ds) (forms_of f.body) s) (trap 1)
     (grows-in_order go g level (given f.parameters ds) (forms_of f.body) s) (λ c d. omega arith)
 
-pub grows-then_form : (go : Draws) → DrawsGrow go → (level : ℕ) (env : Env) (a b : Form) (s : Drawing) (holds : Bool) → Grows (if holds then go level env a s else go level env b s)
+pub grows-then_form : (go : Draws) → DrawsGrow go → (level : ℕ) (env : Env) (a b : Form) (s : DrawingAt) (holds : Bool) → Grows (if holds then go level env a s else go level env b s)
 grows-then_form go g level env a b s holds = grows-choice holds (go level env a s) (go level env b s) (g level env a s) (g level env b s)
 
-pub grows-then_body : (go : Draws) → DrawsGrow go → (level : ℕ) (env : Env) (body : Forms) (s : Drawing) (holds : Bool) → Grows (if holds then in_order go level env body s else give s)
+pub grows-then_body : (go : Draws) → DrawsGrow go → (level : ℕ) (env : Env) (body : Forms) (s : DrawingAt) (holds : Bool) → Grows (if holds then in_order go level env body s else give s)
 grows-then_body go g level env body s holds = grows-choice holds (in_order go level env body s) (give s) (grows-in_order go g level env body s) (grows-give s)
 
-grows-shape_parts : (app : App) (value : Go) → GoGrows value → (go : Draws) → DrawsGrow go → (level : ℕ) (env : Env) (f : Form) (s : Drawing)
+grows-shape_parts : (app : App) (value : Go) → GoGrows value → (go : Draws) → DrawsGrow go → (level : ℕ) (env : Env) (f : Form) (s : DrawingAt)
     → Grows (shape_parts app value go level env f s)
 grows-shape_parts app value v go g level env (shape.write_text t) s =
     grows-then (value level env t) (λ d. lift (written s d)) (v level env t) (λ d. grows-lift (written s d))
@@ -76,7 +74,7 @@ grows-draws (suc left) budget app slots level env f s =
 
 -- ---- entering
 
-pub draws-entered : (left budget : ℕ) (app : App) (slots : Slots) (level : ℕ) (env : Env) (f : Form) (s : Drawing) (cost deepest c d : ℕ)
+pub draws-entered : (left budget : ℕ) (app : App) (slots : Slots) (level : ℕ) (env : Env) (f : Form) (s : DrawingAt) (cost deepest c d : ℕ)
     → entering left budget level cost deepest ≡ Gives tt c d
     → draws left budget app slots level env f s cost deepest ≡ shape_parts app (means (left - 1) budget app slots) (draws (left - 1) budget app slots) (level + 1) env f s c d
 draws-entered zero budget app slots level env f s cost deepest c d p = absurd (no_entry (nat_le budget cost) cost deepest c d p)
@@ -86,37 +84,37 @@ draws-entered (suc n) budget app slots level env f s cost deepest c d p =
 
 -- ---- a part that stops
 
-pub stop-in_order : (go : Draws) → DrawsGrow go → (level : ℕ) (env : Env) (a : Form) (rest : Forms) (s s' : Drawing) (e : Stop) (m : Meter) (c d : ℕ)
+pub stop-in_order : (go : Draws) → DrawsGrow go → (level : ℕ) (env : Env) (a : Form) (rest : Forms) (s s' : DrawingAt) (e : Stop) (m : Meter) (c d : ℕ)
     → Agrees {A = Unit {0}} (always s') (Err e) m (go level env a s c d) → Agrees {A = Unit {0}} (always s') (Err e) m (in_order go level env (form a rest) s c d)
 stop-in_order go g level env a rest s s' e m c d =
     Agrees-stop (always {A = Unit {0}} s') (always {A = Unit {0}} s') e m (go level env a s c d) (in_order go level env rest) (grows-in_order go g level env rest)
 
-pub stop-for_each : (go : Draws) → DrawsGrow go → (level : ℕ) (env : Env) (x : List ℕ) (body : Forms) (v : Data) (ds : List Data) (s s' : Drawing) (e : Stop) (m : Meter) (c d : ℕ)
+pub stop-for_each : (go : Draws) → DrawsGrow go → (level : ℕ) (env : Env) (x : List ℕ) (body : Forms) (v : Data) (ds : List Data) (s s' : DrawingAt) (e : Stop) (m : Meter) (c d : ℕ)
     → Agrees {A = Unit {0}} (always s') (Err e) m (in_order go level ((x, v) ∷ env) body s c d) → Agrees {A = Unit {0}} (always s') (Err e) m (for_each go level env x body (v ∷ ds) s c d)
 stop-for_each go g level env x body v ds s s' e m c d =
     Agrees-stop (always {A = Unit {0}} s') (always {A = Unit {0}} s') e m (in_order go level ((x, v) ∷ env) body s c d) (for_each go level env x body ds) (grows-for_each go g level env x body ds)
 
-pub stop-draws_in : (value : Go) → GoGrows value → (go : Draws) → DrawsGrow go → (level : ℕ) (x : List ℕ) (t : Term) (bs : Bindings) (body : Forms) (env : Env) (s s' : Drawing) (e : Stop) (m : Meter) (c d : ℕ)
-    → Agrees data_of (Err e) m (value level env t c d) → Agrees {A = Unit {0}} (always s') (Err e) m (draws_in value go level (binding x t bs) body env s c d)
-stop-draws_in value v go g level x t bs body env s s' e m c d =
-    Agrees-stop data_of (always {A = Unit {0}} s') e m (value level env t c d) (λ d. draws_in value go level bs body ((x, d) ∷ env) s) (λ d. grows-draws_in value v go g level bs body ((x, d) ∷ env) s)
+pub stop-draws_in : (value : Go) (go : Draws) → DrawsGrow go → (level : ℕ) (bs : Bindings) (body : Forms) (env around : Env) (s s' : DrawingAt) (e : Stop) (m : Meter) (c d : ℕ)
+    → Agrees (λ frame. frame ++ around) (Err e) m (bound value level bs env c d) → Agrees {A = Unit {0}} (always s') (Err e) m (draws_in value go level bs body env s c d)
+stop-draws_in value go g level bs body env around s s' e m c d =
+    Agrees-stop (λ frame. frame ++ around) (always {A = Unit {0}} s') e m (bound value level bs env c d) (λ inner. in_order go level inner body s) (λ inner. grows-in_order go g level inner body s)
 
-pub stop-choice : (app : App) (value : Go) (go : Draws) → DrawsGrow go → (level : ℕ) (env : Env) (t : Term) (a b : Form) (s s' : Drawing) (e : Stop) (m : Meter) (c d : ℕ)
+pub stop-choice : (app : App) (value : Go) (go : Draws) → DrawsGrow go → (level : ℕ) (env : Env) (t : Term) (a b : Form) (s s' : DrawingAt) (e : Stop) (m : Meter) (c d : ℕ)
     → Agrees itself (Err e) m (tested value level env t c d) → Agrees {A = Unit {0}} (always s') (Err e) m (shape_parts app value go level env (shape.choice t a b) s c d)
 stop-choice app value go g level env t a b s s' e m c d =
     Agrees-stop itself (always {A = Unit {0}} s') e m (tested value level env t c d) (λ holds. if holds then go level env a s else go level env b s) (grows-then_form go g level env a b s)
 
-pub stop-when : (app : App) (value : Go) (go : Draws) → DrawsGrow go → (level : ℕ) (env : Env) (t : Term) (body : Forms) (s s' : Drawing) (e : Stop) (m : Meter) (c d : ℕ)
+pub stop-when : (app : App) (value : Go) (go : Draws) → DrawsGrow go → (level : ℕ) (env : Env) (t : Term) (body : Forms) (s s' : DrawingAt) (e : Stop) (m : Meter) (c d : ℕ)
     → Agrees itself (Err e) m (tested value level env t c d) → Agrees {A = Unit {0}} (always s') (Err e) m (shape_parts app value go level env (shape.when t body) s c d)
 stop-when app value go g level env t body s s' e m c d =
     Agrees-stop itself (always {A = Unit {0}} s') e m (tested value level env t c d) (λ holds. if holds then in_order go level env body s else give s) (grows-then_body go g level env body s)
 
-pub stop-dolist : (app : App) (value : Go) (go : Draws) → DrawsGrow go → (level : ℕ) (env : Env) (x : List ℕ) (t : Term) (body : Forms) (s s' : Drawing) (e : Stop) (m : Meter) (c d : ℕ)
+pub stop-dolist : (app : App) (value : Go) (go : Draws) → DrawsGrow go → (level : ℕ) (env : Env) (x : List ℕ) (t : Term) (body : Forms) (s s' : DrawingAt) (e : Stop) (m : Meter) (c d : ℕ)
     → Agrees itself (Err e) m (listed value level env t c d) → Agrees {A = Unit {0}} (always s') (Err e) m (shape_parts app value go level env (shape.each x t body) s c d)
 stop-dolist app value go g level env x t body s s' e m c d =
     Agrees-stop itself (always {A = Unit {0}} s') e m (listed value level env t c d) (λ ds. for_each go level env x body ds s) (λ ds. grows-for_each go g level env x body ds s)
 
-pub stop-call : (app : App) (value : Go) (go : Draws) → DrawsGrow go → (level : ℕ) (env : Env) (f : List ℕ) (ts : Terms) (s s' : Drawing) (e : Stop) (m : Meter) (c d : ℕ)
+pub stop-call : (app : App) (value : Go) (go : Draws) → DrawsGrow go → (level : ℕ) (env : Env) (f : List ℕ) (ts : Terms) (s s' : DrawingAt) (e : Stop) (m : Meter) (c d : ℕ)
     → Agrees items_are (Err e) m (each value level env ts [] c d) → Agrees {A = Unit {0}} (always s') (Err e) m (shape_parts app value go level env (shape.call f ts) s c d)
 stop-call app value go g level env f ts s s' e m c d =
     Agrees-stop items_are (always {A = Unit {0}} s') e m (each value level env ts [] c d) (λ ds. called go level (display_named f app) ds s) (grows-called go g level (display_named f app) s)

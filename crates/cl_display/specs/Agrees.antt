@@ -1,20 +1,19 @@
 -- What the evaluation of a display answers, against what the definition says.
-use Rattle.std.specs.Prelude.{◌≡◌, ◌+◌, ◌≤◌, ℕ, Result, Ok, Err, List}
-use Rattle.cl_eval.specs.declared.metering.Meter.{Meter}
-use Rattle.cl_eval.specs.declared.metering.Stop.{Stop}
-use Rattle.cl_eval.specs.declared.metering.Stop.TheVariants.{Trap, Memory}
-use Rattle.cl_eval.specs.Outcome.{Outcome, Gives, Traps, cost_of}
-use Rattle.cl_display.specs.declared.drawings.Drawing.{Drawing}
+use Rattle.std.specs.Prelude.{◌≡◌, ◌+◌, ◌≤◌, ℕ}
+use Rattle.cl_eval.specs.Outcome.{Outcome, Gives, Traps}
+use Rattle.cl_medium.specs.Leaves.{leaf_moved}
+use Rattle.cl_record.specs.Marks.{history_marks}
+use Rattle.cl_display.specs.Drawings.{DrawingAt}
 use Rattle.cl_display.specs.declared.displays.Shown.{Shown}
 use Rattle.cl_display.specs.declared.displays.Shown.TheVariants as shown
 use Rattle.cl_display.specs.Script.{trap_history}
 
 -- the history and the variant that belong to an outcome
-abbrev pub Shows : Shown → Outcome Drawing → Type 0
-Shows (shown.Built h) (Gives s cost deepest) = h ≡ s.history
+abbrev pub Shows : Shown → Outcome DrawingAt → Type 0
+Shows (shown.Built h) (Gives s cost deepest) = history_marks leaf_moved h ≡ s.marks
 Shows (shown.Built h) (Traps kind cost deepest) = ⊥
 Shows (shown.Trapped h k) (Gives s cost deepest) = ⊥
-Shows (shown.Trapped h k) (Traps kind cost deepest) = (k ≡ kind) × (h ≡ trap_history kind)
+Shows (shown.Trapped h k) (Traps kind cost deepest) = (k ≡ kind) × (history_marks leaf_moved h ≡ trap_history kind)
 Shows shown.Memory o = Unit {0}
 
 -- the ledger rises by the cost; where there was no memory, by no more

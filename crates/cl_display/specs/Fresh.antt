@@ -1,8 +1,8 @@
 -- Evaluation of display forms from nothing: what each form draws, from the drawing so far.
 -- Traps, beside those of expressions: 9 range of coordinates, 10 weight.
-use Rattle.std.specs.Prelude.{ℕ, zero, suc, ◌+◌, ◌&&◌, ◌==◌, nat_le, if◌then◌else◌, List, [], ◌∷◌, ◌++◌, length, Option, Some, None, Result, Ok, Err}
+use Rattle.std.specs.Prelude.{ℕ, zero, suc, ◌+◌, ◌==◌, if◌then◌else◌, List, [], ◌∷◌, length, Option, Some, None, Result, Err}
 use Rattle.cl_value.specs.Data.{Data, text}
-use Rattle.cl_syntax.specs.Term.{Term, Bindings, unbound, binding}
+use Rattle.cl_syntax.specs.Term.{Bindings}
 use Rattle.cl_syntax.specs.Form as shape
 use Rattle.cl_syntax.specs.Form.{Form, Forms, none, form, forms_of}
 use Rattle.cl_syntax.specs.App.{display_named}
@@ -10,61 +10,38 @@ use Rattle.cl_syntax.specs.declared.applications.App.{App}
 use Rattle.cl_syntax.specs.declared.declarations.DisplayDecl.{DisplayDecl}
 use Rattle.cl_eval.specs.Outcome.{Run, give, trap, lift, ◌>>=◌}
 use Rattle.cl_eval.specs.Slots.{Slots, Env, given}
-use Rattle.cl_eval.specs.Meaning.{Go, each, entering, listed, means, tested}
-use Rattle.cl_display.specs.declared.drawings.Drawing.{Drawing}
-use Rattle.cl_display.specs.declared.histories.TextItem.{TextItem}
+use Rattle.cl_eval.specs.Meaning.{Go, bound, each, entering, listed, means, tested}
+use Rattle.cl_display.specs.Drawings.{DrawingAt, drawn, lined}
 
--- the text item and the cursor to its right
-abbrev pub with_text : List ℕ → Drawing → Drawing
-with_text bytes s = record {
-  x = s.x + length bytes;
-  y = s.y;
-  weight = s.weight + length bytes + 1;
-  history = s.history ++ record { x = s.x; y = s.y; text = bytes } ∷ [];
-}
-
--- a text at the cursor; an empty one draws nothing
-abbrev pub drawn : List ℕ → Drawing → Result Drawing ℕ
-drawn [] s = Ok s
-drawn (b ∷ bs) s =
-    if nat_le (s.x + length (b ∷ bs)) 1000000 && nat_le (s.y + 1) 1000000
-    then (if nat_le (s.weight + length (b ∷ bs) + 1) 1000000 then Ok (with_text (b ∷ bs) s) else Err 10)
-    else Err 9
-
-abbrev pub written : Drawing → Data → Result Drawing ℕ
+abbrev pub written : DrawingAt → Data → Result DrawingAt ℕ
 written s (text bytes) = drawn bytes s
 written s d = Err 1
 
--- the cursor at the margin, which is 0, of the next line
-abbrev pub lined : Drawing → Result Drawing ℕ
-lined s = if nat_le (s.y + 1) 1000000 then Ok (record { x = 0; y = s.y + 1; weight = s.weight; history = s.history }) else Err 9
-
 -- the meaning of the forms inside, at a level
 abbrev pub Draws : Type 0
-Draws = ℕ → Env → Form → Drawing → Run Drawing
+Draws = ℕ → Env → Form → DrawingAt → Run DrawingAt
 
 -- forms in order, each from the drawing that the ones before it left
-abbrev pub in_order : Draws → ℕ → Env → Forms → Drawing → Run Drawing
+abbrev pub in_order : Draws → ℕ → Env → Forms → DrawingAt → Run DrawingAt
 in_order go level env none s = give s
 in_order go level env (form f fs) s = go level env f s >>= in_order go level env fs
 
 -- the forms for each of these values
-abbrev pub for_each : Draws → ℕ → Env → List ℕ → Forms → List Data → Drawing → Run Drawing
+abbrev pub for_each : Draws → ℕ → Env → List ℕ → Forms → List Data → DrawingAt → Run DrawingAt
 for_each go level env x body [] s = give s
 for_each go level env x body (d ∷ ds) s = in_order go level ((x, d) ∷ env) body s >>= for_each go level env x body ds
 
--- the forms behind bindings, each of which sees the ones before it
-abbrev pub draws_in : Go → Draws → ℕ → Bindings → Forms → Env → Drawing → Run Drawing
-draws_in value go level unbound body env s = in_order go level env body s
-draws_in value go level (binding x t bs) body env s = value level env t >>= λ d. draws_in value go level bs body ((x, d) ∷ env) s
+-- the forms behind bindings
+abbrev pub draws_in : Go → Draws → ℕ → Bindings → Forms → Env → DrawingAt → Run DrawingAt
+draws_in value go level bs body env s = bound value level bs env >>= λ inner. in_order go level inner body s
 
 -- a display's forms, where its parameters are all that they see
-abbrev pub called : Draws → ℕ → Option DisplayDecl → List Data → Drawing → Run Drawing
+abbrev pub called : Draws → ℕ → Option DisplayDecl → List Data → DrawingAt → Run DrawingAt
 called go level None ds s = trap 1
 called go level (Some f) ds s = if length ds == length f.parameters then in_order go level (given f.parameters ds) (forms_of f.body) s else trap 1
 
 -- a form that was entered, by the meaning of its expressions and of the forms inside
-abbrev pub shape_parts : App → Go → Draws → ℕ → Env → Form → Drawing → Run Drawing
+abbrev pub shape_parts : App → Go → Draws → ℕ → Env → Form → DrawingAt → Run DrawingAt
 shape_parts app value go level env (shape.write_text t) s = value level env t >>= λ d. lift (written s d)
 shape_parts app value go level env shape.newline s = lift (lined s)
 shape_parts app value go level env (shape.choice t f g) s = tested value level env t >>= λ holds. if holds then go level env f s else go level env g s

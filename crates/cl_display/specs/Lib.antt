@@ -1,3 +1,4 @@
+pub mod Drawings
 pub mod Fresh
 pub mod Script
 pub mod Agrees

@@ -1,4 +1,4 @@
--- The script of a pane: its history when its display is evaluated once, from nothing, on the present slots.
+-- The script of a pane: the marks of its history when its display is evaluated once, from nothing, on the present slots.
 use Rattle.std.specs.Prelude.{ℕ, List, [], ◌∷◌, ◌++◌, codes}
 use Rattle.std.specs.Fmt.{decimal}
 use Rattle.cl_syntax.specs.Form.{Form, forms_of}
@@ -7,32 +7,32 @@ use Rattle.cl_syntax.specs.declared.applications.App.{App}
 use Rattle.cl_eval.specs.declared.metering.Limits.{Limits}
 use Rattle.cl_eval.specs.Outcome.{Outcome, Gives, Traps}
 use Rattle.cl_eval.specs.Slots.{Slots, Env}
-use Rattle.cl_display.specs.declared.drawings.Drawing.{Drawing}
-use Rattle.cl_display.specs.declared.histories.TextItem.{TextItem}
+use Rattle.cl_medium.specs.Ambients.{ambient_start}
+use Rattle.cl_medium.specs.Drawing.{text_leaf}
+use Rattle.cl_medium.specs.declared.any_leaf.AnyLeaf.{AnyLeaf}
+use Rattle.cl_record.specs.Marks.{Mark, draw}
+use Rattle.cl_display.specs.Drawings.{DrawingAt, blank_drawing}
 use Rattle.cl_display.specs.Fresh.{draws, in_order}
 
-abbrev pub blank_drawing : Drawing
-blank_drawing = record { x = 0; y = 0; weight = 0; history = [] }
-
 -- display forms with these variables, from a blank drawing
-unfoldable pub fresh : Limits → App → List Form → Env → Slots → Outcome Drawing
+unfoldable pub fresh : Limits → App → List Form → Env → Slots → Outcome DrawingAt
 fresh limits app forms env slots = in_order (draws limits.depth limits.budget app slots) 0 env (forms_of forms) blank_drawing 0 0
 
--- the one item of a display that trapped
-abbrev pub trap_history : ℕ → List TextItem
-trap_history kind = record { x = 0; y = 0; text = codes "trap " ++ decimal kind } ∷ []
+-- the one mark of a display that trapped
+abbrev pub trap_history : ℕ → List (Mark AnyLeaf)
+trap_history kind = draw (text_leaf ambient_start (codes "trap " ++ decimal kind)) ∷ []
 
-abbrev pub history_of : Outcome Drawing → List TextItem
-history_of (Gives s cost deepest) = s.history
+abbrev pub history_of : Outcome DrawingAt → List (Mark AnyLeaf)
+history_of (Gives s cost deepest) = s.marks
 history_of (Traps kind cost deepest) = trap_history kind
 
-abbrev pub script : Limits → App → List Form → Env → Slots → List TextItem
+abbrev pub script : Limits → App → List Form → Env → Slots → List (Mark AnyLeaf)
 script limits app forms env slots = history_of (fresh limits app forms env slots)
 
 -- ---- the pane of a frame: the forms of its display, with no variables
 
-abbrev pub pane_fresh : Limits → App → Slots → Outcome Drawing
+abbrev pub pane_fresh : Limits → App → Slots → Outcome DrawingAt
 pane_fresh limits app slots = fresh limits app (pane_forms app) [] slots
 
-abbrev pub pane_script : Limits → App → Slots → List TextItem
+abbrev pub pane_script : Limits → App → Slots → List (Mark AnyLeaf)
 pane_script limits app slots = history_of (pane_fresh limits app slots)

@@ -8,17 +8,22 @@ ghost use Rattle.cl_eval.specs.Outcome.{cost_of};
 ghost use Rattle.cl_eval.specs.Scope.{variables_of};
 ghost use Rattle.cl_eval.specs.Meaning.{means};
 ghost use Rattle.cl_eval.specs.Agrees.{Agrees, always};
+ghost use Rattle.cl_medium.specs.Leaves.{leaf_moved};
+ghost use Rattle.cl_record.specs.Marks.{history_marks};
+ghost use Rattle.cl_display.specs.Drawings.{drawing_of};
 ghost use Rattle.cl_display.specs.Fresh.{called, draws, draws_in, for_each, in_order, shape_parts};
 ghost use Rattle.cl_display.specs.Script.{fresh, trap_history};
 ghost use Rattle.cl_display.specs.Agrees.{Rises, Shows};
 
-use crate::drawings::Drawing;
-use crate::histories::{History, TextItem};
+use crate::drawings::{Drawing, push_leaf};
+use crate::histories::History;
 use cl_eval::{
-    Context, Env, Limits, Meter, Scope, Slots, Stop, evaluate, evaluate_each, evaluate_list,
-    evaluate_test,
+    Context, Env, Limits, Meter, Scope, Slots, Stop, evaluate, evaluate_bindings, evaluate_each,
+    evaluate_list, evaluate_test,
 };
+use cl_medium::{Ambient, Drawn, draw_text};
 use cl_outside::{Ledger, Steps};
+use cl_record::Nodes;
 use cl_syntax::{App, Binding, Shape, ShapeKind};
 use cl_value::{Text, Value};
 use std::alloc::{AllocError, Global};
@@ -68,7 +73,7 @@ pub fn display<L: Ledger>(
         &mut meter,
         steps,
     ) {
-        Ok(()) => Shown::Built(drawing.history),
+        Ok(()) => Shown::Built(History::from_nodes(drawing.nodes)),
         Err(Stop::Trap(kind)) => match trapped(alloc, kind) {
             Ok(history) => Shown::Trapped(history, kind),
             Err(_) => Shown::Memory,
@@ -79,16 +84,16 @@ pub fn display<L: Ledger>(
 
 // The history of a display that trapped.
 fn trapped(alloc: Global, kind: u8) -> Result<History, AllocError>
-    ensures { IfOk result (λ h. h ≡ trap_history kind) }
+    ensures { IfOk result (λ h. history_marks leaf_moved h ≡ trap_history kind) }
 {
     let message = format!(in alloc; "trap {kind}")?;
-    let mut history = History::empty(alloc);
-    history.push(TextItem {
-        x: 0,
-        y: 0,
-        text: Text::from_slice(alloc, message.as_bytes())?,
-    })?;
-    Ok(history)
+    let mut ambient = Ambient::start();
+    let Drawn::Item(leaf) = draw_text(alloc, &mut ambient, message.as_bytes()) else {
+        return Err(AllocError);
+    };
+    let mut nodes = Nodes::new(alloc);
+    push_leaf(&mut nodes, leaf)?;
+    Ok(History::from_nodes(nodes))
 }
 
 // One form.
@@ -104,7 +109,7 @@ fn draw<L: Ledger>(
     steps: &mut Steps<L>,
 ) -> Result<(), Stop>
     requires { level + left < 2 ^ 32 }
-    ensures meaning { Agrees (always drawing.new) result meter.new (draws left context.now.budget context.now.app.now context.now.slots.now level (variables_of scope.now) form.now drawing.old meter.old.cost meter.old.deepest) }
+    ensures meaning { Agrees (always (drawing_of drawing.new)) result meter.new (draws left context.now.budget context.now.app.now context.now.slots.now level (variables_of scope.now) form.now (drawing_of drawing.old) meter.old.cost meter.old.deepest) }
     ensures ledger { steps.new + meter.old.cost ≡ steps.old + meter.new.cost }
 {
     meter.enter(left, context.budget, level, steps)?;
@@ -133,13 +138,13 @@ fn draw_parts<L: Ledger>(
     steps: &mut Steps<L>,
 ) -> Result<(), Stop>
     requires { level + left < 2 ^ 32 }
-    ensures meaning { Agrees (always drawing.new) result meter.new (shape_parts context.now.app.now (means left context.now.budget context.now.app.now context.now.slots.now) (draws left context.now.budget context.now.app.now context.now.slots.now) level (variables_of scope.now) form.now drawing.old meter.old.cost meter.old.deepest) }
+    ensures meaning { Agrees (always (drawing_of drawing.new)) result meter.new (shape_parts context.now.app.now (means left context.now.budget context.now.app.now context.now.slots.now) (draws left context.now.budget context.now.app.now context.now.slots.now) level (variables_of scope.now) form.now (drawing_of drawing.old) meter.old.cost meter.old.deepest) }
     ensures ledger { steps.new + meter.old.cost ≡ steps.old + meter.new.cost }
 {
     match &form.kind {
         ShapeKind::WriteText(text) => {
             let text = evaluate(context, text, scope, left, level, meter, steps)?;
-            drawing.write(&text)
+            drawing.write(context.alloc, &text)
         }
         ShapeKind::Newline => drawing.newline(),
         ShapeKind::If(test, then, other) => {
@@ -230,7 +235,7 @@ fn draw_all<L: Ledger>(
     steps: &mut Steps<L>,
 ) -> Result<(), Stop>
     requires { level + left < 2 ^ 32 }
-    ensures meaning { Agrees (always drawing.new) result meter.new (in_order (draws left context.now.budget context.now.app.now context.now.slots.now) level (variables_of scope.now) (forms_of forms.now) drawing.old meter.old.cost meter.old.deepest) }
+    ensures meaning { Agrees (always (drawing_of drawing.new)) result meter.new (in_order (draws left context.now.budget context.now.app.now context.now.slots.now) level (variables_of scope.now) (forms_of forms.now) (drawing_of drawing.old) meter.old.cost meter.old.deepest) }
     ensures ledger { steps.new + meter.old.cost ≡ steps.old + meter.new.cost }
 {
     for form in forms {
@@ -239,7 +244,7 @@ fn draw_all<L: Ledger>(
     Ok(())
 }
 
-// The forms behind bindings, each of which sees the ones before it.
+// The forms behind bindings.
 #[cycle(draw)]
 fn draw_in<L: Ledger>(
     context: &Context<'_>,
@@ -253,19 +258,12 @@ fn draw_in<L: Ledger>(
     steps: &mut Steps<L>,
 ) -> Result<(), Stop>
     requires { level + left < 2 ^ 32 }
-    ensures meaning { Agrees (always drawing.new) result meter.new (draws_in (means left context.now.budget context.now.app.now context.now.slots.now) (draws left context.now.budget context.now.app.now context.now.slots.now) level (bindings_of bindings.now) (forms_of body.now) (variables_of scope.now) drawing.old meter.old.cost meter.old.deepest) }
+    ensures meaning { Agrees (always (drawing_of drawing.new)) result meter.new (draws_in (means left context.now.budget context.now.app.now context.now.slots.now) (draws left context.now.budget context.now.app.now context.now.slots.now) level (bindings_of bindings.now) (forms_of body.now) (variables_of scope.now) (drawing_of drawing.old) meter.old.cost meter.old.deepest) }
     ensures ledger { steps.new + meter.old.cost ≡ steps.old + meter.new.cost }
 {
-    match bindings {
-        [] => draw_all(context, body, scope, left, level, drawing, meter, steps),
-        [first, rest @ ..] => {
-            let value = evaluate(context, &first.value, scope, left, level, meter, steps)?;
-            let inner = Scope::Bound(&first.name, &value, &*scope);
-            draw_in(
-                context, rest, body, &inner, left, level, drawing, meter, steps,
-            )
-        }
-    }
+    let frame = evaluate_bindings(context, bindings, scope, left, level, meter, steps)?;
+    let inner = Scope::Frame(&frame, &*scope);
+    draw_all(context, body, &inner, left, level, drawing, meter, steps)
 }
 
 // The forms for each of these values.
@@ -283,7 +281,7 @@ fn draw_each<L: Ledger>(
     steps: &mut Steps<L>,
 ) -> Result<(), Stop>
     requires { level + left < 2 ^ 32 }
-    ensures meaning { Agrees (always drawing.new) result meter.new (for_each (draws left context.now.budget context.now.app.now context.now.slots.now) level (variables_of scope.now) name.now (forms_of body.now) (map data_of list.now) drawing.old meter.old.cost meter.old.deepest) }
+    ensures meaning { Agrees (always (drawing_of drawing.new)) result meter.new (for_each (draws left context.now.budget context.now.app.now context.now.slots.now) level (variables_of scope.now) name.now (forms_of body.now) (map data_of list.now) (drawing_of drawing.old) meter.old.cost meter.old.deepest) }
     ensures ledger { steps.new + meter.old.cost ≡ steps.old + meter.new.cost }
 {
     for item in list {
@@ -306,7 +304,7 @@ fn call<L: Ledger>(
     steps: &mut Steps<L>,
 ) -> Result<(), Stop>
     requires { level + left < 2 ^ 32 }
-    ensures meaning { Agrees (always drawing.new) result meter.new (called (draws left context.now.budget context.now.app.now context.now.slots.now) level (display_named name.now context.now.app.now) (map data_of values.now) drawing.old meter.old.cost meter.old.deepest) }
+    ensures meaning { Agrees (always (drawing_of drawing.new)) result meter.new (called (draws left context.now.budget context.now.app.now context.now.slots.now) level (display_named name.now context.now.app.now) (map data_of values.now) (drawing_of drawing.old) meter.old.cost meter.old.deepest) }
     ensures ledger { steps.new + meter.old.cost ≡ steps.old + meter.new.cost }
 {
     match context.app.shape_of(name) {

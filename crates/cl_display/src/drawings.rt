@@ -1,84 +1,126 @@
-ghost use Rattle.std.specs.Prelude.{◌≡◌};
+//! What display forms draw.
+ghost use Rattle.std.specs.Prelude.{◌≡◌, ◌+◌, ◌<◌, ◌≤◌, ◌∷◌, ◌++◌, [], MatchOption, OnErr, OnOk};
 ghost use Rattle.cl_value.specs.Value.{data_of};
-ghost use Rattle.cl_display.specs.Fresh.{drawn, lined, written};
 ghost use Rattle.cl_eval.specs.Agrees.{Comes, always};
-ghost use Rattle.cl_display.specs.Script.{blank_drawing};
+ghost use Rattle.cl_region.specs.Places.{IsInRange};
+ghost use Rattle.cl_medium.specs.Leaves.{leaf_bounds};
+ghost use Rattle.cl_record.specs.Trees.{leaf};
+ghost use Rattle.cl_display.specs.Drawings.{added, blank_drawing, cursor_to, drawing_of, drawn, lined};
+ghost use Rattle.cl_display.specs.Fresh.{written};
 
-use crate::histories::{History, TextItem};
+use crate::extents::Extent;
 use cl_eval::Stop;
-use cl_value::{Text, Value};
-use std::alloc::Global;
-
-/// No coordinate passes this number of cells.
-pub const FAR: u32 = 1_000_000;
+use cl_medium::{Ambient, AnyLeaf, Drawn, Leaf, draw_text, newline};
+use cl_record::{Node, Nodes};
+use cl_value::Value;
+use std::alloc::{AllocError, Global};
 
 /// No history weighs more.
-pub const HEAVY: u32 = 1_000_000;
+pub const HEAVY: u64 = 1_000_000;
 
-/// A display so far: the cursor in cells, the weight of the history and the history.
+/// A display so far: the state that is drawn from, the weight of what was drawn, its extent, whether
+/// the margin and the origin of the start were used, and the records of what was drawn.
 #[derive(Drop)]
 pub struct Drawing {
-    pub x: u32,
-    pub y: u32,
-    pub weight: u32,
-    pub history: History,
+    pub ambient: Ambient,
+    pub weight: u64,
+    pub extent: Extent,
+    pub margin_used: bool,
+    pub origin_used: bool,
+    pub nodes: Nodes<AnyLeaf>,
 }
 
 impl Drawing {
     /// Nothing drawn yet, the cursor at the corner.
     pub fn blank(alloc: Global) -> Drawing
-        ensures { result ≡ blank_drawing }
+        ensures { drawing_of result ≡ blank_drawing }
     {
+        let ambient = Ambient::start();
         Drawing {
-            x: 0,
-            y: 0,
+            ambient,
             weight: 0,
-            history: History::empty(alloc),
+            extent: Extent::at_cursor(&ambient),
+            margin_used: false,
+            origin_used: false,
+            nodes: Nodes::new(alloc),
         }
     }
 
     /// Draws a text at the cursor.
-    pub fn write(&mut self, value: &Value) -> Result<(), Stop>
-        ensures { Comes (always self.new) result (written self.old (data_of value.now)) }
+    pub fn write(&mut self, alloc: Global, value: &Value) -> Result<(), Stop>
+        ensures { Comes (always (drawing_of self.new)) result (written (drawing_of self.old) (data_of value.now)) }
     {
         match value {
-            Value::Text(text) => self.write_text(text),
+            Value::Text(text) => self.write_text(alloc, text.as_slice()),
             _ => Err(Stop::Trap(1)),
         }
     }
 
-    fn write_text(&mut self, text: &Text) -> Result<(), Stop>
-        ensures { Comes (always self.new) result (drawn text.now self.old) }
+    fn write_text(&mut self, alloc: Global, text: &[u8]) -> Result<(), Stop>
+        ensures { Comes (always (drawing_of self.new)) result (drawn text.now (drawing_of self.old)) }
     {
-        let length = text.as_slice().len();
-        if length == 0 {
-            return Ok(());
+        let mut ambient = self.ambient;
+        match draw_text(alloc, &mut ambient, text) {
+            Drawn::Item(leaf) => {
+                self.add(leaf, text.len() as u64 + 1)?;
+                self.move_to(ambient);
+                Ok(())
+            }
+            Drawn::Nothing => Ok(()),
+            Drawn::Range => Err(Stop::Trap(9)),
+            Drawn::Memory => Err(Stop::Memory),
         }
-        if length > (FAR as usize).saturating_sub(self.x as usize) || self.y >= FAR {
+    }
+
+    /// Moves the cursor to the margin of the next row.
+    pub fn newline(&mut self) -> Result<(), Stop>
+        ensures { Comes (always (drawing_of self.new)) result (lined (drawing_of self.old)) }
+    {
+        let mut ambient = self.ambient;
+        if !newline(&mut ambient) {
             return Err(Stop::Trap(9));
         }
-        if length >= (HEAVY as usize).saturating_sub(self.weight as usize) {
-            return Err(Stop::Trap(10));
-        }
-        self.history.push(TextItem {
-            x: self.x,
-            y: self.y,
-            text: text.copy()?,
-        })?;
-        self.x += length as u32;
-        self.weight += length as u32 + 1;
+        self.margin_used = true;
+        self.move_to(ambient);
         Ok(())
     }
 
-    /// Moves the cursor to the margin of the next line.
-    pub fn newline(&mut self) -> Result<(), Stop>
-        ensures { Comes (always self.new) result (lined self.old) }
+    // One more item of this weight.
+    fn add(&mut self, leaf: AnyLeaf, weight: u64) -> Result<(), Stop>
+        ensures { Comes (always (drawing_of self.new)) result (added leaf weight (drawing_of self.old)) }
     {
-        if self.y >= FAR {
-            return Err(Stop::Trap(9));
-        }
-        self.x = 0;
-        self.y += 1;
+        let Some(whole) = heavier(self.weight, weight) else {
+            return Err(Stop::Trap(10));
+        };
+        let bounds = leaf.bounds();
+        push_leaf(&mut self.nodes, leaf)?;
+        self.extent.take(&bounds);
+        self.weight = whole;
         Ok(())
     }
+
+    // The cursor and what else is drawn from are these.
+    fn move_to(&mut self, ambient: Ambient)
+        ensures { drawing_of self.new ≡ cursor_to ambient (drawing_of self.old) }
+    {
+        self.extent.take_cursor(&ambient);
+        self.ambient = ambient;
+    }
+}
+
+// The sum of two weights, where it is not too heavy.
+fn heavier(weight: u64, more: u64) -> Option<u64>
+    ensures { MatchOption result (1000000 < weight + more) (λ sum. (sum ≡ weight + more) × (sum ≤ 1000000)) }
+{
+    let sum = weight.checked_add(more)?;
+    if sum <= HEAVY { Some(sum) } else { None }
+}
+
+// An item behind the other records.
+pub(crate) fn push_leaf(nodes: &mut Nodes<AnyLeaf>, item: AnyLeaf) -> Result<(), AllocError>
+    requires { IsInRange (leaf_bounds item) }
+    ensures ok { OnOk result (nodes.new ≡ nodes.old ++ leaf item ∷ []) }
+    ensures err { OnErr result (nodes.new ≡ nodes.old) }
+{
+    nodes.push(Node::Leaf(item))
 }

@@ -6,7 +6,9 @@ use Part::{Chars, Int, Pad, Range, Slot, Texts, Truth, Variable};
 use Step::{Call, Dolist, If, Let, Newline, Progn, When, Write};
 use Wanted::{Ends, Items, Trap};
 use cl_eval::{Env, Limits, Slots};
+use cl_medium::AnyLeaf;
 use cl_outside::own_steps;
+use cl_record::Node;
 use cl_syntax::{
     App, Binding, Commands, DisplayDecl, Displays, Expr, FrameDecl, Functions, ListOperator, Names,
     Operator, PaneDecl, Records, Shape, Shapes, SlotDecls, TextOperator,
@@ -244,11 +246,19 @@ fn variables(alloc: Global) -> Result<Env, Fail> {
     Ok(env)
 }
 
-fn is_item(item: &TextItem, x: u32, y: u32, bytes: &[u8]) -> bool {
-    item.x == x && item.y == y && item.text.as_slice() == bytes
+// The text of a record that is one, in its place.
+fn text_of(node: &Node<AnyLeaf>) -> Option<(i64, i64, &[u8])> {
+    match node {
+        Node::Leaf(AnyLeaf::Text(item)) => Some((item.area().x, item.area().y, item.text())),
+        _ => None,
+    }
 }
 
-fn are_items(items: &[TextItem], wanted: &[(u32, u32, &[u8])]) -> bool {
+fn is_item(node: &Node<AnyLeaf>, x: u32, y: u32, bytes: &[u8]) -> bool {
+    text_of(node) == Some((x as i64, y as i64, bytes))
+}
+
+fn are_items(items: &[Node<AnyLeaf>], wanted: &[(u32, u32, &[u8])]) -> bool {
     items.len() == wanted.len()
         && items
             .iter()
@@ -256,9 +266,9 @@ fn are_items(items: &[TextItem], wanted: &[(u32, u32, &[u8])]) -> bool {
             .all(|(item, own)| is_item(item, own.0, own.1, own.2))
 }
 
-fn ends(items: &[TextItem], x: u32, y: u32, length: usize) -> bool {
-    match items.last() {
-        Some(item) => item.x == x && item.y == y && item.text.as_slice().len() == length,
+fn ends(items: &[Node<AnyLeaf>], x: u32, y: u32, length: usize) -> bool {
+    match items.last().and_then(text_of) {
+        Some(found) => found.0 == x as i64 && found.1 == y as i64 && found.2.len() == length,
         None => false,
     }
 }
@@ -276,12 +286,13 @@ fn trap_text(kind: u8) -> &'static [u8] {
 
 fn is_shown(shown: &Shown, wanted: &Wanted) -> bool {
     match (shown, wanted) {
-        (Shown::Built(history), Items(items)) => are_items(history.as_slice(), items),
+        (Shown::Built(history), Items(items)) => are_items(history.nodes().as_slice(), items),
         (Shown::Built(history), Ends(count, x, y, length)) => {
-            history.as_slice().len() == *count && ends(history.as_slice(), *x, *y, *length)
+            history.nodes().as_slice().len() == *count
+                && ends(history.nodes().as_slice(), *x, *y, *length)
         }
         (Shown::Trapped(history, kind), Trap(own)) => {
-            kind == own && are_items(history.as_slice(), &[(0, 0, trap_text(*kind))])
+            kind == own && are_items(history.nodes().as_slice(), &[(0, 0, trap_text(*kind))])
         }
         _ => false,
     }

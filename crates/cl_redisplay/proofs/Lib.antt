@@ -1,1 +1,3 @@
-pub mod PaintLemmas
+pub mod PartLemmas
+pub mod WalkLemmas
+pub mod CountLemmas

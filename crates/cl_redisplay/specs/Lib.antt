@@ -1,1 +1,3 @@
 pub mod Paint
+pub mod Parts
+pub mod Counts

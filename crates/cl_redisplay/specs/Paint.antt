@@ -1,24 +1,19 @@
--- Painting in an area of a screen: each of its places has the glyph of the last item that paints it, else a space. All is painted
--- with ink 0.
-use Rattle.std.specs.Prelude.{◌≡◌, ℕ, zero, suc, ◌+◌, ◌-◌, ◌<◌, ◌≤◌, Bool, true, false, ◌&&◌, ◌==◌, nat_le, nat_lt, if◌then◌else◌, List, [], ◌∷◌}
+-- Painting in an area of a screen: each of its places has the cell of the last item that paints it, else a space with ink 0.
+use Rattle.std.specs.Prelude.{◌≡◌, ℕ, zero, suc, ◌+◌, ◌-◌, ◌<◌, ◌≤◌, pos, Bool, true, false, ◌&&◌, nat_le, nat_lt, if◌then◌else◌, List, [], ◌∷◌}
+use Rattle.cl_medium.specs.Items.{Painted}
+use Rattle.cl_medium.specs.Leaves.{leaf_cell}
+use Rattle.cl_medium.specs.declared.any_leaf.AnyLeaf.{AnyLeaf}
 use Rattle.cl_raster.specs.Raster.{Picture, SameSize, glyph_at, ink_at}
-use Rattle.cl_display.specs.declared.histories.TextItem.{TextItem}
+use Rattle.cl_record.specs.Marks.{Mark}
+use Rattle.cl_record.specs.Replays.{drawn, painted}
 use Rattle.cl_redisplay.specs.declared.areas.Area.{Area}
 
--- the glyph of a byte; what is outside 32 to 126 is drawn as `#`
-abbrev pub glyph_of : ℕ → ℕ
-glyph_of byte = if nat_le 32 byte && nat_le byte 126 then byte else 35
+abbrev pub blank_cell : Painted
+blank_cell = record { glyph = 32; ink = 0 }
 
--- the glyph in column x of row y after bytes are painted from a column of a row on, each one cell further, where this one was before
-abbrev pub with_bytes : List ℕ → (column row x y under : ℕ) → ℕ
-with_bytes [] column row x y under = under
-with_bytes (byte ∷ bytes) column row x y under =
-    with_bytes bytes (column + 1) row x y (if (x == column) && (y == row) then glyph_of byte else under)
-
--- the glyph at a place after items are painted, in order, where this one was before
-abbrev pub painted : List TextItem → (x y under : ℕ) → ℕ
-painted [] x y under = under
-painted (item ∷ items) x y under = painted items x y (with_bytes item.text item.x item.y x y under)
+-- the cell in column x of row y
+abbrev pub cell_at : Picture → (x y : ℕ) → Painted
+cell_at p x y = record { glyph = glyph_at p x y; ink = ink_at p x y }
 
 -- so many numbers from one on have this one among them
 abbrev pub is_among : (from count n : ℕ) → Bool
@@ -35,56 +30,66 @@ pub record LiesIn (area : Area) (p : Picture) : Type 0 where
   pub most_columns : p.width ≤ 512
   pub most_rows : p.height ≤ 256
 
--- the glyph at a place of a screen whose one area shows these items
-abbrev pub shown_at : Area → List TextItem → (x y : ℕ) → ℕ
-shown_at area items x y = if covers area x y then painted items (x - area.x) (y - area.y) 32 else 32
+-- what the marks of a pane paint at a place of the screen, where this area shows the pane and the place was blank
+abbrev pub pane_cell : Area → List (Mark AnyLeaf) → (x y : ℕ) → Painted
+pane_cell area marks x y = painted leaf_cell (drawn marks) (pos (x - area.x)) (pos (y - area.y)) blank_cell
 
--- the area of the picture shows these items, and all is blank elsewhere
-pub record Shows (p : Picture) (area : Area) (items : List TextItem) : Type 0 where
-  pub glyphs : (x y : ℕ) → x < p.width → y < p.height → glyph_at p x y ≡ shown_at area items x y
-  pub inks : (x y : ℕ) → x < p.width → y < p.height → ink_at p x y ≡ 0
+-- the cell at a place of a screen whose one area shows these marks
+abbrev pub shown_at : Area → List (Mark AnyLeaf) → (x y : ℕ) → Painted
+shown_at area marks x y = if covers area x y then pane_cell area marks x y else blank_cell
 
--- so many glyphs of a row of that screen, from a column on
-abbrev pub row_from : Area → List TextItem → ℕ → ℕ → ℕ → List ℕ
-row_from area items y x zero = []
-row_from area items y x (suc more) = shown_at area items x y ∷ row_from area items y (x + 1) more
-
-abbrev pub shown_row : Area → List TextItem → ℕ → ℕ → List ℕ
-shown_row area items width y = row_from area items y 0 width
-
--- so many rows, from a row on
-abbrev pub rows_from : Area → List TextItem → ℕ → ℕ → ℕ → List (List ℕ)
-rows_from area items width y zero = []
-rows_from area items width y (suc more) = shown_row area items width y ∷ rows_from area items width (y + 1) more
-
--- the rows of a screen of this width and height
-abbrev pub shown_rows : Area → List TextItem → ℕ → ℕ → List (List ℕ)
-shown_rows area items width height = rows_from area items width 0 height
+-- the area of the picture shows these marks, and all is blank elsewhere
+pub record Shows (p : Picture) (area : Area) (marks : List (Mark AnyLeaf)) : Type 0 where
+  pub cells : (x y : ℕ) → x < p.width → y < p.height → cell_at p x y ≡ shown_at area marks x y
 
 -- ---- what painting changes
 
 -- the places outside the area are what they were
 pub record KeepsOthers (old new : Picture) (area : Area) : Type 0 where
   pub size : SameSize old new
-  pub glyphs : (x y : ℕ) → x < old.width → covers area x y ≡ false → glyph_at new x y ≡ glyph_at old x y
-  pub inks : (x y : ℕ) → x < old.width → covers area x y ≡ false → ink_at new x y ≡ ink_at old x y
+  pub cells : (x y : ℕ) → x < old.width → y < old.height → covers area x y ≡ false → cell_at new x y ≡ cell_at old x y
 
--- the area shows these items, and every other place is what it was
-pub record Repaints (old new : Picture) (area : Area) (items : List TextItem) : Type 0 where
+-- the area shows these marks, and every other place is what it was
+pub record Repaints (old new : Picture) (area : Area) (marks : List (Mark AnyLeaf)) : Type 0 where
   pub others : KeepsOthers old new area
-  pub glyphs : (x y : ℕ) → x < old.width → covers area x y ≡ true → glyph_at new x y ≡ painted items (x - area.x) (y - area.y) 32
-  pub inks : (x y : ℕ) → x < old.width → covers area x y ≡ true → ink_at new x y ≡ 0
+  pub cells : (x y : ℕ) → x < old.width → y < old.height → covers area x y ≡ true → cell_at new x y ≡ pane_cell area marks x y
 
--- what bytes add in an area, from a column and a row of it on; a place of ink 0 keeps that
-pub record PaintsBytes (old new : Picture) (area : Area) (column row : ℕ) (bytes : List ℕ) : Type 0 where
-  pub others : KeepsOthers old new area
-  pub glyphs : (x y : ℕ) → x < old.width → covers area x y ≡ true
-      → glyph_at new x y ≡ with_bytes bytes column row (x - area.x) (y - area.y) (glyph_at old x y)
-  pub inks : (x y : ℕ) → x < old.width → covers area x y ≡ true → ink_at old x y ≡ 0 → ink_at new x y ≡ 0
+-- ---- the rows of a screen
 
--- what items add
-pub record Paints (old new : Picture) (area : Area) (items : List TextItem) : Type 0 where
-  pub others : KeepsOthers old new area
-  pub glyphs : (x y : ℕ) → x < old.width → covers area x y ≡ true
-      → glyph_at new x y ≡ painted items (x - area.x) (y - area.y) (glyph_at old x y)
-  pub inks : (x y : ℕ) → x < old.width → covers area x y ≡ true → ink_at old x y ≡ 0 → ink_at new x y ≡ 0
+abbrev pub glyph_in : Painted → ℕ
+glyph_in cell = cell.glyph
+
+-- the ink as a digit
+abbrev pub ink_digit : ℕ → ℕ
+ink_digit ink = 48 + ink
+
+abbrev pub digit_in : Painted → ℕ
+digit_in cell = ink_digit cell.ink
+
+module _ (tell : Painted → ℕ) (area : Area) (marks : List (Mark AnyLeaf)) where
+  -- what is told of so many cells of a row, from a column on
+  abbrev pub row_from : (y x count : ℕ) → List ℕ
+  row_from y x zero = []
+  row_from y x (suc more) = tell (shown_at area marks x y) ∷ row_from y (x + 1) more
+
+  abbrev pub told_row : (width y : ℕ) → List ℕ
+  told_row width y = row_from y 0 width
+
+  -- so many rows, from a row on
+  abbrev pub rows_from : (width y count : ℕ) → List (List ℕ)
+  rows_from width y zero = []
+  rows_from width y (suc more) = told_row width y ∷ rows_from width (y + 1) more
+
+-- the glyphs of a row, and the digits of its inks
+abbrev pub shown_row : Area → List (Mark AnyLeaf) → (width y : ℕ) → List ℕ
+shown_row area marks width y = told_row glyph_in area marks width y
+
+abbrev pub shown_ink_row : Area → List (Mark AnyLeaf) → (width y : ℕ) → List ℕ
+shown_ink_row area marks width y = told_row digit_in area marks width y
+
+-- the rows of a screen of this width and height
+abbrev pub shown_rows : Area → List (Mark AnyLeaf) → (width height : ℕ) → List (List ℕ)
+shown_rows area marks width height = rows_from glyph_in area marks width 0 height
+
+abbrev pub shown_ink_rows : Area → List (Mark AnyLeaf) → (width height : ℕ) → List (List ℕ)
+shown_ink_rows area marks width height = rows_from digit_in area marks width 0 height

@@ -1,12 +1,13 @@
-// Painting of a history on cells.
+//! Painting of histories on the cells of a screen.
 #![tactic(auto)]
 
 pub mod areas;
-pub mod blanking;
+pub mod counting;
+mod items;
 pub mod painting;
 #[cfg(test)]
 mod tests;
 
 pub use areas::Area;
-pub use blanking::blank;
-pub use painting::paint;
+pub use counting::count;
+pub use painting::{blank, paint};

@@ -1,49 +1,71 @@
 //! What no clause says: that calls succeed while there is memory.
 use super::*;
-use cl_display::{History, TextItem};
-use cl_outside::Cell;
+use cl_medium::{Ambient, AnyLeaf, Drawn, draw_box, draw_text, newline};
 use cl_raster::Raster;
-use cl_value::Text;
+use cl_record::{History, Node, Nodes};
 use std::alloc::{AllocError, Global};
 use std::test::Fail;
 
-fn item(alloc: Global, x: u32, y: u32, text: &[u8]) -> Result<TextItem, AllocError> {
-    let text = Text::from_slice(alloc, text)?;
-    Ok(TextItem { x, y, text })
+// An item more, which its ambient lets be drawn.
+fn push(nodes: &mut Nodes<AnyLeaf>, drawn: Drawn) -> Result<(), AllocError> {
+    match drawn {
+        Drawn::Item(leaf) => {
+            let node = Node::Leaf(leaf);
+            if node.fits(cl_record::shifts::STILL) {
+                nodes.push(node)?;
+            }
+            Ok(())
+        }
+        _ => Err(AllocError),
+    }
 }
 
-// An item that leaves its area at the right, one that hides a part of it, one with a control byte,
-// and one below the area.
-fn items(alloc: Global) -> Result<History, AllocError> {
-    let mut history = History::empty(alloc);
-    history.push(item(alloc, 1, 0, b"abcdef")?)?;
-    history.push(item(alloc, 2, 0, b"-")?)?;
-    history.push(item(alloc, 0, 1, b"x\ty")?)?;
-    history.push(item(alloc, 0, 2, b"below")?)?;
-    Ok(history)
+// A box that leaves its area at all sides but the top, with a text in ink 2 that leaves it at the
+// right, of which a later one hides a part, a text with a control byte, and one below the area.
+fn items(alloc: Global) -> Result<History<AnyLeaf>, AllocError> {
+    let mut nodes = Nodes::new(alloc);
+    let mut ambient = Ambient::start();
+    push(&mut nodes, draw_box(&ambient, -1, 0, 9, 9))?;
+    ambient.ink = 2;
+    ambient.x = 1;
+    push(&mut nodes, draw_text(alloc, &mut ambient, b"abcdef"))?;
+    ambient.x = 2;
+    push(&mut nodes, draw_text(alloc, &mut ambient, b"-"))?;
+    ambient.ink = 0;
+    let _ = newline(&mut ambient);
+    push(&mut nodes, draw_text(alloc, &mut ambient, b"x\ty"))?;
+    let _ = newline(&mut ambient);
+    push(&mut nodes, draw_text(alloc, &mut ambient, b"below"))?;
+    Ok(History::from_nodes(nodes))
 }
 
 #[test]
-fn area_in_a_larger_screen(rt: HostRuntime) -> Result<(), Fail> {
+fn areas_in_a_larger_screen(rt: HostRuntime) -> Result<(), Fail> {
     let area = Area {
         x: 2,
         y: 1,
         width: 4,
         height: 2,
     };
-    let mut screen = Raster::new(rt.alloc(), 8, 4)?;
-    let star = Cell {
-        glyph: b'*',
-        ink: 3,
+    let beside = Area {
+        x: 6,
+        y: 1,
+        width: 2,
+        height: 3,
     };
-    screen.set(0, 0, star);
-    screen.set(5, 2, star);
-    paint(&mut screen, area, &items(rt.alloc())?);
-    assert!(rt; screen.row(0) == b"*       ".as_slice());
-    assert!(rt; screen.row(1) == b"   a-c  ".as_slice());
-    assert!(rt; screen.row(2) == b"  x#y   ".as_slice());
-    assert!(rt; screen.row(3) == b"        ".as_slice());
-    assert!(rt; screen.inks(0) == [3, 0, 0, 0, 0, 0, 0, 0].as_slice());
+    let history = items(rt.alloc())?;
+    assert!(rt; count(&history) == Some(5));
+    let mut screen = Raster::new(rt.alloc(), 8, 4)?;
+    paint(&mut screen, beside, &history);
+    paint(&mut screen, area, &history);
+    assert!(rt; screen.row(0) == b"        ".as_slice());
+    assert!(rt; screen.row(1) == b"  -a-c-a".as_slice());
+    assert!(rt; screen.row(2) == b"  x#y x#".as_slice());
+    assert!(rt; screen.row(3) == b"      be".as_slice());
+    assert!(rt; screen.inks(1) == [0, 0, 0, 2, 2, 2, 0, 2].as_slice());
     assert!(rt; screen.inks(2) == [0, 0, 0, 0, 0, 0, 0, 0].as_slice());
+    blank(&mut screen, area);
+    assert!(rt; screen.row(1) == b"      -a".as_slice());
+    assert!(rt; screen.inks(1) == [0, 0, 0, 0, 0, 0, 0, 2].as_slice());
     Ok(())
 }

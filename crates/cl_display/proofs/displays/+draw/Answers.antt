@@ -1,4 +1,4 @@
-use Rattle.std.proofs.Common.{◌≡◌, ◌∙◌, ◌∷◌, ◌<◌, suc, drop, drop-cons, length, map, ap, sym, arith}
+use Rattle.std.proofs.Common.{◌≡◌, ◌∙◌, ◌∷◌, suc, drop, drop-cons, map, ap, sym}
 use Rattle.std.proofs.lemmas.Result.{err_from_is_err_and}
 use Rattle.cl_value.specs.Value.{data_of}
 use Rattle.cl_value.specs.declared.Value.{Value}
@@ -8,17 +8,16 @@ use Rattle.cl_syntax.specs.Form.{forms_of}
 use Rattle.cl_syntax.specs.Shape.{form_of}
 use Rattle.cl_syntax.specs.Term.{terms_of}
 use Rattle.cl_syntax.specs.declared.display_forms.Shape.{Shape}
-use Rattle.cl_syntax.specs.declared.expressions.Binding.{Binding}
 use Rattle.cl_eval.specs.Scope.{variables_of}
 use Rattle.cl_eval.specs.Meaning.{means}
-use Rattle.cl_eval.proofs.CostLemmas.{grows-means}
+use Rattle.cl_display.specs.Drawings.{drawing_of}
 use Rattle.cl_display.specs.Fresh.{draws}
 use Rattle.cl_display.proofs.FormLemmas.{draws-entered, grows-draws, stop-call, stop-choice, stop-dolist, stop-draws_in, stop-for_each, stop-in_order, stop-when}
 use Rattle.cl_display.proofs.displays.+draw.Goals as goal
 
 pub draw-returns-clause-meaning : goal.draw-returns-clause-meaning
 draw-returns-clause-meaning g t c =
-    rw (draws-entered c.args.left c.args.context.now.budget c.args.context.now.app.now c.args.context.now.slots.now c.args.level (variables_of c.args.scope.now) c.args.form.now c.args.drawing.now
+    rw (draws-entered c.args.left c.args.context.now.budget c.args.context.now.app.now c.args.context.now.slots.now c.args.level (variables_of c.args.scope.now) c.args.form.now (drawing_of c.args.drawing.now)
     c.args.meter.now.cost c.args.meter.now.deepest _ _ c.in_ok-enter.ensures.meaning)
     c.draw_parts.ensures.meaning
 
@@ -30,7 +29,7 @@ draw_all-returns-in_err-draw-clause-meaning g t c =
     let step : drop at c.args.forms.now ≡ c.form-item.result ∷ rest =
     drop-cons c.args.forms.now at c.form-item.result c.loop-form-test.true ∙ ap (λ (a : Shape). a ∷ rest) (sym c.form-item.is) in
     rw (p.1, p.2, ← c.loop-form.invariant.meaning, step)
-    (stop-in_order (draws c.args.left c.args.context.now.budget c.args.context.now.app.now c.args.context.now.slots.now) (grows-draws c.args.left c.args.context.now.budget c.args.context.now.app.now c.args.context.now.slots.now) c.args.level (variables_of c.args.scope.now) c.form-item.result (forms_of rest) c.loop-form.drawing c.draw.new.drawing
+    (stop-in_order (draws c.args.left c.args.context.now.budget c.args.context.now.app.now c.args.context.now.slots.now) (grows-draws c.args.left c.args.context.now.budget c.args.context.now.app.now c.args.context.now.slots.now) c.args.level (variables_of c.args.scope.now) c.form-item.result (forms_of rest) (drawing_of c.loop-form.drawing) (drawing_of c.draw.new.drawing)
     c.in_err-draw.field-0.0 c.draw.new.meter c.loop-form.meter.cost c.loop-form.meter.deepest c.in_err-draw.ensures.meaning)
 
 pub draw_each-returns-in_err-draw_all-clause-meaning : goal.draw_each-returns-in_err-draw_all-clause-meaning
@@ -41,26 +40,22 @@ draw_each-returns-in_err-draw_all-clause-meaning g t c =
     let step : drop at c.args.list.now ≡ c.item-item.result ∷ rest =
     drop-cons c.args.list.now at c.item-item.result c.loop-item-test.true ∙ ap (λ (a : Value). a ∷ rest) (sym c.item-item.is) in
     rw (p.1, p.2, ← c.loop-item.invariant.meaning, step)
-    (stop-for_each (draws c.args.left c.args.context.now.budget c.args.context.now.app.now c.args.context.now.slots.now) (grows-draws c.args.left c.args.context.now.budget c.args.context.now.app.now c.args.context.now.slots.now) c.args.level (variables_of c.args.scope.now) c.args.name.now (forms_of c.args.body.now) (data_of c.item-item.result) (map data_of rest) c.loop-item.drawing c.draw_all.new.drawing
+    (stop-for_each (draws c.args.left c.args.context.now.budget c.args.context.now.app.now c.args.context.now.slots.now) (grows-draws c.args.left c.args.context.now.budget c.args.context.now.app.now c.args.context.now.slots.now) c.args.level (variables_of c.args.scope.now) c.args.name.now (forms_of c.args.body.now) (data_of c.item-item.result) (map data_of rest) (drawing_of c.loop-item.drawing) (drawing_of c.draw_all.new.drawing)
     c.in_err-draw_all.field-0.0 c.draw_all.new.meter c.loop-item.meter.cost c.loop-item.meter.deepest c.in_err-draw_all.ensures.meaning)
 
-pub draw_in-returns-in_err-value-in-len1-up-clause-meaning : goal.draw_in-returns-in_err-value-in-len1-up-clause-meaning
-draw_in-returns-in_err-value-in-len1-up-clause-meaning g t c =
+pub draw_in-returns-in_err-frame-clause-meaning : goal.draw_in-returns-in_err-frame-clause-meaning
+draw_in-returns-in_err-frame-clause-meaning g t c =
     let p = err_from_is_err_and c.from_residual.result c.from_residual.ensures.1 in
-    let some : 0 < length c.args.bindings.now = omega (arith, c.in-len1-up.len_at_least) in
-    let rest = drop 1 c.args.bindings.now in
-    let step : c.args.bindings.now ≡ c.first-item.result ∷ rest =
-    drop-cons c.args.bindings.now 0 c.first-item.result some ∙ ap (λ (a : Binding). a ∷ rest) (sym c.first-item.is) in
-    rw (p.1, p.2, step)
-    (stop-draws_in (means c.args.left c.args.context.now.budget c.args.context.now.app.now c.args.context.now.slots.now) (grows-means c.args.left c.args.context.now.budget c.args.context.now.app.now c.args.context.now.slots.now) (draws c.args.left c.args.context.now.budget c.args.context.now.app.now c.args.context.now.slots.now) (grows-draws c.args.left c.args.context.now.budget c.args.context.now.app.now c.args.context.now.slots.now) c.args.level c.first-item.result.name c.first-item.result.value (bindings_of rest) (forms_of c.args.body.now) (variables_of c.args.scope.now) c.args.drawing.now c.args.drawing.now
-    c.in_err-value-in-len1-up.field-0.0 c.evaluate.new.meter c.args.meter.now.cost c.args.meter.now.deepest c.in_err-value-in-len1-up.ensures.meaning)
+    rw (p.1, p.2)
+    (stop-draws_in (means c.args.left c.args.context.now.budget c.args.context.now.app.now c.args.context.now.slots.now) (draws c.args.left c.args.context.now.budget c.args.context.now.app.now c.args.context.now.slots.now) (grows-draws c.args.left c.args.context.now.budget c.args.context.now.app.now c.args.context.now.slots.now) c.args.level (bindings_of c.args.bindings.now) (forms_of c.args.body.now) (variables_of c.args.scope.now) (variables_of c.args.scope.now) (drawing_of c.args.drawing.now) (drawing_of c.args.drawing.now)
+    c.in_err-frame.field-0.0 c.evaluate_bindings.new.meter c.args.meter.now.cost c.args.meter.now.deepest c.in_err-frame.ensures.meaning)
 
 pub draw_parts-returns-in_err-evaluate_test-in-If-clause-meaning : goal.draw_parts-returns-in_err-evaluate_test-in-If-clause-meaning
 draw_parts-returns-in_err-evaluate_test-in-If-clause-meaning g t c =
     let p = err_from_is_err_and c.from_residual-in_err-evaluate_test-in-If.result c.from_residual-in_err-evaluate_test-in-If.ensures.1 in
     let whole : c.args.form.now ≡ shape.choice c.in-If.test c.in-If.then.value c.in-If.other.value = sym c.form.view_is ∙ ap form_of c.in-If.is in
     rw (p.1, p.2, whole)
-    (stop-choice c.args.context.now.app.now (means c.args.left c.args.context.now.budget c.args.context.now.app.now c.args.context.now.slots.now) (draws c.args.left c.args.context.now.budget c.args.context.now.app.now c.args.context.now.slots.now) (grows-draws c.args.left c.args.context.now.budget c.args.context.now.app.now c.args.context.now.slots.now) c.args.level (variables_of c.args.scope.now) c.in-If.test c.in-If.then.value c.in-If.other.value c.args.drawing.now c.args.drawing.now
+    (stop-choice c.args.context.now.app.now (means c.args.left c.args.context.now.budget c.args.context.now.app.now c.args.context.now.slots.now) (draws c.args.left c.args.context.now.budget c.args.context.now.app.now c.args.context.now.slots.now) (grows-draws c.args.left c.args.context.now.budget c.args.context.now.app.now c.args.context.now.slots.now) c.args.level (variables_of c.args.scope.now) c.in-If.test c.in-If.then.value c.in-If.other.value (drawing_of c.args.drawing.now) (drawing_of c.args.drawing.now)
     c.in_err-evaluate_test-in-If.field-0.0 c.evaluate_test.new.meter c.args.meter.now.cost c.args.meter.now.deepest c.in_err-evaluate_test-in-If.ensures.meaning)
 
 pub draw_parts-returns-in_err-evaluate_test-in-When-clause-meaning : goal.draw_parts-returns-in_err-evaluate_test-in-When-clause-meaning
@@ -68,7 +63,7 @@ draw_parts-returns-in_err-evaluate_test-in-When-clause-meaning g t c =
     let p = err_from_is_err_and c.from_residual-in_err-evaluate_test-in-When.result c.from_residual-in_err-evaluate_test-in-When.ensures.1 in
     let whole : c.args.form.now ≡ shape.when c.in-When.test (forms_of c.in-When.body) = sym c.form.view_is ∙ ap form_of c.in-When.is in
     rw (p.1, p.2, whole)
-    (stop-when c.args.context.now.app.now (means c.args.left c.args.context.now.budget c.args.context.now.app.now c.args.context.now.slots.now) (draws c.args.left c.args.context.now.budget c.args.context.now.app.now c.args.context.now.slots.now) (grows-draws c.args.left c.args.context.now.budget c.args.context.now.app.now c.args.context.now.slots.now) c.args.level (variables_of c.args.scope.now) c.in-When.test (forms_of c.in-When.body) c.args.drawing.now c.args.drawing.now
+    (stop-when c.args.context.now.app.now (means c.args.left c.args.context.now.budget c.args.context.now.app.now c.args.context.now.slots.now) (draws c.args.left c.args.context.now.budget c.args.context.now.app.now c.args.context.now.slots.now) (grows-draws c.args.left c.args.context.now.budget c.args.context.now.app.now c.args.context.now.slots.now) c.args.level (variables_of c.args.scope.now) c.in-When.test (forms_of c.in-When.body) (drawing_of c.args.drawing.now) (drawing_of c.args.drawing.now)
     c.in_err-evaluate_test-in-When.field-0.0 c.evaluate_test-in-When.new.meter c.args.meter.now.cost c.args.meter.now.deepest c.in_err-evaluate_test-in-When.ensures.meaning)
 
 pub draw_parts-returns-in_err-list-in-Dolist-clause-meaning : goal.draw_parts-returns-in_err-list-in-Dolist-clause-meaning
@@ -76,7 +71,7 @@ draw_parts-returns-in_err-list-in-Dolist-clause-meaning g t c =
     let p = err_from_is_err_and c.from_residual-in_err-list-in-Dolist.result c.from_residual-in_err-list-in-Dolist.ensures.1 in
     let whole : c.args.form.now ≡ shape.each c.in-Dolist.name c.in-Dolist.list (forms_of c.in-Dolist.body) = sym c.form.view_is ∙ ap form_of c.in-Dolist.is in
     rw (p.1, p.2, whole)
-    (stop-dolist c.args.context.now.app.now (means c.args.left c.args.context.now.budget c.args.context.now.app.now c.args.context.now.slots.now) (draws c.args.left c.args.context.now.budget c.args.context.now.app.now c.args.context.now.slots.now) (grows-draws c.args.left c.args.context.now.budget c.args.context.now.app.now c.args.context.now.slots.now) c.args.level (variables_of c.args.scope.now) c.in-Dolist.name c.in-Dolist.list (forms_of c.in-Dolist.body) c.args.drawing.now c.args.drawing.now
+    (stop-dolist c.args.context.now.app.now (means c.args.left c.args.context.now.budget c.args.context.now.app.now c.args.context.now.slots.now) (draws c.args.left c.args.context.now.budget c.args.context.now.app.now c.args.context.now.slots.now) (grows-draws c.args.left c.args.context.now.budget c.args.context.now.app.now c.args.context.now.slots.now) c.args.level (variables_of c.args.scope.now) c.in-Dolist.name c.in-Dolist.list (forms_of c.in-Dolist.body) (drawing_of c.args.drawing.now) (drawing_of c.args.drawing.now)
     c.in_err-list-in-Dolist.field-0.0 c.evaluate_list.new.meter c.args.meter.now.cost c.args.meter.now.deepest c.in_err-list-in-Dolist.ensures.meaning)
 
 pub draw_parts-returns-in_err-values-in-Call-clause-meaning : goal.draw_parts-returns-in_err-values-in-Call-clause-meaning
@@ -84,5 +79,5 @@ draw_parts-returns-in_err-values-in-Call-clause-meaning g t c =
     let p = err_from_is_err_and c.from_residual-in_err-values-in-Call.result c.from_residual-in_err-values-in-Call.ensures.1 in
     let whole : c.args.form.now ≡ shape.call c.in-Call.name (terms_of c.in-Call.parts.items) = sym c.form.view_is ∙ ap form_of c.in-Call.is in
     rw (p.1, p.2, whole)
-    (stop-call c.args.context.now.app.now (means c.args.left c.args.context.now.budget c.args.context.now.app.now c.args.context.now.slots.now) (draws c.args.left c.args.context.now.budget c.args.context.now.app.now c.args.context.now.slots.now) (grows-draws c.args.left c.args.context.now.budget c.args.context.now.app.now c.args.context.now.slots.now) c.args.level (variables_of c.args.scope.now) c.in-Call.name (terms_of c.in-Call.parts.items) c.args.drawing.now c.args.drawing.now
+    (stop-call c.args.context.now.app.now (means c.args.left c.args.context.now.budget c.args.context.now.app.now c.args.context.now.slots.now) (draws c.args.left c.args.context.now.budget c.args.context.now.app.now c.args.context.now.slots.now) (grows-draws c.args.left c.args.context.now.budget c.args.context.now.app.now c.args.context.now.slots.now) c.args.level (variables_of c.args.scope.now) c.in-Call.name (terms_of c.in-Call.parts.items) (drawing_of c.args.drawing.now) (drawing_of c.args.drawing.now)
     c.in_err-values-in-Call.field-0.0 c.evaluate_each.new.meter c.args.meter.now.cost c.args.meter.now.deepest (rw c.deref-in-Call.ensures.value at c.in_err-values-in-Call.ensures.meaning))

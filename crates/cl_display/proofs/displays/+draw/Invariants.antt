@@ -1,7 +1,8 @@
-use Rattle.std.proofs.Common.{◌≡◌, ◌+◌, ◌*◌, ◌^◌, drop, length, map}
+use Rattle.std.proofs.Common.{◌≡◌, ◌+◌, ◌*◌, ◌^◌, drop, map}
 use Rattle.cl_value.specs.Value.{data_of}
 use Rattle.cl_syntax.specs.Form.{forms_of}
 use Rattle.cl_eval.specs.Scope.{variables_of}
+use Rattle.cl_display.specs.Drawings.{drawing_of}
 use Rattle.cl_display.specs.Fresh.{draws, for_each, in_order}
 use Rattle.cl_display.proofs.displays.+draw.Given as goal
 
@@ -15,7 +16,7 @@ abbrev pub decreases-draw_all : goal.decreases-draw_all
 decreases-draw_all g l = l.left * 2 ^ 66 + 2
 
 abbrev pub decreases-draw_in : goal.decreases-draw_in
-decreases-draw_in g l = l.left * 2 ^ 66 + length l.bindings.now + 4
+decreases-draw_in g l = l.left * 2 ^ 66 + 3
 
 abbrev pub decreases-draw_each : goal.decreases-draw_each
 decreases-draw_each g l = l.left * 2 ^ 66 + 3
@@ -25,12 +26,12 @@ decreases-call g l = l.left * 2 ^ 66 + 3
 
 abbrev pub invariant-draw_all-loop-form : goal.invariant-draw_all-loop-form
 invariant-draw_all-loop-form g l = record {
-  meaning : in_order (draws l.left l.context.budget l.context.app.now l.context.slots.now) l.level (variables_of l.scope) (forms_of (drop l.form-index l.forms)) l.drawing l.meter.cost l.meter.deepest ≡ in_order (draws l.left l.context.budget l.context.app.now l.context.slots.now) l.level (variables_of l.scope) (forms_of l.forms) l.initial.drawing l.initial.meter.cost l.initial.meter.deepest;
+  meaning : in_order (draws l.left l.context.budget l.context.app.now l.context.slots.now) l.level (variables_of l.scope) (forms_of (drop l.form-index l.forms)) (drawing_of l.drawing) l.meter.cost l.meter.deepest ≡ in_order (draws l.left l.context.budget l.context.app.now l.context.slots.now) l.level (variables_of l.scope) (forms_of l.forms) (drawing_of l.initial.drawing) l.initial.meter.cost l.initial.meter.deepest;
   ledger : l.steps + l.initial.meter.cost ≡ l.initial.steps + l.meter.cost;
 }
 
 abbrev pub invariant-draw_each-loop-item : goal.invariant-draw_each-loop-item
 invariant-draw_each-loop-item g l = record {
-  meaning : for_each (draws l.left l.context.budget l.context.app.now l.context.slots.now) l.level (variables_of l.scope) l.name (forms_of l.body) (map data_of (drop l.item-index l.list)) l.drawing l.meter.cost l.meter.deepest ≡ for_each (draws l.left l.context.budget l.context.app.now l.context.slots.now) l.level (variables_of l.scope) l.name (forms_of l.body) (map data_of l.list) l.initial.drawing l.initial.meter.cost l.initial.meter.deepest;
+  meaning : for_each (draws l.left l.context.budget l.context.app.now l.context.slots.now) l.level (variables_of l.scope) l.name (forms_of l.body) (map data_of (drop l.item-index l.list)) (drawing_of l.drawing) l.meter.cost l.meter.deepest ≡ for_each (draws l.left l.context.budget l.context.app.now l.context.slots.now) l.level (variables_of l.scope) l.name (forms_of l.body) (map data_of l.list) (drawing_of l.initial.drawing) l.initial.meter.cost l.initial.meter.deepest;
   ledger : l.steps + l.initial.meter.cost ≡ l.initial.steps + l.meter.cost;
 }

@@ -1,0 +1,26 @@
+use Rattle.std.proofs.Common.{arith, rules, subst, sym}
+use Rattle.std.proofs.lemmas.Int.{ints, clamps}
+use mir.Syntax.{w64}
+use mir.Val.{SFits}
+use Rattle.cl_region.specs.Places.{IsInRange, box}
+use Rattle.cl_region.proofs.Corners.{rect_is}
+use Rattle.cl_display.proofs.ItemLemmas.{near-box}
+use Rattle.cl_display.proofs.extents.corners_box.Goals as goal
+
+pub returns-clause-corners : goal.returns-clause-corners
+returns-clause-corners c =
+    let a : SFits w64 c.args.first.now.x1 = search rules in
+    let b : SFits w64 c.args.first.now.y1 = search rules in
+    let d : SFits w64 c.args.first.now.x2 = search rules in
+    let e : SFits w64 c.args.first.now.y2 = search rules in
+    let f : SFits w64 c.args.second.now.x1 = search rules in
+    let g : SFits w64 c.args.second.now.y1 = search rules in
+    let h : SFits w64 c.args.second.now.x2 = search rules in
+    let i : SFits w64 c.args.second.now.y2 = search rules in
+    rect_is (box c.args.first.now c.args.second.now) _ _ _ _
+    (omega (arith, ints, clamps, c.min.ensures.value)) (omega (arith, ints, clamps, c.min-2.ensures.value))
+    (omega (arith, ints, clamps, c.max.ensures.value)) (omega (arith, ints, clamps, c.max-2.ensures.value))
+
+pub returns-clause-range : goal.returns-clause-range
+returns-clause-range c =
+    subst IsInRange (sym (returns-clause-corners c)) (near-box c.args.first.now c.args.second.now c.requires.first c.requires.second)

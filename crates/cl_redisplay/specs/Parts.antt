@@ -1,0 +1,44 @@
+-- What items paint in an area, and what one of them paints in a part of it.
+use Rattle.std.specs.Prelude.{◌≡◌, ℕ, ◌+◌, ◌-◌, ◌<◌, ◌≤◌, ℤ, pos, ◌&&◌, if◌then◌else◌, List, Option, unwrap_or}
+use Rattle.cl_medium.specs.Items.{Painted}
+use Rattle.cl_raster.specs.Raster.{Picture, SameSize}
+use Rattle.cl_record.specs.Marks.{Mark, all_moved}
+use Rattle.cl_record.specs.Replays.{drawn, painted}
+use Rattle.cl_region.specs.Places.{holds}
+use Rattle.cl_region.specs.declared.rects.Rect.{Rect}
+use Rattle.cl_region.specs.declared.rects.Shift.{Shift}
+use Rattle.cl_redisplay.specs.Paint.{cell_at, covers}
+use Rattle.cl_redisplay.specs.declared.areas.Area.{Area}
+
+-- a part of an area, as an area of the same screen
+pub record IsIn (part area : Area) : Type 0 where
+  pub left : area.x ≤ part.x
+  pub right : part.x + part.width ≤ area.x + area.width
+  pub top : area.y ≤ part.y
+  pub bottom : part.y + part.height ≤ area.y + area.height
+
+-- the part has those places of the area that the rectangle holds, whose coordinates are counted in the area
+pub record IsPart (part area : Area) (rect : Rect) : Type 0 where
+  pub inside : IsIn part area
+  pub places : (x y : ℕ) → covers part x y ≡ covers area x y && holds rect (pos (x - area.x)) (pos (y - area.y))
+
+module _ {A : Type 0} where
+  -- the items that marks draw, moved
+  abbrev pub drawn_at : (Shift → A → A) → Shift → List (Mark A) → List A
+  drawn_at move v marks = drawn (all_moved move v marks)
+
+  -- the item's cell at a place of the screen, where it paints it, else the one that was there
+  abbrev pub over : (A → ℤ → ℤ → Option Painted) → Area → A → (x y : ℕ) → Painted → Painted
+  over cell area item x y under = unwrap_or (cell item (pos (x - area.x)) (pos (y - area.y))) under
+
+  -- the item is painted at the places of the part, and every other place is what it was
+  pub record PaintsPart (cell : A → ℤ → ℤ → Option Painted) (old new : Picture) (area part : Area) (item : A) : Type 0 where
+    pub size : SameSize old new
+    pub cells : (x y : ℕ) → x < old.width → y < old.height
+        → cell_at new x y ≡ (if covers part x y then over cell area item x y (cell_at old x y) else cell_at old x y)
+
+  -- the items are painted in the area, in order, and every other place of the screen is what it was
+  pub record PaintsAll (cell : A → ℤ → ℤ → Option Painted) (old new : Picture) (area : Area) (items : List A) : Type 0 where
+    pub size : SameSize old new
+    pub cells : (x y : ℕ) → x < old.width → y < old.height
+        → cell_at new x y ≡ (if covers area x y then painted cell items (pos (x - area.x)) (pos (y - area.y)) (cell_at old x y) else cell_at old x y)
