@@ -9,6 +9,11 @@ pub enum Gesture {
     Return,
     /// Asked for what the screen shows.
     Frame,
+    /// Asked for the inks of what the screen shows.
+    Inks,
+    /// Asked for the history of the pane of this name, 1 or more bytes without a space, as it was
+    /// written.
+    History(Text),
 }
 
 /// What the next line is, or why there is none.

@@ -1,6 +1,7 @@
 ghost use Rattle.std.specs.Prelude.{◌≡◌, MatchOption, None, Some};
 ghost use Rattle.std.specs.List.{list_all};
-ghost use Rattle.cl_gesture.specs.Gesture.{without_return, is_idle, is_printable, is_typable, typed_text, says};
+ghost use Rattle.cl_gesture.specs.declared.answers.Gesture.TheVariants as gesture;
+ghost use Rattle.cl_gesture.specs.Gesture.{does, without_return, is_idle, is_no_space, is_printable, is_typable, is_word, pane_name, typed_text, says};
 ghost use Rattle.cl_gesture.specs.Said.{SaidOf, AnswerOf};
 
 use crate::answers::{Gesture, Next};
@@ -65,6 +66,55 @@ fn typed_text(line: &[u8]) -> Option<&[u8]>
     line.strip_prefix(b"type ").filter(|text| is_typable(text))
 }
 
+/// Whether a byte may stand in a word.
+fn is_no_space(byte: u8) -> bool
+    ensures { result ≡ is_no_space byte }
+{
+    byte != b' '
+}
+
+/// Whether these bytes are one word.
+fn is_word(bytes: &[u8]) -> bool
+    ensures { result ≡ is_word bytes.now }
+{
+    !bytes.is_empty() && have_no_space(bytes)
+}
+
+/// Whether no byte is a space.
+fn have_no_space(bytes: &[u8]) -> bool
+    ensures { result ≡ list_all is_no_space bytes.now }
+{
+    bytes.iter().all(|byte| is_no_space(*byte))
+}
+
+/// The name of a line `history NAME`.
+fn pane_name(line: &[u8]) -> Option<&[u8]>
+    ensures { MatchOption result (pane_name line.now ≡ None)
+        (λ name. pane_name line.now ≡ Some name.now) }
+{
+    line.strip_prefix(b"history ").filter(|name| is_word(name))
+}
+
+/// What a line with this text says.
+fn typed(alloc: Global, text: &[u8]) -> Said
+    ensures { SaidOf (does (gesture.«Type» text.now)) result }
+{
+    match Text::from_slice(alloc, text) {
+        Ok(text) => Said::Gesture(Gesture::Type(text)),
+        Err(_) => Said::Memory,
+    }
+}
+
+/// What a line with this name of a pane says.
+fn asked(alloc: Global, name: &[u8]) -> Said
+    ensures { SaidOf (does (gesture.History name.now)) result }
+{
+    match Text::from_slice(alloc, name) {
+        Ok(name) => Said::Gesture(Gesture::History(name)),
+        Err(_) => Said::Memory,
+    }
+}
+
 /// What a line says, a carriage return at its end left out.
 pub fn read_line(alloc: Global, line: &[u8]) -> Said
     ensures { SaidOf (says (without_return line.now)) result }
@@ -79,13 +129,16 @@ pub fn read_line(alloc: Global, line: &[u8]) -> Said
     if line == b"frame".as_slice() {
         return Said::Gesture(Gesture::Frame);
     }
+    if line == b"inks".as_slice() {
+        return Said::Gesture(Gesture::Inks);
+    }
+    if let Some(name) = pane_name(line) {
+        return asked(alloc, name);
+    }
     let Some(text) = typed_text(line) else {
         return Said::Bad;
     };
-    match Text::from_slice(alloc, text) {
-        Ok(text) => Said::Gesture(Gesture::Type(text)),
-        Err(_) => Said::Memory,
-    }
+    typed(alloc, text)
 }
 
 /// The answer for a line of this number; None: the line does nothing.

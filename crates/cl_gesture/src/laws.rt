@@ -20,7 +20,7 @@ pub fn there_is_one_cut()
 {}
 
 /// A line does a gesture exactly where it is that gesture's spelling, and a text that is typed is
-/// 1 or more bytes from 32 to 126.
+/// 1 or more bytes from 32 to 126, a name 1 or more bytes without a space.
 pub fn gestures_are_spelled()
     ensures { AreSpelled }
 {}

@@ -4,8 +4,8 @@
 //! bytes without one is cut there and is bad, and the next byte begins the next line. One carriage
 //! return at a line's end is dropped. An empty line and a line that begins with `#` do nothing, but
 //! they are counted. `type TEXT` types TEXT, 1 or more bytes from 32 to 126, which begins right
-//! behind the one space; `return` and `frame` stand alone. Any other line is bad. A reader reads at
-//! most 1,000,000 lines.
+//! behind the one space; `history NAME` asks for a pane by its name, one word behind one space; `return`,
+//! `frame` and `inks` stand alone. Any other line is bad. A reader reads at most 1,000,000 lines.
 #![tactic(auto)]
 
 mod ahead;

@@ -38,6 +38,13 @@ fn answers<G: Source>(alloc: Global, gestures: &mut Gestures<G>) -> Result<Strin
             }
             Next::Gesture(Gesture::Return) => told.push_str("return")?,
             Next::Gesture(Gesture::Frame) => told.push_str("frame")?,
+            Next::Gesture(Gesture::Inks) => told.push_str("inks")?,
+            Next::Gesture(Gesture::History(name)) => {
+                told.push_str("history ")?;
+                for byte in name.as_slice() {
+                    told.push(char::from(*byte))?;
+                }
+            }
             Next::Bad(number) => write!(told, "bad {number}")?,
             Next::Memory => told.push_str("memory")?,
             Next::End => {
@@ -59,10 +66,10 @@ fn answers<G: Source>(alloc: Global, gestures: &mut Gestures<G>) -> Result<Strin
 }
 
 const STREAM: &[u8] =
-    b"return\nframe\r\n\n# a comment\n#\ntype Add\ntype  two \n\r\ntype\ntype \nReturn\nreturn \n frame\njump\ntype a\tb\ntype ~!#\r\n\r#\ntype a\r\r\nrub out\nreturnframe\ntype \x7f\ntype x";
+    b"return\nframe\r\ninks\nhistory Main\nhistory a b\nhistory \nhistory\nhistory  a\nhistory a\tb\ninks \n\n# a comment\n#\ntype Add\ntype  two \n\r\ntype\ntype \nReturn\nreturn \n frame\njump\ntype a\tb\ntype ~!#\r\n\r#\ntype a\r\r\nrub out\nreturnframe\ntype \x7f\ntype x";
 
 const TOLD: &str =
-    "return\nframe\ntype Add\ntype  two \nbad 9\nbad 10\nbad 11\nbad 12\nbad 13\nbad 14\nbad 15\ntype ~!#\nbad 17\nbad 18\nbad 19\nbad 20\nbad 21\ntype x\nend";
+    "return\nframe\ninks\nhistory Main\nbad 5\nbad 6\nbad 7\nbad 8\nhistory a\tb\nbad 10\ntype Add\ntype  two \nbad 17\nbad 18\nbad 19\nbad 20\nbad 21\nbad 22\nbad 23\ntype ~!#\nbad 25\nbad 26\nbad 27\nbad 28\nbad 29\ntype x\nend";
 
 #[test]
 fn lines_say_what_the_format_says(rt: HostRuntime) -> Result<(), Fail> {

@@ -1,38 +1,58 @@
--- A row of cells that show some items is the row of these items.
-use Rattle.std.proofs.Common.{◌≡◌, ℕ, zero, suc, ◌+◌, ◌-◌, ◌*◌, ◌<◌, List, ◌∷◌, length, slice_index, take, drop, refl, sym, ◌∙◌, ap, arith, add-zero, zero-add, drop-cons, length-drop}
+-- A row of cells that show some marks is the row of these marks.
+use Rattle.std.proofs.Common.{◌≡◌, ℕ, zero, suc, ◌+◌, ◌-◌, ◌*◌, ◌<◌, List, ◌∷◌, length, slice_index, take, drop, map, refl, sym, ◌∙◌, ap, arith, add-zero, zero-add, drop-cons, length-drop}
 use Rattle.std.proofs.lemmas.List.{length-take}
-use Rattle.cl_display.specs.declared.histories.TextItem.{TextItem}
+use Rattle.cl_medium.specs.Items.{Painted}
+use Rattle.cl_medium.specs.declared.any_leaf.AnyLeaf.{AnyLeaf}
 use Rattle.cl_raster.specs.Raster.{Picture, row_of}
-use Rattle.cl_redisplay.specs.Paint.{Shows, row_from, rows_from, shown_at, shown_row}
+use Rattle.cl_record.specs.Marks.{Mark}
+use Rattle.cl_redisplay.specs.Paint.{Shows, digit_in, glyph_in, ink_digit, row_from, rows_from, shown_at, shown_ink_row, shown_row, told_row}
 use Rattle.cl_redisplay.specs.declared.areas.Area.{Area}
 
-pub take-row_from : (area : Area) (items : List TextItem) (glyphs : List ℕ) (y k x n : ℕ) → length (take n (drop k glyphs)) ≡ n
-    → ((i : ℕ) → i < n → slice_index glyphs (k + i) ≡ shown_at area items (x + i) y)
-    → take n (drop k glyphs) ≡ row_from area items y x n
-take-row_from area items glyphs y k x zero h f = refl
-take-row_from area items glyphs y k x (suc n) h f =
-    let within : k < length glyphs = omega (arith, h, length-take (suc n) (drop k glyphs), length-drop k glyphs) in
-    let first : slice_index glyphs k ≡ shown_at area items x y = rw (add-zero, add-zero) at (f 0 (omega arith)) in
-    let counted : length (take n (drop (k + 1) glyphs)) ≡ n = omega (arith, h, length-take (suc n) (drop k glyphs), length-drop k glyphs, length-take n (drop (k + 1) glyphs), length-drop (k + 1) glyphs) in
-    let rest : take n (drop (k + 1) glyphs) ≡ row_from area items y (x + 1) n =
-    take-row_from area items glyphs y (k + 1) (x + 1) n counted
+abbrev ink_in : Painted → ℕ
+ink_in cell = cell.ink
+
+take-row_from : (tell : Painted → ℕ) (area : Area) (marks : List (Mark AnyLeaf)) (cells : List ℕ) (y k x n : ℕ) → length (take n (drop k cells)) ≡ n
+    → ((i : ℕ) → i < n → slice_index cells (k + i) ≡ tell (shown_at area marks (x + i) y))
+    → take n (drop k cells) ≡ row_from tell area marks y x n
+take-row_from tell area marks cells y k x zero h f = refl
+take-row_from tell area marks cells y k x (suc n) h f =
+    let within : k < length cells = omega (arith, h, length-take (suc n) (drop k cells), length-drop k cells) in
+    let first : slice_index cells k ≡ tell (shown_at area marks x y) = rw (add-zero, add-zero) at (f 0 (omega arith)) in
+    let counted : length (take n (drop (k + 1) cells)) ≡ n = omega (arith, h, length-take (suc n) (drop k cells), length-drop k cells, length-take n (drop (k + 1) cells), length-drop (k + 1) cells) in
+    let rest : take n (drop (k + 1) cells) ≡ row_from tell area marks y (x + 1) n =
+    take-row_from tell area marks cells y (k + 1) (x + 1) n counted
     (λ i less. let one : k + 1 + i ≡ k + (i + 1) = omega arith in
     let two : x + 1 + i ≡ x + (i + 1) = omega arith in
     rw (one, two) (f (i + 1) (omega arith))) in
     let next : suc k ≡ k + 1 = omega arith in
-    rw (drop-cons glyphs k 0, next, first, rest)
+    rw (drop-cons cells k 0, next, first, rest)
 
-pub row-shown_row : (area : Area) (items : List TextItem) (p : Picture) (y : ℕ) (row : List ℕ) → Shows p area items → y < p.height
-    → row ≡ row_of p.glyphs p.width y → length row ≡ p.width → row ≡ shown_row area items p.width y
-row-shown_row area items p y row shows less is count =
-    let wide : y * p.width + p.width - y * p.width ≡ p.width = omega arith in
-    let cells = rw wide at is in
-    let counted : length (take p.width (drop (y * p.width) p.glyphs)) ≡ p.width = sym (ap length cells) ∙ count in
-    cells ∙ take-row_from area items p.glyphs y (y * p.width) 0 p.width counted
-    (λ i within. rw zero-add (shows.glyphs i y within less))
+told : (tell : Painted → ℕ) (area : Area) (marks : List (Mark AnyLeaf)) (cells : List ℕ) (width y : ℕ) (row : List ℕ)
+    → ((i : ℕ) → i < width → slice_index cells (y * width + i) ≡ tell (shown_at area marks i y))
+    → row ≡ row_of cells width y → length row ≡ width → row ≡ told_row tell area marks width y
+told tell area marks cells width y row f is count =
+    let wide : y * width + width - y * width ≡ width = omega arith in
+    let here = rw wide at is in
+    let counted : length (take width (drop (y * width) cells)) ≡ width = sym (ap length here) ∙ count in
+    here ∙ take-row_from tell area marks cells y (y * width) 0 width counted (λ i within. rw zero-add (f i within))
 
-pub rows_from-next : (area : Area) (items : List TextItem) (width y end : ℕ) → y < end
-    → rows_from area items width y (end - y) ≡ shown_row area items width y ∷ rows_from area items width (y + 1) (end - (y + 1))
-rows_from-next area items width y end h =
+pub row-shown_row : (area : Area) (marks : List (Mark AnyLeaf)) (p : Picture) (y : ℕ) (row : List ℕ) → Shows p area marks → y < p.height
+    → row ≡ row_of p.glyphs p.width y → length row ≡ p.width → row ≡ shown_row area marks p.width y
+row-shown_row area marks p y row shows less is count =
+    told glyph_in area marks p.glyphs p.width y row (λ i within. ap glyph_in (shows.cells i y within less)) is count
+
+digits_from : (area : Area) (marks : List (Mark AnyLeaf)) (y x n : ℕ) → map ink_digit (row_from ink_in area marks y x n) ≡ row_from digit_in area marks y x n
+digits_from area marks y x zero = refl
+digits_from area marks y x (suc n) = ap (λ (row : List ℕ). ink_digit (shown_at area marks x y).ink ∷ row) (digits_from area marks y (x + 1) n)
+
+pub row-shown_ink_row : (area : Area) (marks : List (Mark AnyLeaf)) (p : Picture) (y : ℕ) (row : List ℕ) → Shows p area marks → y < p.height
+    → row ≡ row_of p.inks p.width y → length row ≡ p.width → map ink_digit row ≡ shown_ink_row area marks p.width y
+row-shown_ink_row area marks p y row shows less is count =
+    ap (λ (r : List ℕ). map ink_digit r) (told ink_in area marks p.inks p.width y row (λ i within. ap ink_in (shows.cells i y within less)) is count)
+    ∙ digits_from area marks y 0 p.width
+
+pub rows_from-next : (tell : Painted → ℕ) (area : Area) (marks : List (Mark AnyLeaf)) (width y end : ℕ) → y < end
+    → rows_from tell area marks width y (end - y) ≡ told_row tell area marks width y ∷ rows_from tell area marks width (y + 1) (end - (y + 1))
+rows_from-next tell area marks width y end h =
     let next : end - y ≡ suc (end - (y + 1)) = omega arith in
     rw next

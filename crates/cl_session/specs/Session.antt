@@ -3,22 +3,23 @@ use Rattle.std.specs.Prelude.{◌≡◌, ◌⊎◌, ◌≤◌, Bool, ◌||◌, i
 use Rattle.cl_syntax.specs.declared.applications.App.{App}
 use Rattle.cl_eval.specs.Slots.{Slots}
 use Rattle.cl_eval.specs.declared.metering.Limits.{Limits}
-use Rattle.cl_display.specs.declared.histories.TextItem.{TextItem}
+use Rattle.cl_medium.specs.declared.any_leaf.AnyLeaf.{AnyLeaf}
+use Rattle.cl_record.specs.Marks.{Mark}
 use Rattle.cl_display.specs.Script.{pane_script}
 use Rattle.cl_gesture.specs.declared.answers.Gesture.{Gesture}
 use Rattle.cl_session.specs.declared.answers.PaneReport.{PaneReport}
 use Rattle.cl_session.specs.declared.answers.Replies.{Replies}
 use Rattle.cl_session.specs.declared.sessions.Session.{Session}
-use Rattle.cl_session.specs.World.{World, area_of}
+use Rattle.cl_session.specs.World.{World, area_of, marks_of_pane}
 use Rattle.cl_session.specs.Step.{next, settled_if}
 use Rattle.cl_session.specs.Pane.{IsPainted}
 use Rattle.cl_session.specs.Replies.{lines_of, met_memory, met_of, report_lines}
 
 abbrev pub world_of : Session → Slots → World
-world_of session slots = record { slots = slots; line = session.line; pane = session.pane.history }
+world_of session slots = record { slots = slots; line = session.line; pane = marks_of_pane session.pane.history }
 
 -- the history is the script of these slots, unless it is blank
-abbrev pub IsCurrent : App → Limits → Slots → Option (List TextItem) → Type 0
+abbrev pub IsCurrent : App → Limits → Slots → Option (List (Mark AnyLeaf)) → Type 0
 IsCurrent app limits slots history = (history ≡ None) ⊎ (history ≡ Some (pane_script limits app slots))
 
 -- A session fits an application and slots: its screen is as large as the frame, its pane is where the frame has it, the cells there
@@ -30,11 +31,11 @@ pub record Fits (app : App) (slots : Slots) (session : Session) : Type 0 where
   pub height : session.pane.screen.height ≡ app.frame.height
   pub area : session.pane.area ≡ area_of app.frame.pane
   pub painted : IsPainted session.pane
-  pub current : IsCurrent app session.limits slots session.pane.history
+  pub current : IsCurrent app session.limits slots (marks_of_pane session.pane.history)
   pub none_waits : session.outgoing ≡ []
 
 -- the history and the lines of a pane that is settled where that is due or where it is blank
-pub record SettlesIf (due : Bool) (app : App) (limits : Limits) (slots : Slots) (old new : Option (List TextItem)) (report : PaneReport) : Type 0 where
+pub record SettlesIf (due : Bool) (app : App) (limits : Limits) (slots : Slots) (old new : Option (List (Mark AnyLeaf))) (report : PaneReport) : Type 0 where
   pub history : new ≡ (settled_if (due || is_none old) app limits slots old (met_memory report)).pane
   pub lines : report_lines app.frame.pane.name report ≡ (settled_if (due || is_none old) app limits slots old (met_memory report)).lines
 

@@ -10,17 +10,21 @@ use Rattle.cl_eval.specs.Slots.{Slots}
 use Rattle.cl_eval.specs.Executed.{ran}
 use Rattle.cl_eval.specs.declared.effects.Effects.{Effects}
 use Rattle.cl_load.specs.SlotTypes.{is_member}
-use Rattle.cl_display.specs.declared.drawings.Drawing.{Drawing}
-use Rattle.cl_display.specs.declared.histories.TextItem.{TextItem}
+use Rattle.cl_display.specs.Drawings.{DrawingAt}
 use Rattle.cl_display.specs.Script.{history_of, pane_fresh, pane_script}
-use Rattle.cl_redisplay.specs.Paint.{shown_rows}
+use Rattle.std.specs.Str.{str_eq_ignore_ascii_case}
+use Rattle.cl_medium.specs.declared.any_leaf.AnyLeaf.{AnyLeaf}
+use Rattle.cl_record.specs.Lines.{item_line, lines_from}
+use Rattle.cl_record.specs.Marks.{Mark}
+use Rattle.cl_redisplay.specs.Counts.{count_of}
+use Rattle.cl_redisplay.specs.Paint.{shown_ink_rows, shown_rows}
 use Rattle.cl_command.specs.declared.lines.Finished.{Finished}
 use Rattle.cl_command.specs.declared.lines.Finished.TheVariants.{Command, Unknown, Surplus}
 use Rattle.cl_command.specs.Line.{finish_of}
 use Rattle.cl_command.specs.Naming.{line_names}
 use Rattle.cl_gesture.specs.declared.answers.Gesture.{Gesture}
 use Rattle.cl_gesture.specs.declared.answers.Gesture.TheVariants as gesture
-use Rattle.cl_session.specs.World.{World, area_of, items_in}
+use Rattle.cl_session.specs.World.{World, area_of, marks_in}
 
 -- what met want of memory in a gesture: its handling, and the settling of the pane
 pub record Met : Type 0 where
@@ -77,19 +81,35 @@ returned app limits w (Command place) = run_named app limits w (command_at app p
 returned app limits w Unknown = refused w 0 (codes "! unknown")
 returned app limits w Surplus = refused w 0 (codes "! surplus")
 
-abbrev pub framed : App → World → Handled
-framed app w = record {
-  replies = shown_rows (area_of app.frame.pane) (items_in w.pane) app.frame.width app.frame.height;
-  slots = w.slots;
-  line = w.line;
-  commits = false;
-  cost = 0;
-}
+-- these replies, and nothing changes
+abbrev pub told : World → List (List ℕ) → Handled
+told w replies = record { replies = replies; slots = w.slots; line = w.line; commits = false; cost = 0 }
+
+-- the rows of the screen, by their glyphs and by their inks
+abbrev pub glyph_rows : App → World → List (List ℕ)
+glyph_rows app w = shown_rows (area_of app.frame.pane) (marks_in w.pane) app.frame.width app.frame.height
+
+abbrev pub ink_rows : App → World → List (List ℕ)
+ink_rows app w = shown_ink_rows (area_of app.frame.pane) (marks_in w.pane) app.frame.width app.frame.height
+
+-- `history NAME N` and N lines
+abbrev pub headed : List ℕ → List (List ℕ) → List (List ℕ)
+headed name lines = (codes "history " ++ name ++ 32 ∷ decimal (length lines)) ∷ lines
+
+abbrev pub history_rows : App → World → List (List ℕ)
+history_rows app w = headed app.frame.pane.name (lines_from item_line 0 (marks_in w.pane))
+
+-- the history of the pane of this name, without regard to case
+abbrev pub asked : App → World → List ℕ → Handled
+asked app w name =
+    if str_eq_ignore_ascii_case name app.frame.pane.name then told w (history_rows app w) else refused w 0 (codes "! pane")
 
 abbrev pub handled : App → Limits → World → Gesture → Handled
 handled app limits w (gesture.«Type» text) = typed w text
 handled app limits w gesture.Return = returned app limits w (finish_of (line_names app.commands) w.line)
-handled app limits w gesture.Frame = framed app w
+handled app limits w gesture.Frame = told w (glyph_rows app w)
+handled app limits w gesture.Inks = told w (ink_rows app w)
+handled app limits w (gesture.History name) = asked app w name
 
 -- a handling that met want of memory changes nothing
 abbrev pub handled_or_not : App → Limits → World → Gesture → Bool → Handled
@@ -98,7 +118,7 @@ handled_or_not app limits w g false = handled app limits w g
 
 -- what becomes of the pane: its history, its line, and the cost
 pub record Settled : Type 0 where
-  pub pane : Option (List TextItem)
+  pub pane : Option (List (Mark AnyLeaf))
   pub lines : List (List ℕ)
   pub cost : ℕ
 
@@ -119,19 +139,19 @@ abbrev pub memory_line : List ℕ → List ℕ
 memory_line name = codes "pane " ++ name ++ codes " memory"
 
 -- the line of a pane whose display was evaluated: nothing is kept, its items are drawn and so many are erased
-abbrev pub pane_line : List ℕ → ℕ → Outcome Drawing → List ℕ
-pane_line name erased (Gives s cost deepest) = report_line name 0 0 (length s.history) erased
+abbrev pub pane_line : List ℕ → ℕ → Outcome DrawingAt → List ℕ
+pane_line name erased (Gives s cost deepest) = report_line name 0 0 (count_of s.marks) erased
 pane_line name erased (Traps kind cost deepest) = trap_line name kind
 
 -- a pane that is settled has its script, or is blank where it met want of memory
-abbrev pub settled : App → Outcome Drawing → List TextItem → Bool → Settled
+abbrev pub settled : App → Outcome DrawingAt → List (Mark AnyLeaf) → Bool → Settled
 settled app shown old true = record { pane = None; lines = memory_line app.frame.pane.name ∷ []; cost = cost_of shown }
 settled app shown old false =
-    record { pane = Some (history_of shown); lines = pane_line app.frame.pane.name (length old) shown ∷ []; cost = cost_of shown }
+    record { pane = Some (history_of shown); lines = pane_line app.frame.pane.name (count_of old) shown ∷ []; cost = cost_of shown }
 
 -- a pane is settled where a command committed, and tried again where it is blank
-abbrev pub settled_if : Bool → App → Limits → Slots → Option (List TextItem) → Bool → Settled
-settled_if true app limits slots pane met = settled app (pane_fresh limits app slots) (items_in pane) met
+abbrev pub settled_if : Bool → App → Limits → Slots → Option (List (Mark AnyLeaf)) → Bool → Settled
+settled_if true app limits slots pane met = settled app (pane_fresh limits app slots) (marks_in pane) met
 settled_if false app limits slots pane met = record { pane = pane; lines = []; cost = 0 }
 
 pub record Next : Type 0 where

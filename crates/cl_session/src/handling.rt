@@ -1,14 +1,14 @@
 ghost use Rattle.std.specs.Prelude.{◌≡◌, ◌≤◌, ◌++◌, ◌∷◌, [], codes, IfOk};
 ghost use Rattle.std.specs.Fmt.{decimal};
 ghost use Rattle.cl_command.specs.Line.{finish_of};
-ghost use Rattle.cl_redisplay.specs.Paint.{shown_rows};
 ghost use Rattle.cl_command.specs.Naming.{line_names};
-ghost use Rattle.cl_session.specs.World.{area_of, items_in};
-ghost use Rattle.cl_session.specs.Step.{command_run, handled, ok_lines, returned, run_of, text_lines, typed};
+ghost use Rattle.cl_session.specs.World.{area_of, marks_of_pane};
+ghost use Rattle.cl_session.specs.Step.{asked, command_run, handled, ok_lines, returned, run_of, text_lines, typed};
 ghost use Rattle.cl_session.specs.Pane.{IsPainted};
 ghost use Rattle.cl_session.specs.Handling.{HandlesTo, HandlingRises, IsReply};
 
 use crate::panes::Pane;
+use crate::telling::{frame_lines, history_lines, ink_lines};
 use cl_command::{Finished, Line, Pushed};
 use cl_eval::{Env, Executed, Limits, Lines, Slots, exec};
 use cl_gesture::Gesture;
@@ -45,8 +45,8 @@ pub fn handle<L: Ledger>(
     requires width { pane.now.screen.width ≡ app.now.frame.width }
     requires height { pane.now.screen.height ≡ app.now.frame.height }
     requires area { pane.now.area ≡ area_of app.now.frame.pane }
-    ensures handles { HandlesTo (handled app.now limits (record { slots = slots.old; line = line.old; pane = pane.now.history }) gesture.now) result slots.old slots.new line.old line.new }
-    ensures ledger { HandlingRises result steps.old steps.new (handled app.now limits (record { slots = slots.old; line = line.old; pane = pane.now.history }) gesture.now).cost }
+    ensures handles { HandlesTo (handled app.now limits (record { slots = slots.old; line = line.old; pane = marks_of_pane pane.now.history }) gesture.now) result slots.old slots.new line.old line.new }
+    ensures ledger { HandlingRises result steps.old steps.new (handled app.now limits (record { slots = slots.old; line = line.old; pane = marks_of_pane pane.now.history }) gesture.now).cost }
 {
     match gesture {
         Gesture::Type(text) => type_text(alloc, text.as_slice(), pane, slots, line),
@@ -55,12 +55,39 @@ pub fn handle<L: Ledger>(
             Ok(lines) => Handling::Replied(lines),
             Err(_) => Handling::Memory,
         },
+        Gesture::Inks => match ink_lines(alloc, pane) {
+            Ok(lines) => Handling::Replied(lines),
+            Err(_) => Handling::Memory,
+        },
+        Gesture::History(name) => tell_history(alloc, app, pane, name.as_slice(), slots, line),
+    }
+}
+
+// The lines of the history of the pane of this name.
+fn tell_history(
+    alloc: Global,
+    app: &App,
+    pane: &Pane,
+    name: &[u8],
+    slots: &Slots,
+    line: &Line,
+) -> Handling
+    ensures handles { HandlesTo (asked app.now (record { slots = slots.now; line = line.now; pane = marks_of_pane pane.now.history }) name.now) result slots.now slots.now line.now line.now }
+    ensures cost { (asked app.now (record { slots = slots.now; line = line.now; pane = marks_of_pane pane.now.history }) name.now).cost ≡ 0 }
+{
+    let own_name = app.frame.pane.name.as_slice();
+    if !name.eq_ignore_ascii_case(own_name) {
+        return reply(alloc, b"! pane");
+    }
+    match history_lines(alloc, pane, own_name) {
+        Ok(lines) => Handling::Replied(lines),
+        Err(_) => Handling::Memory,
     }
 }
 
 fn type_text(alloc: Global, text: &[u8], pane: &Pane, slots: &Slots, line: &mut Line) -> Handling
-    ensures handles { HandlesTo (typed (record { slots = slots.now; line = line.old; pane = pane.now.history }) text.now) result slots.now slots.now line.old line.new }
-    ensures cost { (typed (record { slots = slots.now; line = line.old; pane = pane.now.history }) text.now).cost ≡ 0 }
+    ensures handles { HandlesTo (typed (record { slots = slots.now; line = line.old; pane = marks_of_pane pane.now.history }) text.now) result slots.now slots.now line.old line.new }
+    ensures cost { (typed (record { slots = slots.now; line = line.old; pane = marks_of_pane pane.now.history }) text.now).cost ≡ 0 }
 {
     match line.push_text(text) {
         Pushed::Done => Handling::Replied(Lines::new(alloc)),
@@ -78,8 +105,8 @@ fn finish_line<L: Ledger>(
     steps: &mut Steps<L>,
 ) -> Handling
     requires { limits.depth ≤ 512 }
-    ensures handles { HandlesTo (returned app.now limits (record { slots = slots.old; line = line.old; pane = pane.now.history }) (finish_of (line_names app.now.commands) line.old)) result slots.old slots.new line.old line.new }
-    ensures ledger { HandlingRises result steps.old steps.new (returned app.now limits (record { slots = slots.old; line = line.old; pane = pane.now.history }) (finish_of (line_names app.now.commands) line.old)).cost }
+    ensures handles { HandlesTo (returned app.now limits (record { slots = slots.old; line = line.old; pane = marks_of_pane pane.now.history }) (finish_of (line_names app.now.commands) line.old)) result slots.old slots.new line.old line.new }
+    ensures ledger { HandlingRises result steps.old steps.new (returned app.now limits (record { slots = slots.old; line = line.old; pane = marks_of_pane pane.now.history }) (finish_of (line_names app.now.commands) line.old)).cost }
 {
     match line.finish(&app.commands) {
         Finished::Unknown => reply(alloc, b"! unknown"),
@@ -102,8 +129,8 @@ fn run_command<L: Ledger>(
     steps: &mut Steps<L>,
 ) -> Handling
     requires { limits.depth ≤ 512 }
-    ensures handles { HandlesTo (run_of command.now.line_name (record { slots = slots.old; line = line.old; pane = pane.now.history }) (command_run limits app.now command.now slots.old)) result slots.old slots.new line.old line.new }
-    ensures ledger { HandlingRises result steps.old steps.new (run_of command.now.line_name (record { slots = slots.old; line = line.old; pane = pane.now.history }) (command_run limits app.now command.now slots.old)).cost }
+    ensures handles { HandlesTo (run_of command.now.line_name (record { slots = slots.old; line = line.old; pane = marks_of_pane pane.now.history }) (command_run limits app.now command.now slots.old)) result slots.old slots.new line.old line.new }
+    ensures ledger { HandlingRises result steps.old steps.new (run_of command.now.line_name (record { slots = slots.old; line = line.old; pane = marks_of_pane pane.now.history }) (command_run limits app.now command.now slots.old)).cost }
 {
     let env = Env::new(alloc);
     match exec(
@@ -147,7 +174,7 @@ fn reply(alloc: Global, bytes: &[u8]) -> Handling
 }
 
 // One line of replies.
-fn one_line(alloc: Global, bytes: &[u8]) -> Result<Lines, AllocError>
+pub(crate) fn one_line(alloc: Global, bytes: &[u8]) -> Result<Lines, AllocError>
     ensures { IfOk result (λ l. l ≡ bytes.now ∷ []) }
 {
     let mut lines = Lines::new(alloc);
@@ -168,7 +195,7 @@ fn ok_lines(alloc: Global, name: &[u8], replies: &[Text]) -> Result<Lines, Alloc
 }
 
 // These bytes, one part behind the other.
-fn joined(alloc: Global, first: &[u8], second: &[u8]) -> Result<Vec<u8>, AllocError>
+pub(crate) fn joined(alloc: Global, first: &[u8], second: &[u8]) -> Result<Vec<u8>, AllocError>
     ensures { IfOk result (λ v. v.items ≡ first.now ++ second.now) }
 {
     let mut bytes = Vec::from_slice(alloc, first)?;
@@ -181,16 +208,4 @@ fn trap_line(alloc: Global, kind: u8) -> Result<Lines, AllocError>
 {
     let line = format!(in alloc; "! trap {kind}")?;
     one_line(alloc, line.as_bytes())
-}
-
-// The rows of cells.
-fn frame_lines(alloc: Global, pane: &Pane) -> Result<Lines, AllocError>
-    requires { IsPainted pane.now }
-    ensures { IfOk result (λ l. l ≡ shown_rows pane.now.area (items_in pane.now.history) pane.now.screen.width pane.now.screen.height) }
-{
-    let mut lines = Lines::new(alloc);
-    for y in 0..pane.screen.height() {
-        lines.push(Text::from_slice(alloc, pane.row(y))?)?;
-    }
-    Ok(lines)
 }

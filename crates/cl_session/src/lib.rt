@@ -7,6 +7,7 @@ pub mod panes;
 pub mod serving;
 pub mod sessions;
 pub mod speaking;
+pub mod telling;
 pub mod writing;
 
 pub use answers::{PaneReport, Replies, Report};

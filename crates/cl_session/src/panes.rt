@@ -1,9 +1,12 @@
-ghost use Rattle.std.specs.Prelude.{◌≡◌, ◌≤◌, ◌<◌, ◌+◌, length, IfOk};
+ghost use Rattle.std.specs.Prelude.{◌≡◌, ◌≤◌, ◌<◌, ◌+◌, All, IfOk, MatchOption, Some, None, map};
 ghost use Rattle.cl_eval.specs.Outcome.{cost_of};
 ghost use Rattle.cl_display.specs.Script.{pane_fresh};
-ghost use Rattle.cl_raster.specs.Raster.{SameSize};
-ghost use Rattle.cl_redisplay.specs.Paint.{shown_row};
-ghost use Rattle.cl_session.specs.World.{area_of, items_in};
+ghost use Rattle.cl_medium.specs.Leaves.{leaf_moved};
+ghost use Rattle.cl_raster.specs.Raster.{IsInk, SameSize};
+ghost use Rattle.cl_record.specs.Marks.{history_marks};
+ghost use Rattle.cl_redisplay.specs.Counts.{count_of};
+ghost use Rattle.cl_redisplay.specs.Paint.{ink_digit, shown_ink_row, shown_row};
+ghost use Rattle.cl_session.specs.World.{area_of, marks_in, marks_of_pane};
 ghost use Rattle.cl_session.specs.Pane.{IsPainted, Rises, SettlesTo};
 
 use crate::answers::{PaneReport, Report};
@@ -11,15 +14,17 @@ use cl_display::{History, Shown, display};
 use cl_eval::{Env, Limits, Slots};
 use cl_outside::{Ledger, Steps};
 use cl_raster::Raster;
-use cl_redisplay::{Area, blank, paint};
+use cl_redisplay::{Area, blank, count, paint};
 use cl_syntax::{App, PaneDecl};
 use std::alloc::{AllocError, Global};
 
-/// A pane, the only one of its screen: its history, None where it is blank for want of memory, its
-/// area of the screen, and the cells of the screen, which are blank outside of it.
+/// A pane, the only one of its screen: its history, None where it is blank for want of memory, how
+/// many items that draws, its area of the screen, and the cells of the screen, which are blank outside
+/// of it.
 #[derive(Drop)]
 pub struct Pane {
     pub history: Option<History>,
+    pub items: u64,
     pub area: Area,
     pub screen: Raster,
 }
@@ -49,30 +54,30 @@ impl Pane {
     {
         Ok(Pane {
             history: None,
+            items: 0,
             area,
             screen: Raster::new(alloc, width, height)?,
         })
     }
 
-    /// How many items the pane shows.
-    fn count(&self) -> u64
-        ensures { result ≡ length (items_in self.now.history) }
-    {
-        match &self.history {
-            Some(history) => history.as_slice().len() as u64,
-            None => 0,
-        }
-    }
-
-    fn show(&mut self, history: History)
+    // Shows a history, and says how many items it draws. Where they are more than can be counted, it is
+    // as if there were no memory for them: the pane is blank.
+    fn show(&mut self, history: History) -> Option<u64>
         requires { IsPainted self.old }
-        ensures history { self.new.history ≡ Some history }
+        ensures history { MatchOption result (self.new.history ≡ None)
+            (λ n. (n ≡ count_of (history_marks leaf_moved history)) × (self.new.history ≡ Some history)) }
         ensures painted { IsPainted self.new }
         ensures size { SameSize self.old.screen self.new.screen }
         ensures area { self.new.area ≡ self.old.area }
     {
+        let Some(items) = count(&history) else {
+            self.blank();
+            return None;
+        };
         paint(&mut self.screen, self.area, &history);
         self.history = Some(history);
+        self.items = items;
+        Some(items)
     }
 
     fn blank(&mut self)
@@ -84,6 +89,7 @@ impl Pane {
     {
         blank(&mut self.screen, self.area);
         self.history = None;
+        self.items = 0;
     }
 
     /// Evaluates the display once, from nothing, and paints what it gives. Each form that it enters
@@ -98,30 +104,29 @@ impl Pane {
     ) -> PaneReport
         requires depth { limits.depth ≤ 512 }
         requires painted { IsPainted self.old }
-        ensures settles { SettlesTo self.old.history self.new.history (pane_fresh limits app.now slots.now) result }
+        ensures settles { SettlesTo (marks_of_pane self.old.history) (marks_of_pane self.new.history) (pane_fresh limits app.now slots.now) result }
         ensures painted { IsPainted self.new }
         ensures size { SameSize self.old.screen self.new.screen }
         ensures area { self.new.area ≡ self.old.area }
         ensures ledger { Rises result steps.old steps.new (cost_of (pane_fresh limits app.now slots.now)) }
         ensures later { steps.old ≤ steps.new }
     {
-        let erased = self.count();
+        let erased = self.items;
         let env = Env::new(alloc);
         match display(alloc, app, app.pane_forms(), &env, slots, limits, steps) {
-            Shown::Built(history) => {
-                let drawn = history.as_slice().len() as u64;
-                self.show(history);
-                PaneReport::Shown(Report {
+            Shown::Built(history) => match self.show(history) {
+                Some(drawn) => PaneReport::Shown(Report {
                     kept: 0,
                     moved: 0,
                     drawn,
                     erased,
-                })
-            }
-            Shown::Trapped(history, kind) => {
-                self.show(history);
-                PaneReport::Trapped(kind)
-            }
+                }),
+                None => PaneReport::Memory,
+            },
+            Shown::Trapped(history, kind) => match self.show(history) {
+                Some(_) => PaneReport::Trapped(kind),
+                None => PaneReport::Memory,
+            },
             Shown::Memory => {
                 self.blank();
                 PaneReport::Memory
@@ -133,8 +138,18 @@ impl Pane {
     pub fn row(&self, y: u16) -> &[u8]
         requires painted { IsPainted self.now }
         requires row { y < self.now.screen.height }
-        ensures { result.now ≡ shown_row self.now.area (items_in self.now.history) self.now.screen.width y }
+        ensures { result.now ≡ shown_row self.now.area (marks_in (marks_of_pane self.now.history)) self.now.screen.width y }
     {
         self.screen.row(y)
+    }
+
+    /// The inks of a row of the screen, numbers from 0 to 7.
+    pub fn inks(&self, y: u16) -> &[u8]
+        requires painted { IsPainted self.now }
+        requires row { y < self.now.screen.height }
+        ensures digits { map ink_digit result.now ≡ shown_ink_row self.now.area (marks_in (marks_of_pane self.now.history)) self.now.screen.width y }
+        ensures range { All IsInk result.now }
+    {
+        self.screen.inks(y)
     }
 }

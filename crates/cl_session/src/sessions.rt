@@ -4,6 +4,7 @@ ghost use Rattle.cl_eval.specs.Outcome.{cost_of};
 ghost use Rattle.cl_raster.specs.Raster.{SameSize};
 ghost use Rattle.cl_session.specs.Replies.{met_memory, met_of};
 ghost use Rattle.cl_session.specs.Pane.{IsPainted};
+ghost use Rattle.cl_session.specs.World.{marks_of_pane};
 ghost use Rattle.cl_session.specs.Step.{RisesBy, Spends, opening, settled_if};
 ghost use Rattle.cl_session.specs.Session.{Fits, IsCurrent, SettlesIf, Steps as StepsTo, world_of};
 
@@ -133,16 +134,16 @@ impl Session {
     ) -> PaneReport
         requires depth { self.old.limits.depth ≤ 512 }
         requires painted { IsPainted self.old.pane }
-        requires current { due ≡ false → IsCurrent app.now self.old.limits slots.now self.old.pane.history }
-        ensures settles { SettlesIf due app.now self.old.limits slots.now self.old.pane.history self.new.pane.history result }
+        requires current { due ≡ false → IsCurrent app.now self.old.limits slots.now (marks_of_pane self.old.pane.history) }
+        ensures settles { SettlesIf due app.now self.old.limits slots.now (marks_of_pane self.old.pane.history) (marks_of_pane self.new.pane.history) result }
         ensures painted { IsPainted self.new.pane }
         ensures size { SameSize self.old.pane.screen self.new.pane.screen }
         ensures area { self.new.pane.area ≡ self.old.pane.area }
-        ensures current { IsCurrent app.now self.old.limits slots.now self.new.pane.history }
+        ensures current { IsCurrent app.now self.old.limits slots.now (marks_of_pane self.new.pane.history) }
         ensures line { self.new.line ≡ self.old.line }
         ensures limits { self.new.limits ≡ self.old.limits }
         ensures outgoing { self.new.outgoing ≡ self.old.outgoing }
-        ensures ledger { RisesBy (met_memory result) steps.old steps.new (settled_if (due || is_none self.old.pane.history) app.now self.old.limits slots.now self.old.pane.history (met_memory result)).cost }
+        ensures ledger { RisesBy (met_memory result) steps.old steps.new (settled_if (due || is_none (marks_of_pane self.old.pane.history)) app.now self.old.limits slots.now (marks_of_pane self.old.pane.history) (met_memory result)).cost }
         ensures later { steps.old ≤ steps.new }
     {
         if due || self.pane.history.is_none() {

@@ -6,6 +6,7 @@ mod displays;
 mod expressions;
 mod numbers;
 mod statements;
+mod telling;
 
 use super::*;
 use cl_outside::{MemPlace, MemSink, MemSource, OwnLedger, Steps};

@@ -57,7 +57,7 @@ fn a_trap_leaves_slot_and_line(rt: HostRuntime) -> Result<(), Fail> {
 
 /// Two commands, two slots, and a pane inside a larger frame. The first command traps once the count
 /// has come to 3.
-const TALLY: &str = "(define-application-frame tally (:size 12 4)
+pub const TALLY: &str = "(define-application-frame tally (:size 12 4)
   (:slots (count integer 0) (name string \"-\")) (:panes (board 2 1 8 2 show)))
 (define-display show ()
   (write-text (slot name)) (newline) (write-text (text (slot count))))
