@@ -2,16 +2,8 @@
 # Displays a pane of 10,000 items and paints it, 20 times, through the built program, and prints the processor time of one time: 100 ms
 # at most. The pane shows 256 of the items; each run of the command draws all of them anew. The time of a program that does the same
 # with one item is taken off.
-set -euo pipefail
-cd "$(dirname "$0")/.."
-program=crates/clim_run/out/clim_run
+source "$(dirname "$0")/program.sh"
 runs=20
-if [ ! -x "$program" ]; then
-    echo 'bench: building the program; this takes minutes' >&2
-    (counter=$PWD/examples/counter/counter.clim; cd crates/clim_run && rt run -- run "$counter" </dev/null) >&2
-fi
-files=$(mktemp -d)
-trap 'rm -rf "$files"' EXIT
 application() {
     cat <<TEXT
 (define-application-frame rows (:size 80 256) (:slots (n integer 0)) (:panes (p 0 0 80 256 show)))

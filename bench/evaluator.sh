@@ -7,17 +7,9 @@
 # `+` and `a` are 2; the two calls, the filter and the 200 are 4; the map and its range are 4, and each of its 200 products 3; the
 # filter's test is 5 for each of them; the fold of the sum with `xs` and 0 is 3, and each of the 57 numbers that passed the test is 3.
 # That makes 892,006. The display after each run, and once at the opening, is 3.
-set -euo pipefail
-cd "$(dirname "$0")/.."
-program=crates/clim_run/out/clim_run
+source "$(dirname "$0")/program.sh"
 runs=100
 forms=892009
-if [ ! -x "$program" ]; then
-    echo 'bench: building the program; this takes minutes' >&2
-    (counter=$PWD/examples/counter/counter.clim; cd crates/clim_run && rt run -- run "$counter" </dev/null) >&2
-fi
-files=$(mktemp -d)
-trap 'rm -rf "$files"' EXIT
 cat >"$files/work.clim" <<'TEXT'
 (define-application-frame work (:size 12 1) (:slots (n integer 0)) (:panes (p 0 0 12 1 show)))
 (define-display show () (write-text (text (slot n))))

@@ -6,16 +6,8 @@
 #   counter: the counter, made as long by a comment; it opens; 200 ms
 #   functions: 4,096 declarations, the most that a text may have, of which 4,094 are functions that all call the one before; the
 #     opening value of a slot names the last, so that all are looked through for slots; it opens; 500 ms
-set -euo pipefail
-cd "$(dirname "$0")/.."
-program=crates/clim_run/out/clim_run
+source "$(dirname "$0")/program.sh"
 length=1048576
-if [ ! -x "$program" ]; then
-    echo "bench: building; this takes minutes" >&2
-    (counter=$PWD/examples/counter/counter.clim; cd crates/clim_run && rt run -- run "$counter" </dev/null) >&2
-fi
-texts=$(mktemp -d)
-trap 'rm -rf "$texts"' EXIT
 
 # pad FILE: a comment at its end makes it of the full length
 pad() {
@@ -27,7 +19,7 @@ pad() {
 measure() {
     local spent status=0
     local TIMEFORMAT='%U %S'
-    spent=$({ time "$program" run "$texts/$1" </dev/null >"$texts/out" 2>/dev/null; } 2>&1) || status=$?
+    spent=$({ time "$program" run "$files/$1" </dev/null >"$files/out" 2>/dev/null; } 2>&1) || status=$?
     if [ "$status" -ne "$2" ]; then
         echo "bench: $1 ended with status $status, not $2" >&2
         exit 1
@@ -44,12 +36,12 @@ awk -v room="$((length - 1000))" 'BEGIN {
         if ((used += length(block)) > room) exit
         printf "%s", block
     }
-}' >"$texts/lists"
-pad "$texts/lists"
-awk -v pairs="$(((length - 1000) / 2))" 'BEGIN { while (pairs-- > 0) printf "()" }' >"$texts/brackets"
-pad "$texts/brackets"
-cp examples/counter/counter.clim "$texts/counter"
-pad "$texts/counter"
+}' >"$files/lists"
+pad "$files/lists"
+awk -v pairs="$(((length - 1000) / 2))" 'BEGIN { while (pairs-- > 0) printf "()" }' >"$files/brackets"
+pad "$files/brackets"
+cp examples/counter/counter.clim "$files/counter"
+pad "$files/counter"
 
 awk 'BEGIN {
     print "(define-application-frame many (:size 12 1) (:slots (n integer (if true 7 (count-4094 1 2)))) (:panes (p 0 0 12 1 show)))"
@@ -62,8 +54,8 @@ awk 'BEGIN {
         print "      (fold x (map y (list sum seen " i ") (* y 2)) a 0 (max a x))"
         print "      (length (concat \"number \" (text sum))))))"
     }
-}' >"$texts/functions"
-pad "$texts/functions"
+}' >"$files/functions"
+pad "$files/functions"
 
 measure lists 1 200
 measure brackets 1 200
