@@ -9,7 +9,7 @@ use crate::fills::{FillItem, PointItem};
 use crate::lines::{Direction, LineItem};
 use crate::placing::{Fit, fit_area, place_text};
 use crate::texts::TextItem;
-use std::alloc::Global;
+use cl_value::Text;
 
 /// What a drawing call answers.
 #[derive(Drop)]
@@ -24,21 +24,23 @@ pub enum Drawn {
     Memory,
 }
 
-/// A text at the cursor, which moves to its end. Where the answer is no item, nothing changes.
-pub fn draw_text(alloc: Global, ambient: &mut Ambient, text: &[u8]) -> Drawn
+/// A text at the cursor, which moves to its end. The item shares it, so memory is wanting only where one
+/// text has as many owners as can be counted. Where the answer is no item, nothing changes.
+pub fn draw_text(ambient: &mut Ambient, text: &Text) -> Drawn
     ensures { IsWritten ambient.old ambient.new text.now result }
 {
-    if text.is_empty() {
+    let count = text.as_slice().len();
+    if count == 0 {
         return Drawn::Nothing;
     }
-    let Some(area) = place_text(ambient, text.len()) else {
+    let Some(area) = place_text(ambient, count) else {
         return Drawn::Range;
     };
-    let Ok(bytes) = Vec::from_slice(alloc, text) else {
+    let Ok(shared) = text.copy() else {
         return Drawn::Memory;
     };
     ambient.x += area.width;
-    Drawn::Item(AnyLeaf::Text(TextItem::new(area, bytes)))
+    Drawn::Item(AnyLeaf::Text(TextItem::new(area, shared)))
 }
 
 /// One byte in one cell. Here and below x and y are those from the origin, and the cursor stays.

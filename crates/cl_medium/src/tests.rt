@@ -1,6 +1,7 @@
 use super::*;
 use cl_outside::Cell;
 use cl_region::Shift;
+use cl_value::Text;
 use std::process::Abort;
 
 const STILL: Shift = Shift { dx: 0, dy: 0 };
@@ -39,12 +40,11 @@ fn items(rt: HostRuntime) {
 fn cursor(rt: HostRuntime) {
     let mut ambient = Ambient::start();
     assert!(rt; indent(&mut ambient, 2));
-    assert_row(
-        &rt,
-        &draw_text(rt.alloc(), &mut ambient, b"a\tb"),
-        0,
-        b"a#b ",
-    );
+    let Ok(text) = Text::from_slice(rt.alloc(), b"a\tb") else {
+        assert!(rt; false);
+        return;
+    };
+    assert_row(&rt, &draw_text(&mut ambient, &text), 0, b"a#b ");
     assert_eq!(rt; (ambient.x, ambient.y), (3, 0));
     assert!(rt; newline(&mut ambient));
     assert_eq!(rt; (ambient.x, ambient.y), (2, 1));

@@ -8,13 +8,14 @@ use crate::glyphs::{byte_glyph, inked};
 use crate::leaves::Leaf;
 use cl_outside::Cell;
 use cl_region::{Rect, Shift};
+use cl_value::Text;
 use std::marker::Model;
 
-/// Bytes in a row of cells, one in each. It keeps them as they are given.
+/// Bytes in a row of cells, one in each. It keeps them as they are given, and shares the text that has them.
 #[derive(Drop)]
 pub struct TextItem {
     area: Area,
-    text: Vec<u8>,
+    text: Text,
 }
 
 impl Model for TextItem {
@@ -22,16 +23,16 @@ impl Model for TextItem {
 
     ghost Value = { Item };
 
-    ghost view = { λ i. record { area = i.area; shape = bytes i.text.items } };
+    ghost view = { λ i. record { area = i.area; shape = bytes i.text } };
 
     ghost invariant = { λ i. IsArea i.area };
 }
 
 impl TextItem {
-    // These bytes in an area of one row.
-    pub(crate) fn new(area: Area, text: Vec<u8>) -> TextItem
+    // This text in an area of one row.
+    pub(crate) fn new(area: Area, text: Text) -> TextItem
         requires { IsArea area }
-        ensures { result ≡ record { area = area; shape = bytes text.items } }
+        ensures { result ≡ record { area = area; shape = bytes text } }
     {
         TextItem { area, text }
     }
@@ -85,6 +86,6 @@ impl Leaf for TextItem {
     }
 
     fn same(&self, other: &TextItem) -> bool {
-        self.area == other.area && self.text.as_slice() == other.text.as_slice()
+        self.area == other.area && self.text == other.text
     }
 }

@@ -46,19 +46,19 @@ box_more old cur new w x1 x2 y1 y v hx hw hy b f = record {
       (λ right. f.outside (j * w + i) (inr (rw row (omega arith))) ∙ same))));
 }
 
-clipped_low : (z : ℤ) (w i : ℕ) → z ≤ℤ pos i → clipped z w ≤ i
+pub clipped_low : (z : ℤ) (w i : ℕ) → z ≤ℤ pos i → clipped z w ≤ i
 clipped_low (pos n) w i h = let e : n ≤ i = omega (arith, ints, h) in omega (arith, e)
 clipped_low (negsuc n) w i h = omega arith
 
-clipped_high : (z : ℤ) (w i : ℕ) → i < w → pos i <ℤ z → i < clipped z w
+pub clipped_high : (z : ℤ) (w i : ℕ) → i < w → pos i <ℤ z → i < clipped z w
 clipped_high (pos n) w i k h = let e : i < n = omega (arith, ints, h) in omega (arith, e)
 clipped_high (negsuc n) w i k h = omega (arith, ints, h)
 
-low_clipped : (z : ℤ) (w i : ℕ) → i < w → clipped z w ≤ i → z ≤ℤ pos i
+pub low_clipped : (z : ℤ) (w i : ℕ) → i < w → clipped z w ≤ i → z ≤ℤ pos i
 low_clipped (pos n) w i k h = let e : n ≤ i = omega (arith, h) in omega (arith, ints, e)
 low_clipped (negsuc n) w i k h = omega (arith, ints)
 
-high_clipped : (z : ℤ) (w i : ℕ) → i < clipped z w → pos i <ℤ z
+pub high_clipped : (z : ℤ) (w i : ℕ) → i < clipped z w → pos i <ℤ z
 high_clipped (pos n) w i h = let e : i < n = omega (arith, h) in omega (arith, ints, e)
 high_clipped (negsuc n) w i h = omega (arith, h)
 

@@ -10,8 +10,8 @@ pub(crate) fn put(cells: &mut Vec<u8>, at: usize, value: u8)
     cells[at] = value;
 }
 
-// The number, or the end of 0 to `size` that is nearest to it.
-pub(crate) fn clip(z: i64, size: u16) -> usize
+/// The number, or the end of 0 to `size` that is nearest to it.
+pub fn clip(z: i64, size: u16) -> u16
     ensures value { result ≡ clipped z size }
     ensures most { result ≤ size }
 {
@@ -19,9 +19,9 @@ pub(crate) fn clip(z: i64, size: u16) -> usize
         return 0;
     }
     if z > i64::from(size) {
-        return size as usize;
+        return size;
     }
-    z as usize
+    z as u16
 }
 
 // Columns `x1` to `x2` of rows `y1` to `y2`, the ends left out, get this value.

@@ -6,4 +6,5 @@ pub mod rasters;
 #[cfg(test)]
 mod tests;
 
+pub use filling::clip;
 pub use rasters::Raster;

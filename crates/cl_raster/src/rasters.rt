@@ -108,10 +108,10 @@ impl Raster {
         ensures { Blanks self.old self.new rect.now }
     {
         let width = self.width as usize;
-        let x1 = clip(rect.x1, self.width);
-        let x2 = clip(rect.x2, self.width);
-        let y1 = clip(rect.y1, self.height);
-        let y2 = clip(rect.y2, self.height);
+        let x1 = clip(rect.x1, self.width) as usize;
+        let x2 = clip(rect.x2, self.width) as usize;
+        let y1 = clip(rect.y1, self.height) as usize;
+        let y2 = clip(rect.y2, self.height) as usize;
         fill_box(&mut self.glyphs, width, x1, x2, y1, y2, b' ');
         fill_box(&mut self.inks, width, x1, x2, y1, y2, 0);
     }

@@ -3,3 +3,4 @@ pub mod Rows
 pub mod Replayed
 pub mod Regions
 pub mod Lined
+pub mod Counted

@@ -4,6 +4,7 @@ pub mod Heads
 pub mod Trees
 pub mod Marks
 pub mod Replays
+pub mod Counts
 pub mod Printed
 pub mod Lines
 pub mod TreeLines

@@ -30,7 +30,10 @@ module _ {A : Type 0} where
   painted cell [] x y under = under
   painted cell (a ∷ items) x y under = painted cell items x y (unwrap_or (cell a x y) under)
 
-  -- a canvas shows the same places; each of them has the cell of the last of the items that paints it, and all else is as it was
-  pub record Paints {K : Type 0} (shows : K → ℤ → ℤ → Bool) (at : K → ℤ → ℤ → Painted) (cell : A → ℤ → ℤ → Option Painted) (old new : K) (items : List A) : Type 0 where
+  -- a canvas shows the same places; each of them has the cell of the last of the items that paints it, and every other one the cell
+  -- that it had; what the canvas keeps is kept
+  pub record Paints {K : Type 0} (shows : K → ℤ → ℤ → Bool) (at : K → ℤ → ℤ → Painted) (keeps : K → K → Type 0)
+      (cell : A → ℤ → ℤ → Option Painted) (old new : K) (items : List A) : Type 0 where
+    pub kept : keeps old new
     pub same_places : (x y : ℤ) → shows new x y ≡ shows old x y
     pub cells : (x y : ℤ) → at new x y ≡ (if shows old x y then painted cell items x y (at old x y) else at old x y)

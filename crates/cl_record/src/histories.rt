@@ -1,18 +1,20 @@
 //! The history of a pane.
-ghost use Rattle.std.specs.Prelude.{◌≡◌, ◌++◌, ℤ, [], OnOk, true};
-ghost use Rattle.cl_region.specs.Places.{held};
+ghost use Rattle.std.specs.Prelude.{◌≡◌, ◌<◌, ◌^◌, ◌++◌, ◌∷◌, ℤ, [], OnOk, true};
+ghost use Rattle.cl_region.specs.Places.{held, holds};
+ghost use Rattle.cl_record.specs.Counts.{count_of};
 ghost use Rattle.cl_record.specs.Lines.{history_lines};
 ghost use Rattle.cl_record.specs.Marks.{history_marks};
 ghost use Rattle.cl_record.specs.Replays.{Paints, drawn, painted, touching};
 
 use crate::canvases::Canvas;
+use crate::counting::count_inside;
 use crate::lines::Printable;
 use crate::nodes::Nodes;
 use crate::printing::print_inside;
 use crate::replaying::replay_inside;
 use crate::shifts::STILL;
 use cl_medium::Leaf;
-use cl_region::Region;
+use cl_region::{Rect, Region};
 use cl_value::Text;
 use std::alloc::{AllocError, Global};
 use std::marker::Model;
@@ -74,16 +76,42 @@ impl<L: Leaf> History<L> {
         self.nodes.clear();
     }
 
+    /// How many items it draws.
+    pub fn count(&self) -> u64
+        requires { count_of (history_marks L.moved_by self.now) < 2 ^ 64 }
+        ensures { result ≡ count_of (history_marks L.moved_by self.now) }
+    {
+        count_inside(&self.nodes)
+    }
+
     /// Paints exactly the leaves whose bounds share a place with the region, in order. So each place of
     /// the region that the canvas shows has the cell of the last leaf of the whole history that paints
     /// it, or else the cell that it had. It takes no memory.
     pub fn replay<C: Canvas<L>>(&self, region: &Region, canvas: &mut C)
-        ensures paints { Paints C.shows C.cell L.cell canvas.old canvas.new (touching L.bounds region.now (drawn (history_marks L.moved_by self.now))) }
+        ensures paints { Paints C.shows C.cell C.keeps L.cell canvas.old canvas.new (touching L.bounds region.now (drawn (history_marks L.moved_by self.now))) }
         ensures region { (x y : ℤ) → C.shows canvas.old x y ≡ true → held region.now x y ≡ true
             → C.cell canvas.new x y ≡ painted L.cell (drawn (history_marks L.moved_by self.now)) x y (C.cell canvas.old x y) }
     {
+        self.replay_rects(region.rects(), canvas);
+    }
+
+    /// The same of the places of one rectangle.
+    pub fn replay_in<C: Canvas<L>>(&self, rect: &Rect, canvas: &mut C)
+        ensures paints { Paints C.shows C.cell C.keeps L.cell canvas.old canvas.new (touching L.bounds (rect.now ∷ []) (drawn (history_marks L.moved_by self.now))) }
+        ensures rect { (x y : ℤ) → C.shows canvas.old x y ≡ true → holds rect.now x y ≡ true
+            → C.cell canvas.new x y ≡ painted L.cell (drawn (history_marks L.moved_by self.now)) x y (C.cell canvas.old x y) }
+    {
+        self.replay_rects(&[*rect], canvas);
+    }
+
+    // The same of the places that one of the rectangles holds.
+    fn replay_rects<C: Canvas<L>>(&self, rects: &[Rect], canvas: &mut C)
+        ensures paints { Paints C.shows C.cell C.keeps L.cell canvas.old canvas.new (touching L.bounds rects.now (drawn (history_marks L.moved_by self.now))) }
+        ensures rects { (x y : ℤ) → C.shows canvas.old x y ≡ true → held rects.now x y ≡ true
+            → C.cell canvas.new x y ≡ painted L.cell (drawn (history_marks L.moved_by self.now)) x y (C.cell canvas.old x y) }
+    {
         let _ = self.nodes.as_slice();
-        replay_inside(&self.nodes, STILL, STILL, region.rects(), canvas);
+        replay_inside(&self.nodes, STILL, STILL, rects, canvas);
     }
 }
 

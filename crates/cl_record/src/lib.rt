@@ -2,6 +2,7 @@
 #![tactic(auto)]
 
 pub mod canvases;
+mod counting;
 mod fitting;
 pub mod heads;
 pub mod histories;

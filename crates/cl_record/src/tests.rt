@@ -27,6 +27,12 @@ impl Canvas<AnyLeaf> for Page {
 
     ghost cell = { λ page x y. record { glyph = 32; ink = 0 } };
 
+    ghost keeps = { λ old new. Unit {0} };
+
+    ghost keeps_itself = { λ page. tt };
+
+    ghost keeps_through = { λ first second third h k. tt };
+
     fn paint(&mut self, leaf: &AnyLeaf, at: Shift) {
         self.leaves = self.leaves.saturating_add(1);
         for (place, glyph) in self.glyphs.iter_mut().enumerate() {
@@ -51,15 +57,24 @@ fn push_node(nodes: &mut Nodes<AnyLeaf>, node: Node<AnyLeaf>) -> Result<(), Fail
     Ok(())
 }
 
+fn write(
+    alloc: Global,
+    nodes: &mut Nodes<AnyLeaf>,
+    ambient: &mut Ambient,
+    bytes: &[u8],
+) -> Result<(), Fail> {
+    push(nodes, draw_text(ambient, &Text::from_slice(alloc, bytes)?))
+}
+
 // A text, a box in a room, and a text in the row below it.
 fn drawing(alloc: Global) -> Result<Nodes<AnyLeaf>, Fail> {
     let mut nodes = Nodes::new(alloc);
     let mut ambient = Ambient::start();
-    push(&mut nodes, draw_text(alloc, &mut ambient, b"ab"))?;
+    write(alloc, &mut nodes, &mut ambient, b"ab")?;
     let before = enter_room(&mut ambient);
     push(&mut nodes, draw_box(&ambient, 0, 0, 3, 3))?;
     leave_room(&mut ambient, &before, 3);
-    push(&mut nodes, draw_text(alloc, &mut ambient, b"c"))?;
+    write(alloc, &mut nodes, &mut ambient, b"c")?;
     Ok(nodes)
 }
 
@@ -139,18 +154,14 @@ fn region(alloc: Global, rect: Rect) -> Result<Region, AllocError> {
     Ok(region)
 }
 
-fn assert_page(
-    rt: &impl Abort,
-    history: &History<AnyLeaf>,
-    region: &Region,
-    leaves: u32,
-    glyphs: &[u8],
-) {
-    let mut page = Page {
+fn blank_page() -> Page {
+    Page {
         glyphs: [b'.'; 24],
         leaves: 0,
-    };
-    history.replay(region, &mut page);
+    }
+}
+
+fn assert_page(rt: &impl Abort, page: &Page, leaves: u32, glyphs: &[u8]) {
     assert_eq!(rt; page.leaves, leaves);
     assert_eq!(rt; page.glyphs.as_slice(), glyphs);
 }
@@ -186,7 +197,12 @@ fn replays(rt: HostRuntime) -> Result<(), Fail> {
         (&branches, last, 0, b"........................"),
     ];
     for (history, rect, leaves, glyphs) in &cases {
-        assert_page(&rt, history, &region(alloc, *rect)?, *leaves, glyphs);
+        let mut page = blank_page();
+        history.replay(&region(alloc, *rect)?, &mut page);
+        assert_page(&rt, &page, *leaves, glyphs);
+        let mut page = blank_page();
+        history.replay_in(rect, &mut page);
+        assert_page(&rt, &page, *leaves, glyphs);
     }
     Ok(())
 }

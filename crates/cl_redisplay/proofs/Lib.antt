@@ -1,3 +1,2 @@
 pub mod PartLemmas
-pub mod WalkLemmas
-pub mod CountLemmas
+pub mod WindowLemmas

@@ -1,16 +1,16 @@
 -- Parts of an area, and what an item paints in them.
-use Rattle.std.proofs.Common.{◌≡◌, ℕ, ◌+◌, ◌-◌, ◌<◌, ◌≤◌, ℤ, pos, negsuc, ◌≤ℤ◌, ◌<ℤ◌, ◌==◌, ◌&&◌, ◌||◌, if◌then◌else◌, Bool, true, false, Option, Some, None, [], ◌∷◌, refl, sym, ◌∙◌, ap, arith}
+use Rattle.std.proofs.Common.{◌≡◌, ℕ, ◌+◌, ◌-◌, ◌<◌, ◌≤◌, ℤ, pos, negsuc, ◌==◌, ◌&&◌, ◌||◌, if◌then◌else◌, Bool, true, false, Option, Some, None, [], ◌∷◌, refl, sym, ◌∙◌, arith}
 use Rattle.std.specs.Prelude.{option_map, unwrap_or}
 use Rattle.std.proofs.lemmas.Bool.Decides.{nat_tests}
-use Rattle.std.proofs.lemmas.Int.{ints}
 use Rattle.cl_medium.specs.Items.{Painted, painted_of}
 use Rattle.cl_outside.specs.declared.cells.Cell.{Cell}
+use Rattle.cl_raster.proofs.Boxes.{clipped_high, clipped_low, high_clipped, low_clipped}
 use Rattle.cl_raster.specs.Raster.{Picture, SameSize, Sets, clipped, glyph_at, ink_at}
 use Rattle.cl_region.specs.Places.{holds, is_between}
 use Rattle.cl_region.specs.declared.rects.Rect.{Rect}
 use Rattle.cl_region.proofs.Corners.{and_left, and_right, both, false_holds, from_between, same_bool, to_between, wrong}
 use Rattle.cl_redisplay.specs.Paint.{cell_at, covers, is_among}
-use Rattle.cl_redisplay.specs.Parts.{IsIn, IsPart, PaintsAll, PaintsPart, over}
+use Rattle.cl_redisplay.specs.Parts.{IsPart, PaintsAll, PaintsPart, over}
 use Rattle.cl_redisplay.specs.declared.areas.Area.{Area}
 
 pub same_size : (p q r : Picture) → SameSize p q → SameSize q r → SameSize p r
@@ -29,22 +29,6 @@ passed true r p q h e = absurd (wrong (sym h))
 passed false r p q h e = e
 
 -- ---- clipping
-
-clipped_low : (z : ℤ) (w i : ℕ) → i < w → clipped z w ≤ i → z ≤ℤ pos i
-clipped_low (pos n) w i k h = let e : n ≤ i = omega (arith, h) in omega (arith, ints, e)
-clipped_low (negsuc n) w i k h = omega (arith, ints)
-
-clipped_high : (z : ℤ) (w i : ℕ) → i < clipped z w → pos i <ℤ z
-clipped_high (pos n) w i h = let e : i < n = omega (arith, h) in omega (arith, ints, e)
-clipped_high (negsuc n) w i h = omega (arith, h)
-
-low_clipped : (z : ℤ) (w i : ℕ) → z ≤ℤ pos i → clipped z w ≤ i
-low_clipped (pos n) w i h = let e : n ≤ i = omega (arith, ints, h) in omega (arith, e)
-low_clipped (negsuc n) w i h = omega arith
-
-high_clipped : (z : ℤ) (w i : ℕ) → i < w → pos i <ℤ z → i < clipped z w
-high_clipped (pos n) w i k h = let e : i < n = omega (arith, ints, h) in omega (arith, e)
-high_clipped (negsuc n) w i k h = omega (arith, ints, h)
 
 pub clipped_most : (z : ℤ) (w : ℕ) → clipped z w ≤ w
 clipped_most (pos n) w = omega arith
@@ -67,12 +51,12 @@ side from size a b n =
     let high : n - from < clipped b size = omega (arith, r) in
     let within : n - from < size = omega (arith, high, most) in
     both (is_among from size n) (is_between a (pos (n - from)) b) (is_in from size n (omega (arith, r)) (omega (arith, r, most)))
-    (to_between a (pos (n - from)) b (clipped_low a size (n - from) within low) (clipped_high b size (n - from) high)))
+    (to_between a (pos (n - from)) b (low_clipped a size (n - from) within low) (high_clipped b size (n - from) high)))
     (λ h. let r = among from size n (and_left (is_among from size n) (is_between a (pos (n - from)) b) h) in
     let s = from_between a (pos (n - from)) b (and_right (is_among from size n) (is_between a (pos (n - from)) b) h) in
     let within : n - from < size = omega (arith, r) in
-    let low = low_clipped a size (n - from) s.0 in
-    let high = high_clipped b size (n - from) within s.1 in
+    let low = clipped_low a size (n - from) s.0 in
+    let high = clipped_high b size (n - from) within s.1 in
     is_in (from + clipped a size) (clipped b size - clipped a size) n (omega (arith, r, low)) (omega (arith, r, low, high)))
 
 crossed : (a b c d : Bool) → (a && b) && (c && d) ≡ (a && c) && (b && d)

@@ -1,3 +1,3 @@
 pub mod Paint
 pub mod Parts
-pub mod Counts
+pub mod Windows

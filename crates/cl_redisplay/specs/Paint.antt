@@ -4,6 +4,7 @@ use Rattle.cl_medium.specs.Items.{Painted}
 use Rattle.cl_medium.specs.Leaves.{leaf_cell}
 use Rattle.cl_medium.specs.declared.any_leaf.AnyLeaf.{AnyLeaf}
 use Rattle.cl_raster.specs.Raster.{Picture, SameSize, glyph_at, ink_at}
+use Rattle.cl_region.specs.declared.rects.Rect.{Rect}
 use Rattle.cl_record.specs.Marks.{Mark}
 use Rattle.cl_record.specs.Replays.{drawn, painted}
 use Rattle.cl_redisplay.specs.declared.areas.Area.{Area}
@@ -22,6 +23,10 @@ is_among from count n = nat_le from n && nat_lt n (from + count)
 -- the place of the screen lies in the area
 abbrev pub covers : Area → (x y : ℕ) → Bool
 covers area x y = is_among area.x area.width x && is_among area.y area.height y
+
+-- the area's cells, counted from its left column and its top row on
+abbrev pub own_rect : Area → Rect
+own_rect area = record { x1 = pos 0; y1 = pos 0; x2 = pos area.width; y2 = pos area.height }
 
 -- the area lies in the picture, which has at most 512 columns and 256 rows
 pub record LiesIn (area : Area) (p : Picture) : Type 0 where

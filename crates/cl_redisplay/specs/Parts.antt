@@ -2,12 +2,10 @@
 use Rattle.std.specs.Prelude.{◌≡◌, ℕ, ◌+◌, ◌-◌, ◌<◌, ◌≤◌, ℤ, pos, ◌&&◌, if◌then◌else◌, List, Option, unwrap_or}
 use Rattle.cl_medium.specs.Items.{Painted}
 use Rattle.cl_raster.specs.Raster.{Picture, SameSize}
-use Rattle.cl_record.specs.Marks.{Mark, all_moved}
-use Rattle.cl_record.specs.Replays.{drawn, painted}
+use Rattle.cl_record.specs.Replays.{painted}
 use Rattle.cl_region.specs.Places.{holds}
 use Rattle.cl_region.specs.declared.rects.Rect.{Rect}
-use Rattle.cl_region.specs.declared.rects.Shift.{Shift}
-use Rattle.cl_redisplay.specs.Paint.{cell_at, covers}
+use Rattle.cl_redisplay.specs.Paint.{blank_cell, cell_at, covers, own_rect}
 use Rattle.cl_redisplay.specs.declared.areas.Area.{Area}
 
 -- a part of an area, as an area of the same screen
@@ -22,11 +20,15 @@ pub record IsPart (part area : Area) (rect : Rect) : Type 0 where
   pub inside : IsIn part area
   pub places : (x y : ℕ) → covers part x y ≡ covers area x y && holds rect (pos (x - area.x)) (pos (y - area.y))
 
-module _ {A : Type 0} where
-  -- the items that marks draw, moved
-  abbrev pub drawn_at : (Shift → A → A) → Shift → List (Mark A) → List A
-  drawn_at move v marks = drawn (all_moved move v marks)
+-- the cell in a column and a row of an area; a blank one beside it
+abbrev pub window_place : Picture → Area → ℤ → ℤ → Painted
+window_place p area (pos x) (pos y) = cell_at p (area.x + x) (area.y + y)
+window_place p area x y = blank_cell
 
+abbrev pub window_cell : Picture → Area → ℤ → ℤ → Painted
+window_cell p area x y = if holds (own_rect area) x y then window_place p area x y else blank_cell
+
+module _ {A : Type 0} where
   -- the item's cell at a place of the screen, where it paints it, else the one that was there
   abbrev pub over : (A → ℤ → ℤ → Option Painted) → Area → A → (x y : ℕ) → Painted → Painted
   over cell area item x y under = unwrap_or (cell item (pos (x - area.x)) (pos (y - area.y))) under

@@ -1,8 +1,9 @@
 //! Areas of a screen.
-ghost use Rattle.std.specs.Prelude.{◌≡◌, ◌+◌, ◌≤◌, pos};
-ghost use Rattle.cl_raster.specs.Raster.{clipped};
+ghost use Rattle.std.specs.Prelude.{◌≡◌, ◌+◌, ◌≤◌};
+ghost use Rattle.cl_redisplay.specs.Paint.{own_rect};
 ghost use Rattle.cl_redisplay.specs.Parts.{IsPart};
 
+use cl_raster::clip;
 use cl_region::Rect;
 
 /// A rectangle of cells: its left column and its top row on the screen, and how many columns and rows
@@ -16,6 +17,18 @@ pub struct Area {
 }
 
 impl Area {
+    /// Its cells, counted from its left column and its top row on.
+    pub fn own_rect(self) -> Rect
+        ensures { result ≡ own_rect self }
+    {
+        Rect {
+            x1: 0,
+            y1: 0,
+            x2: i64::from(self.width),
+            y2: i64::from(self.height),
+        }
+    }
+
     // The part of the area that a rectangle holds, whose coordinates are counted in the area.
     pub(crate) fn part(self, rect: &Rect) -> Area
         requires { (self.x + self.width ≤ 512) × (self.y + self.height ≤ 256) }
@@ -32,18 +45,4 @@ impl Area {
             height: bottom.saturating_sub(top),
         }
     }
-}
-
-// The number, or the end of 0 to `size` that is nearest to it.
-fn clip(z: i64, size: u16) -> u16
-    ensures value { result ≡ clipped z size }
-    ensures most { result ≤ size }
-{
-    if z < 0 {
-        return 0;
-    }
-    if z > i64::from(size) {
-        return size;
-    }
-    z as u16
 }

@@ -2,12 +2,12 @@
 #![tactic(auto)]
 
 pub mod areas;
-pub mod counting;
 mod items;
 pub mod painting;
 #[cfg(test)]
 mod tests;
+pub mod windows;
 
 pub use areas::Area;
-pub use counting::count;
 pub use painting::{blank, paint};
+pub use windows::Window;

@@ -3,7 +3,7 @@ use Rattle.std.proofs.Common.{◌≡◌, ℤ, negsuc, ◌+ℤ◌, ◌≤ℤ◌, 
 use Rattle.std.specs.Prelude.{int_le, int_lt}
 use Rattle.std.proofs.lemmas.Int.{ints, clamps, by_lt_z}
 use Rattle.cl_region.specs.declared.rects.Rect.{Rect}
-use Rattle.cl_region.specs.Places.{Covers, IsEmpty, IsNear, box, common, holds, is_between, is_thin}
+use Rattle.cl_region.specs.Places.{Covers, IsEmpty, IsInRange, IsNear, box, common, holds, is_between, is_thin}
 
 pub same_bool : (p q : Bool) → (p ≡ true → q ≡ true) → (q ≡ true → p ≡ true) → p ≡ q
 same_bool true true f g = refl
@@ -151,6 +151,14 @@ box-least a b r h k p q =
     let i = inside r a h p in
     let j = inside r b k q in
     covers_inside r (box a b) (record { x1 = omega (arith, ints, clamps, i.x1, j.x1); x2 = omega (arith, ints, clamps, i.x2, j.x2); y1 = omega (arith, ints, clamps, i.y1, j.y1); y2 = omega (arith, ints, clamps, i.y2, j.y2) })
+
+pub near-box : (a b : Rect) → IsInRange a → IsInRange b → IsInRange (box a b)
+near-box a b h k = record {
+  x1 = record { low = omega (arith, ints, clamps, h.x1.low, k.x1.low); high = omega (arith, ints, clamps, h.x1.high, k.x1.high) };
+  y1 = record { low = omega (arith, ints, clamps, h.y1.low, k.y1.low); high = omega (arith, ints, clamps, h.y1.high, k.y1.high) };
+  x2 = record { low = omega (arith, ints, clamps, h.x2.low, k.x2.low); high = omega (arith, ints, clamps, h.x2.high, k.x2.high) };
+  y2 = record { low = omega (arith, ints, clamps, h.y2.low, k.y2.low); high = omega (arith, ints, clamps, h.y2.high, k.y2.high) };
+}
 
 pub near : (z w : ℤ) → z ≡ w → IsNear z → IsNear w
 near z w e h = rw (← e) h

@@ -1,6 +1,6 @@
 //! Rectangles of cells.
 ghost use Rattle.std.specs.Prelude.{◌≡◌, ℤ, ◌+ℤ◌, ◌↔◌, ◌&&◌, int_le, true, IsTrue};
-ghost use Rattle.cl_region.specs.Places.{FitsMoved, IsEmpty, IsNear, Covers, box, common, holds, is_between, is_thin, moved};
+ghost use Rattle.cl_region.specs.Places.{FitsMoved, IsEmpty, IsInRange, IsNear, Covers, box, common, holds, is_between, is_thin, moved};
 
 /// The cells with `x1 <= x < x2` and `y1 <= y < y2`, in columns and rows; none where a side is not
 /// positive.
@@ -82,9 +82,10 @@ impl Rect {
         self.corners_box(other)
     }
 
-    // The least box of the corners of both.
-    fn corners_box(&self, other: &Rect) -> Rect
-        ensures { result ≡ box self.now other.now }
+    /// The least box of the corners of both, those of a rectangle without cells too.
+    pub fn corners_box(&self, other: &Rect) -> Rect
+        ensures corners { result ≡ box self.now other.now }
+        ensures range { IsInRange self.now → IsInRange other.now → IsInRange result }
     {
         Rect {
             x1: self.x1.min(other.x1),

@@ -13,9 +13,10 @@ use Rattle.cl_medium.proofs.drawing.draw_text.Goals as goal
 pub invariant_of-ambient : goal.invariant_of-ambient
 invariant_of-ambient c =
     let sx : SFits w64 c.ambient.inside.x = search rules in
+    let placed = rw c.as_slice-count.ensures at c.in-Some.ensures in
     let x : c.ambient.inside.x ≡ c.args.ambient.now.x = ap (λ (m : AmbientAt). m.x) c.ambient.view_is in
-    let w : c.in-Some.area.width ≡ pos (length c.args.text.now) = ap (λ (r : Area). r.width) c.in-Some.ensures.0 in
-    let r = c.in-Some.ensures.1.range.x2 in
+    let w : c.in-Some.area.width ≡ pos (length c.args.text.now) = ap (λ (r : Area). r.width) placed.0 in
+    let r = placed.1.range.x2 in
     record {
       x = near _ _ (omega (arith, ints, x, w, r.low, r.high)) r;
       y = c.ambient.invariant.y;
@@ -28,11 +29,12 @@ invariant_of-ambient c =
 pub returns : goal.returns
 returns c =
     let sx : SFits w64 c.ambient.inside.x = search rules in
+    let placed = rw c.as_slice-count.ensures at c.in-Some.ensures in
     let x : c.ambient.inside.x ≡ c.args.ambient.now.x = ap (λ (m : AmbientAt). m.x) c.ambient.view_is in
-    let w : c.in-Some.area.width ≡ pos (length c.args.text.now) = ap (λ (r : Area). r.width) c.in-Some.ensures.0 in
-    let r = c.in-Some.ensures.1.range.x2 in (
-      ap (λ (i : Item). Text i) (c.new.ensures ∙ rw (c.in-Some.ensures.0, c.in-Ok.ensures.items) refl),
+    let w : c.in-Some.area.width ≡ pos (length c.args.text.now) = ap (λ (r : Area). r.width) placed.0 in
+    let r = placed.1.range.x2 in (
+      ap (λ (i : Item). Text i) (c.new.ensures ∙ rw (placed.0, c.in-Ok.ensures) refl),
       search rules,
-      c.in-Some.ensures.1,
+      placed.1,
       written (record { x = c.ambient.inside.x; y = c.ambient.inside.y; margin = c.ambient.inside.margin; origin_x = c.ambient.inside.origin_x; origin_y = c.ambient.inside.origin_y; ink = c.ambient.inside.ink }) c.args.ambient.now _ (length c.args.text.now) c.ambient.view_is (omega (arith, ints, x, w, r.low, r.high)),
     )

@@ -1,8 +1,12 @@
-use Rattle.std.proofs.Common.{◌≡◌, ◌∷◌, ◌∙◌, List, suc, add-one, drop, drop-cons, ap, sym, subst}
+use Rattle.std.proofs.Common.{◌≡◌, [], ◌∷◌, ◌∙◌, List, suc, add-one, arith, drop, drop-cons, ap, sym, subst}
+use Rattle.std.proofs.lemmas.List.{drop_all}
+use Rattle.cl_region.specs.declared.rects.Shift.{Shift}
+use Rattle.cl_record.specs.Marks.{all_moved, marks_of_all}
+use Rattle.cl_record.specs.Replays.{Paints, drawn, touching}
 use Rattle.cl_record.specs.Seen.{forest_of, tree_of}
 use Rattle.cl_record.specs.Trees.{trees_of}
 use Rattle.cl_record.specs.declared.nodes.Node.{Node}
-use Rattle.cl_record.proofs.Replayed.{GoesOn, goes_on, touched_piece, touched_shown}
+use Rattle.cl_record.proofs.Replayed.{GoesOn, all_done, goes_on, touched_piece, touched_shown}
 use Rattle.cl_record.proofs.replaying.+replay.Goals as goal
 
 pub replay_inside-loop-node-preserved : goal.replay_inside-loop-node-preserved
@@ -12,17 +16,27 @@ replay_inside-loop-node-preserved g t c =
     let rest = drop (suc index) nodes in
     let step : drop index nodes ≡ c.node-item.result ∷ rest =
     drop-cons nodes index c.node-item.result c.loop-node-test.true ∙ ap (λ (n : Node _). n ∷ rest) (sym c.node-item.is) in
-    let before = subst (λ (ns : List (Node _)). GoesOn g.C.Canvas.shows g.C.Canvas.cell g.L.Leaf.cell g.L.Leaf.bounds g.L.Leaf.moved_by c.args.rects.now c.joined-at.result c.args.canvas.now c.loop-node.canvas (trees_of c.args.inside.now) (forest_of ns)) step c.loop-node.invariant in
+    let before = subst (λ (ns : List (Node _)). GoesOn g.C.Canvas.shows g.C.Canvas.cell g.C.Canvas.keeps g.L.Leaf.cell g.L.Leaf.bounds g.L.Leaf.moved_by c.args.rects.now c.joined-at.result c.args.canvas.now c.loop-node.canvas (trees_of c.args.inside.now) (forest_of ns)) step c.loop-node.invariant in
     rw (add-one index)
-    (goes_on g.C.Canvas.shows g.C.Canvas.cell g.L.Leaf.cell g.L.Leaf.bounds g.L.Leaf.moved_by c.args.rects.now c.joined-at.result c.args.canvas.now c.loop-node.canvas c.replay_node.new.canvas
+    (goes_on g.C.Canvas.shows g.C.Canvas.cell g.C.Canvas.keeps g.L.Leaf.cell g.L.Leaf.bounds g.L.Leaf.moved_by c.args.rects.now g.met.C.Canvas.keeps_through c.joined-at.result c.args.canvas.now c.loop-node.canvas c.replay_node.new.canvas
     (trees_of c.args.inside.now) (tree_of c.node-item.result) (forest_of rest) before c.replay_node.ensures)
+
+pub replay_inside-returns : goal.replay_inside-returns
+replay_inside-returns g t c =
+    let nodes = c.as_slice-node-items.result.now in
+    let none : drop c.loop-node.node-index nodes ≡ [] = drop_all c.loop-node.node-index nodes (omega arith) in
+    let last = subst (λ (ns : List (Node _)). GoesOn g.C.Canvas.shows g.C.Canvas.cell g.C.Canvas.keeps g.L.Leaf.cell g.L.Leaf.bounds g.L.Leaf.moved_by c.args.rects.now c.joined-at.result c.args.canvas.now c.loop-node.canvas (trees_of c.args.inside.now) (forest_of ns)) none c.loop-node.invariant in
+    subst (λ (v : Shift). Paints g.C.Canvas.shows g.C.Canvas.cell g.C.Canvas.keeps g.L.Leaf.cell c.args.canvas.now c.loop-node.canvas (touching g.L.Leaf.bounds c.args.rects.now (drawn (all_moved g.L.Leaf.moved_by v (marks_of_all g.L.Leaf.moved_by (trees_of c.args.inside.now))))))
+    c.joined-at.ensures
+    (all_done g.C.Canvas.shows g.C.Canvas.cell g.C.Canvas.keeps g.L.Leaf.cell g.L.Leaf.bounds g.L.Leaf.moved_by c.args.rects.now c.joined-at.result c.args.canvas.now c.loop-node.canvas
+    (trees_of c.args.inside.now) (g.met.C.Canvas.keeps_itself c.loop-node.canvas) last)
 
 pub replay_node-returns-in-Presentation : goal.replay_node-returns-in-Presentation
 replay_node-returns-in-Presentation g t c =
-    rw (c.in-Presentation.is, touched_shown g.C.Canvas.shows g.C.Canvas.cell g.L.Leaf.cell g.L.Leaf.bounds g.L.Leaf.moved_by c.args.rects.now g.met.L.Leaf.moves_twice c.args.at c.in-Presentation.presented.place c.in-Presentation.presented.label (trees_of c.in-Presentation.presented.inside))
+    rw (c.in-Presentation.is, touched_shown g.C.Canvas.shows g.C.Canvas.cell g.C.Canvas.keeps g.L.Leaf.cell g.L.Leaf.bounds g.L.Leaf.moved_by c.args.rects.now g.met.L.Leaf.moves_twice c.args.at c.in-Presentation.presented.place c.in-Presentation.presented.label (trees_of c.in-Presentation.presented.inside))
     c.replay_inside.ensures
 
 pub replay_node-returns-in-Update : goal.replay_node-returns-in-Update
 replay_node-returns-in-Update g t c =
-    rw (c.in-Update.is, touched_piece g.C.Canvas.shows g.C.Canvas.cell g.L.Leaf.cell g.L.Leaf.bounds g.L.Leaf.moved_by c.args.rects.now g.met.L.Leaf.moves_twice c.args.at c.in-Update.piece.place c.in-Update.piece.head (trees_of c.in-Update.piece.inside))
+    rw (c.in-Update.is, touched_piece g.C.Canvas.shows g.C.Canvas.cell g.C.Canvas.keeps g.L.Leaf.cell g.L.Leaf.bounds g.L.Leaf.moved_by c.args.rects.now g.met.L.Leaf.moves_twice c.args.at c.in-Update.piece.place c.in-Update.piece.head (trees_of c.in-Update.piece.inside))
     c.replay_inside-in-Update.ensures

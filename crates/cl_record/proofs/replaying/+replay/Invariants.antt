@@ -6,7 +6,7 @@ use Rattle.cl_record.proofs.replaying.+replay.Given as goal
 
 abbrev pub invariant-replay_inside-loop-node : goal.invariant-replay_inside-loop-node
 invariant-replay_inside-loop-node g l =
-    GoesOn g.C.Canvas.shows g.C.Canvas.cell g.L.Leaf.cell g.L.Leaf.bounds g.L.Leaf.moved_by l.rects l.at l.initial.canvas l.canvas
+    GoesOn g.C.Canvas.shows g.C.Canvas.cell g.C.Canvas.keeps g.L.Leaf.cell g.L.Leaf.bounds g.L.Leaf.moved_by l.rects l.at l.initial.canvas l.canvas
     (trees_of l.inside) (forest_of (drop l.node-index l.node-items))
 
 abbrev pub decreases-replay_node : goal.decreases-replay_node

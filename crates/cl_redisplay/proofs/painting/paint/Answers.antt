@@ -1,12 +1,10 @@
-use Rattle.std.proofs.Common.{refl}
+use Rattle.std.proofs.Common.{rules}
 use Rattle.cl_medium.specs.Leaves.{leaf_moved}
 use Rattle.cl_record.specs.Marks.{history_marks}
-use Rattle.cl_record.specs.Shifts.{joined, still}
-use Rattle.cl_redisplay.proofs.WalkLemmas.{repainted}
+use Rattle.cl_redisplay.proofs.WindowLemmas.{repainted}
 use Rattle.cl_redisplay.proofs.painting.paint.Goals as goal
 
 pub returns : goal.returns
 returns c =
-    rw (← c.nodes-nodes.ensures)
-    (repainted c.args.raster.now c.blank.new.raster c.paint_inside.new.raster c.args.area (joined still still) (history_marks leaf_moved c.nodes-nodes.result.now)
-    refl c.blank.ensures c.paint_inside.ensures)
+    repainted c.args.raster.now c.blank.new.raster _ c.new-window.result c.replay_in.new.canvas c.args.area c.own_rect.result (history_marks leaf_moved c.args.history.now)
+    c.blank.ensures c.new-window.ensures.raster c.new-window.ensures.area c.own_rect.ensures (search rules) c.replay_in.ensures.paints.kept c.replay_in.ensures.rect

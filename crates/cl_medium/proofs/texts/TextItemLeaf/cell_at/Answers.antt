@@ -16,8 +16,8 @@ returns-in-Some c =
     let glyph = simp to_z-of_z at c.byte_glyph.ensures.value in
     subst (λ (i : Item). option_map painted_of c.inked.result ≡ item_cell (item_moved c.args.at i) c.args.x c.args.y) c.self.view_is
     (c.inked.ensures
-    ∙ (ap (λ (g : Option ℕ). with_ink c.shifted-area.result.ink g) (glyph ∙ rw c.as_slice.ensures.value refl)
-    ∙ cell_in (record { area = c.self.inside.area; shape = bytes c.self.inside.text.items }) c.args.at c.shifted-area.result c.args.x c.args.y c.in-Some.across _ c.shifted-area.ensures.value d))
+    ∙ (ap (λ (g : Option ℕ). with_ink c.shifted-area.result.ink g) (glyph ∙ rw c.as_slice.ensures refl)
+    ∙ cell_in (record { area = c.self.inside.area; shape = bytes c.self.inside.text }) c.args.at c.shifted-area.result c.args.x c.args.y c.in-Some.across _ c.shifted-area.ensures.value d))
 
 pub returns-in-None : goal.returns-in-None
 returns-in-None c =
@@ -25,4 +25,4 @@ returns-in-None c =
     let fy : SFits w64 c.args.y = c.ranges.y in
     let d = simp to_z-of_z at c.in-None.ensures in
     subst (λ (i : Item). ◌≡◌ {A = Option Painted} None (item_cell (item_moved c.args.at i) c.args.x c.args.y)) c.self.view_is
-    (cell_out (record { area = c.self.inside.area; shape = bytes c.self.inside.text.items }) c.args.at c.shifted-area.result c.args.x c.args.y c.shifted-area.ensures.value d)
+    (cell_out (record { area = c.self.inside.area; shape = bytes c.self.inside.text }) c.args.at c.shifted-area.result c.args.x c.args.y c.shifted-area.ensures.value d)

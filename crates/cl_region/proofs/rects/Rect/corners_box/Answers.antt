@@ -1,13 +1,13 @@
-use Rattle.std.proofs.Common.{arith, rules}
+use Rattle.std.proofs.Common.{arith, rules, subst, sym}
 use Rattle.std.proofs.lemmas.Int.{ints, clamps}
 use mir.Syntax.{w64}
 use mir.Val.{SFits}
-use Rattle.cl_region.specs.Places.{box}
-use Rattle.cl_region.proofs.Corners.{rect_is}
+use Rattle.cl_region.specs.Places.{IsInRange, box}
+use Rattle.cl_region.proofs.Corners.{near-box, rect_is}
 use Rattle.cl_region.proofs.rects.Rect.corners_box.Goals as goal
 
-pub returns : goal.returns
-returns c =
+pub returns-clause-corners : goal.returns-clause-corners
+returns-clause-corners c =
     let a : SFits w64 c.args.self.now.x1 = search rules in
     let b : SFits w64 c.args.self.now.y1 = search rules in
     let d : SFits w64 c.args.self.now.x2 = search rules in
@@ -19,3 +19,7 @@ returns c =
     rect_is (box c.args.self.now c.args.other.now) _ _ _ _
     (omega (arith, ints, clamps, c.min.ensures.value)) (omega (arith, ints, clamps, c.min-2.ensures.value))
     (omega (arith, ints, clamps, c.max.ensures.value)) (omega (arith, ints, clamps, c.max-2.ensures.value))
+
+pub returns-clause-range : goal.returns-clause-range
+returns-clause-range c =
+    λ first second. subst IsInRange (sym (returns-clause-corners c)) (near-box c.args.self.now c.args.other.now first second)

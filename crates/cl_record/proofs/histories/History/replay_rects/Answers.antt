@@ -3,20 +3,20 @@ use Rattle.cl_record.specs.Marks.{Mark, history_marks}
 use Rattle.cl_record.specs.Replays.{Paints, drawn, painted, touching}
 use Rattle.cl_record.proofs.Moves.{all-still}
 use Rattle.cl_record.proofs.Regions.{painted-touching, shown_cell}
-use Rattle.cl_record.proofs.histories.History.replay.Goals as goal
+use Rattle.cl_record.proofs.histories.History.replay_rects.Goals as goal
 
 pub returns-clause-paints : goal.returns-clause-paints
 returns-clause-paints g c =
-    rw (← c.rects.ensures.rects, ← c.self.view_is)
-    (subst (λ (ms : List (Mark _)). Paints g.C.Canvas.shows g.C.Canvas.cell g.L.Leaf.cell c.args.canvas.now c.replay_inside.new.canvas (touching g.L.Leaf.bounds c.rects.result.now (drawn ms)))
+    rw (← c.self.view_is)
+    (subst (λ (ms : List (Mark _)). Paints g.C.Canvas.shows g.C.Canvas.cell g.C.Canvas.keeps g.L.Leaf.cell c.args.canvas.now c.replay_inside.new.canvas (touching g.L.Leaf.bounds c.args.rects.now (drawn ms)))
     (all-still g.L.Leaf.moved_by g.met.L.Leaf.stays (history_marks g.L.Leaf.moved_by c.self.inside.nodes))
     c.replay_inside.ensures)
 
-pub returns-clause-region : goal.returns-clause-region
-returns-clause-region g c = λ x y shown in_region.
+pub returns-clause-rects : goal.returns-clause-rects
+returns-clause-rects g c = λ x y shown in_rects.
     let items = drawn (history_marks g.L.Leaf.moved_by c.args.self.now) in
     let under = g.C.Canvas.cell c.args.canvas.now x y in
     shown_cell (g.C.Canvas.shows c.args.canvas.now x y) (g.C.Canvas.cell c.replay_inside.new.canvas x y)
-    (painted g.L.Leaf.cell (touching g.L.Leaf.bounds c.args.region.now items) x y under) under shown
+    (painted g.L.Leaf.cell (touching g.L.Leaf.bounds c.args.rects.now items) x y under) under shown
     ((returns-clause-paints g c).cells x y)
-    ∙ painted-touching g.L.Leaf.bounds g.L.Leaf.cell g.met.L.Leaf.within c.args.region.now items x y under in_region
+    ∙ painted-touching g.L.Leaf.bounds g.L.Leaf.cell g.met.L.Leaf.within c.args.rects.now items x y under in_rects

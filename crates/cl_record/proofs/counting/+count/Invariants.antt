@@ -1,8 +1,8 @@
 use Rattle.std.proofs.Common.{◌+◌, ◌*◌, drop}
 use Rattle.cl_record.specs.Seen.{forest_of, tree_of}
 use Rattle.cl_record.specs.Trees.{size_of, size_of_all, trees_of}
-use Rattle.cl_redisplay.proofs.CountLemmas.{CountsOn}
-use Rattle.cl_redisplay.proofs.counting.+count.Given as goal
+use Rattle.cl_record.proofs.Counted.{CountsOn}
+use Rattle.cl_record.proofs.counting.+count.Given as goal
 
 abbrev pub invariant-count_inside-loop-node : goal.invariant-count_inside-loop-node
 invariant-count_inside-loop-node g l =

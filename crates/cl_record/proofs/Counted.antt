@@ -1,11 +1,11 @@
 -- How many items the records in a row draw.
-use Rattle.std.proofs.Common.{◌≡◌, ℕ, suc, ◌+◌, ◌≤◌, List, [], ◌∷◌, ◌++◌, length, Option, Some, None, refl, ◌∙◌, ap, arith}
+use Rattle.std.proofs.Common.{◌≡◌, ℕ, suc, ◌+◌, ◌≤◌, List, [], ◌∷◌, ◌++◌, refl, ◌∙◌, ap, arith}
 use Rattle.cl_region.specs.declared.rects.Shift.{Shift}
 use Rattle.cl_record.specs.Heads.{HeadAt}
 use Rattle.cl_record.specs.Labels.{LabelAt}
 use Rattle.cl_record.specs.Marks.{Mark, all_moved, begins, closes, draw, marks_of, marks_of_all, opens}
 use Rattle.cl_record.specs.Trees.{Tree, Trees, piece, shown, size_of_all, tree}
-use Rattle.cl_redisplay.specs.Counts.{IsCount, count_of}
+use Rattle.cl_record.specs.Counts.{count_of}
 
 module _ {A : Type 0} where
   count-append : (ms ns : List (Mark A)) → count_of (ms ++ ns) ≡ count_of ms + count_of ns
@@ -14,10 +14,6 @@ module _ {A : Type 0} where
   count-append (opens l ∷ ms) ns = count-append ms ns
   count-append (begins h ∷ ms) ns = count-append ms ns
   count-append (closes ∷ ms) ns = count-append ms ns
-
-pub same_count : {A : Type 0} (ms ns : List (Mark A)) (o : Option ℕ) → count_of ms ≡ count_of ns → IsCount ns o → IsCount ms o
-same_count ms ns None e h = rw e h
-same_count ms ns (Some n) e h = rw e h
 
 module _ {A : Type 0} (move : Shift → A → A) where
   count-moved : (v : Shift) (ms : List (Mark A)) → count_of (all_moved move v ms) ≡ count_of ms
