@@ -26,7 +26,8 @@ abbrev deepest_of : {A : Type 0} → Outcome A → ℕ
 deepest_of (Gives x cost deepest) = deepest
 deepest_of (Traps kind cost deepest) = deepest
 
-no_value : {A : Type 0} (k c d : ℕ) (v : A) (n l : ℕ) → Traps k c d ≡ Gives v n l → ⊥
+-- a trap gives no value
+pub no_value : {A : Type 0} (k c d : ℕ) (v : A) (n l : ℕ) → Traps k c d ≡ Gives v n l → ⊥
 no_value k c d v n l p = cc
 
 pub goes-give : {A : Type 0} (budget depth : ℕ) (x : A) → Goes budget depth (give x) (give x)
@@ -68,16 +69,17 @@ pub goes-choice : {A : Type 0} (budget depth : ℕ) (b : Bool) (r r' s s' : Run 
 goes-choice budget depth true r r' s s' g h = g
 goes-choice budget depth false r r' s s' g h = h
 
-abbrev entered : Bool → Bool → ℕ → ℕ → ℕ → Outcome (Unit {0})
+-- what entering a form comes to, where the budget is used up or no level is left
+abbrev pub entered : Bool → Bool → ℕ → ℕ → ℕ → Outcome (Unit {0})
 entered b e level c d = if b then Traps 5 c d else (if e then Traps 6 c d else Gives tt (c + 1) (max d (level + 1)))
 
 -- what entering a form gives, where it gives anything
-gives-entered : (b e : Bool) (level c d : ℕ) (v : Unit {0}) (n l : ℕ) → entered b e level c d ≡ Gives v n l → entered false false level c d ≡ Gives v n l
+pub gives-entered : (b e : Bool) (level c d : ℕ) (v : Unit {0}) (n l : ℕ) → entered b e level c d ≡ Gives v n l → entered false false level c d ≡ Gives v n l
 gives-entered true e level c d v n l p = absurd (no_value 5 c d v n l p)
 gives-entered false true level c d v n l p = absurd (no_value 6 c d v n l p)
 gives-entered false false level c d v n l p = p
 
-goes-entering : (left budget left' budget' level : ℕ) → Goes budget' (level + left') (entering left budget level) (entering left' budget' level)
+pub goes-entering : (left budget left' budget' level : ℕ) → Goes budget' (level + left') (entering left budget level) (entering left' budget' level)
 goes-entering left budget left' budget' level c d v n l p =
     let gives = gives-entered (nat_le budget c) (left == 0) level c d v n l p in
     let cost : c + 1 ≡ n = ap cost_of gives in
@@ -210,12 +212,13 @@ goes-parts budget depth app slots go go' level g env (term.call f ts) =
 
 -- ---- expressions
 
-never : {A : Type 0} (o : Outcome (Unit {0})) (v : A) (n l : ℕ) → after o (λ _. trap 6) ≡ Gives v n l → ⊥
+-- where no level is left, no form gives a value
+pub never : {A : Type 0} (o : Outcome (Unit {0})) (v : A) (n l : ℕ) → after o (λ _. trap 6) ≡ Gives v n l → ⊥
 never (Gives x i j) v n l p = cc
 never (Traps k i j) v n l p = cc
 
 -- below the depth nothing is reached
-reaches-deep : {A : Type 0} (budget depth : ℕ) (first second : Run A) (level c d : ℕ) (o : Outcome (Unit {0})) → ((i j : ℕ) → o ≡ Gives tt i j → (c ≤ i) × (d ≤ j) × (level + 1 ≤ j))
+pub reaches-deep : {A : Type 0} (budget depth : ℕ) (first second : Run A) (level c d : ℕ) (o : Outcome (Unit {0})) → ((i j : ℕ) → o ≡ Gives tt i j → (c ≤ i) × (d ≤ j) × (level + 1 ≤ j))
     → Goes budget depth first first → (f : Unit {0} → Run A) → ((x : Unit {0}) → f x ≡ first) → level ≡ depth
     → (v : A) (n l : ℕ) → after o f ≡ Gives v n l → Reaches second budget depth c d v n l
 reaches-deep budget depth first second level c d (Gives x i j) in' g f is at v n l p =
@@ -229,7 +232,8 @@ reaches-deep budget depth first second level c d (Gives x i j) in' g f is at v n
     }
 reaches-deep budget depth first second level c d (Traps k i j) in' g f is at v n l p = absurd (no_value k i j v n l p)
 
-entered-above : (b e : Bool) (level c d i j : ℕ) → entered b e level c d ≡ Gives tt i j → (c ≤ i) × (d ≤ j) × (level + 1 ≤ j)
+-- a form that was entered costs a step and reaches a level below
+pub entered-above : (b e : Bool) (level c d i j : ℕ) → entered b e level c d ≡ Gives tt i j → (c ≤ i) × (d ≤ j) × (level + 1 ≤ j)
 entered-above b e level c d i j p =
     let gives = gives-entered b e level c d tt i j p in
     let cost : c + 1 ≡ i = ap cost_of gives in

@@ -1,20 +1,21 @@
-//! Evaluation of expressions.
-ghost use Rattle.std.specs.Prelude.{◌≡◌, ◌+◌, ◌<◌, ◌^◌, ◌++◌, [], map};
+//! Evaluation of expressions, form by form.
+ghost use Rattle.std.specs.Prelude.{◌≡◌, ◌+◌, ◌<◌, ◌^◌, []};
 ghost use Rattle.cl_value.specs.Value.{data_of};
 ghost use Rattle.cl_syntax.specs.Term.{terms_of};
-ghost use Rattle.cl_syntax.specs.Expr.{bindings_of};
-ghost use Rattle.cl_syntax.specs.App.{function_named};
 ghost use Rattle.cl_eval.specs.Scope.{variables_of};
-ghost use Rattle.cl_eval.specs.Meaning.{bound, called, each, every, filtered, folded, let_in, listed, mapped, means, operation_on, parts, some, tested};
+ghost use Rattle.cl_eval.specs.Meaning.{each, every, listed, means, parts, some, tested};
 ghost use Rattle.cl_eval.specs.Agrees.{Agrees, itself, items_are};
 
+use crate::bindings::evaluate_let;
+use crate::calls::{call, evaluate_operation};
 use crate::metering::{Meter, Stop};
-use crate::operators::{add, add_if, elements, find_value, limit, operate, truth};
+use crate::operators::{elements, find_value, limit, truth};
 use crate::slot_table::Slots;
-use crate::variables::{Env, Scope};
+use crate::traversal::{filter_over, fold_over, map_over};
+use crate::variables::Scope;
 use cl_outside::{Ledger, Steps};
-use cl_syntax::{App, Binding, Expr, ExprKind, Operator};
-use cl_value::{Text, Value, Values};
+use cl_syntax::{App, Expr, ExprKind};
+use cl_value::{Value, Values};
 use std::alloc::Global;
 
 /// What an expression is evaluated in: the application, the slots, and how many forms may be entered in all.
@@ -172,51 +173,6 @@ pub fn evaluate_list<L: Ledger>(
     elements(value)
 }
 
-// The body behind bindings.
-#[cycle(evaluate)]
-fn evaluate_let<L: Ledger>(
-    context: &Context<'_>,
-    bindings: &[Binding],
-    body: &Expr,
-    scope: &Scope<'_>,
-    left: u32,
-    level: u32,
-    meter: &mut Meter,
-    steps: &mut Steps<L>,
-) -> Result<Value, Stop>
-    requires { level + left < 2 ^ 32 }
-    ensures meaning { Agrees data_of result meter.new (let_in (means left context.now.budget context.now.app.now context.now.slots.now) level (bindings_of bindings.now) body.now (variables_of scope.now) meter.old.cost meter.old.deepest) }
-    ensures ledger { steps.new + meter.old.cost ≡ steps.old + meter.new.cost }
-{
-    let frame = evaluate_bindings(context, bindings, scope, left, level, meter, steps)?;
-    let inner = Scope::Frame(&frame, &*scope);
-    evaluate(context, body, &inner, left, level, meter, steps)
-}
-
-/// The variables of bindings, each of which sees the ones before it.
-#[cycle(evaluate)]
-pub fn evaluate_bindings<L: Ledger>(
-    context: &Context<'_>,
-    bindings: &[Binding],
-    scope: &Scope<'_>,
-    left: u32,
-    level: u32,
-    meter: &mut Meter,
-    steps: &mut Steps<L>,
-) -> Result<Env, Stop>
-    requires { level + left < 2 ^ 32 }
-    ensures meaning { Agrees (λ frame. frame ++ variables_of scope.now) result meter.new (bound (means left context.now.budget context.now.app.now context.now.slots.now) level (bindings_of bindings.now) (variables_of scope.now) meter.old.cost meter.old.deepest) }
-    ensures ledger { steps.new + meter.old.cost ≡ steps.old + meter.new.cost }
-{
-    let mut frame = Env::new(context.alloc);
-    for binding in bindings {
-        let inner = Scope::Frame(&frame, &*scope);
-        let value = evaluate(context, &binding.value, &inner, left, level, meter, steps)?;
-        frame.bind(binding.name.copy()?, value)?;
-    }
-    Ok(frame)
-}
-
 /// The values of parts, in order.
 #[cycle(evaluate)]
 pub fn evaluate_each<L: Ledger>(
@@ -238,39 +194,6 @@ pub fn evaluate_each<L: Ledger>(
         values.push(value)?;
     }
     Ok(values)
-}
-
-// An operator over the values of its parts. Of one part or two, as most operators have, the values take no memory.
-#[cycle(evaluate)]
-fn evaluate_operation<L: Ledger>(
-    context: &Context<'_>,
-    operator: &Operator,
-    parts: &[Expr],
-    scope: &Scope<'_>,
-    left: u32,
-    level: u32,
-    meter: &mut Meter,
-    steps: &mut Steps<L>,
-) -> Result<Value, Stop>
-    requires { level + left < 2 ^ 32 }
-    ensures meaning { Agrees data_of result meter.new (operation_on context.now.app.now (means left context.now.budget context.now.app.now context.now.slots.now) level (variables_of scope.now) operator.now (terms_of parts.now) meter.old.cost meter.old.deepest) }
-    ensures ledger { steps.new + meter.old.cost ≡ steps.old + meter.new.cost }
-{
-    match parts {
-        [only] => {
-            let only = evaluate(context, only, scope, left, level, meter, steps)?;
-            operate(context.alloc, context.app, operator, &[only])
-        }
-        [first, second] => {
-            let first = evaluate(context, first, scope, left, level, meter, steps)?;
-            let second = evaluate(context, second, scope, left, level, meter, steps)?;
-            operate(context.alloc, context.app, operator, &[first, second])
-        }
-        _ => {
-            let values = evaluate_each(context, parts, scope, left, level, meter, steps)?;
-            operate(context.alloc, context.app, operator, values.as_slice())
-        }
-    }
 }
 
 // True where each part is, up to the first that is not.
@@ -319,109 +242,4 @@ fn evaluate_some<L: Ledger>(
         }
     }
     Ok(Value::Bool(false))
-}
-
-// The values of a body for each of these.
-#[cycle(evaluate)]
-fn map_over<L: Ledger>(
-    context: &Context<'_>,
-    name: &Text,
-    list: &[Value],
-    body: &Expr,
-    scope: &Scope<'_>,
-    left: u32,
-    level: u32,
-    meter: &mut Meter,
-    steps: &mut Steps<L>,
-) -> Result<Values, Stop>
-    requires { level + left < 2 ^ 32 }
-    ensures meaning { Agrees itself result meter.new (mapped (means left context.now.budget context.now.app.now context.now.slots.now) level (variables_of scope.now) name.now body.now (map data_of list.now) [] meter.old.cost meter.old.deepest) }
-    ensures ledger { steps.new + meter.old.cost ≡ steps.old + meter.new.cost }
-{
-    let mut values = Values::new(context.alloc);
-    for item in list {
-        let inner = Scope::Bound(&*name, item, &*scope);
-        let value = evaluate(context, body, &inner, left, level, meter, steps)?;
-        add(&mut values, value)?;
-    }
-    Ok(values)
-}
-
-// Those of these for which a body is true.
-#[cycle(evaluate)]
-fn filter_over<L: Ledger>(
-    context: &Context<'_>,
-    name: &Text,
-    list: &[Value],
-    body: &Expr,
-    scope: &Scope<'_>,
-    left: u32,
-    level: u32,
-    meter: &mut Meter,
-    steps: &mut Steps<L>,
-) -> Result<Values, Stop>
-    requires { level + left < 2 ^ 32 }
-    ensures meaning { Agrees itself result meter.new (filtered (means left context.now.budget context.now.app.now context.now.slots.now) level (variables_of scope.now) name.now body.now (map data_of list.now) [] meter.old.cost meter.old.deepest) }
-    ensures ledger { steps.new + meter.old.cost ≡ steps.old + meter.new.cost }
-{
-    let mut values = Values::new(context.alloc);
-    for item in list {
-        let inner = Scope::Bound(&*name, item, &*scope);
-        let kept = evaluate_test(context, body, &inner, left, level, meter, steps)?;
-        add_if(kept, &mut values, item)?;
-    }
-    Ok(values)
-}
-
-// The last value of a body that is given each of these with the value before.
-#[cycle(evaluate)]
-fn fold_over<L: Ledger>(
-    context: &Context<'_>,
-    name: &Text,
-    list: &[Value],
-    accumulator: &Text,
-    opening: Value,
-    body: &Expr,
-    scope: &Scope<'_>,
-    left: u32,
-    level: u32,
-    meter: &mut Meter,
-    steps: &mut Steps<L>,
-) -> Result<Value, Stop>
-    requires { level + left < 2 ^ 32 }
-    ensures meaning { Agrees data_of result meter.new (folded (means left context.now.budget context.now.app.now context.now.slots.now) level (variables_of scope.now) name.now accumulator.now body.now (map data_of list.now) (data_of opening) meter.old.cost meter.old.deepest) }
-    ensures ledger { steps.new + meter.old.cost ≡ steps.old + meter.new.cost }
-{
-    let mut value = opening;
-    for item in list {
-        let element = Scope::Bound(&*name, item, &*scope);
-        let inner = Scope::Bound(&*accumulator, &value, &element);
-        let next = evaluate(context, body, &inner, left, level, meter, steps)?;
-        value = next;
-    }
-    Ok(value)
-}
-
-// A function's body, where its parameters are all that it sees.
-#[cycle(evaluate)]
-fn call<L: Ledger>(
-    context: &Context<'_>,
-    name: &Text,
-    values: &[Value],
-    left: u32,
-    level: u32,
-    meter: &mut Meter,
-    steps: &mut Steps<L>,
-) -> Result<Value, Stop>
-    requires { level + left < 2 ^ 32 }
-    ensures meaning { Agrees data_of result meter.new (called (means left context.now.budget context.now.app.now context.now.slots.now) level (function_named name.now context.now.app.now) (map data_of values.now) meter.old.cost meter.old.deepest) }
-    ensures ledger { steps.new + meter.old.cost ≡ steps.old + meter.new.cost }
-{
-    match context.app.function(name) {
-        Some(function) if function.parameters.len() == values.len() => {
-            let inner = Scope::Parameters(&function.parameters, &*values);
-            evaluate(context, &function.body, &inner, left, level, meter, steps)
-        }
-        _ => Err(Stop::Trap(1)),
-    }
 }

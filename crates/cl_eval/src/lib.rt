@@ -1,6 +1,8 @@
 //! The evaluator of expressions and statements.
 #![tactic(auto)]
 
+mod bindings;
+mod calls;
 mod effects;
 mod evaluating;
 mod evaluation;
@@ -16,13 +18,13 @@ mod slot_table;
 #[cfg(test)]
 mod tests;
 mod texts;
+mod traversal;
 mod variables;
 
+pub use bindings::evaluate_bindings;
 pub use effects::{Effects, Lines};
 pub use evaluating::{Evaluated, eval};
-pub use evaluation::{
-    Context, evaluate, evaluate_bindings, evaluate_each, evaluate_list, evaluate_test,
-};
+pub use evaluation::{Context, evaluate, evaluate_each, evaluate_list, evaluate_test};
 pub use execution::{Executed, Types, exec};
 pub use laws::{limits_can_be_wider, names_alone_matter, quotient_is_rounded_down};
 pub use metering::{Limits, Meter, Stop};

@@ -8,8 +8,9 @@ ghost use Rattle.cl_eval.specs.Meaning.{bound, listed, means, tested};
 ghost use Rattle.cl_eval.specs.Statements.{assigned};
 ghost use Rattle.cl_eval.specs.Agrees.{Agrees, Comes, always, itself};
 
+use crate::bindings::evaluate_bindings;
 use crate::effects::Effects;
-use crate::evaluation::{Context, evaluate, evaluate_bindings, evaluate_list, evaluate_test};
+use crate::evaluation::{Context, evaluate, evaluate_list, evaluate_test};
 use crate::execution::Types;
 use crate::metering::{Meter, Stop};
 use crate::slot_table::Slots;

@@ -12,10 +12,14 @@ use Rattle.cl_syntax.specs.declared.operators.ListOperator.{ListOperator}
 use Rattle.cl_syntax.specs.declared.operators.ListOperator.TheVariants as list
 use Rattle.cl_syntax.specs.declared.operators.TextOperator.{TextOperator}
 use Rattle.cl_syntax.specs.declared.operators.TextOperator.TheVariants as text
+use Rattle.cl_syntax.specs.declared.figures.Figure.{Figure}
+use Rattle.cl_syntax.specs.declared.figures.Figure.TheVariants as figure
 use Rattle.cl_forms.specs.declared.words.Special.{Special}
 use Rattle.cl_forms.specs.declared.words.Special.TheVariants as special
 use Rattle.cl_forms.specs.declared.words.Control.{Control}
 use Rattle.cl_forms.specs.declared.words.Control.TheVariants as control
+use Rattle.cl_forms.specs.declared.words.Setting.{Setting}
+use Rattle.cl_forms.specs.declared.words.Setting.TheVariants as setting
 
 -- what begins with `:` is a key
 abbrev pub is_key : List ℕ → Bool
@@ -152,20 +156,35 @@ control_named word =
     else (if bytes_eq word (codes "dolist") then Some control.Dolist
     else (if bytes_eq word (codes "progn") then Some control.Progn else None))))
 
+-- what a drawing form draws
+abbrev pub figure_named : List ℕ → Option Figure
+figure_named word =
+    if bytes_eq word (codes "draw-point") then Some figure.Point
+    else (if bytes_eq word (codes "draw-hline") then Some figure.HorizontalLine
+    else (if bytes_eq word (codes "draw-vline") then Some figure.VerticalLine
+    else (if bytes_eq word (codes "draw-box") then Some figure.Outline
+    else (if bytes_eq word (codes "fill-box") then Some figure.Filled else None))))
+
+-- how many parts a drawing form has: places, sizes, and a text
+abbrev pub figure_count : Figure → ℕ
+figure_count figure.Point = 3
+figure_count figure.HorizontalLine = 3
+figure_count figure.VerticalLine = 3
+figure_count figure.Outline = 4
+figure_count figure.Filled = 5
+
+-- what a display form sets for its body
+abbrev pub setting_named : List ℕ → Option Setting
+setting_named word =
+    if bytes_eq word (codes "indenting-output") then Some setting.Margin
+    else (if bytes_eq word (codes "with-ink") then Some setting.Ink
+    else (if bytes_eq word (codes "with-room-for-graphics") then Some setting.Origin else None))
+
 -- display forms of the language that are not built yet
-abbrev pub is_drawing : List ℕ → Bool
-is_drawing word =
-    bytes_eq word (codes "draw-point") || bytes_eq word (codes "draw-hline") || bytes_eq word (codes "draw-vline")
-    || bytes_eq word (codes "draw-box") || bytes_eq word (codes "fill-box")
-
-abbrev pub is_output : List ℕ → Bool
-is_output word =
-    bytes_eq word (codes "indenting-output") || bytes_eq word (codes "with-ink") || bytes_eq word (codes "with-room-for-graphics")
-    || bytes_eq word (codes "present") || bytes_eq word (codes "with-output-as-presentation") || bytes_eq word (codes "updating-output")
-    || bytes_eq word (codes "formatting-table")
-
 abbrev pub is_later_form : List ℕ → Bool
-is_later_form word = is_drawing word || is_output word
+is_later_form word =
+    bytes_eq word (codes "present") || bytes_eq word (codes "with-output-as-presentation") || bytes_eq word (codes "updating-output")
+    || bytes_eq word (codes "formatting-table")
 
 -- statements of the language that are not built yet
 abbrev pub is_later_statement : List ℕ → Bool
@@ -181,4 +200,4 @@ is_other_head word =
 abbrev pub is_operator : List ℕ → Bool
 is_operator word =
     is_some (special_named word) || is_some (operator_named word) || is_some (control_named word)
-    || is_later_form word || is_later_statement word || is_other_head word
+    || is_some (figure_named word) || is_some (setting_named word) || is_later_form word || is_later_statement word || is_other_head word

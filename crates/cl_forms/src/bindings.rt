@@ -8,11 +8,11 @@ ghost use Rattle.cl_forms.specs.Expressions.{are_bindings, binding_in, binding_r
 ghost use Rattle.cl_forms.specs.TermViews.{bound_of};
 
 use crate::datum::Datum;
-use crate::naming::named_part;
+use crate::naming::{name_in, named_part};
 use crate::refusals::LoadRefusal;
 use crate::scopes::Scope;
 use crate::terms::expr_in;
-use crate::worlds::{World, name_in};
+use crate::worlds::World;
 use cl_syntax::{Binding, Expr};
 use cl_value::Text;
 use std::alloc::Global;

@@ -21,15 +21,9 @@ pub enum Waiting {
 }
 
 /// The data that forms are.
-pub fn data_in(alloc: Global, forms: &[Form]) -> Result<Datums, AllocError>
-    ensures { IfOk result (λ ds. ds ≡ grouped Nothing (trees_of (map tree_of forms.now))) }
-{
-    grouped(alloc, forms)
-}
-
 #[cycle(grouping)]
 #[tactic(auto, using(crate::proofs::Data::form_weighs))]
-fn grouped(alloc: Global, forms: &[Form]) -> Result<Datums, AllocError>
+pub fn data_in(alloc: Global, forms: &[Form]) -> Result<Datums, AllocError>
     ensures { IfOk result (λ ds. ds ≡ grouped Nothing (trees_of (map tree_of forms.now))) }
 {
     let mut row = Datums::new(alloc);
@@ -52,7 +46,7 @@ fn take(alloc: Global, row: &mut Datums, waiting: Waiting, form: &Form) -> Resul
         Form::Literal(text, at) => row.push(behind(waiting, Datum::Literal(text.copy()?, *at)))?,
         Form::Name(name, at) => take_symbol(row, waiting, name, *at)?,
         Form::Parts(parts, at) => {
-            let parts = grouped(alloc, parts.as_slice())?;
+            let parts = data_in(alloc, parts.as_slice())?;
             row.push(behind(waiting, Datum::List(parts, *at)))?
         }
     }

@@ -11,6 +11,7 @@ mod laws;
 mod line_names;
 mod naming;
 mod parse;
+mod record_terms;
 mod refusals;
 mod scopes;
 mod terms;
@@ -26,13 +27,14 @@ pub use form::{Form, Forms};
 pub use grouping::data_in;
 pub use laws::one_tree;
 pub use line_names::line_name_of;
-pub use naming::{fits, named_part, note};
+pub use naming::{are_names, fits, name_in, named_part, note, symbol_of, symbol_text};
 pub use parse::all_forms;
 pub use refusals::LoadRefusal;
 pub use scopes::Scope;
 pub use terms::{each, expr_in};
 pub use type_names::{is_later_type, is_plain_type, is_ranged_type, is_standard_type};
-pub use words::{Control, control_named, is_later_form, is_later_statement, is_name, is_operator};
-pub use worlds::{
-    Callee, CalleeKind, RecordHead, SlotHead, World, are_names, name_in, symbol_of, world_of,
+pub use words::{
+    Control, Setting, control_named, figure_count, figure_named, is_later_form, is_later_statement,
+    is_name, is_operator, setting_named,
 };
+pub use worlds::{Callee, CalleeKind, RecordHead, SlotHead, World, world_of};

@@ -1,14 +1,76 @@
 //! Names and counts that forms ask for.
-ghost use Rattle.std.specs.Prelude.{◌≡◌};
+ghost use Rattle.std.specs.Prelude.{◌≡◌, IfOk, map, option_map};
 ghost use Rattle.cl_forms.specs.DatumView.{datum_of};
+ghost use Rattle.cl_forms.specs.World.{are_names, name_in, symbol_of};
 ghost use Rattle.cl_forms.specs.Load.{unless};
 ghost use Rattle.cl_forms.specs.Expressions.{fits};
 ghost use Rattle.cl_forms.specs.Named.{NamesPart};
 
 use crate::datum::Datum;
 use crate::refusals::LoadRefusal;
-use crate::worlds::name_in;
+use crate::words::is_name;
 use cl_value::Text;
+use std::alloc::{AllocError, Global};
+
+/// The name that a datum is: a symbol that is no key and no constant.
+pub fn name_in(datum: &Datum) -> Option<&Text>
+    ensures { option_map (λ n. n.now) result ≡ name_in (datum_of datum.now) }
+{
+    match datum {
+        Datum::Word(word, _) => {
+            if is_name(word.as_slice()) {
+                Some(word)
+            } else {
+                None
+            }
+        }
+        Datum::Number(_, _) => None,
+        Datum::Literal(_, _) => None,
+        Datum::Quoted(_, _, _) => None,
+        Datum::Stray(_) => None,
+        Datum::List(_, _) => None,
+    }
+}
+
+/// The bytes of a symbol, and none of anything else.
+pub fn symbol_of(datum: &Datum) -> &[u8]
+    ensures { result.now ≡ symbol_of (datum_of datum.now) }
+{
+    match datum {
+        Datum::Word(word, _) => word.as_slice(),
+        Datum::Number(_, _) => &[],
+        Datum::Literal(_, _) => &[],
+        Datum::Quoted(_, _, _) => &[],
+        Datum::Stray(_) => &[],
+        Datum::List(_, _) => &[],
+    }
+}
+
+/// The bytes of a symbol, and none of anything else, as a text: those of a symbol are shared and not copied.
+pub fn symbol_text(alloc: Global, datum: &Datum) -> Result<Text, AllocError>
+    ensures { IfOk result (λ t. t ≡ symbol_of (datum_of datum.now)) }
+{
+    match datum {
+        Datum::Word(word, _) => word.copy(),
+        Datum::Number(_, _) => Text::from_slice(alloc, &[]),
+        Datum::Literal(_, _) => Text::from_slice(alloc, &[]),
+        Datum::Quoted(_, _, _) => Text::from_slice(alloc, &[]),
+        Datum::Stray(_) => Text::from_slice(alloc, &[]),
+        Datum::List(_, _) => Text::from_slice(alloc, &[]),
+    }
+}
+
+/// Whether all data are names.
+pub fn are_names(parts: &[Datum]) -> bool
+    ensures { result ≡ are_names (map datum_of parts.now) }
+{
+    for part in parts {
+        if name_in(part).is_none() {
+            return false;
+        }
+    }
+    true
+}
 
 /// The name that a datum is, where the form at this offset asks for one.
 pub fn named_part(at: u32, datum: &Datum) -> Result<Text, LoadRefusal>

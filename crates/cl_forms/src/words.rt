@@ -1,8 +1,8 @@
 //! The words of the language: names, and the operators that head forms.
 ghost use Rattle.std.specs.Prelude.{◌≡◌};
-ghost use Rattle.cl_forms.specs.Words.{is_key, is_constant, is_quote, is_name, arithmetic, comparison, list_operator, text_operator, other_operator, operator_named, list_count, text_count, count_of, binder_named, special_named, control_named, is_drawing, is_output, is_later_form, is_later_statement, is_other_head, is_operator};
+ghost use Rattle.cl_forms.specs.Words.{is_key, is_constant, is_quote, is_name, arithmetic, comparison, list_operator, text_operator, other_operator, operator_named, list_count, text_count, count_of, binder_named, special_named, control_named, figure_named, figure_count, setting_named, is_later_form, is_later_statement, is_other_head, is_operator};
 
-use cl_syntax::{Arithmetic, Comparison, ListOperator, Operator, TextOperator};
+use cl_syntax::{Arithmetic, Comparison, Figure, ListOperator, Operator, TextOperator};
 
 /// The heads of expressions that are no operators over the values of their parts.
 #[derive(Clone, Copy)]
@@ -28,6 +28,17 @@ pub enum Control {
     Let,
     Dolist,
     Progn,
+}
+
+/// The heads of display forms that set something for their bodies.
+#[derive(Clone, Copy)]
+pub enum Setting {
+    /// `(indenting-output E FORM ...)`
+    Margin,
+    /// `(with-ink E FORM ...)`
+    Ink,
+    /// `(with-room-for-graphics FORM ...)`
+    Origin,
 }
 
 fn is_key(word: &[u8]) -> bool
@@ -271,33 +282,61 @@ pub fn control_named(word: &[u8]) -> Option<Control>
     }
 }
 
-fn is_drawing(word: &[u8]) -> bool
-    ensures { result ≡ is_drawing word.now }
+/// What the drawing form that a word heads draws.
+pub fn figure_named(word: &[u8]) -> Option<Figure>
+    ensures { result ≡ figure_named word.now }
 {
-    word == b"draw-point".as_slice()
-        || word == b"draw-hline".as_slice()
-        || word == b"draw-vline".as_slice()
-        || word == b"draw-box".as_slice()
-        || word == b"fill-box".as_slice()
+    if word == b"draw-point".as_slice() {
+        Some(Figure::Point)
+    } else if word == b"draw-hline".as_slice() {
+        Some(Figure::HorizontalLine)
+    } else if word == b"draw-vline".as_slice() {
+        Some(Figure::VerticalLine)
+    } else if word == b"draw-box".as_slice() {
+        Some(Figure::Outline)
+    } else if word == b"fill-box".as_slice() {
+        Some(Figure::Filled)
+    } else {
+        None
+    }
 }
 
-fn is_output(word: &[u8]) -> bool
-    ensures { result ≡ is_output word.now }
+/// How many parts a drawing form has.
+pub fn figure_count(figure: Figure) -> usize
+    ensures { result ≡ figure_count figure }
 {
-    word == b"indenting-output".as_slice()
-        || word == b"with-ink".as_slice()
-        || word == b"with-room-for-graphics".as_slice()
-        || word == b"present".as_slice()
-        || word == b"with-output-as-presentation".as_slice()
-        || word == b"updating-output".as_slice()
-        || word == b"formatting-table".as_slice()
+    match figure {
+        Figure::Point => 3,
+        Figure::HorizontalLine => 3,
+        Figure::VerticalLine => 3,
+        Figure::Outline => 4,
+        Figure::Filled => 5,
+    }
+}
+
+/// What the display form that a word heads sets for its body.
+pub fn setting_named(word: &[u8]) -> Option<Setting>
+    ensures { result ≡ setting_named word.now }
+{
+    if word == b"indenting-output".as_slice() {
+        Some(Setting::Margin)
+    } else if word == b"with-ink".as_slice() {
+        Some(Setting::Ink)
+    } else if word == b"with-room-for-graphics".as_slice() {
+        Some(Setting::Origin)
+    } else {
+        None
+    }
 }
 
 /// Whether a word heads a display form that is not built yet.
 pub fn is_later_form(word: &[u8]) -> bool
     ensures { result ≡ is_later_form word.now }
 {
-    is_drawing(word) || is_output(word)
+    word == b"present".as_slice()
+        || word == b"with-output-as-presentation".as_slice()
+        || word == b"updating-output".as_slice()
+        || word == b"formatting-table".as_slice()
 }
 
 /// Whether a word heads a statement that is not built yet.
@@ -327,6 +366,8 @@ pub fn is_operator(word: &[u8]) -> bool
     special_named(word).is_some()
         || operator_named(word).is_some()
         || control_named(word).is_some()
+        || figure_named(word).is_some()
+        || setting_named(word).is_some()
         || is_later_form(word)
         || is_later_statement(word)
         || is_other_head(word)

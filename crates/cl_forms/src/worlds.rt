@@ -1,11 +1,12 @@
 //! What the outermost forms of a text declare, whether they are right or not.
-ghost use Rattle.std.specs.Prelude.{◌≡◌, ◌∷◌, [], IfOk, OnOk, map, option_map};
+ghost use Rattle.std.specs.Prelude.{◌≡◌, ◌∷◌, [], IfOk, OnOk, map};
 ghost use Rattle.cl_forms.specs.DatumView.{datum_of};
-ghost use Rattle.cl_forms.specs.World.{names_counted, are_names, name_in, symbol_of, list_counted, parameters_counted, with_callee, with_record, with_slot, with_slot_of, with_slots, with_section, with_sections, with_head, with_declaration, with_declarations, world_of, nothing_declared, function_in, display_in, function_count, display_count, record_in, record_count, slot_in};
+ghost use Rattle.cl_forms.specs.World.{names_counted, name_in, list_counted, parameters_counted, with_callee, with_record, with_slot, with_slot_of, with_slots, with_section, with_sections, with_head, with_declaration, with_declarations, world_of, nothing_declared, function_in, display_in, function_count, display_count, record_in, record_count, slot_in};
 
 use crate::datum::Datum;
+use crate::naming::{are_names, name_in, symbol_of};
 use crate::type_names::is_standard_type;
-use crate::words::{is_name, is_operator};
+use crate::words::is_operator;
 use cl_syntax::{Declared, Table};
 use cl_value::Text;
 use std::alloc::{AllocError, Global};
@@ -195,52 +196,6 @@ fn add_sections(world: &mut World, sections: &[Datum]) -> Result<(), AllocError>
         add_section(world, section.parts())?;
     }
     Ok(())
-}
-
-/// The name that a datum is: a symbol that is no key and no constant.
-pub fn name_in(datum: &Datum) -> Option<&Text>
-    ensures { option_map (λ n. n.now) result ≡ name_in (datum_of datum.now) }
-{
-    match datum {
-        Datum::Word(word, _) => {
-            if is_name(word.as_slice()) {
-                Some(word)
-            } else {
-                None
-            }
-        }
-        Datum::Number(_, _) => None,
-        Datum::Literal(_, _) => None,
-        Datum::Quoted(_, _, _) => None,
-        Datum::Stray(_) => None,
-        Datum::List(_, _) => None,
-    }
-}
-
-/// The bytes of a symbol, and none of anything else.
-pub fn symbol_of(datum: &Datum) -> &[u8]
-    ensures { result.now ≡ symbol_of (datum_of datum.now) }
-{
-    match datum {
-        Datum::Word(word, _) => word.as_slice(),
-        Datum::Number(_, _) => &[],
-        Datum::Literal(_, _) => &[],
-        Datum::Quoted(_, _, _) => &[],
-        Datum::Stray(_) => &[],
-        Datum::List(_, _) => &[],
-    }
-}
-
-/// Whether all data are names.
-pub fn are_names(parts: &[Datum]) -> bool
-    ensures { result ≡ are_names (map datum_of parts.now) }
-{
-    for part in parts {
-        if name_in(part).is_none() {
-            return false;
-        }
-    }
-    true
 }
 
 fn names_counted(parts: &[Datum]) -> Option<usize>

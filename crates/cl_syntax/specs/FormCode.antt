@@ -3,31 +3,40 @@ use Rattle.std.proofs.Common.{◌≡◌, ℕ, refl, ap}
 use Rattle.std.proofs.lemmas.Bool.{eqb-false}
 use Rattle.std.specs.Coded.{Coded}
 use base.Stored.{Gv, gnil, gnum, gcons}
+use Rattle.cl_syntax.specs.contracts.figures.Figure as figure_code
 use Rattle.cl_syntax.specs.Code.{head, tail, tag, has_parts, name_code, name_code-inj}
 use Rattle.cl_syntax.specs.TermCode.{coded_term, coded_terms, coded_bindings}
-use Rattle.cl_syntax.specs.Form.{Form, write_text, newline, choice, when, bind, each, sequence, call, Forms, none, form}
+use Rattle.cl_syntax.specs.Form.{Form, write_text, newline, draw, indent, ink, room, choice, when, bind, each, sequence, call, Forms, none, form}
 
 -- the place of a row in its table
 abbrev pub row : Form → ℕ
 row (write_text t) = 0
 row newline = 1
-row (choice t e f) = 2
-row (when t fs) = 3
-row (bind bs fs) = 4
-row (each x t fs) = 5
-row (sequence fs) = 6
-row (call d ts) = 7
+row (draw figure ts) = 2
+row (indent t fs) = 3
+row (ink t fs) = 4
+row (room fs) = 5
+row (choice t e f) = 6
+row (when t fs) = 7
+row (bind bs fs) = 8
+row (each x t fs) = 9
+row (sequence fs) = 10
+row (call d ts) = 11
 
 abbrev mutual
   pub code : Form → Gv
   code (write_text t) = gcons (gnum 0) (coded_term.code t)
   code newline = gcons (gnum 1) gnil
-  code (choice t e f) = gcons (gnum 2) (gcons (coded_term.code t) (gcons (code e) (code f)))
-  code (when t fs) = gcons (gnum 3) (gcons (coded_term.code t) (code_all fs))
-  code (bind bs fs) = gcons (gnum 4) (gcons (coded_bindings.code bs) (code_all fs))
-  code (each x t fs) = gcons (gnum 5) (gcons (name_code x) (gcons (coded_term.code t) (code_all fs)))
-  code (sequence fs) = gcons (gnum 6) (code_all fs)
-  code (call d ts) = gcons (gnum 7) (gcons (name_code d) (coded_terms.code ts))
+  code (draw figure ts) = gcons (gnum 2) (gcons (figure_code.the_row.coded.code figure) (coded_terms.code ts))
+  code (indent t fs) = gcons (gnum 3) (gcons (coded_term.code t) (code_all fs))
+  code (ink t fs) = gcons (gnum 4) (gcons (coded_term.code t) (code_all fs))
+  code (room fs) = gcons (gnum 5) (code_all fs)
+  code (choice t e f) = gcons (gnum 6) (gcons (coded_term.code t) (gcons (code e) (code f)))
+  code (when t fs) = gcons (gnum 7) (gcons (coded_term.code t) (code_all fs))
+  code (bind bs fs) = gcons (gnum 8) (gcons (coded_bindings.code bs) (code_all fs))
+  code (each x t fs) = gcons (gnum 9) (gcons (name_code x) (gcons (coded_term.code t) (code_all fs)))
+  code (sequence fs) = gcons (gnum 10) (code_all fs)
+  code (call d ts) = gcons (gnum 11) (gcons (name_code d) (coded_terms.code ts))
 
   pub code_all : Forms → Gv
   code_all none = gnil
@@ -37,6 +46,19 @@ mutual
   pub code-inj : (x y : Form) → code x ≡ code y → x ≡ y
   code-inj (write_text t) (write_text t') p = ap write_text (coded_term.inj t t' (ap tail p))
   code-inj newline newline p = refl
+  code-inj (draw figure ts) (draw figure' ts') p =
+      let pf : figure ≡ figure' = figure_code.the_row.coded.inj figure figure' (ap (λ g. head (tail g)) p) in
+      let pts : ts ≡ ts' = coded_terms.inj ts ts' (ap (λ g. tail (tail g)) p) in
+      λ i. draw (pf i) (pts i)
+  code-inj (indent t fs) (indent t' fs') p =
+      let pt : t ≡ t' = coded_term.inj t t' (ap (λ g. head (tail g)) p) in
+      let pfs : fs ≡ fs' = code_all-inj fs fs' (ap (λ g. tail (tail g)) p) in
+      λ i. indent (pt i) (pfs i)
+  code-inj (ink t fs) (ink t' fs') p =
+      let pt : t ≡ t' = coded_term.inj t t' (ap (λ g. head (tail g)) p) in
+      let pfs : fs ≡ fs' = code_all-inj fs fs' (ap (λ g. tail (tail g)) p) in
+      λ i. ink (pt i) (pfs i)
+  code-inj (room fs) (room fs') p = ap room (code_all-inj fs fs' (ap tail p))
   code-inj (choice t e f) (choice t' e' f') p =
       let pt : t ≡ t' = coded_term.inj t t' (ap (λ g. head (tail g)) p) in
       let pe : e ≡ e' = code-inj e e' (ap (λ g. head (tail (tail g))) p) in

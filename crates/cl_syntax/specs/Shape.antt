@@ -9,6 +9,10 @@ use Rattle.cl_syntax.specs.declared.display_forms.ShapeKind.TheVariants as kind
 abbrev pub form_of : ShapeKind → Form
 form_of (kind.WriteText t) = form.write_text t
 form_of kind.Newline = form.newline
+form_of (kind.Draw figure ts) = form.draw figure (terms_of ts.items)
+form_of (kind.Indent t fs) = form.indent t (forms_of fs)
+form_of (kind.Ink t fs) = form.ink t (forms_of fs)
+form_of (kind.Room fs) = form.room (forms_of fs)
 form_of (kind.If t f g) = form.choice t f.value g.value
 form_of (kind.When t fs) = form.when t (forms_of fs)
 form_of (kind.Let bs fs) = form.bind (bindings_of bs.items) (forms_of fs)

@@ -15,6 +15,10 @@ most-nodes (f ∷ fs) = omega (arith, most-nodes fs)
 pub kind-nodes : (k : ShapeKind) → deep-ShapeKind k ≤ nodes (form_of k)
 kind-nodes (kind.WriteText t) = omega arith
 kind-nodes kind.Newline = omega arith
+kind-nodes (kind.Draw figure ts) = omega arith
+kind-nodes (kind.Indent t fs) = omega arith
+kind-nodes (kind.Ink t fs) = omega arith
+kind-nodes (kind.Room fs) = omega arith
 kind-nodes (kind.If t f g) = omega arith
 kind-nodes (kind.When t fs) = omega arith
 kind-nodes (kind.Let bs fs) = omega arith

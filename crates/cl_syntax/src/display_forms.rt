@@ -5,6 +5,7 @@ ghost use Rattle.cl_syntax.specs.Form as form;
 ghost use Rattle.cl_syntax.specs.Term.{terms_of};
 
 use crate::expressions::{Binding, Expr};
+use crate::figures::Figure;
 use cl_value::Text;
 use std::alloc::{AllocError, Global};
 use std::marker::Model;
@@ -24,6 +25,14 @@ pub enum ShapeKind {
     WriteText(Expr),
     /// `(newline)`
     Newline,
+    /// A drawing form, with the expressions of its places, sizes and byte.
+    Draw(Figure, Vec<Expr>),
+    /// `(indenting-output E FORM ...)`
+    Indent(Expr, Shapes),
+    /// `(with-ink E FORM ...)`
+    Ink(Expr, Shapes),
+    /// `(with-room-for-graphics FORM ...)`
+    Room(Shapes),
     /// `(if TEST THEN ELSE)`
     If(Expr, Box<Shape>, Box<Shape>),
     /// `(when TEST FORM ...)`
@@ -102,6 +111,42 @@ impl Shape {
     {
         Shape {
             kind: ShapeKind::Newline,
+        }
+    }
+
+    /// A drawing form, with the expressions of its places, sizes and byte.
+    pub fn draw(figure: Figure, parts: Vec<Expr>) -> Shape
+        ensures { result ≡ form.draw figure (terms_of parts.items) }
+    {
+        Shape {
+            kind: ShapeKind::Draw(figure, parts),
+        }
+    }
+
+    /// `(indenting-output E FORM ...)`
+    pub fn indent(number: Expr, body: Shapes) -> Shape
+        ensures { result ≡ form.indent number (form.forms_of body) }
+    {
+        Shape {
+            kind: ShapeKind::Indent(number, body),
+        }
+    }
+
+    /// `(with-ink E FORM ...)`
+    pub fn ink(number: Expr, body: Shapes) -> Shape
+        ensures { result ≡ form.ink number (form.forms_of body) }
+    {
+        Shape {
+            kind: ShapeKind::Ink(number, body),
+        }
+    }
+
+    /// `(with-room-for-graphics FORM ...)`
+    pub fn room(body: Shapes) -> Shape
+        ensures { result ≡ form.room (form.forms_of body) }
+    {
+        Shape {
+            kind: ShapeKind::Room(body),
         }
     }
 

@@ -5,6 +5,7 @@ pub mod applications;
 pub mod declarations;
 pub mod display_forms;
 pub mod expressions;
+pub mod figures;
 pub mod names;
 pub mod operators;
 pub mod statements;
@@ -20,6 +21,7 @@ pub use declarations::{
 };
 pub use display_forms::{Shape, ShapeKind, Shapes};
 pub use expressions::{Binding, Expr, ExprKind};
+pub use figures::Figure;
 pub use names::Names;
 pub use operators::{Arithmetic, Comparison, ListOperator, Operator, RecordOperator, TextOperator};
 pub use statements::{Act, ActKind, Acts};

@@ -21,11 +21,11 @@ decreases-terms::special_row l = 8 * weights (datums_of (map datum_of l.parts.no
 abbrev pub decreases-terms::if_row : goal.decreases-terms::if_row
 decreases-terms::if_row l = 8 * weights (datums_of (map datum_of l.parts.now)) + 4
 
-abbrev pub decreases-terms::get_row : goal.decreases-terms::get_row
-decreases-terms::get_row l = 8 * weights (datums_of (map datum_of l.parts.now)) + 4
+abbrev pub decreases-record_terms::get_row : goal.decreases-record_terms::get_row
+decreases-record_terms::get_row l = 8 * weights (datums_of (map datum_of l.parts.now)) + 4
 
-abbrev pub decreases-terms::with_row : goal.decreases-terms::with_row
-decreases-terms::with_row l = 8 * weights (datums_of (map datum_of l.parts.now)) + 4
+abbrev pub decreases-record_terms::with_row : goal.decreases-record_terms::with_row
+decreases-record_terms::with_row l = 8 * weights (datums_of (map datum_of l.parts.now)) + 4
 
 abbrev pub decreases-bindings::map_row : goal.decreases-bindings::map_row
 decreases-bindings::map_row l = 8 * weights (datums_of (map datum_of l.parts.now)) + 4
@@ -39,8 +39,8 @@ decreases-bindings::fold_row l = 8 * weights (datums_of (map datum_of l.parts.no
 abbrev pub decreases-bindings::let_row : goal.decreases-bindings::let_row
 decreases-bindings::let_row l = 8 * weights (datums_of (map datum_of l.parts.now)) + 4
 
-abbrev pub decreases-terms::make_row : goal.decreases-terms::make_row
-decreases-terms::make_row l = 8 * weights (datums_of (map datum_of l.parts.now)) + 4
+abbrev pub decreases-record_terms::make_row : goal.decreases-record_terms::make_row
+decreases-record_terms::make_row l = 8 * weights (datums_of (map datum_of l.parts.now)) + 4
 
 abbrev pub decreases-terms::operation_row : goal.decreases-terms::operation_row
 decreases-terms::operation_row l = 8 * weights (datums_of (map datum_of l.parts.now)) + 4
@@ -48,11 +48,11 @@ decreases-terms::operation_row l = 8 * weights (datums_of (map datum_of l.parts.
 abbrev pub decreases-terms::call_row : goal.decreases-terms::call_row
 decreases-terms::call_row l = 8 * weights (datums_of (map datum_of l.parts.now)) + 4
 
-abbrev pub decreases-terms::make_counted : goal.decreases-terms::make_counted
-decreases-terms::make_counted l = 8 * weights (datums_of (map datum_of l.parts.now)) + 3
+abbrev pub decreases-record_terms::make_counted : goal.decreases-record_terms::make_counted
+decreases-record_terms::make_counted l = 8 * weights (datums_of (map datum_of l.parts.now)) + 3
 
-abbrev pub decreases-terms::made : goal.decreases-terms::made
-decreases-terms::made l = 8 * weights (datums_of (map datum_of l.parts.now)) + 2
+abbrev pub decreases-record_terms::made : goal.decreases-record_terms::made
+decreases-record_terms::made l = 8 * weights (datums_of (map datum_of l.parts.now)) + 2
 
 abbrev pub decreases-terms::each : goal.decreases-terms::each
 decreases-terms::each l = 8 * weights (datums_of (map datum_of l.parts.now)) + 1

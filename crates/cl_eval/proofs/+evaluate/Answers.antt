@@ -12,16 +12,16 @@ use Rattle.cl_eval.specs.Meaning.{means}
 use Rattle.cl_eval.proofs.EnteringLemmas.{means-entered}
 use Rattle.cl_eval.proofs.CostLemmas.{grows-means}
 use Rattle.cl_eval.proofs.StopLemmas.{stop-each, full-each, stop-every, stop-some, stop-bound, full-bound, stop-let_in, stop-first, stop-second, done-second, pair, stop-mapped, full-mapped, stop-filtered, full-filtered, stop-folded, stop-choice, stop-map, stop-filter, stop-fold, stop-opening, stop-elements, stop-call, is_memory}
-use Rattle.cl_eval.proofs.evaluation.+evaluate.Goals as goal
+use Rattle.cl_eval.proofs.+evaluate.Goals as goal
 
-pub evaluate-returns-clause-meaning : goal.evaluate-returns-clause-meaning
-evaluate-returns-clause-meaning g t c =
+pub evaluation::evaluate-returns-clause-meaning : goal.evaluation::evaluate-returns-clause-meaning
+evaluation::evaluate-returns-clause-meaning g t c =
     rw (means-entered c.args.left c.args.context.now.budget c.args.context.now.app.now c.args.context.now.slots.now c.args.level (variables_of c.args.scope.now) c.args.expr.now
     c.args.meter.now.cost c.args.meter.now.deepest _ _ c.in_ok-enter.ensures.meaning)
     c.evaluate_parts.ensures.meaning
 
-pub evaluate_each-returns-in_err-value-clause-meaning : goal.evaluate_each-returns-in_err-value-clause-meaning
-evaluate_each-returns-in_err-value-clause-meaning g t c =
+pub evaluation::evaluate_each-returns-in_err-value-clause-meaning : goal.evaluation::evaluate_each-returns-in_err-value-clause-meaning
+evaluation::evaluate_each-returns-in_err-value-clause-meaning g t c =
     let p = err_from_is_err_and c.from_residual.result c.from_residual.ensures.1 in
     let at = c.loop-part.part-index in
     let rest = drop (suc at) c.args.parts.now in
@@ -31,8 +31,8 @@ evaluate_each-returns-in_err-value-clause-meaning g t c =
     (stop-each (means c.args.left c.args.context.now.budget c.args.context.now.app.now c.args.context.now.slots.now) (grows-means c.args.left c.args.context.now.budget c.args.context.now.app.now c.args.context.now.slots.now) c.args.level (variables_of c.args.scope.now) c.part-item.result (terms_of rest) (map data_of c.loop-part.values.items) c.in_err-value.field-0.0 c.evaluate.new.meter c.loop-part.meter.cost c.loop-part.meter.deepest
     c.in_err-value.ensures.meaning)
 
-pub evaluate_each-returns-in_err-push-clause-meaning : goal.evaluate_each-returns-in_err-push-clause-meaning
-evaluate_each-returns-in_err-push-clause-meaning g t c =
+pub evaluation::evaluate_each-returns-in_err-push-clause-meaning : goal.evaluation::evaluate_each-returns-in_err-push-clause-meaning
+evaluation::evaluate_each-returns-in_err-push-clause-meaning g t c =
     let p = err_from_is_err_and c.from_residual-in_err-push.result c.from_residual-in_err-push.ensures.1 in
     let at = c.loop-part.part-index in
     let rest = drop (suc at) c.args.parts.now in
@@ -42,8 +42,8 @@ evaluate_each-returns-in_err-push-clause-meaning g t c =
     (full-each (means c.args.left c.args.context.now.budget c.args.context.now.app.now c.args.context.now.slots.now) (grows-means c.args.left c.args.context.now.budget c.args.context.now.app.now c.args.context.now.slots.now) c.args.level (variables_of c.args.scope.now) c.part-item.result (terms_of rest) (map data_of c.loop-part.values.items) (data_of c.in_ok-value.value) c.loop-part.meter.cost c.loop-part.meter.deepest c.evaluate.new.meter.cost c.evaluate.new.meter.deepest
     c.in_ok-value.ensures.meaning)
 
-pub evaluate_every-returns-in_err-truth-clause-meaning : goal.evaluate_every-returns-in_err-truth-clause-meaning
-evaluate_every-returns-in_err-truth-clause-meaning g t c =
+pub evaluation::evaluate_every-returns-in_err-truth-clause-meaning : goal.evaluation::evaluate_every-returns-in_err-truth-clause-meaning
+evaluation::evaluate_every-returns-in_err-truth-clause-meaning g t c =
     let p = err_from_is_err_and c.from_residual.result c.from_residual.ensures.1 in
     let at = c.loop-part.part-index in
     let rest = drop (suc at) c.args.parts.now in
@@ -53,8 +53,8 @@ evaluate_every-returns-in_err-truth-clause-meaning g t c =
     (stop-every (means c.args.left c.args.context.now.budget c.args.context.now.app.now c.args.context.now.slots.now) (grows-means c.args.left c.args.context.now.budget c.args.context.now.app.now c.args.context.now.slots.now) c.args.level (variables_of c.args.scope.now) c.part-item.result (terms_of rest) c.in_err-truth.field-0.0 c.evaluate_test.new.meter c.loop-part.meter.cost c.loop-part.meter.deepest
     c.in_err-truth.ensures.meaning)
 
-pub evaluate_some-returns-in_err-truth-clause-meaning : goal.evaluate_some-returns-in_err-truth-clause-meaning
-evaluate_some-returns-in_err-truth-clause-meaning g t c =
+pub evaluation::evaluate_some-returns-in_err-truth-clause-meaning : goal.evaluation::evaluate_some-returns-in_err-truth-clause-meaning
+evaluation::evaluate_some-returns-in_err-truth-clause-meaning g t c =
     let p = err_from_is_err_and c.from_residual.result c.from_residual.ensures.1 in
     let at = c.loop-part.part-index in
     let rest = drop (suc at) c.args.parts.now in
@@ -64,15 +64,15 @@ evaluate_some-returns-in_err-truth-clause-meaning g t c =
     (stop-some (means c.args.left c.args.context.now.budget c.args.context.now.app.now c.args.context.now.slots.now) (grows-means c.args.left c.args.context.now.budget c.args.context.now.app.now c.args.context.now.slots.now) c.args.level (variables_of c.args.scope.now) c.part-item.result (terms_of rest) c.in_err-truth.field-0.0 c.evaluate_test.new.meter c.loop-part.meter.cost c.loop-part.meter.deepest
     c.in_err-truth.ensures.meaning)
 
-pub evaluate_let-returns-in_err-frame-clause-meaning : goal.evaluate_let-returns-in_err-frame-clause-meaning
-evaluate_let-returns-in_err-frame-clause-meaning g t c =
+pub bindings::evaluate_let-returns-in_err-frame-clause-meaning : goal.bindings::evaluate_let-returns-in_err-frame-clause-meaning
+bindings::evaluate_let-returns-in_err-frame-clause-meaning g t c =
     let p = err_from_is_err_and c.from_residual.result c.from_residual.ensures.1 in
     rw (p.1, p.2)
     (stop-let_in (means c.args.left c.args.context.now.budget c.args.context.now.app.now c.args.context.now.slots.now) (grows-means c.args.left c.args.context.now.budget c.args.context.now.app.now c.args.context.now.slots.now) c.args.level (bindings_of c.args.bindings.now) c.args.body.now (variables_of c.args.scope.now) (variables_of c.args.scope.now) c.in_err-frame.field-0.0 c.evaluate_bindings.new.meter c.args.meter.now.cost c.args.meter.now.deepest
     c.in_err-frame.ensures.meaning)
 
-pub evaluate_bindings-returns-in_err-value-clause-meaning : goal.evaluate_bindings-returns-in_err-value-clause-meaning
-evaluate_bindings-returns-in_err-value-clause-meaning g t c =
+pub bindings::evaluate_bindings-returns-in_err-value-clause-meaning : goal.bindings::evaluate_bindings-returns-in_err-value-clause-meaning
+bindings::evaluate_bindings-returns-in_err-value-clause-meaning g t c =
     let p = err_from_is_err_and c.from_residual.result c.from_residual.ensures.1 in
     let at = c.loop-binding.binding-index in
     let rest = drop (suc at) c.args.bindings.now in
@@ -82,8 +82,8 @@ evaluate_bindings-returns-in_err-value-clause-meaning g t c =
     (stop-bound (means c.args.left c.args.context.now.budget c.args.context.now.app.now c.args.context.now.slots.now) (grows-means c.args.left c.args.context.now.budget c.args.context.now.app.now c.args.context.now.slots.now) c.args.level c.binding-item.result.name c.binding-item.result.value (bindings_of rest) (c.loop-binding.frame ++ (variables_of c.args.scope.now)) (variables_of c.args.scope.now) c.in_err-value.field-0.0 c.evaluate.new.meter c.loop-binding.meter.cost c.loop-binding.meter.deepest
     c.in_err-value.ensures.meaning)
 
-pub evaluate_bindings-returns-in_err-copy-clause-meaning : goal.evaluate_bindings-returns-in_err-copy-clause-meaning
-evaluate_bindings-returns-in_err-copy-clause-meaning g t c =
+pub bindings::evaluate_bindings-returns-in_err-copy-clause-meaning : goal.bindings::evaluate_bindings-returns-in_err-copy-clause-meaning
+bindings::evaluate_bindings-returns-in_err-copy-clause-meaning g t c =
     let p = err_from_is_err_and c.from_residual-in_err-copy.result c.from_residual-in_err-copy.ensures.1 in
     let at = c.loop-binding.binding-index in
     let rest = drop (suc at) c.args.bindings.now in
@@ -93,8 +93,8 @@ evaluate_bindings-returns-in_err-copy-clause-meaning g t c =
     (full-bound (means c.args.left c.args.context.now.budget c.args.context.now.app.now c.args.context.now.slots.now) (grows-means c.args.left c.args.context.now.budget c.args.context.now.app.now c.args.context.now.slots.now) c.args.level c.binding-item.result.name c.binding-item.result.value (bindings_of rest) (c.loop-binding.frame ++ (variables_of c.args.scope.now)) (data_of c.in_ok-value.value) c.loop-binding.meter.cost c.loop-binding.meter.deepest c.evaluate.new.meter.cost c.evaluate.new.meter.deepest
     c.in_ok-value.ensures.meaning)
 
-pub evaluate_bindings-returns-in_err-bind-clause-meaning : goal.evaluate_bindings-returns-in_err-bind-clause-meaning
-evaluate_bindings-returns-in_err-bind-clause-meaning g t c =
+pub bindings::evaluate_bindings-returns-in_err-bind-clause-meaning : goal.bindings::evaluate_bindings-returns-in_err-bind-clause-meaning
+bindings::evaluate_bindings-returns-in_err-bind-clause-meaning g t c =
     let p = err_from_is_err_and c.from_residual-in_err-bind.result c.from_residual-in_err-bind.ensures.1 in
     let at = c.loop-binding.binding-index in
     let rest = drop (suc at) c.args.bindings.now in
@@ -104,8 +104,8 @@ evaluate_bindings-returns-in_err-bind-clause-meaning g t c =
     (full-bound (means c.args.left c.args.context.now.budget c.args.context.now.app.now c.args.context.now.slots.now) (grows-means c.args.left c.args.context.now.budget c.args.context.now.app.now c.args.context.now.slots.now) c.args.level c.binding-item.result.name c.binding-item.result.value (bindings_of rest) (c.loop-binding.frame ++ (variables_of c.args.scope.now)) (data_of c.in_ok-value.value) c.loop-binding.meter.cost c.loop-binding.meter.deepest c.evaluate.new.meter.cost c.evaluate.new.meter.deepest
     c.in_ok-value.ensures.meaning)
 
-pub evaluate_operation-returns-in_err-first-in-len2-clause-meaning : goal.evaluate_operation-returns-in_err-first-in-len2-clause-meaning
-evaluate_operation-returns-in_err-first-in-len2-clause-meaning g t c =
+pub calls::evaluate_operation-returns-in_err-first-in-len2-clause-meaning : goal.calls::evaluate_operation-returns-in_err-first-in-len2-clause-meaning
+calls::evaluate_operation-returns-in_err-first-in-len2-clause-meaning g t c =
     let p = err_from_is_err_and c.from_residual-in_err-first-in-len2.result c.from_residual-in_err-first-in-len2.ensures.1 in
     let whole : terms_of c.args.parts.now ≡ part c.first-item.result (part c.second-item.result none) =
     pair c.args.parts.now c.first-item.result c.second-item.result (omega (arith, c.in-len2.len_at_least)) (omega (arith, c.in-len2.len_below)) c.first-item.is c.second-item.is in
@@ -113,8 +113,8 @@ evaluate_operation-returns-in_err-first-in-len2-clause-meaning g t c =
     (stop-first c.args.context.now.app.now (means c.args.left c.args.context.now.budget c.args.context.now.app.now c.args.context.now.slots.now) (grows-means c.args.left c.args.context.now.budget c.args.context.now.app.now c.args.context.now.slots.now) c.args.level (variables_of c.args.scope.now) c.args.operator.now c.first-item.result (part c.second-item.result none) c.in_err-first-in-len2.field-0.0 c.evaluate-in-len2.new.meter c.args.meter.now.cost c.args.meter.now.deepest
     c.in_err-first-in-len2.ensures.meaning)
 
-pub evaluate_operation-returns-in_err-second-in-len2-clause-meaning : goal.evaluate_operation-returns-in_err-second-in-len2-clause-meaning
-evaluate_operation-returns-in_err-second-in-len2-clause-meaning g t c =
+pub calls::evaluate_operation-returns-in_err-second-in-len2-clause-meaning : goal.calls::evaluate_operation-returns-in_err-second-in-len2-clause-meaning
+calls::evaluate_operation-returns-in_err-second-in-len2-clause-meaning g t c =
     let p = err_from_is_err_and c.from_residual-in_err-second-in-len2.result c.from_residual-in_err-second-in-len2.ensures.1 in
     let whole : terms_of c.args.parts.now ≡ part c.first-item.result (part c.second-item.result none) =
     pair c.args.parts.now c.first-item.result c.second-item.result (omega (arith, c.in-len2.len_at_least)) (omega (arith, c.in-len2.len_below)) c.first-item.is c.second-item.is in
@@ -122,48 +122,48 @@ evaluate_operation-returns-in_err-second-in-len2-clause-meaning g t c =
     (stop-second c.args.context.now.app.now (means c.args.left c.args.context.now.budget c.args.context.now.app.now c.args.context.now.slots.now) (grows-means c.args.left c.args.context.now.budget c.args.context.now.app.now c.args.context.now.slots.now) c.args.level (variables_of c.args.scope.now) c.args.operator.now c.first-item.result c.second-item.result none (data_of c.in_ok-first-in-len2.first) c.in_err-second-in-len2.field-0.0 c.evaluate-in-len2-2.new.meter c.args.meter.now.cost c.args.meter.now.deepest c.evaluate-in-len2.new.meter.cost c.evaluate-in-len2.new.meter.deepest
     c.in_ok-first-in-len2.ensures.meaning c.in_err-second-in-len2.ensures.meaning)
 
-pub evaluate_operation-returns-in_ok-second-in-len2-clause-meaning : goal.evaluate_operation-returns-in_ok-second-in-len2-clause-meaning
-evaluate_operation-returns-in_ok-second-in-len2-clause-meaning g t c =
+pub calls::evaluate_operation-returns-in_ok-second-in-len2-clause-meaning : goal.calls::evaluate_operation-returns-in_ok-second-in-len2-clause-meaning
+calls::evaluate_operation-returns-in_ok-second-in-len2-clause-meaning g t c =
     let whole : terms_of c.args.parts.now ≡ part c.first-item.result (part c.second-item.result none) =
     pair c.args.parts.now c.first-item.result c.second-item.result (omega (arith, c.in-len2.len_at_least)) (omega (arith, c.in-len2.len_below)) c.first-item.is c.second-item.is in
     rw whole
     (done-second c.args.context.now.app.now (means c.args.left c.args.context.now.budget c.args.context.now.app.now c.args.context.now.slots.now) c.args.level (variables_of c.args.scope.now) c.args.operator.now c.first-item.result c.second-item.result (data_of c.in_ok-first-in-len2.first) (data_of c.in_ok-second-in-len2.second) c.operate-in-len2.result c.evaluate-in-len2-2.new.meter c.args.meter.now.cost c.args.meter.now.deepest c.evaluate-in-len2.new.meter.cost c.evaluate-in-len2.new.meter.deepest
     c.in_ok-first-in-len2.ensures.meaning c.in_ok-second-in-len2.ensures.meaning c.operate-in-len2.ensures)
 
-pub evaluate_parts-returns-in_err-evaluate_test-in-If-clause-meaning : goal.evaluate_parts-returns-in_err-evaluate_test-in-If-clause-meaning
-evaluate_parts-returns-in_err-evaluate_test-in-If-clause-meaning g t c =
+pub evaluation::evaluate_parts-returns-in_err-evaluate_test-in-If-clause-meaning : goal.evaluation::evaluate_parts-returns-in_err-evaluate_test-in-If-clause-meaning
+evaluation::evaluate_parts-returns-in_err-evaluate_test-in-If-clause-meaning g t c =
     let p = err_from_is_err_and c.from_residual-in_err-evaluate_test-in-If.result c.from_residual-in_err-evaluate_test-in-If.ensures.1 in
     let whole : c.args.expr.now ≡ term.choice c.in-If.test.value c.in-If.then.value c.in-If.other.value = sym c.expr.view_is ∙ ap term_of c.in-If.is in
     let stop = rw c.deref.ensures at c.in_err-evaluate_test-in-If.ensures.meaning in
     rw (p.1, p.2, whole)
     (stop-choice c.args.context.now.app.now c.args.context.now.slots.now (means c.args.left c.args.context.now.budget c.args.context.now.app.now c.args.context.now.slots.now) (grows-means c.args.left c.args.context.now.budget c.args.context.now.app.now c.args.context.now.slots.now) c.args.level (variables_of c.args.scope.now) c.in-If.test.value c.in-If.then.value c.in-If.other.value c.in_err-evaluate_test-in-If.field-0.0 c.evaluate_test.new.meter c.args.meter.now.cost c.args.meter.now.deepest stop)
 
-pub evaluate_parts-returns-in_err-list-in-Map-clause-meaning : goal.evaluate_parts-returns-in_err-list-in-Map-clause-meaning
-evaluate_parts-returns-in_err-list-in-Map-clause-meaning g t c =
+pub evaluation::evaluate_parts-returns-in_err-list-in-Map-clause-meaning : goal.evaluation::evaluate_parts-returns-in_err-list-in-Map-clause-meaning
+evaluation::evaluate_parts-returns-in_err-list-in-Map-clause-meaning g t c =
     let p = err_from_is_err_and c.from_residual-in_err-list-in-Map.result c.from_residual-in_err-list-in-Map.ensures.1 in
     let whole : c.args.expr.now ≡ term.map c.in-Map.name c.in-Map.list.value c.in-Map.body.value = sym c.expr.view_is ∙ ap term_of c.in-Map.is in
     let stop = rw c.deref-in-Map.ensures at c.in_err-list-in-Map.ensures.meaning in
     rw (p.1, p.2, whole)
     (stop-map c.args.context.now.app.now c.args.context.now.slots.now (means c.args.left c.args.context.now.budget c.args.context.now.app.now c.args.context.now.slots.now) (grows-means c.args.left c.args.context.now.budget c.args.context.now.app.now c.args.context.now.slots.now) c.args.level (variables_of c.args.scope.now) c.in-Map.name c.in-Map.list.value c.in-Map.body.value c.in_err-list-in-Map.field-0.0 c.evaluate_list.new.meter c.args.meter.now.cost c.args.meter.now.deepest stop)
 
-pub evaluate_parts-returns-in_err-list-in-Filter-clause-meaning : goal.evaluate_parts-returns-in_err-list-in-Filter-clause-meaning
-evaluate_parts-returns-in_err-list-in-Filter-clause-meaning g t c =
+pub evaluation::evaluate_parts-returns-in_err-list-in-Filter-clause-meaning : goal.evaluation::evaluate_parts-returns-in_err-list-in-Filter-clause-meaning
+evaluation::evaluate_parts-returns-in_err-list-in-Filter-clause-meaning g t c =
     let p = err_from_is_err_and c.from_residual-in_err-list-in-Filter.result c.from_residual-in_err-list-in-Filter.ensures.1 in
     let whole : c.args.expr.now ≡ term.filter c.in-Filter.name c.in-Filter.list.value c.in-Filter.body.value = sym c.expr.view_is ∙ ap term_of c.in-Filter.is in
     let stop = rw c.deref-in-Filter.ensures at c.in_err-list-in-Filter.ensures.meaning in
     rw (p.1, p.2, whole)
     (stop-filter c.args.context.now.app.now c.args.context.now.slots.now (means c.args.left c.args.context.now.budget c.args.context.now.app.now c.args.context.now.slots.now) (grows-means c.args.left c.args.context.now.budget c.args.context.now.app.now c.args.context.now.slots.now) c.args.level (variables_of c.args.scope.now) c.in-Filter.name c.in-Filter.list.value c.in-Filter.body.value c.in_err-list-in-Filter.field-0.0 c.evaluate_list-in-Filter.new.meter c.args.meter.now.cost c.args.meter.now.deepest stop)
 
-pub evaluate_parts-returns-in_err-list-in-Fold-clause-meaning : goal.evaluate_parts-returns-in_err-list-in-Fold-clause-meaning
-evaluate_parts-returns-in_err-list-in-Fold-clause-meaning g t c =
+pub evaluation::evaluate_parts-returns-in_err-list-in-Fold-clause-meaning : goal.evaluation::evaluate_parts-returns-in_err-list-in-Fold-clause-meaning
+evaluation::evaluate_parts-returns-in_err-list-in-Fold-clause-meaning g t c =
     let p = err_from_is_err_and c.from_residual-in_err-list-in-Fold.result c.from_residual-in_err-list-in-Fold.ensures.1 in
     let whole : c.args.expr.now ≡ term.fold c.in-Fold.name c.in-Fold.list.value c.in-Fold.accumulator c.in-Fold.opening.value c.in-Fold.body.value = sym c.expr.view_is ∙ ap term_of c.in-Fold.is in
     let stop = rw c.deref-in-Fold.ensures at c.in_err-list-in-Fold.ensures.meaning in
     rw (p.1, p.2, whole)
     (stop-fold c.args.context.now.app.now c.args.context.now.slots.now (means c.args.left c.args.context.now.budget c.args.context.now.app.now c.args.context.now.slots.now) (grows-means c.args.left c.args.context.now.budget c.args.context.now.app.now c.args.context.now.slots.now) c.args.level (variables_of c.args.scope.now) c.in-Fold.name c.in-Fold.accumulator c.in-Fold.list.value c.in-Fold.opening.value c.in-Fold.body.value c.in_err-list-in-Fold.field-0.0 c.evaluate-in-Fold.new.meter c.args.meter.now.cost c.args.meter.now.deepest stop)
 
-pub evaluate_parts-returns-in_err-opening-in-Fold-clause-meaning : goal.evaluate_parts-returns-in_err-opening-in-Fold-clause-meaning
-evaluate_parts-returns-in_err-opening-in-Fold-clause-meaning g t c =
+pub evaluation::evaluate_parts-returns-in_err-opening-in-Fold-clause-meaning : goal.evaluation::evaluate_parts-returns-in_err-opening-in-Fold-clause-meaning
+evaluation::evaluate_parts-returns-in_err-opening-in-Fold-clause-meaning g t c =
     let p = err_from_is_err_and c.from_residual-in_err-opening-in-Fold.result c.from_residual-in_err-opening-in-Fold.ensures.1 in
     let whole : c.args.expr.now ≡ term.fold c.in-Fold.name c.in-Fold.list.value c.in-Fold.accumulator c.in-Fold.opening.value c.in-Fold.body.value = sym c.expr.view_is ∙ ap term_of c.in-Fold.is in
     let listed = rw c.deref-in-Fold.ensures at c.in_ok-list-in-Fold.ensures.meaning in
@@ -172,8 +172,8 @@ evaluate_parts-returns-in_err-opening-in-Fold-clause-meaning g t c =
     (stop-opening c.args.context.now.app.now c.args.context.now.slots.now (means c.args.left c.args.context.now.budget c.args.context.now.app.now c.args.context.now.slots.now) (grows-means c.args.left c.args.context.now.budget c.args.context.now.app.now c.args.context.now.slots.now) c.args.level (variables_of c.args.scope.now) c.in-Fold.name c.in-Fold.accumulator c.in-Fold.list.value c.in-Fold.opening.value c.in-Fold.body.value c.in_err-opening-in-Fold.field-0.0 c.evaluate-in-Fold-2.new.meter (data_of c.in_ok-list-in-Fold.list) c.args.meter.now.cost c.args.meter.now.deepest
     c.evaluate-in-Fold.new.meter.cost c.evaluate-in-Fold.new.meter.deepest listed stop)
 
-pub evaluate_parts-returns-in_err-list-in-Fold-2-clause-meaning : goal.evaluate_parts-returns-in_err-list-in-Fold-2-clause-meaning
-evaluate_parts-returns-in_err-list-in-Fold-2-clause-meaning g t c =
+pub evaluation::evaluate_parts-returns-in_err-list-in-Fold-2-clause-meaning : goal.evaluation::evaluate_parts-returns-in_err-list-in-Fold-2-clause-meaning
+evaluation::evaluate_parts-returns-in_err-list-in-Fold-2-clause-meaning g t c =
     let p = err_from_is_err_and c.from_residual-in_err-list-in-Fold-2.result c.from_residual-in_err-list-in-Fold-2.ensures.1 in
     let whole : c.args.expr.now ≡ term.fold c.in-Fold.name c.in-Fold.list.value c.in-Fold.accumulator c.in-Fold.opening.value c.in-Fold.body.value = sym c.expr.view_is ∙ ap term_of c.in-Fold.is in
     let listed = rw c.deref-in-Fold.ensures at c.in_ok-list-in-Fold.ensures.meaning in
@@ -182,16 +182,16 @@ evaluate_parts-returns-in_err-list-in-Fold-2-clause-meaning g t c =
     (stop-elements c.args.context.now.app.now c.args.context.now.slots.now (means c.args.left c.args.context.now.budget c.args.context.now.app.now c.args.context.now.slots.now) (grows-means c.args.left c.args.context.now.budget c.args.context.now.app.now c.args.context.now.slots.now) c.args.level (variables_of c.args.scope.now) c.in-Fold.name c.in-Fold.accumulator c.in-Fold.list.value c.in-Fold.opening.value c.in-Fold.body.value c.in_err-list-in-Fold-2.field-0.0 c.evaluate-in-Fold-2.new.meter (data_of c.in_ok-list-in-Fold.list) (data_of c.in_ok-opening-in-Fold.opening) c.args.meter.now.cost c.args.meter.now.deepest
     c.evaluate-in-Fold.new.meter.cost c.evaluate-in-Fold.new.meter.deepest listed opened c.in_err-list-in-Fold-2.ensures)
 
-pub evaluate_parts-returns-in_err-values-in-Call-clause-meaning : goal.evaluate_parts-returns-in_err-values-in-Call-clause-meaning
-evaluate_parts-returns-in_err-values-in-Call-clause-meaning g t c =
+pub evaluation::evaluate_parts-returns-in_err-values-in-Call-clause-meaning : goal.evaluation::evaluate_parts-returns-in_err-values-in-Call-clause-meaning
+evaluation::evaluate_parts-returns-in_err-values-in-Call-clause-meaning g t c =
     let p = err_from_is_err_and c.from_residual-in_err-values-in-Call.result c.from_residual-in_err-values-in-Call.ensures.1 in
     let whole : c.args.expr.now ≡ term.call c.in-Call.name (terms_of c.in-Call.parts.items) = sym c.expr.view_is ∙ ap term_of c.in-Call.is in
     let stop = rw c.deref-in-Call.ensures.value at c.in_err-values-in-Call.ensures.meaning in
     rw (p.1, p.2, whole)
     (stop-call c.args.context.now.app.now c.args.context.now.slots.now (means c.args.left c.args.context.now.budget c.args.context.now.app.now c.args.context.now.slots.now) (grows-means c.args.left c.args.context.now.budget c.args.context.now.app.now c.args.context.now.slots.now) c.args.level (variables_of c.args.scope.now) c.in-Call.name (terms_of c.in-Call.parts.items) c.in_err-values-in-Call.field-0.0 c.evaluate_each.new.meter c.args.meter.now.cost c.args.meter.now.deepest stop)
 
-pub filter_over-returns-in_err-kept-clause-meaning : goal.filter_over-returns-in_err-kept-clause-meaning
-filter_over-returns-in_err-kept-clause-meaning g t c =
+pub traversal::filter_over-returns-in_err-kept-clause-meaning : goal.traversal::filter_over-returns-in_err-kept-clause-meaning
+traversal::filter_over-returns-in_err-kept-clause-meaning g t c =
     let p = err_from_is_err_and c.from_residual.result c.from_residual.ensures.1 in
     let at = c.loop-item.item-index in
     let rest = drop (suc at) c.args.list.now in
@@ -201,8 +201,8 @@ filter_over-returns-in_err-kept-clause-meaning g t c =
     (stop-filtered (means c.args.left c.args.context.now.budget c.args.context.now.app.now c.args.context.now.slots.now) (grows-means c.args.left c.args.context.now.budget c.args.context.now.app.now c.args.context.now.slots.now) c.args.level (variables_of c.args.scope.now) c.args.name.now c.args.body.now (data_of c.item-item.result) (map data_of rest) c.loop-item.values c.in_err-kept.field-0.0 c.evaluate_test.new.meter c.loop-item.meter.cost c.loop-item.meter.deepest
     c.in_err-kept.ensures.meaning)
 
-pub filter_over-returns-in_err-add_if-clause-meaning : goal.filter_over-returns-in_err-add_if-clause-meaning
-filter_over-returns-in_err-add_if-clause-meaning g t c =
+pub traversal::filter_over-returns-in_err-add_if-clause-meaning : goal.traversal::filter_over-returns-in_err-add_if-clause-meaning
+traversal::filter_over-returns-in_err-add_if-clause-meaning g t c =
     let p = err_from_is_err_and c.from_residual-in_err-add_if.result c.from_residual-in_err-add_if.ensures.1 in
     let at = c.loop-item.item-index in
     let rest = drop (suc at) c.args.list.now in
@@ -214,8 +214,8 @@ filter_over-returns-in_err-add_if-clause-meaning g t c =
     (full-filtered (means c.args.left c.args.context.now.budget c.args.context.now.app.now c.args.context.now.slots.now) (grows-means c.args.left c.args.context.now.budget c.args.context.now.app.now c.args.context.now.slots.now) c.args.level (variables_of c.args.scope.now) c.args.name.now c.args.body.now (data_of c.item-item.result) (map data_of rest) c.loop-item.values c.in_ok-kept.kept c.loop-item.meter.cost c.loop-item.meter.deepest
     c.evaluate_test.new.meter.cost c.evaluate_test.new.meter.deepest c.in_ok-kept.ensures.meaning)
 
-pub fold_over-returns-in_err-next-clause-meaning : goal.fold_over-returns-in_err-next-clause-meaning
-fold_over-returns-in_err-next-clause-meaning g t c =
+pub traversal::fold_over-returns-in_err-next-clause-meaning : goal.traversal::fold_over-returns-in_err-next-clause-meaning
+traversal::fold_over-returns-in_err-next-clause-meaning g t c =
     let p = err_from_is_err_and c.from_residual.result c.from_residual.ensures.1 in
     let at = c.loop-item.item-index in
     let rest = drop (suc at) c.args.list.now in
@@ -225,8 +225,8 @@ fold_over-returns-in_err-next-clause-meaning g t c =
     (stop-folded (means c.args.left c.args.context.now.budget c.args.context.now.app.now c.args.context.now.slots.now) (grows-means c.args.left c.args.context.now.budget c.args.context.now.app.now c.args.context.now.slots.now) c.args.level (variables_of c.args.scope.now) c.args.name.now c.args.accumulator.now c.args.body.now (data_of c.item-item.result) (map data_of rest) (data_of c.loop-item.value) c.in_err-next.field-0.0 c.evaluate.new.meter c.loop-item.meter.cost c.loop-item.meter.deepest
     c.in_err-next.ensures.meaning)
 
-pub map_over-returns-in_err-value-clause-meaning : goal.map_over-returns-in_err-value-clause-meaning
-map_over-returns-in_err-value-clause-meaning g t c =
+pub traversal::map_over-returns-in_err-value-clause-meaning : goal.traversal::map_over-returns-in_err-value-clause-meaning
+traversal::map_over-returns-in_err-value-clause-meaning g t c =
     let p = err_from_is_err_and c.from_residual.result c.from_residual.ensures.1 in
     let at = c.loop-item.item-index in
     let rest = drop (suc at) c.args.list.now in
@@ -236,8 +236,8 @@ map_over-returns-in_err-value-clause-meaning g t c =
     (stop-mapped (means c.args.left c.args.context.now.budget c.args.context.now.app.now c.args.context.now.slots.now) (grows-means c.args.left c.args.context.now.budget c.args.context.now.app.now c.args.context.now.slots.now) c.args.level (variables_of c.args.scope.now) c.args.name.now c.args.body.now (data_of c.item-item.result) (map data_of rest) c.loop-item.values c.in_err-value.field-0.0 c.evaluate.new.meter c.loop-item.meter.cost c.loop-item.meter.deepest
     c.in_err-value.ensures.meaning)
 
-pub map_over-returns-in_err-add-clause-meaning : goal.map_over-returns-in_err-add-clause-meaning
-map_over-returns-in_err-add-clause-meaning g t c =
+pub traversal::map_over-returns-in_err-add-clause-meaning : goal.traversal::map_over-returns-in_err-add-clause-meaning
+traversal::map_over-returns-in_err-add-clause-meaning g t c =
     let p = err_from_is_err_and c.from_residual-in_err-add.result c.from_residual-in_err-add.ensures.1 in
     let at = c.loop-item.item-index in
     let rest = drop (suc at) c.args.list.now in
