@@ -1,21 +1,14 @@
--- A row of a number of parts refuses any other number; and the parts of a statement as parts of an expression.
-use Rattle.std.proofs.Common.{◌≡◌, ℕ, length, map, List, [], ◌∷◌, refl, ap}
+-- A row of a number of parts refuses any other number.
+use Rattle.std.proofs.Common.{◌≡◌, ℕ, length, map, List, [], ◌∷◌, refl}
 use Rattle.std.specs.Prelude.{Err}
 use Rattle.cl_forms.specs.Datum.{datums_of}
 use Rattle.cl_forms.specs.DatumView.{datum_of}
 use Rattle.cl_forms.specs.Load.{Unknown}
 use Rattle.cl_forms.specs.Scopes.{Names}
-use Rattle.cl_forms.specs.Expressions.{subs, expr_of, bound_in}
+use Rattle.cl_forms.specs.Expressions.{subs}
 use Rattle.cl_forms.specs.declared.datum.Datum.{Datum}
 use Rattle.cl_forms.specs.declared.worlds.World.{World}
-use Rattle.cl_declare.specs.Commands.{parts_in, subs_of, if_row, setf_row, place_in, reply_row}
-
-pub if_counts : (w : World) (at : ℕ) (ds : List Datum) (env : Names) (s : Unknown) → (length ds ≡ 3 → ⊥) → if_row at (parts_in w (datums_of (map datum_of ds))) env s ≡ Err (6, at)
-if_counts w at [] env s h = refl
-if_counts w at (a ∷ []) env s h = refl
-if_counts w at (a ∷ b ∷ []) env s h = refl
-if_counts w at (a ∷ b ∷ c ∷ []) env s h = absurd (h refl)
-if_counts w at (a ∷ b ∷ c ∷ d ∷ ds) env s h = refl
+use Rattle.cl_declare.specs.Commands.{setf_row, place_in, reply_row}
 
 pub setf_counts : (w : World) (at : ℕ) (ds : List Datum) (env : Names) (s : Unknown) → (length ds ≡ 2 → ⊥) → setf_row w at (subs w (datums_of (map datum_of ds))) env s ≡ Err (6, at)
 setf_counts w at [] env s h = refl
@@ -33,7 +26,3 @@ pub reply_counts : (w : World) (at : ℕ) (ds : List Datum) (env : Names) (s : U
 reply_counts w at [] env s h = refl
 reply_counts w at (a ∷ []) env s h = absurd (h refl)
 reply_counts w at (a ∷ b ∷ ds) env s h = refl
-
-pub command_subs : (w : World) (ds : List Datum) → subs_of (parts_in w (datums_of (map datum_of ds))) ≡ subs w (datums_of (map datum_of ds))
-command_subs w [] = refl
-command_subs w (d ∷ ds) = ap (λ ps. record { shape = datum_of d; expr = expr_of w (datum_of d); bound = bound_in w (datum_of d) } ∷ ps) (command_subs w ds)

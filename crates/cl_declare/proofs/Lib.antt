@@ -1,4 +1,5 @@
 pub mod BodySteps
+pub mod BodyRows
 pub mod DisplayRows
 pub mod CommandRows
 pub mod FrameRows

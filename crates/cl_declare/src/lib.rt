@@ -2,11 +2,15 @@
 //! frames, with their display forms and statements, and their exact refusals.
 #![tactic(auto)]
 
+mod bodies;
 mod declarations;
 mod display_forms;
 mod frames;
 mod heads;
+mod languages;
+mod own;
 mod parts;
+mod plain_forms;
 mod rows;
 mod slot_types;
 mod slots;

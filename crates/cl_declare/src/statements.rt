@@ -1,30 +1,23 @@
 //! The statement that a form is.
-ghost use Rattle.std.specs.Prelude.{◌≡◌, IfOk, map};
-ghost use Rattle.cl_syntax.specs.Statement.{choice};
-ghost use Rattle.cl_forms.specs.Datum.{datums_of, word};
+ghost use Rattle.std.specs.Prelude.{◌≡◌, map};
+ghost use Rattle.cl_forms.specs.Datum.{datums_of};
 ghost use Rattle.cl_forms.specs.DatumView.{datum_of};
 ghost use Rattle.cl_forms.specs.Load.{Gives, itself};
 ghost use Rattle.cl_forms.specs.Scopes.{variables_of};
 ghost use Rattle.cl_forms.specs.Expressions.{subs};
-ghost use Rattle.cl_declare.specs.Commands.{act_of, acts_of, parts_in, form_row, headed_row, control_row, if_row, choice_then, choice_else, when_row, let_row, dolist_row, dolist_body, progn_row, plain_row, setf_row, place_in, place_named, reply_row};
+ghost use Rattle.cl_declare.specs.Commands.{act_of, acts_of, plain_row, setf_row, place_in, place_named, reply_row};
 
+use crate::bodies::{body_in, form_in};
+use crate::languages::Language;
+use crate::own::Own;
 use cl_forms::{
-    Control, Datum, LoadRefusal, Scope, World, binding_in, bound_in, control_named, expr_in,
-    is_binding_list, is_later_statement, named_part, note, symbol_of,
+    Datum, LoadRefusal, Scope, World, expr_in, is_later_statement, named_part, note, symbol_of,
 };
-use cl_syntax::{Act, Acts, Expr};
+use cl_syntax::{Act, Acts, Binding, Expr};
 use cl_value::Text;
 use std::alloc::{AllocError, Global};
 
-/// The test of an `if` and the statement where it holds.
-#[derive(Drop)]
-struct Opening {
-    test: Expr,
-    first: Act,
-}
-
 /// The statement that a datum is. Where a name in it is not declared, the first such is noted.
-#[cycle(command)]
 pub fn act_in(
     alloc: Global,
     world: &World,
@@ -34,19 +27,10 @@ pub fn act_in(
 ) -> Result<Act, LoadRefusal>
     ensures { Gives itself result unknown.new (act_of world.now (datum_of datum.now) (variables_of scope.now) unknown.old) }
 {
-    match datum {
-        Datum::List(parts, at) => form_row(alloc, world, *at, parts.as_slice(), scope, unknown),
-        Datum::Number(_, at) => Err(LoadRefusal::Refused(6, *at)),
-        Datum::Literal(_, at) => Err(LoadRefusal::Refused(6, *at)),
-        Datum::Word(_, at) => Err(LoadRefusal::Refused(6, *at)),
-        Datum::Quoted(_, at, _) => Err(LoadRefusal::Refused(6, *at)),
-        Datum::Stray(at) => Err(LoadRefusal::Refused(6, *at)),
-    }
+    form_in(alloc, world, datum, scope, unknown)
 }
 
 /// The statements of a body, in order.
-#[cycle(command)]
-#[tactic(auto, using(cl_forms::proofs::Data::datum_weighs))]
 pub fn acts_in(
     alloc: Global,
     world: &World,
@@ -56,231 +40,64 @@ pub fn acts_in(
 ) -> Result<Acts, LoadRefusal>
     ensures { Gives itself result unknown.new (acts_of world.now (datums_of (map datum_of parts.now)) (variables_of scope.now) unknown.old) }
 {
-    let mut acts = Acts::new(alloc);
-    for part in parts {
-        let act = act_in(alloc, world, part, scope, unknown)?;
-        acts.push(act)?;
+    body_in::<Act>(alloc, world, parts, scope, unknown)
+}
+
+impl Language for Act {
+    ghost use Rattle.cl_declare.specs.Commands.{commands};
+
+    type Body = Acts;
+
+    type Opening = ();
+
+    ghost rows = { commands };
+
+    ghost items = { λ body. body };
+
+    fn choice(alloc: Global, test: Expr, first: Act, other: Act) -> Result<Act, AllocError> {
+        Act::choice(alloc, test, first, other)
     }
-    Ok(acts)
-}
 
-/// A statement: a list that begins with a symbol.
-#[cycle(command)]
-fn form_row(
-    alloc: Global,
-    world: &World,
-    at: u32,
-    parts: &[Datum],
-    scope: &Scope,
-    unknown: &mut Option<u32>,
-) -> Result<Act, LoadRefusal>
-    ensures { Gives itself result unknown.new (form_row world.now at (parts_in world.now (datums_of (map datum_of parts.now))) (variables_of scope.now) unknown.old) }
-{
-    let Some((head, parts)) = parts.split_first() else {
-        return Err(LoadRefusal::Refused(6, at));
-    };
-    match head {
-        Datum::Word(head, head_at) => head_row(
-            alloc, world, head, *head_at, at, parts, scope, unknown,
-        ),
-        Datum::Number(_, _) => Err(LoadRefusal::Refused(6, at)),
-        Datum::Literal(_, _) => Err(LoadRefusal::Refused(6, at)),
-        Datum::Quoted(_, _, _) => Err(LoadRefusal::Refused(6, at)),
-        Datum::Stray(_) => Err(LoadRefusal::Refused(6, at)),
-        Datum::List(_, _) => Err(LoadRefusal::Refused(6, at)),
+    fn when(test: Expr, body: Acts) -> Act {
+        Act::when(test, body)
     }
-}
 
-#[cycle(command)]
-#[tactic(auto, using(crate::proofs::CommandRows::command_subs))]
-fn head_row(
-    alloc: Global,
-    world: &World,
-    head: &Text,
-    head_at: u32,
-    at: u32,
-    parts: &[Datum],
-    scope: &Scope,
-    unknown: &mut Option<u32>,
-) -> Result<Act, LoadRefusal>
-    ensures { Gives itself result unknown.new (headed_row world.now (word head.now head_at) at (parts_in world.now (datums_of (map datum_of parts.now))) (variables_of scope.now) unknown.old) }
-{
-    match control_named(head.as_slice()) {
-        Some(control) => control_row(alloc, world, control, at, parts, scope, unknown),
-        None => plain_row(alloc, world, head, head_at, at, parts, scope, unknown),
+    fn bind(bindings: Vec<Binding>, body: Acts) -> Act {
+        Act::bind(bindings, body)
     }
-}
 
-#[cycle(command)]
-fn control_row(
-    alloc: Global,
-    world: &World,
-    control: Control,
-    at: u32,
-    parts: &[Datum],
-    scope: &Scope,
-    unknown: &mut Option<u32>,
-) -> Result<Act, LoadRefusal>
-    ensures { Gives itself result unknown.new (control_row world.now control at (parts_in world.now (datums_of (map datum_of parts.now))) (variables_of scope.now) unknown.old) }
-{
-    match control {
-        Control::If => if_row(alloc, world, at, parts, scope, unknown),
-        Control::When => when_row(alloc, world, at, parts, scope, unknown),
-        Control::Let => let_row(alloc, world, at, parts, scope, unknown),
-        Control::Dolist => dolist_row(alloc, world, at, parts, scope, unknown),
-        Control::Progn => Ok(Act::sequence(acts_in(alloc, world, parts, scope, unknown)?)),
+    fn each(name: Text, list: Expr, body: Acts) -> Act {
+        Act::each(name, list, body)
     }
-}
 
-/// `(if TEST THEN ELSE)`
-#[cycle(command)]
-#[tactic(auto, using(crate::proofs::CommandRows::if_counts))]
-fn if_row(
-    alloc: Global,
-    world: &World,
-    at: u32,
-    parts: &[Datum],
-    scope: &Scope,
-    unknown: &mut Option<u32>,
-) -> Result<Act, LoadRefusal>
-    ensures { Gives itself result unknown.new (if_row at (parts_in world.now (datums_of (map datum_of parts.now))) (variables_of scope.now) unknown.old) }
-{
-    match parts {
-        [test, first, other] => {
-            let test = expr_in(alloc, world, test, scope, unknown)?;
-            if_branches(alloc, world, test, first, other, scope, unknown)
-        }
-        [] => Err(LoadRefusal::Refused(6, at)),
-        [_] => Err(LoadRefusal::Refused(6, at)),
-        [_, _] => Err(LoadRefusal::Refused(6, at)),
-        [_, _, _, _, ..] => Err(LoadRefusal::Refused(6, at)),
+    fn sequence(body: Acts) -> Act {
+        Act::sequence(body)
     }
-}
 
-#[cycle(command)]
-fn if_branches(
-    alloc: Global,
-    world: &World,
-    test: Expr,
-    first: &Datum,
-    other: &Datum,
-    scope: &Scope,
-    unknown: &mut Option<u32>,
-) -> Result<Act, LoadRefusal>
-    ensures { Gives itself result unknown.new (choice_then test (act_of world.now (datum_of first.now) (variables_of scope.now)) (act_of world.now (datum_of other.now) (variables_of scope.now)) unknown.old) }
-{
-    let first = act_in(alloc, world, first, scope, unknown)?;
-    let opening = Opening { test, first };
-    if_else(alloc, world, opening, other, scope, unknown)
-}
-
-#[cycle(command)]
-fn if_else(
-    alloc: Global,
-    world: &World,
-    opening: Opening,
-    other: &Datum,
-    scope: &Scope,
-    unknown: &mut Option<u32>,
-) -> Result<Act, LoadRefusal>
-    ensures { Gives itself result unknown.new (choice_else opening.test opening.first (act_of world.now (datum_of other.now) (variables_of scope.now)) unknown.old) }
-{
-    let other = act_in(alloc, world, other, scope, unknown)?;
-    Ok(choice_of(alloc, opening, other)?)
-}
-
-fn choice_of(alloc: Global, opening: Opening, other: Act) -> Result<Act, AllocError>
-    ensures { IfOk result (λ s. s ≡ choice opening.test opening.first other) }
-{
-    let Opening { test, first } = opening;
-    Act::choice(alloc, test, first, other)
-}
-
-/// `(when TEST STATEMENT ...)`
-#[cycle(command)]
-fn when_row(
-    alloc: Global,
-    world: &World,
-    at: u32,
-    parts: &[Datum],
-    scope: &Scope,
-    unknown: &mut Option<u32>,
-) -> Result<Act, LoadRefusal>
-    ensures { Gives itself result unknown.new (when_row at (parts_in world.now (datums_of (map datum_of parts.now))) (variables_of scope.now) unknown.old) }
-{
-    let Some((test, body)) = parts.split_first() else {
-        return Err(LoadRefusal::Refused(6, at));
-    };
-    let test = expr_in(alloc, world, test, scope, unknown)?;
-    let body = acts_in(alloc, world, body, scope, unknown)?;
-    Ok(Act::when(test, body))
-}
-
-/// `(let ((NAME E) ...) STATEMENT ...)`: each binding sees the earlier ones.
-#[cycle(command)]
-fn let_row(
-    alloc: Global,
-    world: &World,
-    at: u32,
-    parts: &[Datum],
-    scope: &Scope,
-    unknown: &mut Option<u32>,
-) -> Result<Act, LoadRefusal>
-    ensures { Gives itself result unknown.new (let_row at (parts_in world.now (datums_of (map datum_of parts.now))) (variables_of scope.now) unknown.old) }
-{
-    let Some((bindings, body)) = parts.split_first() else {
-        return Err(LoadRefusal::Refused(6, at));
-    };
-    if !is_binding_list(bindings) {
-        return Err(LoadRefusal::Refused(6, at));
+    fn empty(alloc: Global) -> Acts {
+        Acts::new(alloc)
     }
-    let bound = bound_in(alloc, world, at, bindings, scope, unknown)?;
-    let inner = Scope::Names(bound.names.as_slice(), &*scope);
-    let body = acts_in(alloc, world, body, &inner, unknown)?;
-    Ok(Act::bind(bound.bindings, body))
-}
 
-/// `(dolist (NAME LIST) STATEMENT ...)`
-#[cycle(command)]
-fn dolist_row(
-    alloc: Global,
-    world: &World,
-    at: u32,
-    parts: &[Datum],
-    scope: &Scope,
-    unknown: &mut Option<u32>,
-) -> Result<Act, LoadRefusal>
-    ensures { Gives itself result unknown.new (dolist_row world.now at (parts_in world.now (datums_of (map datum_of parts.now))) (variables_of scope.now) unknown.old) }
-{
-    let Some((binding, body)) = parts.split_first() else {
-        return Err(LoadRefusal::Refused(6, at));
-    };
-    let binding = binding_in(alloc, world, at, binding, scope, unknown)?;
-    dolist_body(
-        alloc,
-        world,
-        binding.name,
-        binding.value,
-        body,
-        scope,
-        unknown,
-    )
-}
+    fn push(body: &mut Acts, form: Act) -> Result<(), AllocError> {
+        body.push(form)
+    }
 
-#[cycle(command)]
-fn dolist_body(
-    alloc: Global,
-    world: &World,
-    name: Text,
-    list: Expr,
-    body: &[Datum],
-    scope: &Scope,
-    unknown: &mut Option<u32>,
-) -> Result<Act, LoadRefusal>
-    ensures { Gives itself result unknown.new (dolist_body name list (parts_in world.now (datums_of (map datum_of body.now))) (variables_of scope.now) unknown.old) }
-{
-    let body = acts_in(alloc, world, body, &Scope::One(&name, &*scope), unknown)?;
-    Ok(Act::each(name, list, body))
+    fn own_row(
+        alloc: Global,
+        world: &World,
+        head: &Text,
+        head_at: u32,
+        at: u32,
+        parts: &[Datum],
+        scope: &Scope,
+        unknown: &mut Option<u32>,
+    ) -> Result<Own<Act, ()>, LoadRefusal> {
+        Ok(Own::Whole(plain_row(alloc, world, head, head_at, at, parts, scope, unknown)?))
+    }
+
+    fn closed(_: (), body: Acts) -> Act {
+        Act::sequence(body)
+    }
 }
 
 /// A statement whose parts are expressions.
