@@ -1,6 +1,7 @@
 -- Display forms: the cost never falls, a form that could be entered draws what its parts draw, and a part that stops, stops the whole.
-use Rattle.std.proofs.Common.{◌≡◌, ℕ, zero, suc, ◌+◌, ◌-◌, ◌==◌, Bool, if◌then◌else◌, nat_le, List, [], ◌∷◌, ◌++◌, length, Option, Some, None, Err, arith}
+use Rattle.std.proofs.Common.{◌≡◌, ℕ, zero, suc, ◌+◌, ◌-◌, ◌==◌, Bool, if◌then◌else◌, nat_le, List, [], ◌∷◌, ◌++◌, refl, length, Option, Some, None, Result, Ok, Err, arith}
 use Rattle.cl_value.specs.Data.{Data}
+use Rattle.cl_value.specs.Value.{data_of}
 use Rattle.cl_syntax.specs.Form as shape
 use Rattle.cl_syntax.specs.Form.{Form, Forms, none, form, forms_of}
 use Rattle.cl_syntax.specs.Term.{Term, Terms, Bindings}
@@ -9,14 +10,16 @@ use Rattle.cl_syntax.specs.declared.applications.App.{App}
 use Rattle.cl_syntax.specs.declared.declarations.DisplayDecl.{DisplayDecl}
 use Rattle.cl_eval.specs.declared.metering.Meter.{Meter}
 use Rattle.cl_eval.specs.declared.metering.Stop.{Stop}
-use Rattle.cl_eval.specs.Outcome.{Gives, Traps, give, trap, lift}
+use Rattle.cl_eval.specs.declared.metering.Stop.TheVariants.{Trap, Memory}
+use Rattle.cl_eval.specs.Outcome.{Gives, Traps, ◌>>=◌, give, trap, lift}
 use Rattle.cl_eval.specs.Slots.{Slots, Env, given}
 use Rattle.cl_eval.specs.Meaning.{Go, bound, each, entering, tested, listed, means}
-use Rattle.cl_eval.specs.Agrees.{Agrees, always, itself, items_are}
+use Rattle.cl_eval.specs.Agrees.{Agrees, Comes, always, itself, items_are}
 use Rattle.cl_eval.proofs.CostLemmas.{Grows, GoGrows, Agrees-stop, grows-then, grows-give, grows-lift, grows-choice, grows-each, grows-entering, grows-tested, grows-listed, grows-bound, grows-means}
 use Rattle.cl_eval.proofs.EnteringLemmas.{no_entry}
-use Rattle.cl_display.specs.Drawings.{DrawingAt, lined}
-use Rattle.cl_display.specs.Fresh.{Draws, written, in_order, for_each, draws_in, called, shape_parts, draws}
+use Rattle.cl_syntax.specs.declared.figures.Figure.{Figure}
+use Rattle.cl_display.specs.Drawings.{DrawingAt, figured, indented, ink_back, inked, lined, margin_back, outer_of, room_entered, room_left}
+use Rattle.cl_display.specs.Fresh.{Draws, written, in_order, for_each, draws_in, called, shape_parts, draws, within}
 
 abbrev pub DrawsGrow : Draws → Type 0
 DrawsGrow go = (level : ℕ) (env : Env) (f : Form) (s : DrawingAt) → Grows (go level env f s)
@@ -42,6 +45,16 @@ grows-called go g level (Some f) s ds =
     grows-choice (length ds == length f.parameters) (in_order go level (given f.parameters ds) (forms_of f.body) s) (trap 1)
     (grows-in_order go g level (given f.parameters ds) (forms_of f.body) s) (λ c d. omega arith)
 
+pub grows-left : (go : Draws) → DrawsGrow go → (level : ℕ) (env : Env) (body : Forms) (leave : DrawingAt → DrawingAt) (s : DrawingAt)
+    → Grows (in_order go level env body s >>= λ end. give (leave end))
+grows-left go g level env body leave s =
+    grows-then (in_order go level env body s) (λ end. give (leave end)) (grows-in_order go g level env body s) (λ end. grows-give (leave end))
+
+pub grows-within : (go : Draws) → DrawsGrow go → (level : ℕ) (env : Env) (body : Forms) (r : Result DrawingAt ℕ) (leave : DrawingAt → DrawingAt)
+    → Grows (within go level env body r leave)
+grows-within go g level env body r leave =
+    grows-then (lift r) (λ inner. in_order go level env body inner >>= λ end. give (leave end)) (grows-lift r) (grows-left go g level env body leave)
+
 pub grows-then_form : (go : Draws) → DrawsGrow go → (level : ℕ) (env : Env) (a b : Form) (s : DrawingAt) (holds : Bool) → Grows (if holds then go level env a s else go level env b s)
 grows-then_form go g level env a b s holds = grows-choice holds (go level env a s) (go level env b s) (g level env a s) (g level env b s)
 
@@ -53,6 +66,13 @@ grows-shape_parts : (app : App) (value : Go) → GoGrows value → (go : Draws) 
 grows-shape_parts app value v go g level env (shape.write_text t) s =
     grows-then (value level env t) (λ d. lift (written s d)) (v level env t) (λ d. grows-lift (written s d))
 grows-shape_parts app value v go g level env shape.newline s = grows-lift (lined s)
+grows-shape_parts app value v go g level env (shape.draw figure ts) s =
+    grows-then (each value level env ts []) (λ ds. lift (figured figure ds s)) (grows-each value v level env ts []) (λ ds. grows-lift (figured figure ds s))
+grows-shape_parts app value v go g level env (shape.indent t body) s =
+    grows-then (value level env t) (λ d. within go level env body (indented d s) (margin_back s.ambient)) (v level env t) (λ d. grows-within go g level env body (indented d s) (margin_back s.ambient))
+grows-shape_parts app value v go g level env (shape.ink t body) s =
+    grows-then (value level env t) (λ d. within go level env body (inked d s) (ink_back s.ambient)) (v level env t) (λ d. grows-within go g level env body (inked d s) (ink_back s.ambient))
+grows-shape_parts app value v go g level env (shape.room body) s = grows-within go g level env body (Ok (room_entered s)) (room_left (outer_of s))
 grows-shape_parts app value v go g level env (shape.choice t a b) s =
     grows-then (tested value level env t) (λ holds. if holds then go level env a s else go level env b s) (grows-tested value v level env t) (grows-then_form go g level env a b s)
 grows-shape_parts app value v go g level env (shape.when t body) s =
@@ -98,6 +118,32 @@ pub stop-draws_in : (value : Go) (go : Draws) → DrawsGrow go → (level : ℕ)
     → Agrees (λ frame. frame ++ around) (Err e) m (bound value level bs env c d) → Agrees {A = Unit {0}} (always s') (Err e) m (draws_in value go level bs body env s c d)
 stop-draws_in value go g level bs body env around s s' e m c d =
     Agrees-stop (λ frame. frame ++ around) (always {A = Unit {0}} s') e m (bound value level bs env c d) (λ inner. in_order go level inner body s) (λ inner. grows-in_order go g level inner body s)
+
+-- what could not be set stops the form
+pub stop-set : (go : Draws) → DrawsGrow go → (level : ℕ) (env : Env) (body : Forms) (r : Result DrawingAt ℕ) (leave : DrawingAt → DrawingAt) (s' s'' : DrawingAt) (e : Stop) (m : Meter)
+    → Comes {A = Unit {0}} (always s') (Err e) r → Agrees {A = Unit {0}} (always s'') (Err e) m (within go level env body r leave m.cost m.deepest)
+stop-set go g level env body r leave s' s'' (Trap k) m p = rw p refl
+stop-set go g level env body r leave s' s'' Memory m p = grows-within go g level env body r leave m.cost m.deepest
+
+pub stop-within : (go : Draws) → DrawsGrow go → (level : ℕ) (env : Env) (body : Forms) (inner : DrawingAt) (leave : DrawingAt → DrawingAt) (s' : DrawingAt) (e : Stop) (m : Meter) (c d : ℕ)
+    → Agrees {A = Unit {0}} (always s') (Err e) m (in_order go level env body inner c d) → Agrees {A = Unit {0}} (always s') (Err e) m (within go level env body (Ok inner) leave c d)
+stop-within go g level env body inner leave s' e m c d =
+    Agrees-stop (always {A = Unit {0}} s') (always {A = Unit {0}} s') e m (in_order go level env body inner c d) (λ end. give (leave end)) (λ end. grows-give (leave end))
+
+pub stop-figure : (app : App) (value : Go) (go : Draws) → (level : ℕ) (env : Env) (figure : Figure) (ts : Terms) (s s' : DrawingAt) (e : Stop) (m : Meter) (c d : ℕ)
+    → Agrees items_are (Err e) m (each value level env ts [] c d) → Agrees {A = Unit {0}} (always s') (Err e) m (shape_parts app value go level env (shape.draw figure ts) s c d)
+stop-figure app value go level env figure ts s s' e m c d =
+    Agrees-stop items_are (always {A = Unit {0}} s') e m (each value level env ts [] c d) (λ ds. lift (figured figure ds s)) (λ ds. grows-lift (figured figure ds s))
+
+pub stop-indent : (app : App) (value : Go) (go : Draws) → DrawsGrow go → (level : ℕ) (env : Env) (t : Term) (body : Forms) (s s' : DrawingAt) (e : Stop) (m : Meter) (c d : ℕ)
+    → Agrees data_of (Err e) m (value level env t c d) → Agrees {A = Unit {0}} (always s') (Err e) m (shape_parts app value go level env (shape.indent t body) s c d)
+stop-indent app value go g level env t body s s' e m c d =
+    Agrees-stop data_of (always {A = Unit {0}} s') e m (value level env t c d) (λ d. within go level env body (indented d s) (margin_back s.ambient)) (λ d. grows-within go g level env body (indented d s) (margin_back s.ambient))
+
+pub stop-ink : (app : App) (value : Go) (go : Draws) → DrawsGrow go → (level : ℕ) (env : Env) (t : Term) (body : Forms) (s s' : DrawingAt) (e : Stop) (m : Meter) (c d : ℕ)
+    → Agrees data_of (Err e) m (value level env t c d) → Agrees {A = Unit {0}} (always s') (Err e) m (shape_parts app value go level env (shape.ink t body) s c d)
+stop-ink app value go g level env t body s s' e m c d =
+    Agrees-stop data_of (always {A = Unit {0}} s') e m (value level env t c d) (λ d. within go level env body (inked d s) (ink_back s.ambient)) (λ d. grows-within go g level env body (inked d s) (ink_back s.ambient))
 
 pub stop-choice : (app : App) (value : Go) (go : Draws) → DrawsGrow go → (level : ℕ) (env : Env) (t : Term) (a b : Form) (s s' : DrawingAt) (e : Stop) (m : Meter) (c d : ℕ)
     → Agrees itself (Err e) m (tested value level env t c d) → Agrees {A = Unit {0}} (always s') (Err e) m (shape_parts app value go level env (shape.choice t a b) s c d)

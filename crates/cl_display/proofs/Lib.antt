@@ -1,3 +1,5 @@
 pub mod ItemLemmas
 pub mod FormLemmas
 pub mod LimitLemmas
+pub mod SumLemmas
+pub mod FigureLemmas

@@ -1,6 +1,6 @@
 -- Evaluation of display forms from nothing: what each form draws, from the drawing so far.
 -- Traps, beside those of expressions: 9 range of coordinates, 10 weight.
-use Rattle.std.specs.Prelude.{ℕ, zero, suc, ◌+◌, ◌==◌, if◌then◌else◌, List, [], ◌∷◌, length, Option, Some, None, Result, Err}
+use Rattle.std.specs.Prelude.{ℕ, zero, suc, ◌+◌, ◌==◌, if◌then◌else◌, List, [], ◌∷◌, length, Option, Some, None, Result, Ok, Err}
 use Rattle.cl_value.specs.Data.{Data, text}
 use Rattle.cl_syntax.specs.Term.{Bindings}
 use Rattle.cl_syntax.specs.Form as shape
@@ -11,7 +11,7 @@ use Rattle.cl_syntax.specs.declared.declarations.DisplayDecl.{DisplayDecl}
 use Rattle.cl_eval.specs.Outcome.{Run, give, trap, lift, ◌>>=◌}
 use Rattle.cl_eval.specs.Slots.{Slots, Env, given}
 use Rattle.cl_eval.specs.Meaning.{Go, bound, each, entering, listed, means, tested}
-use Rattle.cl_display.specs.Drawings.{DrawingAt, drawn, lined}
+use Rattle.cl_display.specs.Drawings.{DrawingAt, drawn, figured, indented, ink_back, inked, lined, margin_back, outer_of, room_entered, room_left}
 
 abbrev pub written : DrawingAt → Data → Result DrawingAt ℕ
 written s (text bytes) = drawn bytes s
@@ -35,6 +35,10 @@ for_each go level env x body (d ∷ ds) s = in_order go level ((x, d) ∷ env) b
 abbrev pub draws_in : Go → Draws → ℕ → Bindings → Forms → Env → DrawingAt → Run DrawingAt
 draws_in value go level bs body env s = bound value level bs env >>= λ inner. in_order go level inner body s
 
+-- the forms, once this was set for them, and what is left behind them
+abbrev pub within : Draws → ℕ → Env → Forms → Result DrawingAt ℕ → (DrawingAt → DrawingAt) → Run DrawingAt
+within go level env body entered leave = lift entered >>= λ inner. in_order go level env body inner >>= λ end. give (leave end)
+
 -- a display's forms, where its parameters are all that they see
 abbrev pub called : Draws → ℕ → Option DisplayDecl → List Data → DrawingAt → Run DrawingAt
 called go level None ds s = trap 1
@@ -44,6 +48,10 @@ called go level (Some f) ds s = if length ds == length f.parameters then in_orde
 abbrev pub shape_parts : App → Go → Draws → ℕ → Env → Form → DrawingAt → Run DrawingAt
 shape_parts app value go level env (shape.write_text t) s = value level env t >>= λ d. lift (written s d)
 shape_parts app value go level env shape.newline s = lift (lined s)
+shape_parts app value go level env (shape.draw figure ts) s = each value level env ts [] >>= λ ds. lift (figured figure ds s)
+shape_parts app value go level env (shape.indent t body) s = value level env t >>= λ d. within go level env body (indented d s) (margin_back s.ambient)
+shape_parts app value go level env (shape.ink t body) s = value level env t >>= λ d. within go level env body (inked d s) (ink_back s.ambient)
+shape_parts app value go level env (shape.room body) s = within go level env body (Ok (room_entered s)) (room_left (outer_of s))
 shape_parts app value go level env (shape.choice t f g) s = tested value level env t >>= λ holds. if holds then go level env f s else go level env g s
 shape_parts app value go level env (shape.when t body) s = tested value level env t >>= λ holds. if holds then in_order go level env body s else give s
 shape_parts app value go level env (shape.bind bs body) s = draws_in value go level bs body env s

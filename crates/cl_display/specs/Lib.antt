@@ -1,4 +1,5 @@
 pub mod Drawings
+pub mod Sums
 pub mod Fresh
 pub mod Script
 pub mod Agrees

@@ -8,23 +8,25 @@ ghost use Rattle.cl_record.specs.Trees.{leaf};
 ghost use Rattle.cl_display.specs.Drawings.{added, blank_drawing, cursor_to, drawing_of, drawn, lined};
 ghost use Rattle.cl_display.specs.Fresh.{written};
 
-use crate::extents::Extent;
+use crate::extents::{Bottom, Extent};
 use cl_eval::Stop;
 use cl_medium::{Ambient, AnyLeaf, Drawn, Leaf, draw_text, newline};
 use cl_record::{Node, Nodes};
-use cl_value::Value;
+use cl_value::{Text, Value};
 use std::alloc::{AllocError, Global};
 
 /// No history weighs more.
 pub const HEAVY: u64 = 1_000_000;
 
-/// A display so far: the state that is drawn from, the weight of what was drawn, its extent, whether
-/// the margin and the origin of the start were used, and the records of what was drawn.
+/// A display so far: the state that is drawn from, the weight of what was drawn, its extent, the greatest
+/// end of an item down since the origin was set, whether the margin and the origin of the start were
+/// used, and the records of what was drawn.
 #[derive(Drop)]
 pub struct Drawing {
     pub ambient: Ambient,
     pub weight: u64,
     pub extent: Extent,
+    pub bottom: Bottom,
     pub margin_used: bool,
     pub origin_used: bool,
     pub nodes: Nodes<AnyLeaf>,
@@ -40,6 +42,7 @@ impl Drawing {
             ambient,
             weight: 0,
             extent: Extent::at_cursor(&ambient),
+            bottom: Bottom::highest(),
             margin_used: false,
             origin_used: false,
             nodes: Nodes::new(alloc),
@@ -47,22 +50,22 @@ impl Drawing {
     }
 
     /// Draws a text at the cursor.
-    pub fn write(&mut self, alloc: Global, value: &Value) -> Result<(), Stop>
+    pub fn write(&mut self, value: &Value) -> Result<(), Stop>
         ensures { Comes (always (drawing_of self.new)) result (written (drawing_of self.old) (data_of value.now)) }
     {
         match value {
-            Value::Text(text) => self.write_text(alloc, text.as_slice()),
+            Value::Text(text) => self.write_text(text),
             _ => Err(Stop::Trap(1)),
         }
     }
 
-    fn write_text(&mut self, alloc: Global, text: &[u8]) -> Result<(), Stop>
+    fn write_text(&mut self, text: &Text) -> Result<(), Stop>
         ensures { Comes (always (drawing_of self.new)) result (drawn text.now (drawing_of self.old)) }
     {
         let mut ambient = self.ambient;
-        match draw_text(alloc, &mut ambient, text) {
+        match draw_text(&mut ambient, text) {
             Drawn::Item(leaf) => {
-                self.add(leaf, text.len() as u64 + 1)?;
+                self.add(leaf, text.as_slice().len() as u64 + 1)?;
                 self.move_to(ambient);
                 Ok(())
             }
@@ -86,7 +89,7 @@ impl Drawing {
     }
 
     // One more item of this weight.
-    fn add(&mut self, leaf: AnyLeaf, weight: u64) -> Result<(), Stop>
+    pub(crate) fn add(&mut self, leaf: AnyLeaf, weight: u64) -> Result<(), Stop>
         ensures { Comes (always (drawing_of self.new)) result (added leaf weight (drawing_of self.old)) }
     {
         let Some(whole) = heavier(self.weight, weight) else {
@@ -95,6 +98,7 @@ impl Drawing {
         let bounds = leaf.bounds();
         push_leaf(&mut self.nodes, leaf)?;
         self.extent.take(&bounds);
+        self.bottom.take(&bounds);
         self.weight = whole;
         Ok(())
     }

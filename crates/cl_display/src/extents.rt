@@ -1,7 +1,8 @@
 //! The extent of a drawing.
 ghost use Rattle.std.specs.Prelude.{◌≡◌};
-ghost use Rattle.cl_region.specs.Places.{IsInRange, box};
-ghost use Rattle.cl_display.specs.Drawings.{cursor_box};
+ghost use Rattle.std.specs.Int.{int_max};
+ghost use Rattle.cl_region.specs.Places.{IsInRange, IsNear, box};
+ghost use Rattle.cl_display.specs.Drawings.{cursor_box, highest, margin_box};
 
 use cl_medium::Ambient;
 use cl_region::Rect;
@@ -48,7 +49,7 @@ impl Extent {
         requires { IsInRange rect.now }
         ensures { self.new ≡ box self.old rect.now }
     {
-        self.corners = corners_box(&self.corners, rect);
+        self.corners = self.corners.corners_box(rect);
     }
 
     /// Takes in the place of the cursor.
@@ -56,6 +57,62 @@ impl Extent {
         ensures { self.new ≡ box self.old (cursor_box ambient.now) }
     {
         self.take(&cursor_box(ambient));
+    }
+
+    /// Takes in the margin, in the row of the cursor.
+    pub fn take_margin(&mut self, ambient: &Ambient)
+        ensures { self.new ≡ box self.old (margin_box ambient.now) }
+    {
+        self.take(&margin_box(ambient));
+    }
+}
+
+/// The greatest end of an item down, or -1,000,000 where there is no item yet.
+#[derive(Drop)]
+pub struct Bottom {
+    end: i64,
+}
+
+impl Model for Bottom {
+    ghost use Rattle.std.specs.Prelude.{ℤ};
+    ghost use Rattle.cl_region.specs.Places.{IsNear};
+
+    ghost Value = { ℤ };
+
+    ghost view = { λ b. b.end };
+
+    ghost invariant = { λ b. IsNear b.end };
+}
+
+impl Bottom {
+    /// No item yet.
+    pub fn highest() -> Bottom
+        ensures { result ≡ highest }
+    {
+        Bottom { end: -1_000_000 }
+    }
+
+    /// The end.
+    pub fn get(&self) -> i64
+        ensures value { result ≡ self.now }
+        ensures range { IsNear result }
+    {
+        self.end
+    }
+
+    /// Takes in an item with these bounds.
+    pub fn take(&mut self, bounds: &Rect)
+        requires { IsInRange bounds.now }
+        ensures { self.new ≡ int_max self.old bounds.now.y2 }
+    {
+        self.end = self.end.max(bounds.y2);
+    }
+
+    /// Takes in what another took in.
+    pub fn join(&mut self, other: &Bottom)
+        ensures { self.new ≡ int_max other.now self.old }
+    {
+        self.end = other.end.max(self.end);
     }
 }
 
@@ -72,17 +129,15 @@ fn cursor_box(ambient: &Ambient) -> Rect
     }
 }
 
-// The least box of the corners of both.
-fn corners_box(first: &Rect, second: &Rect) -> Rect
-    requires first { IsInRange first.now }
-    requires second { IsInRange second.now }
-    ensures corners { result ≡ box first.now second.now }
+// The margin in the row of the cursor, as a rectangle without sides.
+fn margin_box(ambient: &Ambient) -> Rect
+    ensures corners { result ≡ margin_box ambient.now }
     ensures range { IsInRange result }
 {
     Rect {
-        x1: first.x1.min(second.x1),
-        y1: first.y1.min(second.y1),
-        x2: first.x2.max(second.x2),
-        y2: first.y2.max(second.y2),
+        x1: ambient.margin,
+        y1: ambient.y,
+        x2: ambient.margin,
+        y2: ambient.y,
     }
 }

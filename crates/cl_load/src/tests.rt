@@ -1,5 +1,6 @@
 //! Whole texts with what is answered: `loads`, or the number of the refusal and its offset. The
 //! answers come from a separate program, and those with 0 from the rules by hand.
+mod drawing_forms;
 mod forms;
 mod frames;
 mod later_parts;

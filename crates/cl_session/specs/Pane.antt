@@ -2,8 +2,8 @@
 use Rattle.std.specs.Prelude.{◌≡◌, ℕ, ◌+◌, ◌≤◌, Option, Some, None, List}
 use Rattle.cl_eval.specs.Outcome.{Outcome, Gives, Traps}
 use Rattle.cl_medium.specs.declared.any_leaf.AnyLeaf.{AnyLeaf}
+use Rattle.cl_record.specs.Counts.{count_of}
 use Rattle.cl_record.specs.Marks.{Mark}
-use Rattle.cl_redisplay.specs.Counts.{count_of}
 use Rattle.cl_redisplay.specs.Paint.{LiesIn, Shows}
 use Rattle.cl_display.specs.Drawings.{DrawingAt}
 use Rattle.cl_display.specs.Script.{trap_history}

@@ -16,7 +16,7 @@ use Rattle.std.specs.Str.{str_eq_ignore_ascii_case}
 use Rattle.cl_medium.specs.declared.any_leaf.AnyLeaf.{AnyLeaf}
 use Rattle.cl_record.specs.Lines.{item_line, lines_from}
 use Rattle.cl_record.specs.Marks.{Mark}
-use Rattle.cl_redisplay.specs.Counts.{count_of}
+use Rattle.cl_record.specs.Counts.{count_of}
 use Rattle.cl_redisplay.specs.Paint.{shown_ink_rows, shown_rows}
 use Rattle.cl_command.specs.declared.lines.Finished.{Finished}
 use Rattle.cl_command.specs.declared.lines.Finished.TheVariants.{Command, Unknown, Surplus}

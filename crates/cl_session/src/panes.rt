@@ -1,10 +1,10 @@
-ghost use Rattle.std.specs.Prelude.{◌≡◌, ◌≤◌, ◌<◌, ◌+◌, All, IfOk, MatchOption, Some, None, map};
+ghost use Rattle.std.specs.Prelude.{◌≡◌, ◌≤◌, ◌<◌, ◌+◌, All, IfOk, Some, None, map};
 ghost use Rattle.cl_eval.specs.Outcome.{cost_of};
 ghost use Rattle.cl_display.specs.Script.{pane_fresh};
 ghost use Rattle.cl_medium.specs.Leaves.{leaf_moved};
 ghost use Rattle.cl_raster.specs.Raster.{IsInk, SameSize};
+ghost use Rattle.cl_record.specs.Counts.{count_of};
 ghost use Rattle.cl_record.specs.Marks.{history_marks};
-ghost use Rattle.cl_redisplay.specs.Counts.{count_of};
 ghost use Rattle.cl_redisplay.specs.Paint.{ink_digit, shown_ink_row, shown_row};
 ghost use Rattle.cl_session.specs.World.{area_of, marks_in, marks_of_pane};
 ghost use Rattle.cl_session.specs.Pane.{IsPainted, Rises, SettlesTo};
@@ -14,7 +14,7 @@ use cl_display::{History, Shown, display};
 use cl_eval::{Env, Limits, Slots};
 use cl_outside::{Ledger, Steps};
 use cl_raster::Raster;
-use cl_redisplay::{Area, blank, count, paint};
+use cl_redisplay::{Area, blank, paint};
 use cl_syntax::{App, PaneDecl};
 use std::alloc::{AllocError, Global};
 
@@ -60,24 +60,21 @@ impl Pane {
         })
     }
 
-    // Shows a history, and says how many items it draws. Where they are more than can be counted, it is
-    // as if there were no memory for them: the pane is blank.
-    fn show(&mut self, history: History) -> Option<u64>
-        requires { IsPainted self.old }
-        ensures history { MatchOption result (self.new.history ≡ None)
-            (λ n. (n ≡ count_of (history_marks leaf_moved history)) × (self.new.history ≡ Some history)) }
+    // Shows a history, and says how many items it draws.
+    fn show(&mut self, history: History) -> u64
+        requires painted { IsPainted self.old }
+        requires few { count_of (history_marks leaf_moved history) ≤ 1000000 }
+        ensures count { result ≡ count_of (history_marks leaf_moved history) }
+        ensures history { self.new.history ≡ Some history }
         ensures painted { IsPainted self.new }
         ensures size { SameSize self.old.screen self.new.screen }
         ensures area { self.new.area ≡ self.old.area }
     {
-        let Some(items) = count(&history) else {
-            self.blank();
-            return None;
-        };
+        let items = history.count();
         paint(&mut self.screen, self.area, &history);
         self.history = Some(history);
         self.items = items;
-        Some(items)
+        items
     }
 
     fn blank(&mut self)
@@ -114,19 +111,19 @@ impl Pane {
         let erased = self.items;
         let env = Env::new(alloc);
         match display(alloc, app, app.pane_forms(), &env, slots, limits, steps) {
-            Shown::Built(history) => match self.show(history) {
-                Some(drawn) => PaneReport::Shown(Report {
+            Shown::Built(history) => {
+                let drawn = self.show(history);
+                PaneReport::Shown(Report {
                     kept: 0,
                     moved: 0,
                     drawn,
                     erased,
-                }),
-                None => PaneReport::Memory,
-            },
-            Shown::Trapped(history, kind) => match self.show(history) {
-                Some(_) => PaneReport::Trapped(kind),
-                None => PaneReport::Memory,
-            },
+                })
+            }
+            Shown::Trapped(history, kind) => {
+                let _ = self.show(history);
+                PaneReport::Trapped(kind)
+            }
             Shown::Memory => {
                 self.blank();
                 PaneReport::Memory

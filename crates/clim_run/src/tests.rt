@@ -3,6 +3,7 @@ ghost use Rattle.cl_outside.specs.Memory.{AllPositive};
 
 mod applications;
 mod displays;
+mod drawings;
 mod expressions;
 mod numbers;
 mod statements;

@@ -10,10 +10,10 @@ use Rattle.cl_syntax.specs.Term.{terms_of}
 use Rattle.cl_syntax.specs.declared.display_forms.Shape.{Shape}
 use Rattle.cl_eval.specs.Scope.{variables_of}
 use Rattle.cl_eval.specs.Meaning.{means}
-use Rattle.cl_display.specs.Drawings.{drawing_of}
+use Rattle.cl_display.specs.Drawings.{drawing_of, indented, ink_back, inked, margin_back, outer_of, room_left}
 use Rattle.cl_display.specs.Fresh.{draws}
-use Rattle.cl_display.proofs.FormLemmas.{draws-entered, grows-draws, stop-call, stop-choice, stop-dolist, stop-draws_in, stop-for_each, stop-in_order, stop-when}
-use Rattle.cl_display.proofs.displays.+draw.Goals as goal
+use Rattle.cl_display.proofs.FormLemmas.{draws-entered, grows-draws, stop-call, stop-choice, stop-dolist, stop-draws_in, stop-figure, stop-for_each, stop-in_order, stop-indent, stop-ink, stop-set, stop-when, stop-within}
+use Rattle.cl_display.proofs.forms.+draw.Goals as goal
 
 pub draw-returns-clause-meaning : goal.draw-returns-clause-meaning
 draw-returns-clause-meaning g t c =
@@ -80,4 +80,63 @@ draw_parts-returns-in_err-values-in-Call-clause-meaning g t c =
     let whole : c.args.form.now ≡ shape.call c.in-Call.name (terms_of c.in-Call.parts.items) = sym c.form.view_is ∙ ap form_of c.in-Call.is in
     rw (p.1, p.2, whole)
     (stop-call c.args.context.now.app.now (means c.args.left c.args.context.now.budget c.args.context.now.app.now c.args.context.now.slots.now) (draws c.args.left c.args.context.now.budget c.args.context.now.app.now c.args.context.now.slots.now) (grows-draws c.args.left c.args.context.now.budget c.args.context.now.app.now c.args.context.now.slots.now) c.args.level (variables_of c.args.scope.now) c.in-Call.name (terms_of c.in-Call.parts.items) (drawing_of c.args.drawing.now) (drawing_of c.args.drawing.now)
-    c.in_err-values-in-Call.field-0.0 c.evaluate_each.new.meter c.args.meter.now.cost c.args.meter.now.deepest (rw c.deref-in-Call.ensures.value at c.in_err-values-in-Call.ensures.meaning))
+    c.in_err-values-in-Call.field-0.0 c.evaluate_each-in-Call.new.meter c.args.meter.now.cost c.args.meter.now.deepest (rw c.deref-in-Call.ensures.value at c.in_err-values-in-Call.ensures.meaning))
+
+pub draw_parts-returns-in_err-values-in-Draw-clause-meaning : goal.draw_parts-returns-in_err-values-in-Draw-clause-meaning
+draw_parts-returns-in_err-values-in-Draw-clause-meaning g t c =
+    let p = err_from_is_err_and c.from_residual-in_err-values-in-Draw.result c.from_residual-in_err-values-in-Draw.ensures.1 in
+    let whole : c.args.form.now ≡ shape.draw c.in-Draw.figure (terms_of c.in-Draw.parts.items) = sym c.form.view_is ∙ ap form_of c.in-Draw.is in
+    rw (p.1, p.2, whole)
+    (stop-figure c.args.context.now.app.now (means c.args.left c.args.context.now.budget c.args.context.now.app.now c.args.context.now.slots.now) (draws c.args.left c.args.context.now.budget c.args.context.now.app.now c.args.context.now.slots.now) c.args.level (variables_of c.args.scope.now) c.in-Draw.figure (terms_of c.in-Draw.parts.items) (drawing_of c.args.drawing.now) (drawing_of c.args.drawing.now)
+    c.in_err-values-in-Draw.field-0.0 c.evaluate_each.new.meter c.args.meter.now.cost c.args.meter.now.deepest (rw c.deref.ensures.value at c.in_err-values-in-Draw.ensures.meaning))
+
+pub draw_parts-returns-in_err-number-in-Indent-clause-meaning : goal.draw_parts-returns-in_err-number-in-Indent-clause-meaning
+draw_parts-returns-in_err-number-in-Indent-clause-meaning g t c =
+    let p = err_from_is_err_and c.from_residual-in_err-number-in-Indent.result c.from_residual-in_err-number-in-Indent.ensures.1 in
+    let whole : c.args.form.now ≡ shape.indent c.in-Indent.number (forms_of c.in-Indent.body) = sym c.form.view_is ∙ ap form_of c.in-Indent.is in
+    rw (p.1, p.2, whole)
+    (stop-indent c.args.context.now.app.now (means c.args.left c.args.context.now.budget c.args.context.now.app.now c.args.context.now.slots.now) (draws c.args.left c.args.context.now.budget c.args.context.now.app.now c.args.context.now.slots.now) (grows-draws c.args.left c.args.context.now.budget c.args.context.now.app.now c.args.context.now.slots.now) c.args.level (variables_of c.args.scope.now) c.in-Indent.number (forms_of c.in-Indent.body) (drawing_of c.args.drawing.now) (drawing_of c.args.drawing.now)
+    c.in_err-number-in-Indent.field-0.0 c.evaluate-in-Indent.new.meter c.args.meter.now.cost c.args.meter.now.deepest c.in_err-number-in-Indent.ensures.meaning)
+
+pub draw_parts-returns-in_err-number-in-Ink-clause-meaning : goal.draw_parts-returns-in_err-number-in-Ink-clause-meaning
+draw_parts-returns-in_err-number-in-Ink-clause-meaning g t c =
+    let p = err_from_is_err_and c.from_residual-in_err-number-in-Ink.result c.from_residual-in_err-number-in-Ink.ensures.1 in
+    let whole : c.args.form.now ≡ shape.ink c.in-Ink.number (forms_of c.in-Ink.body) = sym c.form.view_is ∙ ap form_of c.in-Ink.is in
+    rw (p.1, p.2, whole)
+    (stop-ink c.args.context.now.app.now (means c.args.left c.args.context.now.budget c.args.context.now.app.now c.args.context.now.slots.now) (draws c.args.left c.args.context.now.budget c.args.context.now.app.now c.args.context.now.slots.now) (grows-draws c.args.left c.args.context.now.budget c.args.context.now.app.now c.args.context.now.slots.now) c.args.level (variables_of c.args.scope.now) c.in-Ink.number (forms_of c.in-Ink.body) (drawing_of c.args.drawing.now) (drawing_of c.args.drawing.now)
+    c.in_err-number-in-Ink.field-0.0 c.evaluate-in-Ink.new.meter c.args.meter.now.cost c.args.meter.now.deepest c.in_err-number-in-Ink.ensures.meaning)
+
+pub draw_indented-returns-in_err-indent-clause-meaning : goal.draw_indented-returns-in_err-indent-clause-meaning
+draw_indented-returns-in_err-indent-clause-meaning g t c =
+    let p = err_from_is_err_and c.from_residual.result c.from_residual.ensures.1 in
+    rw (p.1, p.2)
+    (stop-set (draws c.args.left c.args.context.now.budget c.args.context.now.app.now c.args.context.now.slots.now) (grows-draws c.args.left c.args.context.now.budget c.args.context.now.app.now c.args.context.now.slots.now) c.args.level (variables_of c.args.scope.now) (forms_of c.args.body.now) (indented (data_of c.args.number.now) (drawing_of c.args.drawing.now)) (margin_back (drawing_of c.args.drawing.now).ambient) (drawing_of c.indent.new.self) (drawing_of c.indent.new.self)
+    c.in_err-indent.field-0.0 c.args.meter.now c.in_err-indent.ensures)
+
+pub draw_indented-returns-in_err-draw_all-clause-meaning : goal.draw_indented-returns-in_err-draw_all-clause-meaning
+draw_indented-returns-in_err-draw_all-clause-meaning g t c =
+    let p = err_from_is_err_and c.from_residual-in_err-draw_all.result c.from_residual-in_err-draw_all.ensures.1 in
+    rw (p.1, p.2, c.in_ok-indent.ensures)
+    (stop-within (draws c.args.left c.args.context.now.budget c.args.context.now.app.now c.args.context.now.slots.now) (grows-draws c.args.left c.args.context.now.budget c.args.context.now.app.now c.args.context.now.slots.now) c.args.level (variables_of c.args.scope.now) (forms_of c.args.body.now) (drawing_of c.indent.new.self) (margin_back (drawing_of c.args.drawing.now).ambient) (drawing_of c.draw_all.new.drawing)
+    c.in_err-draw_all.field-0.0 c.draw_all.new.meter c.args.meter.now.cost c.args.meter.now.deepest c.in_err-draw_all.ensures.meaning)
+
+pub draw_in_ink-returns-in_err-take_ink-clause-meaning : goal.draw_in_ink-returns-in_err-take_ink-clause-meaning
+draw_in_ink-returns-in_err-take_ink-clause-meaning g t c =
+    let p = err_from_is_err_and c.from_residual.result c.from_residual.ensures.1 in
+    rw (p.1, p.2)
+    (stop-set (draws c.args.left c.args.context.now.budget c.args.context.now.app.now c.args.context.now.slots.now) (grows-draws c.args.left c.args.context.now.budget c.args.context.now.app.now c.args.context.now.slots.now) c.args.level (variables_of c.args.scope.now) (forms_of c.args.body.now) (inked (data_of c.args.number.now) (drawing_of c.args.drawing.now)) (ink_back (drawing_of c.args.drawing.now).ambient) (drawing_of c.take_ink.new.self) (drawing_of c.take_ink.new.self)
+    c.in_err-take_ink.field-0.0 c.args.meter.now c.in_err-take_ink.ensures)
+
+pub draw_in_ink-returns-in_err-draw_all-clause-meaning : goal.draw_in_ink-returns-in_err-draw_all-clause-meaning
+draw_in_ink-returns-in_err-draw_all-clause-meaning g t c =
+    let p = err_from_is_err_and c.from_residual-in_err-draw_all.result c.from_residual-in_err-draw_all.ensures.1 in
+    rw (p.1, p.2, c.in_ok-take_ink.ensures)
+    (stop-within (draws c.args.left c.args.context.now.budget c.args.context.now.app.now c.args.context.now.slots.now) (grows-draws c.args.left c.args.context.now.budget c.args.context.now.app.now c.args.context.now.slots.now) c.args.level (variables_of c.args.scope.now) (forms_of c.args.body.now) (drawing_of c.take_ink.new.self) (ink_back (drawing_of c.args.drawing.now).ambient) (drawing_of c.draw_all.new.drawing)
+    c.in_err-draw_all.field-0.0 c.draw_all.new.meter c.args.meter.now.cost c.args.meter.now.deepest c.in_err-draw_all.ensures.meaning)
+
+pub draw_in_room-returns-in_err-draw_all-clause-meaning : goal.draw_in_room-returns-in_err-draw_all-clause-meaning
+draw_in_room-returns-in_err-draw_all-clause-meaning g t c =
+    let p = err_from_is_err_and c.from_residual.result c.from_residual.ensures.1 in
+    rw (p.1, p.2, ← c.enter_room-outer.ensures.inside)
+    (stop-within (draws c.args.left c.args.context.now.budget c.args.context.now.app.now c.args.context.now.slots.now) (grows-draws c.args.left c.args.context.now.budget c.args.context.now.app.now c.args.context.now.slots.now) c.args.level (variables_of c.args.scope.now) (forms_of c.args.body.now) (drawing_of c.enter_room-outer.new.self) (room_left (outer_of (drawing_of c.args.drawing.now))) (drawing_of c.draw_all.new.drawing)
+    c.in_err-draw_all.field-0.0 c.draw_all.new.meter c.args.meter.now.cost c.args.meter.now.deepest c.in_err-draw_all.ensures.meaning)

@@ -4,7 +4,7 @@ use Rattle.cl_syntax.specs.Form.{forms_of}
 use Rattle.cl_eval.specs.Scope.{variables_of}
 use Rattle.cl_display.specs.Drawings.{drawing_of}
 use Rattle.cl_display.specs.Fresh.{draws, for_each, in_order}
-use Rattle.cl_display.proofs.displays.+draw.Given as goal
+use Rattle.cl_display.proofs.forms.+draw.Given as goal
 
 abbrev pub decreases-draw : goal.decreases-draw
 decreases-draw g l = l.left * 2 ^ 66
@@ -20,6 +20,15 @@ decreases-draw_in g l = l.left * 2 ^ 66 + 3
 
 abbrev pub decreases-draw_each : goal.decreases-draw_each
 decreases-draw_each g l = l.left * 2 ^ 66 + 3
+
+abbrev pub decreases-draw_indented : goal.decreases-draw_indented
+decreases-draw_indented g l = l.left * 2 ^ 66 + 3
+
+abbrev pub decreases-draw_in_ink : goal.decreases-draw_in_ink
+decreases-draw_in_ink g l = l.left * 2 ^ 66 + 3
+
+abbrev pub decreases-draw_in_room : goal.decreases-draw_in_room
+decreases-draw_in_room g l = l.left * 2 ^ 66 + 3
 
 abbrev pub decreases-call : goal.decreases-call
 decreases-call g l = l.left * 2 ^ 66 + 3

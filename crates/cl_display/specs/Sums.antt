@@ -1,0 +1,33 @@
+-- What the items of a history weigh together, and where the lowest of them ends.
+use Rattle.std.specs.Prelude.{◌≡◌, ℕ, ◌+◌, ◌≤◌, ℤ, List, [], ◌∷◌, length}
+use Rattle.std.specs.Int.{int_max}
+use Rattle.cl_medium.specs.Items.{Shape, bytes}
+use Rattle.cl_medium.specs.Leaves.{item_of, leaf_bounds}
+use Rattle.cl_medium.specs.declared.any_leaf.AnyLeaf.{AnyLeaf}
+use Rattle.cl_record.specs.Replays.{drawn}
+use Rattle.cl_display.specs.Drawings.{DrawingAt, highest}
+
+-- a text weighs its bytes and 1, another item 1
+abbrev pub shape_weight : Shape → ℕ
+shape_weight (bytes text) = length text + 1
+shape_weight shape = 1
+
+abbrev pub item_weight : AnyLeaf → ℕ
+item_weight leaf = shape_weight (item_of leaf).shape
+
+abbrev pub weight_of : List AnyLeaf → ℕ
+weight_of [] = 0
+weight_of (leaf ∷ items) = item_weight leaf + weight_of items
+
+-- the greatest end of an item down
+abbrev pub bottom_of : List AnyLeaf → ℤ
+bottom_of [] = highest
+bottom_of (leaf ∷ items) = int_max (leaf_bounds leaf).y2 (bottom_of items)
+
+-- a drawing weighs what its items weigh together, which is not too much; it ends where the lowest of them does; and it has at most
+-- 1,000,000 items
+pub record AddsUp (s : DrawingAt) : Type 0 where
+  pub weight : s.weight ≡ weight_of (drawn s.marks)
+  pub light : s.weight ≤ 1000000
+  pub bottom : s.bottom ≡ bottom_of (drawn s.marks)
+  pub count : length (drawn s.marks) ≤ 1000000
