@@ -7,7 +7,7 @@ ghost use Rattle.cl_declare.specs.Frames.{is_size, is_slot, are_slots, takes_non
 
 use crate::parts::{are_sections, is_number, number_of, section};
 use crate::slots::sections_read;
-use cl_forms::{Datum, LoadRefusal, World, fits, name_in, symbol_of};
+use cl_forms::{Datum, LoadRefusal, World, fits, name_in, symbol_of, symbol_text};
 use cl_syntax::SlotDecls;
 use cl_value::Text;
 use std::alloc::Global;
@@ -75,7 +75,7 @@ fn frame_of(
 {
     let size = size_row(at, section(b":size", sections))?;
     let pane = first_pane(alloc, at, section(b":panes", sections))?;
-    let name = Text::from_slice(alloc, symbol_of(name))?;
+    let name = symbol_text(alloc, name)?;
     Ok(FrameForm {
         name,
         width: size.width,
@@ -157,7 +157,7 @@ fn extent_row(
             y: number_of(y),
             width: number_of(width),
             height: number_of(height),
-            display: Text::from_slice(alloc, symbol_of(display))?,
+            display: symbol_text(alloc, display)?,
             at: pane_at,
         }),
         [] => Err(LoadRefusal::Refused(6, at)),

@@ -5,9 +5,8 @@ ghost use Rattle.cl_declare.specs.Declarations.{names_of, is_list, is_name_list,
 ghost use Rattle.cl_declare.specs.Frames.{first_symbol, key_of, behind_first, section, has_section, are_sections, is_number, number_of};
 
 use crate::heads::{is_command_key, is_section_key};
-use cl_forms::{Datum, are_names, name_in, symbol_of};
+use cl_forms::{Datum, are_names, name_in, symbol_of, symbol_text};
 use cl_syntax::Names;
-use cl_value::Text;
 use std::alloc::{AllocError, Global};
 
 /// The symbols of data, in their order.
@@ -16,7 +15,7 @@ pub fn names_in(alloc: Global, parts: &[Datum]) -> Result<Names, AllocError>
 {
     let mut names = Names::new(alloc);
     for part in parts {
-        names.push(Text::from_slice(alloc, symbol_of(part))?)?;
+        names.push(symbol_text(alloc, part)?)?;
     }
     Ok(names)
 }

@@ -9,7 +9,8 @@ use crate::display_forms::shapes_in;
 use crate::parts::{behind_first, first_symbol, is_command_head, is_list, is_name_list, names_in};
 use crate::statements::acts_in;
 use cl_forms::{
-    Datum, LoadRefusal, Scope, World, are_names, expr_in, is_name, line_name_of, name_in, symbol_of,
+    Datum, LoadRefusal, Scope, World, are_names, expr_in, is_name, line_name_of, name_in,
+    symbol_text,
 };
 use cl_syntax::{CommandDecl, DisplayDecl, FunctionDecl, RecordDecl};
 use cl_value::Text;
@@ -27,7 +28,7 @@ pub fn record_row(alloc: Global, at: u32, parts: &[Datum]) -> Result<RecordDecl,
                 return Err(LoadRefusal::Refused(6, at));
             }
             Ok(RecordDecl {
-                name: Text::from_slice(alloc, symbol_of(name))?,
+                name: symbol_text(alloc, name)?,
                 fields: names_in(alloc, fields)?,
                 at,
             })
@@ -55,7 +56,7 @@ pub fn function_row(
             let variables = Scope::Names(parameters.as_slice(), &Scope::Empty);
             let body = expr_in(alloc, world, body, &variables, unknown)?;
             Ok(FunctionDecl {
-                name: Text::from_slice(alloc, symbol_of(name))?,
+                name: symbol_text(alloc, name)?,
                 parameters,
                 body,
                 at,
@@ -89,7 +90,7 @@ pub fn display_row(
             let variables = Scope::Names(parameters.as_slice(), &Scope::Empty);
             let body = shapes_in(alloc, world, body, &variables, unknown)?;
             Ok(DisplayDecl {
-                name: Text::from_slice(alloc, symbol_of(name))?,
+                name: symbol_text(alloc, name)?,
                 parameters,
                 body,
                 at,

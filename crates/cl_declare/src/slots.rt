@@ -8,9 +8,8 @@ ghost use Rattle.cl_forms.specs.World.{name_in};
 ghost use Rattle.cl_declare.specs.Leaves.{Leaves, Notes};
 
 use crate::slot_types::type_in;
-use cl_forms::{Datum, LoadRefusal, Scope, World, expr_in, name_in, note, symbol_of};
+use cl_forms::{Datum, LoadRefusal, Scope, World, expr_in, name_in, note, symbol_of, symbol_text};
 use cl_syntax::{SlotDecl, SlotDecls};
-use cl_value::Text;
 use std::alloc::{AllocError, Global};
 
 /// The slots of a frame's sections. What is not declared is noted.
@@ -97,7 +96,7 @@ fn slot_row(
             let spec = type_in(world, spec, unknown)?;
             let opening = expr_in(alloc, world, value, &Scope::Empty, unknown)?;
             Ok(SlotDecl {
-                name: Text::from_slice(alloc, symbol_of(name))?,
+                name: symbol_text(alloc, name)?,
                 spec,
                 opening,
                 opening_at: value.offset(),

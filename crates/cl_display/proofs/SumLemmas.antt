@@ -25,6 +25,7 @@ use Rattle.cl_medium.specs.declared.any_leaf.AnyLeaf.{AnyLeaf}
 use Rattle.cl_medium.specs.declared.areas.Area.{Area}
 use Rattle.cl_record.specs.Marks.{Mark, draw, opens, begins, closes, history_marks}
 use Rattle.cl_record.specs.Replays.{drawn as items_in}
+use Rattle.cl_record.proofs.Replayed.{drawn-append}
 use Rattle.cl_display.specs.Drawings.{DrawingAt, added, after_text, blank_drawing, byte_of, cursor_to, drawing_of, drawn, figured, filled, filled_at, from_origin, highest, indented, ink_back, ink_set, inked, is_in_range, is_near, lined, margin_back, margin_set, number_of, outer_of, outlined, outlined_at, pointed, pointed_at, room_entered, room_left, ruled_across, ruled_across_at, ruled_down, ruled_down_at, shaped, then_to, with_item}
 use Rattle.cl_display.specs.declared.drawings.Drawing.{Drawing}
 use Rattle.cl_display.specs.Fresh.{Draws, called, draws, draws_in, for_each, in_order, shape_parts, within, written}
@@ -40,13 +41,6 @@ pub record Adds (s t : DrawingAt) : Type 0 where
   pub bottom : highest ≤ℤ s.bottom → t.bottom ≡ int_max s.bottom (bottom_of items)
 
 -- ---- lists of items
-
-items_in-behind : (ms ns : List (Mark AnyLeaf)) → items_in (ms ++ ns) ≡ items_in ms ++ items_in ns
-items_in-behind [] ns = refl
-items_in-behind (draw a ∷ ms) ns = ap (λ (l : List AnyLeaf). a ∷ l) (items_in-behind ms ns)
-items_in-behind (opens l ∷ ms) ns = items_in-behind ms ns
-items_in-behind (begins h ∷ ms) ns = items_in-behind ms ns
-items_in-behind (closes ∷ ms) ns = items_in-behind ms ns
 
 weight_of-behind : (xs ys : List AnyLeaf) → weight_of (xs ++ ys) ≡ weight_of xs + weight_of ys
 weight_of-behind [] ys = omega arith
@@ -130,7 +124,7 @@ adds-choice s false m n g h = h
 adds-item : (b : Bool) (leaf : AnyLeaf) (weight : ℕ) (s : DrawingAt) → nat_le (s.weight + weight) 1000000 ≡ b → weight ≡ item_weight leaf → AddsTo s (if b then Ok (with_item leaf weight s) else Err 10)
 adds-item true leaf weight s h e = record {
   items = leaf ∷ [];
-  behind = items_in-behind s.marks (draw leaf ∷ []);
+  behind = drawn-append s.marks (draw leaf ∷ []);
   weight = omega (arith, e);
   light = λ g. grind (arith, nat_tests, h);
   bottom = λ g. omega (arith, ints, clamps, g);

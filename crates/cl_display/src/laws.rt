@@ -1,12 +1,15 @@
 //! What the definitions of this crate say. The contracts are the laws.
-ghost use Rattle.std.specs.Prelude.{◌≡◌, ◌≤◌, ℕ, List, drop, length};
+ghost use Rattle.std.specs.Prelude.{◌≡◌, ◌≤◌, ℕ, ℤ, pos, List, [], ◌∷◌, drop, length};
+ghost use Rattle.cl_value.specs.Data as value;
 ghost use Rattle.cl_syntax.specs.Form.{Form, Forms};
 ghost use Rattle.cl_syntax.specs.declared.applications.App.{App};
+ghost use Rattle.cl_syntax.specs.declared.figures.Figure.TheVariants as figure;
 ghost use Rattle.cl_eval.specs.declared.metering.Limits.{Limits};
 ghost use Rattle.cl_eval.specs.Outcome.{Gives};
 ghost use Rattle.cl_eval.specs.Slots.{Env, Slots};
+ghost use Rattle.cl_medium.specs.Drawing.{shape_area, point_leaf, hline_leaf, vline_leaf, box_leaf, fill_leaf};
 ghost use Rattle.cl_record.specs.Replays.{drawn};
-ghost use Rattle.cl_display.specs.Drawings.{DrawingAt, room_entered};
+ghost use Rattle.cl_display.specs.Drawings.{DrawingAt, figured, room_entered, shaped};
 ghost use Rattle.cl_display.specs.Fresh.{draws, in_order};
 ghost use Rattle.cl_display.specs.Script.{fresh};
 ghost use Rattle.cl_display.specs.Sums.{AddsUp, bottom_of};
@@ -31,4 +34,18 @@ pub fn rooms_end_below_their_items()
     ensures { (left budget : ℕ) (app : App) (slots : Slots) (level : ℕ) (env : Env) (body : Forms) (s end : DrawingAt) (cost deepest c d : ℕ)
         → in_order (draws left budget app slots) level env body (room_entered s) cost deepest ≡ Gives end c d
         → end.bottom ≡ bottom_of (drop (length (drawn s.marks)) (drawn end.marks)) }
+{}
+
+/// A figure of parts of the right kinds is an item in the area of its place and its sizes, from the origin.
+pub fn figures_have_the_area_of_their_parts()
+    ensures point { (x y : ℤ) (byte : ℕ) (s : DrawingAt) → figured figure.Point (value.int x ∷ value.int y ∷ value.text (byte ∷ []) ∷ []) s
+        ≡ shaped (point_leaf (shape_area s.ambient x y (pos 1) (pos 1)) byte) (shape_area s.ambient x y (pos 1) (pos 1)) s }
+    ensures across { (x y length : ℤ) (s : DrawingAt) → figured figure.HorizontalLine (value.int x ∷ value.int y ∷ value.int length ∷ []) s
+        ≡ shaped (hline_leaf (shape_area s.ambient x y length (pos 1))) (shape_area s.ambient x y length (pos 1)) s }
+    ensures down { (x y length : ℤ) (s : DrawingAt) → figured figure.VerticalLine (value.int x ∷ value.int y ∷ value.int length ∷ []) s
+        ≡ shaped (vline_leaf (shape_area s.ambient x y (pos 1) length)) (shape_area s.ambient x y (pos 1) length) s }
+    ensures outline { (x y width height : ℤ) (s : DrawingAt) → figured figure.Outline (value.int x ∷ value.int y ∷ value.int width ∷ value.int height ∷ []) s
+        ≡ shaped (box_leaf (shape_area s.ambient x y width height)) (shape_area s.ambient x y width height) s }
+    ensures filled { (x y width height : ℤ) (byte : ℕ) (s : DrawingAt) → figured figure.Filled (value.int x ∷ value.int y ∷ value.int width ∷ value.int height ∷ value.text (byte ∷ []) ∷ []) s
+        ≡ shaped (fill_leaf (shape_area s.ambient x y width height) byte) (shape_area s.ambient x y width height) s }
 {}

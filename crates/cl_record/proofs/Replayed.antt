@@ -14,7 +14,7 @@ use Rattle.cl_record.specs.Trees.{StayInRange, Tree, Trees, none, piece, shown, 
 use Rattle.cl_record.proofs.Moves.{all_moved-append, all_twice}
 
 module _ {A : Type 0} where
-  drawn-append : (ms ns : List (Mark A)) → drawn (ms ++ ns) ≡ drawn ms ++ drawn ns
+  pub drawn-append : (ms ns : List (Mark A)) → drawn (ms ++ ns) ≡ drawn ms ++ drawn ns
   drawn-append [] ns = refl
   drawn-append (draw a ∷ ms) ns = ap (λ (items : List A). a ∷ items) (drawn-append ms ns)
   drawn-append (opens l ∷ ms) ns = drawn-append ms ns
