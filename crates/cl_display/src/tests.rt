@@ -107,19 +107,19 @@ fn pop_many(alloc: Global, stack: &mut Vec<Shape>, count: usize) -> Result<Shape
     Ok(shapes)
 }
 
-// The last two forms, in the order in which they were made.
-fn pop_two(stack: &mut Vec<Shape>) -> Result<(Shape, Shape), Fail> {
-    let second = pop(stack)?;
-    Ok((pop(stack)?, second))
+// The last form; a newline where there is none.
+fn taken(stack: &mut Vec<Shape>) -> Shape {
+    match stack.pop() {
+        Some(shape) => shape,
+        None => Shape::newline(),
+    }
 }
 
 fn choice(alloc: Global, test: &Part, stack: &mut Vec<Shape>) -> Result<Shape, Fail> {
     let test = expr(alloc, test)?;
-    branch(alloc, test, pop_two(stack)?)
-}
-
-fn branch(alloc: Global, test: Expr, branches: (Shape, Shape)) -> Result<Shape, Fail> {
-    Ok(Shape::choice(alloc, test, branches.0, branches.1)?)
+    let second = taken(stack);
+    let first = taken(stack);
+    Ok(Shape::choice(alloc, test, first, second)?)
 }
 
 fn when(alloc: Global, test: &Part, body: Shapes) -> Result<Shape, Fail> {

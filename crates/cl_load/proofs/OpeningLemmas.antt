@@ -1,13 +1,13 @@
 -- The slots that are left at a place of their table.
-use Rattle.std.proofs.Common.{◌≡◌, ◌+◌, ◌≤◌, ℕ, zero, suc, if◌then◌else◌, drop, length, map, List, [], ◌∷◌, refl, sym, ◌∙◌, true, arith}
-use Rattle.std.specs.Prelude.{Option, Some, None, Err}
+use Rattle.std.proofs.Common.{◌≡◌, ◌+◌, ℕ, zero, suc, if◌then◌else◌, drop, List, [], ◌∷◌, refl, sym, ◌∙◌, true, arith}
+use Rattle.std.specs.Prelude.{Some, Err}
 use Rattle.cl_syntax.specs.Names.{declared_at}
 use Rattle.cl_syntax.specs.declared.applications.App.{App}
 use Rattle.cl_syntax.specs.declared.declarations.SlotDecl.{SlotDecl}
 use Rattle.cl_value.specs.Data.{Data}
 use Rattle.cl_eval.specs.Slots.{Slots, put}
 use Rattle.cl_load.specs.Settling.{Opens}
-use Rattle.cl_load.specs.Opening.{first_unfit, opened, opening_of, is_fit, value_in, opening_slots, with_fit, OpensValue, OpensSlots}
+use Rattle.cl_load.specs.Opening.{first_unfit, opened, opening_of, is_fit, value_in, opening_slots, OpensValue, OpensSlots}
 use Rattle.cl_forms.specs.declared.refusals.LoadRefusal.{LoadRefusal}
 use Rattle.cl_forms.specs.declared.refusals.LoadRefusal.TheVariants.{Refused, Memory}
 

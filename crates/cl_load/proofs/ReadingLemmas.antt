@@ -1,5 +1,5 @@
 -- The frames that are left at a place among them.
-use Rattle.std.proofs.Common.{◌≡◌, ◌+◌, ◌<◌, inl, inr, ℕ, length, drop, get_or, List, [], ◌∷◌, refl, sym, ap, ◌∙◌, subst}
+use Rattle.std.proofs.Common.{◌≡◌, ◌+◌, ◌<◌, inl, inr, ℕ, length, drop, get_or, List, ◌∷◌, refl, sym, ap, ◌∙◌, subst}
 use Rattle.std.proofs.lemmas.List.{drop_more}
 use Rattle.cl_declare.specs.declared.frames.FrameForm.{FrameForm}
 use Rattle.cl_phases.specs.SlotReads.{Functions, AnyReads}

@@ -1,5 +1,5 @@
 -- The device of a frame, and its pane in it.
-use Rattle.std.specs.Prelude.{◌≡◌, ℕ, ◌+◌, ◌≤◌, ℤ, pos, negsuc, Bool, true, false, ◌&&◌, nat_le, Option, Some, None, Result, Ok, Err}
+use Rattle.std.specs.Prelude.{ℕ, ◌+◌, ◌≤◌, ℤ, pos, negsuc, Bool, true, false, ◌&&◌, nat_le, Option, Some, None, Result, Ok, Err}
 use Rattle.cl_forms.specs.Load.{Fault}
 use Rattle.cl_syntax.specs.declared.declarations.FrameDecl.{FrameDecl}
 use Rattle.cl_syntax.specs.declared.declarations.PaneDecl.{PaneDecl}

@@ -17,4 +17,4 @@ pub use application::Loaded;
 pub use cl_forms::LoadRefusal;
 pub use laws::one_outcome;
 pub use loading::load;
-pub use slot_types::SlotTypes;
+pub use slot_types::{SlotTypes, is_member};

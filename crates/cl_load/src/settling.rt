@@ -5,6 +5,8 @@ ghost use Rattle.cl_forms.specs.Load.{itself};
 ghost use Rattle.cl_load.specs.Answers.{Makes};
 ghost use Rattle.cl_load.specs.Outcome.{only_frame, placed_only, app_of};
 ghost use Rattle.cl_load.specs.Placing.{IsSize, IsWithin};
+ghost use Rattle.cl_load.specs.Readings.{NoneReads};
+ghost use Rattle.cl_phases.specs.SlotReads.{AnyReads, Functions};
 ghost use Rattle.cl_load.specs.Settling.{Settles, Opens};
 
 use crate::application::Loaded;
@@ -42,6 +44,7 @@ fn only_placed(length: u32, frames: &mut Vec<FrameForm>) -> Result<FrameDecl, Lo
     ensures value { Makes itself result (placed_only (only_frame length frames.old.items)) }
     ensures size { IfOk result (λ f. IsSize f.width f.height) }
     ensures pane { IfOk result (λ f. IsWithin f) }
+    ensures unread { (functions : Functions) → NoneReads functions frames.old.items → IfOk result (λ f. AnyReads functions f.slots → ⊥) }
 {
     let frame = only_frame(length, frames)?;
     placed(frame)
@@ -77,6 +80,7 @@ fn app_of(declarations: Declarations, frame: FrameDecl) -> App
 fn loaded(alloc: Global, app: App) -> Result<Loaded, LoadRefusal>
     requires size { IsSize app.frame.width app.frame.height }
     requires pane { IsWithin app.frame }
+    requires unread { AnyReads app.functions app.frame.slots → ⊥ }
     ensures { Opens result app }
 {
     let slots = opening_slots(alloc, &app)?;

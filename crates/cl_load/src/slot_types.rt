@@ -26,7 +26,8 @@ impl Types for SlotTypes {
     }
 }
 
-fn is_member(value: &Value, spec: &TypeSpec) -> bool
+/// Whether a value is a member of a type.
+pub fn is_member(value: &Value, spec: &TypeSpec) -> bool
     ensures { result ≡ is_member (data_of value.now) spec.now }
 {
     spec.name.as_slice() == b"t".as_slice() || is_of(spec.name.as_slice(), value)

@@ -1,5 +1,5 @@
 -- What a session is as a world, and when it fits an application and slots.
-use Rattle.std.specs.Prelude.{◌≡◌, ◌⊎◌, ◌≤◌, Bool, ◌||◌, is_none, Option, Some, None, List, []}
+use Rattle.std.specs.Prelude.{◌≡◌, ◌⊎◌, ◌≤◌, Bool, true, ◌||◌, is_none, Option, Some, None, List, []}
 use Rattle.cl_syntax.specs.declared.applications.App.{App}
 use Rattle.cl_eval.specs.Slots.{Slots}
 use Rattle.cl_eval.specs.declared.metering.Limits.{Limits}
@@ -11,9 +11,9 @@ use Rattle.cl_session.specs.declared.answers.PaneReport.{PaneReport}
 use Rattle.cl_session.specs.declared.answers.Replies.{Replies}
 use Rattle.cl_session.specs.declared.sessions.Session.{Session}
 use Rattle.cl_session.specs.World.{World, area_of, marks_of_pane}
-use Rattle.cl_session.specs.Step.{next, settled_if}
+use Rattle.cl_session.specs.Step.{handled_or_not, next, settled_behind, settled_if}
 use Rattle.cl_session.specs.Pane.{IsPainted}
-use Rattle.cl_session.specs.Replies.{lines_of, met_memory, met_of, report_lines}
+use Rattle.cl_session.specs.Replies.{lines_of, met_memory, met_of, own_lines, report_lines}
 
 abbrev pub world_of : Session → Slots → World
 world_of session slots = record { slots = slots; line = session.line; pane = marks_of_pane session.pane.history }
@@ -39,8 +39,13 @@ pub record SettlesIf (due : Bool) (app : App) (limits : Limits) (slots : Slots) 
   pub history : new ≡ (settled_if (due || is_none old) app limits slots old (met_memory report)).pane
   pub lines : report_lines app.frame.pane.name report ≡ (settled_if (due || is_none old) app limits slots old (met_memory report)).lines
 
--- a gesture took the world to the next one, and these are the replies
+-- A gesture took the world to the next one, and these are the replies: the own lines of its handling and the line of the pane, each
+-- in its place.
 pub record Steps (app : App) (old new : Session) (slots_old slots_new : Slots) (gesture : Gesture) (replies : Replies) : Type 0 where
   pub world : world_of new slots_new ≡ (next app old.limits (world_of old slots_old) gesture (met_of replies)).world
   pub lines : lines_of app.frame.pane.name replies ≡ (next app old.limits (world_of old slots_old) gesture (met_of replies)).lines
+  pub own : own_lines replies.memory replies.own ≡ (handled_or_not app old.limits (world_of old slots_old) gesture replies.memory).replies
+  pub none_of_own : replies.memory ≡ true → replies.own ≡ []
+  pub report : report_lines app.frame.pane.name replies.pane
+      ≡ (settled_behind app old.limits (world_of old slots_old) (handled_or_not app old.limits (world_of old slots_old) gesture replies.memory) (met_memory replies.pane)).lines
   pub limits : new.limits ≡ old.limits

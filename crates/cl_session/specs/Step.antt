@@ -166,8 +166,12 @@ joined h s = record {
   cost = h.cost + s.cost;
 }
 
+-- the pane behind a handling
+abbrev pub settled_behind : App → Limits → World → Handled → Bool → Settled
+settled_behind app limits w h met = settled_if (h.commits || is_none w.pane) app limits h.slots w.pane met
+
 abbrev pub after_handling : App → Limits → World → Handled → Bool → Next
-after_handling app limits w h met = joined h (settled_if (h.commits || is_none w.pane) app limits h.slots w.pane met)
+after_handling app limits w h met = joined h (settled_behind app limits w h met)
 
 abbrev pub next : App → Limits → World → Gesture → Met → Next
 next app limits w g met = after_handling app limits w (handled_or_not app limits w g met.handling) met.pane
@@ -181,9 +185,7 @@ RisesBy true old new cost = (old ≤ new) × (new ≤ old + cost)
 pub record Spends (app : App) (limits : Limits) (w : World) (g : Gesture) (met : Met) (old new : ℕ) : Type 0 where
   pub handled_at : ℕ
   pub handling : RisesBy met.handling old handled_at (handled app limits w g).cost
-  pub settling : RisesBy met.pane handled_at new
-      (settled_if ((handled_or_not app limits w g met.handling).commits || is_none w.pane) app limits
-      (handled_or_not app limits w g met.handling).slots w.pane met.pane).cost
+  pub settling : RisesBy met.pane handled_at new (settled_behind app limits w (handled_or_not app limits w g met.handling) met.pane).cost
 
 -- the world at the opening
 abbrev pub opening : App → Limits → Slots → World

@@ -44,11 +44,12 @@ Spent app limits w bad went old new = new ≡ old
 Spent app limits w (does g) lost old new = new ≡ old
 Spent app limits w (does g) (stepped met) old new = Spends app limits w g met old new
 
--- These bytes are a transcript of the pieces from a world on, where so many lines were read before, and the ledger rose from one
--- number to another. Want of memory is chosen anew at each gesture; nothing else is free, but for the steps of what met it.
-abbrev pub IsTranscript : App → Limits → World → ℕ → List Piece → List ℕ → (old new : ℕ) → Type 0
-IsTranscript app limits w before [] bytes old new = (bytes ≡ []) × (new ≡ old)
-IsTranscript app limits w before (p ∷ ps) bytes old new =
+-- These bytes are a transcript of the pieces on the way from one world to another, where so many lines were read before, and the
+-- ledger rose from one number to another. Want of memory is chosen anew at each gesture; nothing else is free, but for the steps of
+-- what met it.
+abbrev pub IsTranscript : App → Limits → (from to : World) → ℕ → List Piece → List ℕ → (old new : ℕ) → Type 0
+IsTranscript app limits w to before [] bytes old new = (bytes ≡ []) × (new ≡ old) × (to ≡ w)
+IsTranscript app limits w to before (p ∷ ps) bytes old new =
     (went : Went) × (rest : List ℕ) × (spent : ℕ) × (bytes ≡ said_of app limits w before (kind_of p) went ++ rest)
     × Spent app limits w (kind_of p) went old spent
-    × IsTranscript app limits (world_after app limits w (kind_of p) went) (before + 1) ps rest spent new
+    × IsTranscript app limits (world_after app limits w (kind_of p) went) to (before + 1) ps rest spent new

@@ -1,8 +1,8 @@
-ghost use Rattle.std.specs.Prelude.{◌≡◌, ◌≤◌, ◌⊎◌, Some};
+ghost use Rattle.std.specs.Prelude.{◌≡◌, ◌≤◌, Some};
 ghost use Rattle.cl_gesture.specs.declared.answers.Stop.TheVariants as stop;
 ghost use Rattle.cl_gesture.specs.Reader.{progress_of, source_of, stop_of};
 ghost use Rattle.cl_session.specs.Session.{Fits, world_of};
-ghost use Rattle.cl_session.specs.Turns.{Turns, end_unless};
+ghost use Rattle.cl_session.specs.Turns.{IsSame, StaysAt, Turns, end_unless};
 ghost use Rattle.cl_session.specs.Serving.{ServesTo};
 
 use crate::sessions::Session;
@@ -31,7 +31,8 @@ pub enum End {
 
 impl Session {
     /// Handles the gestures of a stream, one after another, and writes the lines of each before the
-    /// next is read.
+    /// next is read. The run stops at the gesture in whose lines the sink fails. A reader that has
+    /// stopped gives its end again.
     pub fn serve<G: Source, O: Sink, L: Ledger>(
         &mut self,
         alloc: Global,
@@ -41,9 +42,9 @@ impl Session {
         out: &mut O,
         steps: &mut Steps<L>,
     ) -> End
-        requires fits { Fits loaded.now.app slots.old self.old }
-        requires going { stop_of gestures.old ≡ stop.Going }
-        ensures serves { ServesTo loaded.now.app self.old.limits (world_of self.old slots.old) (progress_of G.left G.faults gestures.old) (progress_of G.left G.faults gestures.new) (O.taken out.old) (O.taken out.new) steps.old steps.new (O.faults out.old) (O.faults out.new) result }
+        requires { Fits loaded.now.app slots.old self.old }
+        ensures serves { stop_of gestures.old ≡ stop.Going → ServesTo loaded.now.app self.old.limits (world_of self.old slots.old) (world_of self.new slots.new) (progress_of G.left G.faults gestures.old) (progress_of G.left G.faults gestures.new) (O.taken out.old) (O.taken out.new) steps.old steps.new (O.faults out.old) (O.faults out.new) result }
+        ensures stays { StaysAt (stop_of gestures.old) (Some result) (IsSame gestures.old gestures.new out.old out.new steps.old steps.new (world_of self.old slots.old) (world_of self.new slots.new)) }
         ensures lent { G.lent (source_of gestures.new) ≡ G.lent (source_of gestures.old) }
         ensures out_lent { O.lent out.new ≡ O.lent out.old }
         ensures later { G.faults (source_of gestures.old) ≤ G.faults (source_of gestures.new) }
@@ -71,10 +72,9 @@ impl Session {
         out: &mut O,
         steps: &mut Steps<L>,
     ) -> Option<End>
-        requires fits { Fits loaded.now.app slots.old self.old }
-        requires open { (stop_of gestures.old ≡ stop.Going) ⊎ (stop_of gestures.old ≡ stop.AtEnd) }
+        requires { Fits loaded.now.app slots.old self.old }
         ensures turns { stop_of gestures.old ≡ stop.Going → Turns loaded.now.app self.old.limits (world_of self.old slots.old) (world_of self.new slots.new) (progress_of G.left G.faults gestures.old) (progress_of G.left G.faults gestures.new) (O.taken out.old) (O.taken out.new) steps.old steps.new (O.faults out.old) (O.faults out.new) result }
-        ensures ended { stop_of gestures.old ≡ stop.AtEnd → (result ≡ Some End.Done) × (gestures.new ≡ gestures.old) × (out.new ≡ out.old) × (steps.new ≡ steps.old) }
+        ensures stays { StaysAt (stop_of gestures.old) result (IsSame gestures.old gestures.new out.old out.new steps.old steps.new (world_of self.old slots.old) (world_of self.new slots.new)) }
         ensures lent { G.lent (source_of gestures.new) ≡ G.lent (source_of gestures.old) }
         ensures out_lent { O.lent out.new ≡ O.lent out.old }
         ensures later { G.faults (source_of gestures.old) ≤ G.faults (source_of gestures.new) }

@@ -1,5 +1,5 @@
 -- How serving ended, as what a run comes to.
-use Rattle.std.proofs.Common.{◌≡◌, ◌<◌, ◌≤◌, ℕ, ◌+◌, List, [], ◌++◌, length, sym, ◌∙◌, ap, arith, append-nil, Option, Bool, true, false, inl, inr, subst}
+use Rattle.std.proofs.Common.{◌≡◌, ◌<◌, ◌≤◌, ℕ, ◌+◌, List, [], ◌++◌, length, sym, ◌∙◌, ap, arith, append-nil, Option, Bool, true, false, inl, inr, subst, ◌∷◌}
 use Rattle.std.specs.Io.KnownBytes.{Consumes}
 use Rattle.cl_outside.specs.Causes.{Rose}
 use Rattle.cl_syntax.specs.declared.applications.App.{App}
@@ -50,16 +50,21 @@ read_all old new ahead_old ahead_new read none ends r =
     rw same at (read_so_far old new ahead_old ahead_new read none r)
 
 -- a transcript from a world that is the opening, where the ledger had risen by what the opening costs
-from_opening : (app : App) (limits : Limits) (w : World) (count : ℕ) (ps : List Piece) (bytes : List ℕ) (h i j : ℕ) → limits ≡ run_limits
-    → w ≡ opening app run_limits (opening_slots app) → i ≡ h + opening_cost app → count ≡ 0 → IsTranscript app limits w count ps bytes i j
-    → IsTranscriptOf app ps bytes h j
-from_opening app limits w count ps bytes h i j l e o c t = rw (l, e, o, c) at t
+from_opening : (app : App) (limits : Limits) (w to : World) (count : ℕ) (ps : List Piece) (bytes : List ℕ) (h i j : ℕ) → limits ≡ run_limits
+    → w ≡ opening app run_limits (opening_slots app) → i ≡ h + opening_cost app → count ≡ 0 → IsTranscript app limits w to count ps bytes i j
+    → IsTranscript app run_limits (opening app run_limits (opening_slots app)) to 0 ps bytes (h + opening_cost app) j
+from_opening app limits w to count ps bytes h i j l e o c t = rw (l, e, o, c) at t
+
+-- the same from any world on
+of_run : (app : App) (limits : Limits) (w to : World) (count lines : ℕ) (ps : List Piece) (bytes : List ℕ) (i j : ℕ) → limits ≡ run_limits → count ≡ lines
+    → IsTranscript app limits w to count ps bytes i j → IsTranscript app run_limits w to lines ps bytes i j
+of_run app limits w to count lines ps bytes i j l c t = rw (l, c) at t
 
 to_end : (app : App) (old new : Progress) (taken_old taken_new : Option (List ℕ)) (x y h i j : ℕ) → old.ahead ≡ [] → old.count ≡ 0 → new.count ≤ most_lines
-    → (limits : Limits) (w : World) → limits ≡ run_limits → w ≡ opening app run_limits (opening_slots app) → i ≡ h + opening_cost app
-    → Served app limits w old new true taken_old taken_new i j
+    → (limits : Limits) (w to : World) → limits ≡ run_limits → w ≡ opening app run_limits (opening_slots app) → i ≡ h + opening_cost app
+    → Served app limits w to old new true taken_old taken_new i j
     → ReadToEnd app (streams old.left old.faults taken_old x h) (streams new.left new.faults taken_new y j)
-to_end app old new taken_old taken_new x y h i j none zero most limits w l e o s =
+to_end app old new taken_old taken_new x y h i j none zero most limits w to l e o s =
     let lines = s.passes.lines in
     let cut : AreCut true new.left new.ahead lines.read s.given = lines.cut in
     let few_given : length (pieces lines.read) ≤ 1000000 = omega (arith, s.passes.counted, zero, most, ap length cut.0) in
@@ -71,29 +76,29 @@ to_end app old new taken_old taken_new x y h i j none zero most limits w l e o s
       written = s.written;
       appended = s.appended;
       transcript =
-          let t : IsTranscriptOf app s.given s.written h j = from_opening app limits w old.count s.given s.written h i j l e o zero s.transcript in
+          let t : IsTranscriptOf app s.given s.written h j = (to, from_opening app limits w to old.count s.given s.written h i j l e o zero s.transcript) in
           rw (sym cut.0) at t;
     }
 
 to_fault : (app : App) (old new : Progress) (taken_old taken_new : Option (List ℕ)) (x y h i j : ℕ) → old.ahead ≡ [] → old.count ≡ 0 → new.count ≤ most_lines
-    → (limits : Limits) (w : World) → limits ≡ run_limits → w ≡ opening app run_limits (opening_slots app) → i ≡ h + opening_cost app
-    → Faulted app limits w old new taken_old taken_new i j
+    → (limits : Limits) (w to : World) → limits ≡ run_limits → w ≡ opening app run_limits (opening_slots app) → i ≡ h + opening_cost app
+    → Faulted app limits w to old new taken_old taken_new i j
     → ReadToFault app (streams old.left old.faults taken_old x h) (streams new.left new.faults taken_new y j)
-to_fault app old new taken_old taken_new x y h i j none zero most limits w l e o s = record {
+to_fault app old new taken_old taken_new x y h i j none zero most limits w to l e o s = record {
   read = s.read;
   consumed = read_all old.left new.left old.ahead new.ahead s.read none s.none s.reads;
   few = omega (arith, s.counted, zero, most);
   rose = s.rose;
   written = s.written;
   appended = s.appended;
-  transcript = from_opening app limits w old.count (ended s.read) s.written h i j l e o zero s.transcript;
+  transcript = (to, from_opening app limits w to old.count (ended s.read) s.written h i j l e o zero s.transcript);
 }
 
 to_limit : (app : App) (old new : Progress) (taken_old taken_new : Option (List ℕ)) (x y h i j : ℕ) → old.ahead ≡ [] → old.count ≡ 0 → new.count ≤ most_lines
-    → (limits : Limits) (w : World) → limits ≡ run_limits → w ≡ opening app run_limits (opening_slots app) → i ≡ h + opening_cost app
-    → Served app limits w old new false taken_old taken_new i j → new.count ≡ most_lines → 0 < length new.ahead
+    → (limits : Limits) (w to : World) → limits ≡ run_limits → w ≡ opening app run_limits (opening_slots app) → i ≡ h + opening_cost app
+    → Served app limits w to old new false taken_old taken_new i j → new.count ≡ most_lines → 0 < length new.ahead
     → ReadToLimit app (streams old.left old.faults taken_old x h) (streams new.left new.faults taken_new y j)
-to_limit app old new taken_old taken_new x y h i j none zero most limits w l e o s full more =
+to_limit app old new taken_old taken_new x y h i j none zero most limits w to l e o s full more =
     let lines = s.passes.lines in
     let cut : AreCut false new.left new.ahead lines.read s.given = lines.cut in
     let count : length s.given ≡ most_lines = omega (arith, s.passes.counted, zero, full) in
@@ -107,7 +112,7 @@ to_limit app old new taken_old taken_new x y h i j none zero most limits w l e o
       written = s.written;
       appended = s.appended;
       transcript =
-          let t : IsTranscriptOf app s.given s.written h j = from_opening app limits w old.count s.given s.written h i j l e o zero s.transcript in
+          let t : IsTranscriptOf app s.given s.written h j = (to, from_opening app limits w to old.count s.given s.written h i j l e o zero s.transcript) in
           rw (sym cut.0) at t;
     }
 
@@ -116,45 +121,51 @@ first_of_cut false left ahead read ps c = inl (sym c.0, c.1)
 first_of_cut true left ahead read ps c = inr (sym c.0, c.2, c.1)
 
 written_to_fault : (app : App) (old new : Progress) (taken_old taken_new : Option (List ℕ)) (x y h i j : ℕ) → old.ahead ≡ [] → old.count ≡ 0 → new.count ≤ most_lines
-    → (limits : Limits) (w : World) → limits ≡ run_limits → w ≡ opening app run_limits (opening_slots app) → i ≡ h + opening_cost app
-    → CutOff app limits w old new taken_old taken_new i j → Rose x y
+    → (limits : Limits) (w to : World) → limits ≡ run_limits → w ≡ opening app run_limits (opening_slots app) → i ≡ h + opening_cost app
+    → CutOff app limits w to old new taken_old taken_new i j → Rose x y
     → WrittenToFault app (streams old.left old.faults taken_old x h) (streams new.left new.faults taken_new y j)
-written_to_fault app old new taken_old taken_new x y h i j none zero most limits w l e o s rose =
+written_to_fault app old new taken_old taken_new x y h i j none zero most limits w to l e o s rose =
     let lines = s.passes.lines in
     record {
       read = lines.read;
       further = new.ahead;
       consumed = read_so_far old.left new.left old.ahead new.ahead lines.read none lines.reads;
-      given = s.given;
-      first = first_of_cut s.finished new.left new.ahead lines.read s.given lines.cut;
+      earlier = s.earlier;
+      last = s.last;
+      first = first_of_cut s.finished new.left new.ahead lines.read (s.earlier ++ s.last ∷ []) lines.cut;
       few = omega (arith, s.passes.counted, zero, most);
       rose = rose;
-      written = s.written;
+      between = s.between;
+      spent = s.spent;
+      whole = s.whole;
+      transcript = from_opening app limits w s.between old.count s.earlier s.whole h i s.spent l e o zero s.transcript;
+      to = to;
+      begun = s.begun;
       lost = s.lost;
+      answer = of_run app limits s.between to (old.count + length s.earlier) (length s.earlier) (s.last ∷ []) (s.begun ++ s.lost) s.spent j l (omega (arith, zero)) s.answer;
       appended = s.appended;
-      transcript = from_opening app limits w old.count s.given (s.written ++ s.lost) h i j l e o zero s.transcript;
     }
 
-served : (app : App) (limits : Limits) (w : World) (old new : Progress) (taken_old taken_new : Option (List ℕ)) (x y h i j : ℕ) (how : End)
+served : (app : App) (limits : Limits) (w to : World) (old new : Progress) (taken_old taken_new : Option (List ℕ)) (x y h i j : ℕ) (how : End)
     → limits ≡ run_limits → w ≡ opening app run_limits (opening_slots app) → i ≡ h + opening_cost app → old.ahead ≡ [] → old.count ≡ 0
-    → new.count ≤ most_lines → ServesTo app limits w old new taken_old taken_new i j x y how
+    → new.count ≤ most_lines → ServesTo app limits w to old new taken_old taken_new i j x y how
     → EndsAs app (streams old.left old.faults taken_old x h) (streams new.left new.faults taken_new y j) how
-served app limits w old new taken_old taken_new x y h i j end.Done l e o none zero most s = to_end app old new taken_old taken_new x y h i j none zero most limits w l e o s
-served app limits w old new taken_old taken_new x y h i j end.ReadFault l e o none zero most s = to_fault app old new taken_old taken_new x y h i j none zero most limits w l e o s
-served app limits w old new taken_old taken_new x y h i j end.TooMany l e o none zero most s =
-    to_limit app old new taken_old taken_new x y h i j none zero most limits w l e o s.0 s.1 s.2
-served app limits w old new taken_old taken_new x y h i j end.OutputFault l e o none zero most s =
-    written_to_fault app old new taken_old taken_new x y h i j none zero most limits w l e o s.0 s.1
+served app limits w to old new taken_old taken_new x y h i j end.Done l e o none zero most s = to_end app old new taken_old taken_new x y h i j none zero most limits w to l e o s
+served app limits w to old new taken_old taken_new x y h i j end.ReadFault l e o none zero most s = to_fault app old new taken_old taken_new x y h i j none zero most limits w to l e o s
+served app limits w to old new taken_old taken_new x y h i j end.TooMany l e o none zero most s =
+    to_limit app old new taken_old taken_new x y h i j none zero most limits w to l e o s.0 s.1 s.2
+served app limits w to old new taken_old taken_new x y h i j end.OutputFault l e o none zero most s =
+    written_to_fault app old new taken_old taken_new x y h i j none zero most limits w to l e o s.0 s.1
 
 -- the same, where what is told of the source is named otherwise
-pub EndsAs-served : (app : App) (limits : Limits) (w : World) (old new : Progress) (taken_old taken_new : Option (List ℕ)) (x y h i j : ℕ) (how : End)
+pub EndsAs-served : (app : App) (limits : Limits) (w to : World) (old new : Progress) (taken_old taken_new : Option (List ℕ)) (x y h i j : ℕ) (how : End)
     → limits ≡ run_limits → w ≡ opening app run_limits (opening_slots app) → i ≡ h + opening_cost app → old.ahead ≡ [] → old.count ≡ 0
-    → new.count ≤ most_lines → ServesTo app limits w old new taken_old taken_new i j x y how
+    → new.count ≤ most_lines → ServesTo app limits w to old new taken_old taken_new i j x y how
     → (left_old left_new : Option (List ℕ)) (faults_old faults_new : ℕ) → left_old ≡ old.left → left_new ≡ new.left
     → faults_old ≡ old.faults → faults_new ≡ new.faults
     → EndsAs app (streams left_old faults_old taken_old x h) (streams left_new faults_new taken_new y j) how
-EndsAs-served app limits w old new taken_old taken_new x y h i j how l e o none zero most s left_old left_new faults_old faults_new a b c d =
-    rw (a, b, c, d) (served app limits w old new taken_old taken_new x y h i j how l e o none zero most s)
+EndsAs-served app limits w to old new taken_old taken_new x y h i j how l e o none zero most s left_old left_new faults_old faults_new a b c d =
+    rw (a, b, c, d) (served app limits w to old new taken_old taken_new x y h i j how l e o none zero most s)
 
 -- the same of an application that is equal
 pub EndsAs-same : (a b : App) (old : ℕ → Streams) (new : Streams) (how : End) (opened : ℕ) → a ≡ b

@@ -1,5 +1,5 @@
 -- What a run of the program comes to.
-use Rattle.std.specs.Prelude.{◌≡◌, ◌<◌, ◌≤◌, ◌⊎◌, ◌+◌, ℕ, List, [], ◌++◌, length, Option, true, false}
+use Rattle.std.specs.Prelude.{◌≡◌, ◌<◌, ◌≤◌, ◌⊎◌, ◌+◌, ℕ, List, [], ◌∷◌, ◌++◌, length, Option, true, false}
 use Rattle.std.specs.Io.KnownBytes.{Appends, Consumes, IsAtEnd}
 use Rattle.cl_outside.specs.Causes.{Rose}
 use Rattle.cl_syntax.specs.declared.applications.App.{App}
@@ -9,6 +9,7 @@ use Rattle.cl_eval.specs.Outcome.{cost_of}
 use Rattle.cl_gesture.specs.Lines.{Piece, pieces, ended, held_from}
 use Rattle.cl_load.specs.Loads.{IsApplication, IsRefusal}
 use Rattle.cl_load.specs.Opening.{opening_slots}
+use Rattle.cl_session.specs.World.{World}
 use Rattle.cl_session.specs.Step.{opening}
 use Rattle.cl_session.specs.Transcript.{IsTranscript}
 use Rattle.cl_session.specs.Writing.{Says}
@@ -33,7 +34,7 @@ opening_cost app = cost_of (pane_fresh run_limits app (opening_slots app))
 -- and then by what the commands and displays of the transcript cost
 abbrev pub IsTranscriptOf : App → List Piece → List ℕ → (spent_old spent_new : ℕ) → Type 0
 IsTranscriptOf app ps bytes spent_old spent_new =
-    IsTranscript app run_limits (opening app run_limits (opening_slots app)) 0 ps bytes (spent_old + opening_cost app) spent_new
+    (to : World) × IsTranscript app run_limits (opening app run_limits (opening_slots app)) to 0 ps bytes (spent_old + opening_cost app) spent_new
 
 -- what is told of the gestures and of the output, with their counts of faults, and what the ledger stands at
 pub record Streams : Type 0 where
@@ -113,19 +114,26 @@ pub record ReadToLimit (app : App) (old new : Streams) : Type 0 where
 abbrev pub AreFirst : Option (List ℕ) → List ℕ → List ℕ → List Piece → Type 0
 AreFirst left read further ps = ((ps ≡ ended read) × (held_from [] read ≡ [])) ⊎ ((ps ≡ pieces read) × (further ≡ []) × IsAtEnd left)
 
--- the output failed: it took the first bytes of a transcript of the first pieces that were read
+-- The output failed in the answer to the last of the first pieces that were read: it took the transcript of those before it, and the
+-- first bytes of this answer.
 pub record WrittenToFault (app : App) (old new : Streams) : Type 0 where
   pub read : List ℕ
   pub further : List ℕ
   pub consumed : Consumes old.left new.left (read ++ further)
-  pub given : List Piece
-  pub first : AreFirst new.left read further given
-  pub few : length given ≤ 1000000
+  pub earlier : List Piece
+  pub last : Piece
+  pub first : AreFirst new.left read further (earlier ++ last ∷ [])
+  pub few : length (earlier ++ last ∷ []) ≤ 1000000
   pub rose : Rose old.output_faults new.output_faults
-  pub written : List ℕ
+  pub between : World
+  pub spent : ℕ
+  pub whole : List ℕ
+  pub transcript : IsTranscript app run_limits (opening app run_limits (opening_slots app)) between 0 earlier whole (old.spent + opening_cost app) spent
+  pub to : World
+  pub begun : List ℕ
   pub lost : List ℕ
-  pub appended : Appends old.taken new.taken written
-  pub transcript : IsTranscriptOf app given (written ++ lost) old.spent new.spent
+  pub answer : IsTranscript app run_limits between to (length earlier) (last ∷ []) (begun ++ lost) spent new.spent
+  pub appended : Appends old.taken new.taken (whole ++ begun)
 
 abbrev pub EndsAs : App → Streams → Streams → End → Type 0
 EndsAs app old new end.Done = ReadToEnd app old new

@@ -8,8 +8,14 @@ mod statuses;
 mod texts;
 mod words;
 
+ghost use Rattle.std.specs.Prelude.{◌≡◌, ◌⊎◌, IfOk, map, string_bytes};
+ghost use Rattle.std.specs.Process.{exit_status};
+ghost use Rattle.clim_run.specs.Command.{IsNoCommand};
+ghost use Rattle.clim_run.specs.Statuses.{IsStatus};
+
 use crate::statuses::{Status, clim_main};
 use cl_outside::{FilePlace, ReaderSource, WriterSink, own_steps};
+use std::alloc::{AllocError, Global};
 use std::process::ExitCode;
 use std::{env, io};
 
@@ -21,13 +27,13 @@ fn main(rt: HostRuntime) -> ExitCode {
         Ok(args) => {
             for word in args.skip(1) {
                 if words.push(word).is_err() {
-                    return ExitCode::from(7);
+                    return exit_code(Status(7));
                 }
             }
         }
         Err(error) => {
             if matches!(error.kind(), io::ErrorKind::OutOfMemory) {
-                return ExitCode::from(7);
+                return exit_code(Status(7));
             }
         }
     }
@@ -35,26 +41,43 @@ fn main(rt: HostRuntime) -> ExitCode {
 }
 
 // Ends with the status of a run on these words.
-fn run(rt: HostRuntime, words: &[String]) -> ExitCode {
+fn run(rt: HostRuntime, words: &[String]) -> ExitCode
+    ensures no_other { IsStatus (exit_status result) }
+    ensures usage_due { IsNoCommand (map string_bytes words.now) → (exit_status result ≡ 2) ⊎ (exit_status result ≡ 5) ⊎ (exit_status result ≡ 7) }
+{
     let alloc = rt.alloc();
-    let mut texts = Vec::new(alloc);
-    for word in words {
-        if texts.push(word.as_str()).is_err() {
-            return ExitCode::from(7);
-        }
-    }
+    let Ok(texts) = texts_of(alloc, words) else {
+        return exit_code(Status(7));
+    };
     let mut gestures = ReaderSource::new(rt.stdin());
     let mut out = WriterSink::new(rt.stdout());
     let mut place = FilePlace::new(rt);
     let mut steps = own_steps();
-    let Status(code) = clim_main(
+    exit_code(clim_main(
         alloc,
         texts.as_slice(),
         &mut place,
         &mut gestures,
         &mut out,
         &mut steps,
-    );
+    ))
+}
+
+// The words as texts.
+fn texts_of<'a>(alloc: Global, words: &'a [String]) -> Result<Vec<&'a str>, AllocError>
+    ensures { IfOk result (λ texts. map (λ t. t.now) texts.items ≡ map string_bytes words.now) }
+{
+    let mut texts = Vec::new(alloc);
+    for word in words {
+        texts.push(word.as_str())?;
+    }
+    Ok(texts)
+}
+
+fn exit_code(status: Status) -> ExitCode
+    ensures { exit_status result ≡ status.0 }
+{
+    let Status(code) = status;
     ExitCode::from(code)
 }
 

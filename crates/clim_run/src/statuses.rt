@@ -50,8 +50,10 @@ pub fn clim_main<P: Place, G: Source, O: Sink, L: Ledger>(
         → DeclaresApplication (P.file place.old name) → HasFewLines (G.left gestures.old) → (result.0 ≡ 0) ⊎ (result.0 ≡ 7) }
 
     ensures files { (name : List ℕ) → P.file place.new name ≡ P.file place.old name }
+    ensures place_lent { P.lent place.new ≡ P.lent place.old }
     ensures place_later { (name : List ℕ) → P.app_faults place.old name ≤ P.app_faults place.new name }
     ensures later { G.faults gestures.old ≤ G.faults gestures.new }
+    ensures out_lent { O.lent out.new ≡ O.lent out.old }
     ensures out_later { O.faults out.old ≤ O.faults out.new }
     ensures steps_later { steps.old ≤ steps.new }
 {
