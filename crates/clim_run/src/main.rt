@@ -8,9 +8,9 @@ mod statuses;
 mod texts;
 mod words;
 
-ghost use Rattle.std.specs.Prelude.{◌≡◌, ◌⊎◌, IfOk, map, string_bytes};
+ghost use Rattle.std.specs.Prelude.{◌≡◌, ◌⊎◌, ℕ, IfOk, List, map, string_bytes};
 ghost use Rattle.std.specs.Process.{exit_status};
-ghost use Rattle.clim_run.specs.Command.{IsNoCommand};
+ghost use Rattle.clim_run.specs.Command.{IsNoCommand, IsRun};
 ghost use Rattle.clim_run.specs.Statuses.{IsStatus};
 
 use crate::statuses::{Status, clim_main};
@@ -43,6 +43,7 @@ fn main(rt: HostRuntime) -> ExitCode {
 // Ends with the status of a run on these words.
 fn run(rt: HostRuntime, words: &[String]) -> ExitCode
     ensures no_other { IsStatus (exit_status result) }
+    ensures command_due { (name : List ℕ) → IsRun (map string_bytes words.now) name → exit_status result ≡ 2 → ⊥ }
     ensures usage_due { IsNoCommand (map string_bytes words.now) → (exit_status result ≡ 2) ⊎ (exit_status result ≡ 5) ⊎ (exit_status result ≡ 7) }
 {
     let alloc = rt.alloc();
