@@ -60,16 +60,14 @@ impl Env {
 fn newest<'a>(variables: &'a [(Text, Value)], name: &[u8]) -> Option<&'a Value>
     ensures { option_map (λ v. data_of v.now) result ≡ found name.now (reverse (map entry_of variables.now)) }
 {
-    match variables.split_last() {
-        Some((last, rest)) => {
-            if last.0.as_slice() == name {
-                Some(&last.1)
-            } else {
-                newest(rest, name)
-            }
+    let mut left = variables;
+    while let Some((last, rest)) = left.split_last() {
+        if last.0.as_slice() == name {
+            return Some(&last.1);
         }
-        None => None,
+        left = rest;
     }
+    None
 }
 
 /// The variables that a form sees, the newest first. It borrows all that it holds.

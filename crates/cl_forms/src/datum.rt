@@ -1,5 +1,5 @@
 //! What is read of the forms of a text.
-ghost use Rattle.std.specs.Prelude.{◌≡◌, ◌++◌, ◌∷◌, [], OnOk, OnErr, map};
+ghost use Rattle.std.specs.Prelude.{◌≡◌, ◌++◌, ◌∷◌, [], OnOk, OnErr, IfErr, map};
 ghost use Rattle.cl_forms.specs.DatumView.{datum_of};
 ghost use Rattle.cl_forms.specs.Datum.{offset, parts_of};
 
@@ -66,9 +66,11 @@ impl Datums {
         self.items.as_slice()
     }
 
+    /// Puts a datum behind the others. Where memory is wanting, it hands it back.
     pub fn push(&mut self, datum: Datum) -> Result<(), AllocFailed<Datum>>
         ensures ok { OnOk result (self.new ≡ self.old ++ datum_of datum ∷ []) }
         ensures err { OnErr result (self.new ≡ self.old) }
+        ensures handed_back { IfErr result (λ e. datum_of e.value ≡ datum_of datum) }
     {
         self.items.push(datum)
     }

@@ -1,5 +1,5 @@
 //! The tree of forms of a text.
-ghost use Rattle.std.specs.Prelude.{◌≡◌, ◌++◌, ◌∷◌, [], OnOk, OnErr, map};
+ghost use Rattle.std.specs.Prelude.{◌≡◌, ◌++◌, ◌∷◌, [], OnOk, OnErr, IfErr, map};
 ghost use Rattle.cl_forms.specs.Form.{tree_of};
 
 use cl_value::Text;
@@ -61,9 +61,11 @@ impl Forms {
         self.items.as_slice()
     }
 
+    /// Puts a form behind the others. Where memory is wanting, it hands it back.
     pub fn push(&mut self, form: Form) -> Result<(), AllocFailed<Form>>
         ensures ok { OnOk result (self.new ≡ self.old ++ tree_of form ∷ []) }
         ensures err { OnErr result (self.new ≡ self.old) }
+        ensures handed_back { IfErr result (λ e. tree_of e.value ≡ tree_of form) }
     {
         self.items.push(form)
     }

@@ -13,7 +13,7 @@ pub enum Opened {
     Done,
     /// A count of faults rose.
     Failed,
-    /// Want of memory; the place is as before.
+    /// Want of memory; the files, the open source and the made sink are as before.
     Memory,
 }
 

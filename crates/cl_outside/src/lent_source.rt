@@ -13,8 +13,7 @@ pub struct LentSource<'a, G: Source> {
 impl<'a, G: Source> LentSource<'a, G> {
     pub fn new(source: &'a mut G) -> LentSource<'a, G>
         ensures same_reference { result.source.ghost_name ≡ source.entry.ghost_name }
-        ensures left { G.left result.source.now ≡ G.left source.old }
-        ensures faults { G.faults result.source.now ≡ G.faults source.old }
+        ensures same { result.source.now ≡ source.old }
     {
         LentSource { source }
     }

@@ -1,6 +1,7 @@
 //! The outside of a frame: where gestures come from, where replies go, where files lie, what shows
 //! the cells, and what counts the steps of the evaluator. Each trait says what a caller may rest
-//! on; the objects in memory say more, and the adapters over the system tell no content.
+//! on. The objects in memory say more; a place over files and a sink that drops all tell no
+//! content, and an adapter over a reader or a writer tells what that tells.
 #![tactic(auto)]
 
 mod answers;

@@ -1,4 +1,4 @@
-ghost use Rattle.std.specs.Prelude.{◌≡◌, ℕ, List, true};
+ghost use Rattle.std.specs.Prelude.{◌≡◌, true};
 
 use crate::answers::Took;
 use crate::places::Place;
@@ -16,9 +16,7 @@ impl<'a, P: Place> PlaceSink<'a, P> {
     pub fn new(place: &'a mut P) -> PlaceSink<'a, P>
         requires { P.made place.old ≡ true }
         ensures same_reference { result.place.ghost_name ≡ place.entry.ghost_name }
-        ensures taken { P.taken result.place.now ≡ P.taken place.old }
-        ensures faults { P.writing_faults result.place.now ≡ P.writing_faults place.old }
-        ensures others { (name : List ℕ) → P.others result.place.now name ≡ P.others place.old name }
+        ensures same { result.place.now ≡ place.old }
     {
         PlaceSink { place }
     }
@@ -29,7 +27,7 @@ impl<'a, P: Place> Sink for PlaceSink<'a, P> {
 
     ghost faults = { λ s. P.writing_faults s.place.now };
 
-    ghost lent = { λ s. record { reference = s.place.ghost_name; files = P.others s.place.now } };
+    ghost lent = { λ s. record { reference = s.place.ghost_name; files = P.others s.place.now; opened = P.opened s.place.now; app_faults = P.app_faults s.place.now; making_faults = P.making_faults s.place.now } };
 
     fn write(&mut self, bytes: &[u8]) -> Took {
         self.place.write_sink(bytes)
