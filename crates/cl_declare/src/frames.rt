@@ -2,12 +2,12 @@
 ghost use Rattle.std.specs.Prelude.{◌≡◌, map, option_map};
 ghost use Rattle.cl_forms.specs.DatumView.{datum_of};
 ghost use Rattle.cl_forms.specs.Load.{Gives, Unknown, itself};
-ghost use Rattle.cl_forms.specs.World.{name_in};
+ghost use Rattle.cl_forms.specs.World.{name_in, symbol_of};
 ghost use Rattle.cl_declare.specs.Frames.{is_size, is_slot, are_slots, takes_none, may_be_shown, is_extent, is_pane, are_panes, is_frame, size_row, extent_row, place_row, pane_row, first_pane, frame_of, frame_row};
 
 use crate::parts::{are_sections, is_number, number_of, section};
 use crate::slots::sections_read;
-use cl_forms::{Datum, LoadRefusal, World, fits, name_in, symbol_of, symbol_text};
+use cl_forms::{Datum, LoadRefusal, World, fits, name_in, symbol_text};
 use cl_syntax::SlotDecls;
 use cl_value::Text;
 use std::alloc::Global;
@@ -117,7 +117,7 @@ fn pane_row(alloc: Global, at: u32, pane_at: u32, parts: &[Datum]) -> Result<Pan
 {
     match parts {
         [] => Err(LoadRefusal::Refused(6, at)),
-        [name, place @ ..] => place_row(alloc, at, pane_at, symbol_of(name), place),
+        [name, place @ ..] => place_row(alloc, at, pane_at, name, place),
     }
 }
 
@@ -125,10 +125,10 @@ fn place_row(
     alloc: Global,
     at: u32,
     pane_at: u32,
-    name: &[u8],
+    name: &Datum,
     place: &[Datum],
 ) -> Result<PaneForm, LoadRefusal>
-    ensures { (u : Unknown) → Gives itself result u (place_row at pane_at name.now (map datum_of place.now) u) }
+    ensures { (u : Unknown) → Gives itself result u (place_row at pane_at (symbol_of (datum_of name.now)) (map datum_of place.now) u) }
 {
     match place {
         [] => Err(LoadRefusal::Refused(6, at)),
@@ -143,16 +143,16 @@ fn extent_row(
     alloc: Global,
     at: u32,
     pane_at: u32,
-    name: &[u8],
+    name: &Datum,
     x: &Datum,
     y: &Datum,
     extent: &[Datum],
 ) -> Result<PaneForm, LoadRefusal>
-    ensures { (u : Unknown) → Gives itself result u (extent_row at pane_at name.now (datum_of x.now) (datum_of y.now) (map datum_of extent.now) u) }
+    ensures { (u : Unknown) → Gives itself result u (extent_row at pane_at (symbol_of (datum_of name.now)) (datum_of x.now) (datum_of y.now) (map datum_of extent.now) u) }
 {
     match extent {
         [width, height, display] => Ok(PaneForm {
-            name: Text::from_slice(alloc, name)?,
+            name: symbol_text(alloc, name)?,
             x: number_of(x),
             y: number_of(y),
             width: number_of(width),

@@ -41,7 +41,7 @@ pub fn is_name_list(datum: &Datum) -> bool
 }
 
 /// The symbol that stands first; nothing where none does.
-pub fn first_symbol(parts: &[Datum]) -> &[u8]
+fn first_symbol(parts: &[Datum]) -> &[u8]
     ensures { result.now ≡ first_symbol (map datum_of parts.now) }
 {
     match parts {
@@ -70,7 +70,7 @@ fn are_keys(parts: &[Datum]) -> bool
 }
 
 /// What stands behind the first part.
-pub fn behind_first(parts: &[Datum]) -> &[Datum]
+fn behind_first(parts: &[Datum]) -> &[Datum]
     ensures { map datum_of result.now ≡ behind_first (map datum_of parts.now) }
 {
     match parts {

@@ -2,18 +2,18 @@
 ghost use Rattle.std.specs.Prelude.{◌≡◌, ◌∷◌, [], map};
 ghost use Rattle.cl_forms.specs.DatumView.{datum_of};
 ghost use Rattle.cl_forms.specs.Load.{Gives, Unknown, itself};
+ghost use Rattle.cl_forms.specs.World.{symbol_of};
 ghost use Rattle.cl_declare.specs.Declarations.{record_row, function_row, display_row, command_row, command_headed, command_listed, command_named, none_yet};
 ghost use Rattle.cl_declare.specs.Leaves.{Notes};
 
 use crate::display_forms::shapes_in;
-use crate::parts::{behind_first, first_symbol, is_command_head, is_list, is_name_list, names_in};
+use crate::parts::{is_command_head, is_list, is_name_list, names_in};
 use crate::statements::acts_in;
 use cl_forms::{
     Datum, LoadRefusal, Scope, World, are_names, expr_in, is_name, line_name_of, name_in,
-    symbol_text,
+    symbol_of, symbol_text,
 };
 use cl_syntax::{CommandDecl, DisplayDecl, FunctionDecl, RecordDecl};
-use cl_value::Text;
 use std::alloc::Global;
 
 /// `(define-record NAME FIELD FIELD ...)`
@@ -148,16 +148,7 @@ fn command_headed(
             if !is_name(word.as_slice()) {
                 return Err(LoadRefusal::Refused(6, at));
             }
-            command_named(
-                alloc,
-                world,
-                at,
-                word.as_slice(),
-                &[],
-                arguments,
-                body,
-                unknown,
-            )
+            command_named(alloc, world, at, head, &[], arguments, body, unknown)
         }
         Datum::Number(_, _) => Err(LoadRefusal::Refused(6, at)),
         Datum::Literal(_, _) => Err(LoadRefusal::Refused(6, at)),
@@ -177,19 +168,15 @@ fn command_listed(
 ) -> Result<CommandDecl, LoadRefusal>
     ensures { Gives itself result unknown.new (command_listed world.now at (map datum_of parts.now) (datum_of arguments.now) (map datum_of body.now) unknown.old) }
 {
-    if !is_command_head(parts) {
-        return Err(LoadRefusal::Refused(6, at));
+    match parts {
+        [] => Err(LoadRefusal::Refused(6, at)),
+        [name, keys @ ..] => {
+            if !is_command_head(parts) {
+                return Err(LoadRefusal::Refused(6, at));
+            }
+            command_named(alloc, world, at, name, keys, arguments, body, unknown)
+        }
     }
-    command_named(
-        alloc,
-        world,
-        at,
-        first_symbol(parts),
-        behind_first(parts),
-        arguments,
-        body,
-        unknown,
-    )
 }
 
 /// Keys and arguments are not built yet.
@@ -197,20 +184,20 @@ fn command_named(
     alloc: Global,
     world: &World,
     at: u32,
-    name: &[u8],
+    name: &Datum,
     keys: &[Datum],
     arguments: &Datum,
     body: &[Datum],
     unknown: &mut Option<u32>,
 ) -> Result<CommandDecl, LoadRefusal>
-    ensures { Gives itself result unknown.new (command_named world.now at name.now (map datum_of keys.now) (datum_of arguments.now) (map datum_of body.now) unknown.old) }
+    ensures { Gives itself result unknown.new (command_named world.now at (symbol_of (datum_of name.now)) (map datum_of keys.now) (datum_of arguments.now) (map datum_of body.now) unknown.old) }
 {
     none_yet(keys)?;
     none_yet(arguments.parts())?;
     let body = acts_in(alloc, world, body, &Scope::Empty, unknown)?;
     Ok(CommandDecl {
-        name: Text::from_slice(alloc, name)?,
-        line_name: line_name_of(alloc, name)?,
+        name: symbol_text(alloc, name)?,
+        line_name: line_name_of(alloc, symbol_of(name))?,
         body,
         at,
     })
