@@ -1,5 +1,5 @@
 -- What the evaluation of a display answers, against what the definition says.
-use Rattle.std.specs.Prelude.{◌≡◌, ◌+◌, ◌≤◌, ℕ}
+use Rattle.std.specs.Prelude.{◌≡◌, ◌≤◌, Bool, true, false}
 use Rattle.cl_eval.specs.Outcome.{Outcome, Gives, Traps}
 use Rattle.cl_medium.specs.Leaves.{leaf_moved}
 use Rattle.cl_record.specs.Counts.{count_of}
@@ -17,11 +17,10 @@ Shows (shown.Trapped h k) (Gives s cost deepest) = ⊥
 Shows (shown.Trapped h k) (Traps kind cost deepest) = (k ≡ kind) × (history_marks leaf_moved h ≡ trap_history kind)
 Shows shown.Memory o = Unit {0}
 
--- the ledger rises by the cost; where there was no memory, by no more
-abbrev pub Rises : Shown → ℕ → ℕ → ℕ → Type 0
-Rises (shown.Built h) old new cost = new ≡ old + cost
-Rises (shown.Trapped h k) old new cost = new ≡ old + cost
-Rises shown.Memory old new cost = (old ≤ new) × (new ≤ old + cost)
+abbrev pub met_memory : Shown → Bool
+met_memory (shown.Built h) = false
+met_memory (shown.Trapped h k) = false
+met_memory shown.Memory = true
 
 -- a history draws at most 1,000,000 items
 abbrev pub IsFew : Shown → Type 0

@@ -1,10 +1,10 @@
 //! Evaluation of display forms.
 ghost use Rattle.std.specs.Prelude.{◌≡◌, ◌≤◌, IfOk};
-ghost use Rattle.cl_eval.specs.Outcome.{cost_of};
+ghost use Rattle.cl_eval.specs.Outcome.{RisesBy, cost_of};
 ghost use Rattle.cl_medium.specs.Leaves.{leaf_moved};
 ghost use Rattle.cl_record.specs.Marks.{history_marks};
 ghost use Rattle.cl_display.specs.Script.{fresh, trap_history};
-ghost use Rattle.cl_display.specs.Agrees.{IsFew, Rises, Shows};
+ghost use Rattle.cl_display.specs.Agrees.{IsFew, Shows, met_memory};
 
 use crate::drawings::{Drawing, push_leaf};
 use crate::forms::draw_all;
@@ -42,7 +42,7 @@ pub fn display<L: Ledger>(
     requires { limits.depth ≤ 512 }
     ensures shows { Shows result (fresh limits app.now forms.now env.now slots.now) }
     ensures few { IsFew result }
-    ensures ledger { Rises result steps.old steps.new (cost_of (fresh limits app.now forms.now env.now slots.now)) }
+    ensures ledger { RisesBy (met_memory result) steps.old steps.new (cost_of (fresh limits app.now forms.now env.now slots.now)) }
 {
     let context = Context {
         alloc,

@@ -1,5 +1,5 @@
 -- What evaluating an expression answers, against what the definition says.
-use Rattle.std.specs.Prelude.{◌≡◌, ℕ, ◌+◌, ◌≤◌}
+use Rattle.std.specs.Prelude.{◌≡◌, Bool, true, false}
 use Rattle.cl_value.specs.Data.{Data}
 use Rattle.cl_value.specs.Value.{data_of}
 use Rattle.cl_syntax.specs.Term.{Term}
@@ -23,8 +23,7 @@ Evaluates (evaluated.Trap k cost) (Gives d c l) = ⊥
 Evaluates (evaluated.Trap k cost) (Traps kind c l) = (k ≡ kind) × (cost ≡ c)
 Evaluates evaluated.Memory o = Unit {0}
 
--- the ledger rises by the cost; where there was no memory, by no more
-abbrev pub Rises : Evaluated → ℕ → ℕ → ℕ → Type 0
-Rises (evaluated.Value v c reach) old new cost = new ≡ old + cost
-Rises (evaluated.Trap k c) old new cost = new ≡ old + cost
-Rises evaluated.Memory old new cost = (old ≤ new) × (new ≤ old + cost)
+abbrev pub met_memory : Evaluated → Bool
+met_memory (evaluated.Value v cost reach) = false
+met_memory (evaluated.Trap k cost) = false
+met_memory evaluated.Memory = true

@@ -1,5 +1,5 @@
 -- What running statements answers, against what the definition says.
-use Rattle.std.specs.Prelude.{◌≡◌, ℕ, ◌+◌, ◌≤◌, List, [], Bool, true, false}
+use Rattle.std.specs.Prelude.{◌≡◌, List, [], Bool, true, false}
 use Rattle.cl_value.specs.declared.Held.{Held}
 use Rattle.cl_value.specs.declared.Held.TheVariants as held
 use Rattle.cl_syntax.specs.Statement.{Statement, statements_of}
@@ -35,8 +35,7 @@ Executes (executed.Trap k cost) (Gives e c deepest) = ⊥
 Executes (executed.Trap k cost) (Traps kind c deepest) = (k ≡ kind) × (cost ≡ c)
 Executes executed.Memory o = Unit {0}
 
--- the ledger rises by the cost; where there was no memory, by no more
-abbrev pub Rises : Executed → ℕ → ℕ → ℕ → Type 0
-Rises (executed.Done s lines c) old new cost = new ≡ old + cost
-Rises (executed.Trap k c) old new cost = new ≡ old + cost
-Rises executed.Memory old new cost = (old ≤ new) × (new ≤ old + cost)
+abbrev pub met_memory : Executed → Bool
+met_memory (executed.Done s lines cost) = false
+met_memory (executed.Trap k cost) = false
+met_memory executed.Memory = true

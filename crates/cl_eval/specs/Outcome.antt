@@ -1,5 +1,5 @@
 -- What a run comes to, from the cost so far and the deepest level so far.
-use Rattle.std.specs.Prelude.{ℕ, Result, Ok, Err}
+use Rattle.std.specs.Prelude.{◌≡◌, ℕ, ◌+◌, ◌≤◌, Bool, true, false, Result, Ok, Err}
 
 -- a value, or a trap of some kind; each with the cost and the deepest level then
 pub data Outcome (A : Type 0) : Type 0 where
@@ -31,3 +31,8 @@ lift (Err kind) cost deepest = Traps kind cost deepest
 abbrev pub cost_of : {A : Type 0} → Outcome A → ℕ
 cost_of (Gives x cost deepest) = cost
 cost_of (Traps kind cost deepest) = cost
+
+-- a ledger rises by a cost; where want of memory was met, by no more
+abbrev pub RisesBy : (met : Bool) → (old new cost : ℕ) → Type 0
+RisesBy false old new cost = new ≡ old + cost
+RisesBy true old new cost = (old ≤ new) × (new ≤ old + cost)

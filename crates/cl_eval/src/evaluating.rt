@@ -1,7 +1,7 @@
 //! The evaluation of one expression by itself.
 ghost use Rattle.std.specs.Prelude.{◌≤◌};
-ghost use Rattle.cl_eval.specs.Outcome.{cost_of};
-ghost use Rattle.cl_eval.specs.Evaluated.{Evaluates, Rises, meant};
+ghost use Rattle.cl_eval.specs.Outcome.{RisesBy, cost_of};
+ghost use Rattle.cl_eval.specs.Evaluated.{Evaluates, meant, met_memory};
 
 use crate::evaluation::{Context, evaluate};
 use crate::metering::{Limits, Meter, Stop};
@@ -36,7 +36,7 @@ pub fn eval<L: Ledger>(
 ) -> Evaluated
     requires { limits.depth ≤ 512 }
     ensures meaning { Evaluates result (meant limits app.now slots.now env.now expr.now) }
-    ensures ledger { Rises result steps.old steps.new (cost_of (meant limits app.now slots.now env.now expr.now)) }
+    ensures ledger { RisesBy (met_memory result) steps.old steps.new (cost_of (meant limits app.now slots.now env.now expr.now)) }
 {
     let context = Context {
         alloc,

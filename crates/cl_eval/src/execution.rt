@@ -11,7 +11,7 @@ ghost use Rattle.cl_eval.specs.Scope.{variables_of};
 ghost use Rattle.cl_eval.specs.Meaning.{listed, means, tested};
 ghost use Rattle.cl_eval.specs.Statements.{act_parts, acts_in, assigned, does, for_each, in_turn};
 ghost use Rattle.cl_eval.specs.Agrees.{Agrees, Comes, always, itself};
-ghost use Rattle.cl_eval.specs.Executed.{Decides, Executes, Rises, ran};
+ghost use Rattle.cl_eval.specs.Executed.{Decides, Executes, met_memory, ran};
 
 use crate::effects::{Effects, Lines, reply};
 use crate::metering::{Limits, Meter, Stop};
@@ -58,7 +58,7 @@ pub fn exec<T: Types, L: Ledger>(
 ) -> Executed
     requires { limits.depth ≤ 512 }
     ensures meaning { Executes result (ran limits app.now (T.holds types.now) statements.now env.now slots.now) }
-    ensures ledger { Rises result steps.old steps.new (cost_of (ran limits app.now (T.holds types.now) statements.now env.now slots.now)) }
+    ensures ledger { RisesBy (met_memory result) steps.old steps.new (cost_of (ran limits app.now (T.holds types.now) statements.now env.now slots.now)) }
 {
     let program = Program {
         alloc,

@@ -1,15 +1,12 @@
 -- The device of a frame, and its pane in it.
-use Rattle.std.specs.Prelude.{ℕ, ◌+◌, ◌≤◌, ℤ, pos, negsuc, Bool, true, false, ◌&&◌, nat_le, Option, Some, None, Result, Ok, Err}
+use Rattle.std.specs.Prelude.{ℕ, ◌+◌, ◌≤◌, ℤ, pos, negsuc, ◌&&◌, nat_le, Option, Some, None, Result, Ok, Err}
 use Rattle.cl_forms.specs.Load.{Fault}
+use Rattle.cl_forms.specs.World.{some_if}
 use Rattle.cl_syntax.specs.declared.declarations.FrameDecl.{FrameDecl}
 use Rattle.cl_syntax.specs.declared.declarations.PaneDecl.{PaneDecl}
 use Rattle.cl_declare.specs.declared.frames.FrameForm.{FrameForm}
 use Rattle.cl_declare.specs.declared.frames.PaneForm.{PaneForm}
 use Rattle.cl_load.specs.declared.placing.Span.{Span}
-
-abbrev pub some_if : {A : Type 0} → Bool → A → Option A
-some_if true x = Some x
-some_if false x = None
 
 -- a side of the device has at least one cell, and no more than the most
 abbrev pub side : ℕ → ℤ → Option ℕ

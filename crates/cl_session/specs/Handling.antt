@@ -1,5 +1,5 @@
 -- What handling a gesture answers, against what the definition says.
-use Rattle.std.specs.Prelude.{◌≡◌, ℕ, ◌+◌, ◌≤◌, true, false, List, [], ◌∷◌}
+use Rattle.std.specs.Prelude.{◌≡◌, ℕ, Bool, true, false, List, [], ◌∷◌}
 use Rattle.cl_eval.specs.Slots.{Slots}
 use Rattle.cl_session.specs.declared.handling.Handling.{Handling}
 use Rattle.cl_session.specs.declared.handling.Handling.TheVariants as handling
@@ -13,11 +13,10 @@ HandlesTo h (handling.Committed replies) slots_old slots_new line_old line_new =
     h ≡ record { replies = replies; slots = slots_new; line = line_new; commits = true; cost = h.cost }
 HandlesTo h handling.Memory slots_old slots_new line_old line_new = (slots_new ≡ slots_old) × (line_new ≡ line_old)
 
--- the ledger rises by the cost; where there was no memory, by no more
-abbrev pub HandlingRises : Handling → ℕ → ℕ → ℕ → Type 0
-HandlingRises (handling.Replied replies) old new cost = new ≡ old + cost
-HandlingRises (handling.Committed replies) old new cost = new ≡ old + cost
-HandlingRises handling.Memory old new cost = (old ≤ new) × (new ≤ old + cost)
+abbrev pub handling_met : Handling → Bool
+handling_met (handling.Replied replies) = false
+handling_met (handling.Committed replies) = false
+handling_met handling.Memory = true
 
 abbrev pub IsReply : List ℕ → Handling → Type 0
 IsReply bytes (handling.Replied replies) = replies ≡ bytes ∷ []

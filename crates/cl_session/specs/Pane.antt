@@ -1,5 +1,5 @@
 -- What a pane of a session is, and what settling it comes to.
-use Rattle.std.specs.Prelude.{◌≡◌, ℕ, ◌+◌, ◌≤◌, Option, Some, None, List}
+use Rattle.std.specs.Prelude.{◌≡◌, Option, Some, None, List}
 use Rattle.cl_eval.specs.Outcome.{Outcome, Gives, Traps}
 use Rattle.cl_medium.specs.declared.any_leaf.AnyLeaf.{AnyLeaf}
 use Rattle.cl_record.specs.Counts.{count_of}
@@ -27,10 +27,3 @@ SettlesTo old new (Traps kind cost deepest) (report.Shown r) = ⊥
 SettlesTo old new (Traps kind cost deepest) (report.Trapped k) = (k ≡ kind) × (new ≡ Some (trap_history kind))
 SettlesTo old new shown report.Memory = new ≡ None
 SettlesTo old new shown report.Quiet = ⊥
-
--- the ledger rises by the cost; where there was no memory, by no more
-abbrev pub Rises : PaneReport → ℕ → ℕ → ℕ → Type 0
-Rises (report.Shown r) old new cost = new ≡ old + cost
-Rises (report.Trapped k) old new cost = new ≡ old + cost
-Rises report.Memory old new cost = (old ≤ new) × (new ≤ old + cost)
-Rises report.Quiet old new cost = new ≡ old

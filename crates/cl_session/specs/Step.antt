@@ -5,7 +5,7 @@ use Rattle.cl_syntax.specs.Names.{declared_at}
 use Rattle.cl_syntax.specs.declared.applications.App.{App}
 use Rattle.cl_syntax.specs.declared.declarations.CommandDecl.{CommandDecl}
 use Rattle.cl_eval.specs.declared.metering.Limits.{Limits}
-use Rattle.cl_eval.specs.Outcome.{Outcome, Gives, Traps, cost_of}
+use Rattle.cl_eval.specs.Outcome.{Outcome, Gives, RisesBy, Traps, cost_of}
 use Rattle.cl_eval.specs.Slots.{Slots}
 use Rattle.cl_eval.specs.Executed.{ran}
 use Rattle.cl_eval.specs.declared.effects.Effects.{Effects}
@@ -175,11 +175,6 @@ after_handling app limits w h met = joined h (settled_behind app limits w h met)
 
 abbrev pub next : App → Limits → World → Gesture → Met → Next
 next app limits w g met = after_handling app limits w (handled_or_not app limits w g met.handling) met.pane
-
--- a ledger rises by a cost; where want of memory was met, by no more
-abbrev pub RisesBy : Bool → (old new cost : ℕ) → Type 0
-RisesBy false old new cost = new ≡ old + cost
-RisesBy true old new cost = (old ≤ new) × (new ≤ old + cost)
 
 -- the ledger rises by the cost of what the handling ran, and then by the cost of the display, where the pane was settled
 pub record Spends (app : App) (limits : Limits) (w : World) (g : Gesture) (met : Met) (old new : ℕ) : Type 0 where

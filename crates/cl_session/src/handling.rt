@@ -2,10 +2,11 @@ ghost use Rattle.std.specs.Prelude.{◌≡◌, ◌≤◌, ◌++◌, ◌∷◌, [
 ghost use Rattle.std.specs.Fmt.{decimal};
 ghost use Rattle.cl_command.specs.Line.{finish_of};
 ghost use Rattle.cl_command.specs.Naming.{line_names};
+ghost use Rattle.cl_eval.specs.Outcome.{RisesBy};
 ghost use Rattle.cl_session.specs.World.{area_of, marks_of_pane};
 ghost use Rattle.cl_session.specs.Step.{asked, command_run, handled, ok_lines, returned, run_of, text_lines, typed};
 ghost use Rattle.cl_session.specs.Pane.{IsPainted};
-ghost use Rattle.cl_session.specs.Handling.{HandlesTo, HandlingRises, IsReply};
+ghost use Rattle.cl_session.specs.Handling.{HandlesTo, IsReply, handling_met};
 
 use crate::panes::Pane;
 use crate::telling::{frame_lines, history_lines, ink_lines};
@@ -46,7 +47,7 @@ pub fn handle<L: Ledger>(
     requires height { pane.now.screen.height ≡ app.now.frame.height }
     requires area { pane.now.area ≡ area_of app.now.frame.pane }
     ensures handles { HandlesTo (handled app.now limits (record { slots = slots.old; line = line.old; pane = marks_of_pane pane.now.history }) gesture.now) result slots.old slots.new line.old line.new }
-    ensures ledger { HandlingRises result steps.old steps.new (handled app.now limits (record { slots = slots.old; line = line.old; pane = marks_of_pane pane.now.history }) gesture.now).cost }
+    ensures ledger { RisesBy (handling_met result) steps.old steps.new (handled app.now limits (record { slots = slots.old; line = line.old; pane = marks_of_pane pane.now.history }) gesture.now).cost }
 {
     match gesture {
         Gesture::Type(text) => type_text(alloc, text.as_slice(), pane, slots, line),
@@ -106,7 +107,7 @@ fn finish_line<L: Ledger>(
 ) -> Handling
     requires { limits.depth ≤ 512 }
     ensures handles { HandlesTo (returned app.now limits (record { slots = slots.old; line = line.old; pane = marks_of_pane pane.now.history }) (finish_of (line_names app.now.commands) line.old)) result slots.old slots.new line.old line.new }
-    ensures ledger { HandlingRises result steps.old steps.new (returned app.now limits (record { slots = slots.old; line = line.old; pane = marks_of_pane pane.now.history }) (finish_of (line_names app.now.commands) line.old)).cost }
+    ensures ledger { RisesBy (handling_met result) steps.old steps.new (returned app.now limits (record { slots = slots.old; line = line.old; pane = marks_of_pane pane.now.history }) (finish_of (line_names app.now.commands) line.old)).cost }
 {
     match line.finish(&app.commands) {
         Finished::Unknown => reply(alloc, b"! unknown"),
@@ -130,7 +131,7 @@ fn run_command<L: Ledger>(
 ) -> Handling
     requires { limits.depth ≤ 512 }
     ensures handles { HandlesTo (run_of command.now.line_name (record { slots = slots.old; line = line.old; pane = marks_of_pane pane.now.history }) (command_run limits app.now command.now slots.old)) result slots.old slots.new line.old line.new }
-    ensures ledger { HandlingRises result steps.old steps.new (run_of command.now.line_name (record { slots = slots.old; line = line.old; pane = marks_of_pane pane.now.history }) (command_run limits app.now command.now slots.old)).cost }
+    ensures ledger { RisesBy (handling_met result) steps.old steps.new (run_of command.now.line_name (record { slots = slots.old; line = line.old; pane = marks_of_pane pane.now.history }) (command_run limits app.now command.now slots.old)).cost }
 {
     let env = Env::new(alloc);
     match exec(

@@ -1,5 +1,5 @@
 ghost use Rattle.std.specs.Prelude.{◌≡◌, ◌≤◌, ◌<◌, ◌+◌, All, IfOk, Some, None, map};
-ghost use Rattle.cl_eval.specs.Outcome.{cost_of};
+ghost use Rattle.cl_eval.specs.Outcome.{RisesBy, cost_of};
 ghost use Rattle.cl_display.specs.Script.{pane_fresh};
 ghost use Rattle.cl_medium.specs.Leaves.{leaf_moved};
 ghost use Rattle.cl_raster.specs.Raster.{IsInk, SameSize};
@@ -7,7 +7,8 @@ ghost use Rattle.cl_record.specs.Counts.{count_of};
 ghost use Rattle.cl_record.specs.Marks.{history_marks};
 ghost use Rattle.cl_redisplay.specs.Paint.{ink_digit, shown_ink_row, shown_row};
 ghost use Rattle.cl_session.specs.World.{area_of, marks_in, marks_of_pane};
-ghost use Rattle.cl_session.specs.Pane.{IsPainted, Rises, SettlesTo};
+ghost use Rattle.cl_session.specs.Replies.{met_memory};
+ghost use Rattle.cl_session.specs.Pane.{IsPainted, SettlesTo};
 
 use crate::answers::{PaneReport, Report};
 use cl_display::{History, Shown, display};
@@ -105,7 +106,7 @@ impl Pane {
         ensures painted { IsPainted self.new }
         ensures size { SameSize self.old.screen self.new.screen }
         ensures area { self.new.area ≡ self.old.area }
-        ensures ledger { Rises result steps.old steps.new (cost_of (pane_fresh limits app.now slots.now)) }
+        ensures ledger { RisesBy (met_memory result) steps.old steps.new (cost_of (pane_fresh limits app.now slots.now)) }
         ensures later { steps.old ≤ steps.new }
     {
         let erased = self.items;

@@ -1,11 +1,11 @@
 ghost use Rattle.std.specs.Prelude.{◌≡◌, ◌≤◌, ◌+◌, ◌||◌, false, is_none, IfOk};
 ghost use Rattle.cl_display.specs.Script.{pane_fresh};
-ghost use Rattle.cl_eval.specs.Outcome.{cost_of};
+ghost use Rattle.cl_eval.specs.Outcome.{RisesBy, cost_of};
 ghost use Rattle.cl_raster.specs.Raster.{SameSize};
 ghost use Rattle.cl_session.specs.Replies.{met_memory, met_of};
 ghost use Rattle.cl_session.specs.Pane.{IsPainted};
 ghost use Rattle.cl_session.specs.World.{marks_of_pane};
-ghost use Rattle.cl_session.specs.Step.{RisesBy, Spends, opening, settled_if};
+ghost use Rattle.cl_session.specs.Step.{Spends, opening, settled_if};
 ghost use Rattle.cl_session.specs.Session.{Fits, IsCurrent, SettlesIf, Steps as StepsTo, world_of};
 
 use crate::answers::{PaneReport, Replies};

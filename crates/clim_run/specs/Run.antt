@@ -7,6 +7,7 @@ use Rattle.cl_display.specs.Script.{pane_fresh}
 use Rattle.cl_eval.specs.declared.metering.Limits.{Limits}
 use Rattle.cl_eval.specs.Outcome.{cost_of}
 use Rattle.cl_gesture.specs.Lines.{Piece, pieces, ended, held_from}
+use Rattle.cl_gesture.specs.Next.{most_lines}
 use Rattle.cl_load.specs.Loads.{IsApplication, IsRefusal}
 use Rattle.cl_load.specs.Opening.{opening_slots}
 use Rattle.cl_session.specs.World.{World}
@@ -82,7 +83,7 @@ pub record ReadToEnd (app : App) (old new : Streams) : Type 0 where
   pub read : List ℕ
   pub consumed : Consumes old.left new.left read
   pub at_end : IsAtEnd new.left
-  pub few : length (pieces read) ≤ 1000000
+  pub few : length (pieces read) ≤ most_lines
   pub written : List ℕ
   pub appended : Appends old.taken new.taken written
   pub transcript : IsTranscriptOf app (pieces read) written old.spent new.spent
@@ -91,7 +92,7 @@ pub record ReadToEnd (app : App) (old new : Streams) : Type 0 where
 pub record ReadToFault (app : App) (old new : Streams) : Type 0 where
   pub read : List ℕ
   pub consumed : Consumes old.left new.left read
-  pub few : length (ended read) ≤ 1000000
+  pub few : length (ended read) ≤ most_lines
   pub rose : Rose old.gesture_faults new.gesture_faults
   pub written : List ℕ
   pub appended : Appends old.taken new.taken written
@@ -103,7 +104,7 @@ pub record ReadToLimit (app : App) (old new : Streams) : Type 0 where
   pub further : List ℕ
   pub consumed : Consumes old.left new.left (read ++ further)
   pub whole : held_from [] read ≡ []
-  pub lines : length (ended read) ≡ 1000000
+  pub lines : length (ended read) ≡ most_lines
   pub more : 0 < length further
   pub written : List ℕ
   pub appended : Appends old.taken new.taken written
@@ -123,7 +124,7 @@ pub record WrittenToFault (app : App) (old new : Streams) : Type 0 where
   pub earlier : List Piece
   pub last : Piece
   pub first : AreFirst new.left read further (earlier ++ last ∷ [])
-  pub few : length (earlier ++ last ∷ []) ≤ 1000000
+  pub few : length (earlier ++ last ∷ []) ≤ most_lines
   pub rose : Rose old.output_faults new.output_faults
   pub between : World
   pub spent : ℕ

@@ -2,6 +2,7 @@
 use Rattle.std.specs.Prelude.{◌≡◌, ◌≤◌, ◌⊎◌, ℕ, List, length, Option, None, Some}
 use Rattle.cl_syntax.specs.declared.applications.App.{App}
 use Rattle.cl_gesture.specs.Lines.{pieces}
+use Rattle.cl_gesture.specs.Next.{most_lines}
 use Rattle.cl_load.specs.Loads.{IsApplication, IsRefusal}
 use Rattle.cl_session.specs.declared.serving.End.TheVariants as end
 use Rattle.clim_run.specs.Command.{IsNoCommand, usage_line}
@@ -34,4 +35,4 @@ HasRefusal (Some (Some bytes)) number at = IsRefusal (first_bytes bytes) number 
 -- gestures that are told, of at most a million lines
 abbrev pub HasFewLines : Option (List ℕ) → Type 0
 HasFewLines None = ⊥
-HasFewLines (Some bytes) = length (pieces bytes) ≤ 1000000
+HasFewLines (Some bytes) = length (pieces bytes) ≤ most_lines
