@@ -18,19 +18,22 @@ use Rattle.cl_eval.specs.Outcome.{Outcome, Gives, Traps, Run, ◌>>=◌, give, t
 use Rattle.cl_eval.specs.Slots.{Slots, Env, given}
 use Rattle.cl_eval.specs.Meaning.{Go, bound, each, entering, listed, means, tested}
 use Rattle.cl_medium.specs.Drawing.{text_leaf, shape_area, point_leaf, hline_leaf, vline_leaf, box_leaf, fill_leaf}
-use Rattle.cl_medium.specs.Ambients.{AmbientAt, after_indent, after_newline}
+use Rattle.cl_medium.specs.Ambients.{AmbientAt, after_indent, after_newline, after_room, ambient_start}
 use Rattle.cl_medium.specs.Items.{Shape, bounds_of, bytes, filled as fill_shape, line, outlined as outline_shape}
 use Rattle.cl_medium.specs.Leaves.{item_of, leaf_bounds, leaf_moved}
 use Rattle.cl_medium.specs.declared.any_leaf.AnyLeaf.{AnyLeaf}
 use Rattle.cl_medium.specs.declared.areas.Area.{Area}
+use Rattle.cl_region.specs.Places.{box}
+use Rattle.cl_region.specs.declared.rects.Rect.{Rect}
 use Rattle.cl_record.specs.Marks.{Mark, draw, opens, begins, closes, history_marks}
 use Rattle.cl_record.specs.Replays.{drawn as items_in}
 use Rattle.cl_record.proofs.Replayed.{drawn-append}
-use Rattle.cl_display.specs.Drawings.{DrawingAt, added, after_text, blank_drawing, byte_of, cursor_to, drawing_of, drawn, figured, filled, filled_at, from_origin, highest, indented, ink_back, ink_set, inked, is_in_range, is_near, lined, margin_back, margin_set, number_of, outer_of, outlined, outlined_at, pointed, pointed_at, room_entered, room_left, ruled_across, ruled_across_at, ruled_down, ruled_down_at, shaped, then_to, with_item}
+use Rattle.cl_display.specs.Drawings.{DrawingAt, added, after_text, blank_drawing, byte_of, cursor_box, cursor_to, drawing_of, drawn, figured, filled, filled_at, from_origin, highest, indented, ink_back, ink_set, inked, is_in_range, is_near, lined, margin_back, margin_box, margin_set, number_of, outer_of, outlined, outlined_at, pointed, pointed_at, room_entered, room_left, ruled_across, ruled_across_at, ruled_down, ruled_down_at, shaped, then_to, with_item}
 use Rattle.cl_display.specs.declared.drawings.Drawing.{Drawing}
 use Rattle.cl_display.specs.Fresh.{Draws, called, draws, draws_in, for_each, in_order, shape_parts, within, written}
 use Rattle.cl_display.specs.Script.{fresh}
-use Rattle.cl_display.specs.Sums.{AddsUp, bottom_of, item_weight, shape_weight, weight_of}
+use Rattle.cl_display.proofs.CornerLemmas.{box-first, box-second, holds-itself, holds-then, holds_all-behind, holds_all-then}
+use Rattle.cl_display.specs.Sums.{AddsUp, Holds, HoldsAll, bottom_of, item_weight, shape_weight, weight_of}
 
 -- what was drawn between two states
 pub record Adds (s t : DrawingAt) : Type 0 where
@@ -39,6 +42,9 @@ pub record Adds (s t : DrawingAt) : Type 0 where
   pub weight : t.weight ≡ s.weight + weight_of items
   pub light : s.weight ≤ 1000000 → t.weight ≤ 1000000
   pub bottom : highest ≤ℤ s.bottom → t.bottom ≡ int_max s.bottom (bottom_of items)
+  pub wider : Holds t.extent s.extent
+  pub within : HoldsAll t.extent items
+  pub cursor : Holds s.extent (cursor_box s.ambient) → Holds t.extent (cursor_box t.ambient)
 
 -- ---- lists of items
 
@@ -56,14 +62,22 @@ bottom_of-behind (x ∷ xs) ys = omega (arith, ints, clamps, bottom_of-behind xs
 
 -- ---- steps
 
-adds-none : (s t : DrawingAt) → t.marks ≡ s.marks → t.weight ≡ s.weight → t.bottom ≡ s.bottom → Adds s t
-adds-none s t m w b = record {
+adds-none : (s t : DrawingAt) → t.marks ≡ s.marks → t.weight ≡ s.weight → t.bottom ≡ s.bottom → Holds t.extent s.extent
+    → (Holds s.extent (cursor_box s.ambient) → Holds t.extent (cursor_box t.ambient)) → Adds s t
+adds-none s t m w b e c = record {
   items = [];
   behind = rw m (sym (append-nil (items_in s.marks)));
   weight = omega (arith, w);
   light = λ h. omega (arith, w, h);
   bottom = λ h. omega (arith, ints, clamps, b, h);
+  wider = e;
+  within = tt;
+  cursor = c;
 }
+
+-- the same items and the same extent, with the cursor where it was
+adds-nothing : (s t : DrawingAt) → t.marks ≡ s.marks → t.weight ≡ s.weight → t.bottom ≡ s.bottom → t.extent ≡ s.extent → cursor_box t.ambient ≡ cursor_box s.ambient → Adds s t
+adds-nothing s t m w b e c = adds-none s t m w b (rw e (holds-itself s.extent)) (λ h. rw (e, c) h)
 
 adds-then : (s t u : DrawingAt) → Adds s t → Adds t u → Adds s u
 adds-then s t u p q = record {
@@ -75,6 +89,9 @@ adds-then s t u p q = record {
       let first : t.bottom ≡ int_max s.bottom (bottom_of p.items) = p.bottom h in
       let near : highest ≤ℤ t.bottom = omega (arith, ints, clamps, first, h) in
       omega (arith, ints, clamps, first, q.bottom near, bottom_of-behind p.items q.items);
+  wider = holds-then u.extent t.extent s.extent q.wider p.wider;
+  within = holds_all-behind u.extent p.items q.items (holds_all-then u.extent t.extent p.items q.wider p.within) q.within;
+  cursor = λ h. q.cursor (p.cursor h);
 }
 
 -- ---- answers and runs
@@ -113,7 +130,7 @@ adds-lift s (Ok t) p c d = p
 adds-lift s (Err k) p c d = tt
 
 adds-give : (s : DrawingAt) → AddsRun s (give s)
-adds-give s c d = adds-none s s refl refl refl
+adds-give s c d = adds-nothing s s refl refl refl refl refl
 
 adds-choice : (s : DrawingAt) (b : Bool) (m n : Run DrawingAt) → AddsRun s m → AddsRun s n → AddsRun s (if b then m else n)
 adds-choice s true m n g h = g
@@ -128,6 +145,9 @@ adds-item true leaf weight s h e = record {
   weight = omega (arith, e);
   light = λ g. grind (arith, nat_tests, h);
   bottom = λ g. omega (arith, ints, clamps, g);
+  wider = box-first s.extent (leaf_bounds leaf);
+  within = (box-second s.extent (leaf_bounds leaf), tt);
+  cursor = λ g. holds-then (box s.extent (leaf_bounds leaf)) s.extent (cursor_box s.ambient) (box-first s.extent (leaf_bounds leaf)) g;
 }
 adds-item false leaf weight s h e = tt
 
@@ -135,11 +155,11 @@ adds-added : (leaf : AnyLeaf) (weight : ℕ) (s : DrawingAt) → weight ≡ item
 adds-added leaf weight s e = adds-item (nat_le (s.weight + weight) 1000000) leaf weight s refl e
 
 adds-moved : (a : AmbientAt) (s : DrawingAt) (r : Result DrawingAt ℕ) → AddsTo s r → AddsTo s (then_to a r)
-adds-moved a s (Ok t) p = adds-then s t (cursor_to a t) p (adds-none t (cursor_to a t) refl refl refl)
+adds-moved a s (Ok t) p = adds-then s t (cursor_to a t) p (adds-none t (cursor_to a t) refl refl refl (box-first t.extent (cursor_box a)) (λ h. box-second t.extent (cursor_box a)))
 adds-moved a s (Err k) p = tt
 
 adds-origin : (s : DrawingAt) (r : Result DrawingAt ℕ) → AddsTo s r → AddsTo s (from_origin r)
-adds-origin s (Ok t) p = adds-then s t (record t { origin_used = true }) p (adds-none t (record t { origin_used = true }) refl refl refl)
+adds-origin s (Ok t) p = adds-then s t (record t { origin_used = true }) p (adds-nothing t (record t { origin_used = true }) refl refl refl refl refl)
 adds-origin s (Err k) p = tt
 
 adds-unless : (s : DrawingAt) (b : Bool) (k : ℕ) (r : Result DrawingAt ℕ) → AddsTo s r → AddsTo s (if b then Err k else r)
@@ -151,11 +171,11 @@ adds-where s true k r p = p
 adds-where s false k r p = tt
 
 adds-or_none : (s : DrawingAt) (b : Bool) (r : Result DrawingAt ℕ) → AddsTo s r → AddsTo s (if b then Ok s else r)
-adds-or_none s true r p = adds-none s s refl refl refl
+adds-or_none s true r p = adds-nothing s s refl refl refl refl refl
 adds-or_none s false r p = p
 
 adds-drawn : (bs : List ℕ) (s : DrawingAt) → AddsTo s (drawn bs s)
-adds-drawn [] s = adds-none s s refl refl refl
+adds-drawn [] s = adds-nothing s s refl refl refl refl refl
 adds-drawn (b ∷ bs) s =
     adds-where s (is_in_range (leaf_bounds (text_leaf s.ambient (b ∷ bs)))) 9 (then_to (after_text s.ambient (b ∷ bs)) (added (text_leaf s.ambient (b ∷ bs)) (length (b ∷ bs) + 1) s))
     (adds-moved (after_text s.ambient (b ∷ bs)) s (added (text_leaf s.ambient (b ∷ bs)) (length (b ∷ bs) + 1) s) (adds-added (text_leaf s.ambient (b ∷ bs)) (length (b ∷ bs) + 1) s refl))
@@ -165,7 +185,8 @@ adds-written s (text bs) = adds-drawn bs s
 adds-written s d = tt
 
 adds-lined : (s : DrawingAt) → AddsTo s (lined s)
-adds-lined s = adds-where s (is_near (s.ambient.y +ℤ pos 1)) 9 (Ok (cursor_to (after_newline s.ambient) (record s { margin_used = true }))) (adds-none s (cursor_to (after_newline s.ambient) (record s { margin_used = true })) refl refl refl)
+adds-lined s = adds-where s (is_near (s.ambient.y +ℤ pos 1)) 9 (Ok (cursor_to (after_newline s.ambient) (record s { margin_used = true }))) (adds-none s (cursor_to (after_newline s.ambient) (record s { margin_used = true })) refl refl refl
+    (box-first s.extent (cursor_box (after_newline s.ambient))) (λ h. box-second s.extent (cursor_box (after_newline s.ambient))))
 
 adds-shaped : (leaf : AnyLeaf) (area : Area) (s : DrawingAt) → 1 ≡ item_weight leaf → AddsTo s (shaped leaf area s)
 adds-shaped leaf area s e =
@@ -247,15 +268,19 @@ adds-within go g level env body s (Ok inner) leave p h c d = adds-left go g leve
 adds-within go g level env body s (Err k) leave p h c d = tt
 
 adds-indented : (d : Data) (s : DrawingAt) → AddsTo s (indented d s)
-adds-indented (int n) s = adds-where s (is_near (s.ambient.margin +ℤ n)) 9 (Ok (margin_set (after_indent s.ambient n) s)) (adds-none s (margin_set (after_indent s.ambient n) s) refl refl refl)
+adds-indented (int n) s = adds-where s (is_near (s.ambient.margin +ℤ n)) 9 (Ok (margin_set (after_indent s.ambient n) s)) (adds-none s (margin_set (after_indent s.ambient n) s) refl refl refl (box-first s.extent (margin_box (after_indent s.ambient n)))
+    (λ h. holds-then (box s.extent (margin_box (after_indent s.ambient n))) s.extent (cursor_box s.ambient) (box-first s.extent (margin_box (after_indent s.ambient n))) h))
 adds-indented d s = tt
 
 adds-inked : (d : Data) (s : DrawingAt) → AddsTo s (inked d s)
-adds-inked (int (pos n)) s = adds-where s (nat_le n 7) 9 (Ok (ink_set n s)) (adds-none s (ink_set n s) refl refl refl)
+adds-inked (int (pos n)) s = adds-where s (nat_le n 7) 9 (Ok (ink_set n s)) (adds-nothing s (ink_set n s) refl refl refl refl refl)
 adds-inked (int (negsuc n)) s = tt
 adds-inked d s = tt
 
 -- ---- rooms
+
+abbrev behind_room : DrawingAt → DrawingAt → Rect
+behind_room s t = cursor_box (after_room t.ambient s.ambient t.bottom)
 
 adds-room_left : (s t : DrawingAt) → Adds (room_entered s) t → Adds s (room_left (outer_of s) t)
 adds-room_left s t p = record {
@@ -266,6 +291,9 @@ adds-room_left s t p = record {
   bottom = λ h.
       let inside : t.bottom ≡ int_max highest (bottom_of p.items) = p.bottom (omega (arith, ints)) in
       omega (arith, ints, clamps, inside, below p.items, h);
+  wider = holds-then (room_left (outer_of s) t).extent t.extent s.extent (box-first t.extent (behind_room s t)) p.wider;
+  within = holds_all-then (room_left (outer_of s) t).extent t.extent p.items (box-first t.extent (behind_room s t)) p.within;
+  cursor = λ h. box-second t.extent (behind_room s t);
 }
 
 adds-behind_room : (s : DrawingAt) (o : Outcome DrawingAt) → AddsOut (room_entered s) o → AddsOut s (after o (λ end. give (room_left (outer_of s) end)))
@@ -292,10 +320,10 @@ adds-shape_parts app value go g level env (shape.draw figure ts) s =
     adds-given s (each value level env ts []) (λ ds. lift (figured figure ds s)) (λ ds. adds-lift s (figured figure ds s) (adds-figured figure ds s))
 adds-shape_parts app value go g level env (shape.indent t body) s =
     adds-given s (value level env t) (λ d. within go level env body (indented d s) (margin_back s.ambient))
-    (λ d. adds-within go g level env body s (indented d s) (margin_back s.ambient) (adds-indented d s) (λ end. adds-none end (margin_back s.ambient end) refl refl refl))
+    (λ d. adds-within go g level env body s (indented d s) (margin_back s.ambient) (adds-indented d s) (λ end. adds-nothing end (margin_back s.ambient end) refl refl refl refl refl))
 adds-shape_parts app value go g level env (shape.ink t body) s =
     adds-given s (value level env t) (λ d. within go level env body (inked d s) (ink_back s.ambient))
-    (λ d. adds-within go g level env body s (inked d s) (ink_back s.ambient) (adds-inked d s) (λ end. adds-none end (ink_back s.ambient end) refl refl refl))
+    (λ d. adds-within go g level env body s (inked d s) (ink_back s.ambient) (adds-inked d s) (λ end. adds-nothing end (ink_back s.ambient end) refl refl refl refl refl))
 adds-shape_parts app value go g level env (shape.room body) s = adds-room go g level env body s
 adds-shape_parts app value go g level env (shape.choice t a b) s =
     adds-given s (tested value level env t) (λ holds. if holds then go level env a s else go level env b s) (λ holds. adds-choice s holds (go level env a s) (go level env b s) (g level env a s) (g level env b s))
@@ -335,12 +363,20 @@ adds-blank s p = record {
   count = rw p.behind (omega (arith, p.weight, p.light (omega arith), count-weight p.items));
 }
 
+-- what holds all that a display draws
+pub holds-blank : (s : DrawingAt) → Adds blank_drawing s → HoldsAll s.extent (items_in s.marks) × Holds s.extent (cursor_box s.ambient)
+holds-blank s p = (rw p.behind p.within, p.cursor (holds-itself (cursor_box ambient_start)))
+
 pub adds-fresh : (limits : Limits) (app : App) (fs : List Form) (env : Env) (slots : Slots) → AddsOut blank_drawing (fresh limits app fs env slots)
 unfolding fresh
 adds-fresh limits app fs env slots = adds-in_order (draws limits.depth limits.budget app slots) (adds-draws limits.depth limits.budget app slots) 0 env (forms_of fs) blank_drawing 0 0
 
 pub adds_up : (limits : Limits) (app : App) (fs : List Form) (env : Env) (slots : Slots) (s : DrawingAt) (cost reach : ℕ) → fresh limits app fs env slots ≡ Gives s cost reach → AddsUp s
 adds_up limits app fs env slots s cost reach p = adds-blank s (subst (AddsOut blank_drawing) p (adds-fresh limits app fs env slots))
+
+pub holds_drawn : (limits : Limits) (app : App) (fs : List Form) (env : Env) (slots : Slots) (s : DrawingAt) (cost reach : ℕ) → fresh limits app fs env slots ≡ Gives s cost reach
+    → HoldsAll s.extent (items_in s.marks) × Holds s.extent (cursor_box s.ambient)
+holds_drawn limits app fs env slots s cost reach p = holds-blank s (subst (AddsOut blank_drawing) p (adds-fresh limits app fs env slots))
 
 behind-it : (xs ys : List AnyLeaf) → drop (length xs) (xs ++ ys) ≡ ys
 behind-it [] ys = refl

@@ -1,10 +1,11 @@
--- What the items of a history weigh together, and where the lowest of them ends.
-use Rattle.std.specs.Prelude.{◌≡◌, ℕ, ◌+◌, ◌≤◌, ℤ, List, [], ◌∷◌, length}
+-- What the items of a history weigh together, where the lowest of them ends, and what holds them all.
+use Rattle.std.specs.Prelude.{◌≡◌, ℕ, ◌+◌, ◌≤◌, ℤ, ◌≤ℤ◌, List, [], ◌∷◌, length}
 use Rattle.std.specs.Int.{int_max}
 use Rattle.cl_medium.specs.Items.{Shape, bytes}
 use Rattle.cl_medium.specs.Leaves.{item_of, leaf_bounds}
 use Rattle.cl_medium.specs.declared.any_leaf.AnyLeaf.{AnyLeaf}
 use Rattle.cl_record.specs.Replays.{drawn}
+use Rattle.cl_region.specs.declared.rects.Rect.{Rect}
 use Rattle.cl_display.specs.Drawings.{DrawingAt, highest}
 
 -- a text weighs its bytes and 1, another item 1
@@ -31,3 +32,15 @@ pub record AddsUp (s : DrawingAt) : Type 0 where
   pub light : s.weight ≤ 1000000
   pub bottom : s.bottom ≡ bottom_of (drawn s.marks)
   pub count : length (drawn s.marks) ≤ 1000000
+
+-- the corners of a rectangle lie within those of another one, also where it has no cells
+pub record Holds (outer inner : Rect) : Type 0 where
+  pub left : outer.x1 ≤ℤ inner.x1
+  pub top : outer.y1 ≤ℤ inner.y1
+  pub right : inner.x2 ≤ℤ outer.x2
+  pub bottom : inner.y2 ≤ℤ outer.y2
+
+-- the corners of each item lie within those of a rectangle
+abbrev pub HoldsAll : Rect → List AnyLeaf → Type 0
+HoldsAll outer [] = Unit {0}
+HoldsAll outer (leaf ∷ items) = Holds outer (leaf_bounds leaf) × HoldsAll outer items

@@ -9,10 +9,10 @@ ghost use Rattle.cl_eval.specs.Outcome.{Gives};
 ghost use Rattle.cl_eval.specs.Slots.{Env, Slots};
 ghost use Rattle.cl_medium.specs.Drawing.{shape_area, point_leaf, hline_leaf, vline_leaf, box_leaf, fill_leaf};
 ghost use Rattle.cl_record.specs.Replays.{drawn};
-ghost use Rattle.cl_display.specs.Drawings.{DrawingAt, figured, room_entered, shaped};
+ghost use Rattle.cl_display.specs.Drawings.{DrawingAt, cursor_box, figured, room_entered, shaped};
 ghost use Rattle.cl_display.specs.Fresh.{draws, in_order};
 ghost use Rattle.cl_display.specs.Script.{fresh};
-ghost use Rattle.cl_display.specs.Sums.{AddsUp, bottom_of};
+ghost use Rattle.cl_display.specs.Sums.{AddsUp, Holds, HoldsAll, bottom_of};
 
 /// A display that ends without a trap under some limits, ends so under all limits that its cost and its reach do not pass,
 /// with the same drawing, cost and reach.
@@ -36,7 +36,14 @@ pub fn rooms_end_below_their_items()
         → end.bottom ≡ bottom_of (drop (length (drawn s.marks)) (drawn end.marks)) }
 {}
 
-/// A figure of parts of the right kinds is an item in the area of its place and its sizes, from the origin.
+/// The extent of a display that ends without a trap holds the corners of each of its items, and the place of the cursor.
+pub fn extents_hold_what_is_drawn()
+    ensures { (limits : Limits) (app : App) (forms : List Form) (env : Env) (slots : Slots) (s : DrawingAt) (cost reach : ℕ)
+        → fresh limits app forms env slots ≡ Gives s cost reach → HoldsAll s.extent (drawn s.marks) × Holds s.extent (cursor_box s.ambient) }
+{}
+
+/// A figure of parts of the right kinds is drawn as an item in the area of its place and its sizes, from the origin, where these
+/// sizes are positive and the area is in the range; else it is nothing, or the trap 9.
 pub fn figures_have_the_area_of_their_parts()
     ensures point { (x y : ℤ) (byte : ℕ) (s : DrawingAt) → figured figure.Point (value.int x ∷ value.int y ∷ value.text (byte ∷ []) ∷ []) s
         ≡ shaped (point_leaf (shape_area s.ambient x y (pos 1) (pos 1)) byte) (shape_area s.ambient x y (pos 1) (pos 1)) s }
