@@ -1,4 +1,3 @@
 pub mod RowLemmas
-pub mod SettlingLemmas
 pub mod WritingLemmas
 pub mod ServingLemmas

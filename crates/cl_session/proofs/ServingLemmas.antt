@@ -15,7 +15,7 @@ use Rattle.cl_gesture.proofs.Cutting.{Lines-more, Reads-trans, ended-more}
 use Rattle.cl_session.specs.World.{World}
 use Rattle.cl_session.specs.Transcript.{IsTranscript, Spent, Went, lost, said_of, world_after}
 use Rattle.cl_session.specs.Writing.{Wrote, Says}
-use Rattle.cl_session.specs.Turns.{IsSame, StaysAt, Turns, Untouched, end_unless}
+use Rattle.cl_session.specs.Turns.{IsSame, StaysAt, Turns, end_unless}
 use Rattle.cl_session.specs.declared.serving.End.{End}
 use Rattle.cl_session.specs.declared.serving.End.TheVariants as end
 use Rattle.cl_session.specs.Serving.{Going, Served, Faulted, CutOff, ServesTo}
@@ -306,6 +306,13 @@ stays-done s r same e h = rw e at h
 
 pub some-end : (a b : End) → ◌≡◌ {A = Option End} (Some a) (Some b) → a ≡ b
 some-end a b e = cc
+
+-- the same of a reader that may have stopped, as long as no end was given
+abbrev pub Untouched : Stop → Type 0 → Type 0
+Untouched stop.Going same = Unit {0}
+Untouched stop.AtEnd same = same
+Untouched stop.AtFault same = same
+Untouched stop.AtLimit same = same
 
 pub untouched-start : (s : Stop) (same : Type 0) → same → Untouched s same
 untouched-start stop.Going same h = tt

@@ -13,7 +13,7 @@ use Rattle.cl_session.specs.declared.sessions.Session.{Session}
 use Rattle.cl_session.specs.World.{World, area_of, marks_of_pane}
 use Rattle.cl_session.specs.Step.{handled_or_not, next, settled_behind, settled_if}
 use Rattle.cl_session.specs.Pane.{IsPainted}
-use Rattle.cl_session.specs.Replies.{lines_of, met_memory, met_of, own_lines, report_lines}
+use Rattle.cl_session.specs.Replies.{met_memory, met_of, own_lines, report_lines}
 
 abbrev pub world_of : Session → Slots → World
 world_of session slots = record { slots = slots; line = session.line; pane = marks_of_pane session.pane.history }
@@ -43,7 +43,6 @@ pub record SettlesIf (due : Bool) (app : App) (limits : Limits) (slots : Slots) 
 -- in its place.
 pub record Steps (app : App) (old new : Session) (slots_old slots_new : Slots) (gesture : Gesture) (replies : Replies) : Type 0 where
   pub world : world_of new slots_new ≡ (next app old.limits (world_of old slots_old) gesture (met_of replies)).world
-  pub lines : lines_of app.frame.pane.name replies ≡ (next app old.limits (world_of old slots_old) gesture (met_of replies)).lines
   pub own : own_lines replies.memory replies.own ≡ (handled_or_not app old.limits (world_of old slots_old) gesture replies.memory).replies
   pub none_of_own : replies.memory ≡ true → replies.own ≡ []
   pub report : report_lines app.frame.pane.name replies.pane

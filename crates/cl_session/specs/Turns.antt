@@ -30,13 +30,6 @@ StaysAt stop.AtEnd answer same = (answer ≡ Some end.Done) × same
 StaysAt stop.AtFault answer same = (answer ≡ Some end.ReadFault) × same
 StaysAt stop.AtLimit answer same = (answer ≡ Some end.TooMany) × same
 
--- the same of a reader that may have stopped, as long as no end was given
-abbrev pub Untouched : Stop → Type 0 → Type 0
-Untouched stop.Going same = Unit {0}
-Untouched stop.AtEnd same = same
-Untouched stop.AtFault same = same
-Untouched stop.AtLimit same = same
-
 abbrev pub end_unless : Bool → Option End
 end_unless true = None
 end_unless false = Some end.OutputFault

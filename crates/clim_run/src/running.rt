@@ -8,8 +8,7 @@ use cl_eval::Slots;
 use cl_gesture::{Ahead, Gestures};
 use cl_load::{LoadRefusal, Loaded, load};
 use cl_outside::{Ledger, LentSource, Place, Sink, Source, Steps};
-use cl_session::serving::End;
-use cl_session::sessions::Session;
+use cl_session::{End, Session};
 use std::alloc::{AllocError, Global};
 
 /// How many forms a display or a command may enter.

@@ -3,7 +3,7 @@ ghost use Rattle.cl_session.specs.Writing.{Puts, Says, joined};
 ghost use Rattle.clim_run.specs.Command.{refusal_line, usage_line};
 
 use cl_outside::Sink;
-use cl_session::writing::write_all;
+use cl_session::write_all;
 use itoa::Buffer;
 
 /// The line that is said of words that are no command.

@@ -7,7 +7,7 @@ ghost use Rattle.clim_run.specs.Statuses.{DeclaresApplication, HasFewLines, HasR
 
 use crate::running::{How, run_words};
 use cl_outside::{Ledger, Place, Sink, Source, Steps};
-use cl_session::serving::End;
+use cl_session::End;
 use std::alloc::Global;
 
 /// The status that the program ends with.

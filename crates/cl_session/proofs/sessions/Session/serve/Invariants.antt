@@ -3,7 +3,8 @@ use Rattle.cl_gesture.specs.declared.answers.Stop.TheVariants as stop
 use Rattle.cl_gesture.specs.Reader.{count_of, progress_of, source_of, stop_of}
 use Rattle.cl_session.specs.Session.{Fits, world_of}
 use Rattle.cl_session.specs.Serving.{Going}
-use Rattle.cl_session.specs.Turns.{IsSame, Untouched}
+use Rattle.cl_session.specs.Turns.{IsSame}
+use Rattle.cl_session.proofs.ServingLemmas.{Untouched}
 use Rattle.cl_session.proofs.sessions.Session.serve.Given as goal
 
 abbrev pub invariant-turns : goal.invariant-turns

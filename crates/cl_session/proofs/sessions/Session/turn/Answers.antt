@@ -1,7 +1,8 @@
-use Rattle.std.proofs.Common.{◌≡◌, ◌+◌, [], ◌∷◌, codes, length, length-append, ap, refl, arith, ◌∙◌, List, ℕ}
+use Rattle.std.proofs.Common.{◌≡◌, ◌+◌, [], ◌∷◌, ◌++◌, codes, length, length-append, ap, refl, arith, ◌∙◌, List, ℕ}
 use Rattle.cl_gesture.specs.Gesture.{bad, does}
 use Rattle.cl_gesture.specs.Reader.{progress_of}
 use Rattle.cl_session.specs.Session.{world_of}
+use Rattle.cl_session.specs.Step.{next}
 use Rattle.cl_session.specs.Replies.{lines_of, met_of}
 use Rattle.cl_session.specs.Transcript.{lost, said, stepped, bad_line}
 use Rattle.cl_session.proofs.ServingLemmas.{turn-said, Served-end, Served-limit, Faulted-fault}
@@ -9,7 +10,10 @@ use Rattle.cl_session.proofs.sessions.Session.turn.Goals as goal
 
 pub returns-in-Gesture-clause-turns : goal.returns-in-Gesture-clause-turns
 returns-in-Gesture-clause-turns g c = λ going.
-    let lines = ap (λ (name : List ℕ). lines_of name c.step-replies.result) c.as_slice-name.ensures ∙ c.step-replies.ensures.steps.lines in
+    let both : lines_of c.args.loaded.now.app.frame.pane.name c.step-replies.result
+        ≡ (next c.args.loaded.now.app c.args.self.now.limits (world_of c.args.self.now c.args.slots.now) c.in-Gesture.gesture (met_of c.step-replies.result)).lines =
+    λ i. c.step-replies.ensures.steps.own i ++ c.step-replies.ensures.steps.report i in
+    let lines = ap (λ (name : List ℕ). lines_of name c.step-replies.result) c.as_slice-name.ensures ∙ both in
     rw c.goes_on.ensures
     (turn-said c.say_replies.result c.args.loaded.now.app c.args.self.now.limits (world_of c.args.self.now c.args.slots.now)
     (world_of c.step-replies.new.self c.step-replies.new.slots) (does c.in-Gesture.gesture) (stepped (met_of c.step-replies.result))
