@@ -124,6 +124,8 @@ filled_all P old new w h x1 x2 y1 y2 v n pv ps f =
 pub filled_cells : (w h x1 x2 y1 y2 : ℕ) (glyphs inks new_glyphs new_inks : List ℕ) → AreCells w h glyphs inks
     → FillsBox glyphs new_glyphs w x1 x2 y1 y2 32 → FillsBox inks new_inks w x1 x2 y1 y2 0 → AreCells w h new_glyphs new_inks
 filled_cells w h x1 x2 y1 y2 glyphs inks new_glyphs new_inks a f g = record {
+  columns = a.columns;
+  rows = a.rows;
   glyph_places = f.same_length ∙ a.glyph_places;
   ink_places = g.same_length ∙ a.ink_places;
   are_glyphs = filled_all IsGlyph glyphs new_glyphs w h x1 x2 y1 y2 32 a.glyph_places (omega arith, omega arith) a.are_glyphs f;

@@ -14,8 +14,10 @@ pub record Picture : Type 0 where
 abbrev pub IsInk : ℕ → Type 0
 IsInk n = n ≤ 7
 
--- as many cells as columns and rows have, each a glyph and an ink
+-- 1 to 512 columns and 1 to 256 rows, and as many cells as these have, each a glyph and an ink
 pub record AreCells (width height : ℕ) (glyphs inks : List ℕ) : Type 0 where
+  pub columns : (1 ≤ width) × (width ≤ 512)
+  pub rows : (1 ≤ height) × (height ≤ 256)
   pub glyph_places : length glyphs ≡ width * height
   pub ink_places : length inks ≡ width * height
   pub are_glyphs : All IsGlyph glyphs

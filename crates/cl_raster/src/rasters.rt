@@ -43,14 +43,18 @@ impl Raster {
         })
     }
 
+    /// How many columns there are.
     pub fn width(&self) -> u16
-        ensures { result ≡ self.now.width }
+        ensures value { result ≡ self.now.width }
+        ensures range { (1 ≤ result) × (result ≤ 512) }
     {
         self.width
     }
 
+    /// How many rows there are.
     pub fn height(&self) -> u16
-        ensures { result ≡ self.now.height }
+        ensures value { result ≡ self.now.height }
+        ensures range { (1 ≤ result) × (result ≤ 256) }
     {
         self.height
     }

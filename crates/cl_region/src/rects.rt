@@ -1,5 +1,5 @@
 //! Rectangles of cells.
-ghost use Rattle.std.specs.Prelude.{◌≡◌, ℤ, ◌+ℤ◌, ◌↔◌, ◌&&◌, int_le, true, IsTrue};
+ghost use Rattle.std.specs.Prelude.{◌≡◌, ℤ, ◌+ℤ◌, ◌↔◌, ◌&&◌, int_le, not, true, IsTrue};
 ghost use Rattle.cl_region.specs.Places.{FitsMoved, IsEmpty, IsInRange, IsNear, Covers, box, common, holds, is_between, is_thin, moved};
 
 /// The cells with `x1 <= x < x2` and `y1 <= y < y2`, in columns and rows; none where a side is not
@@ -60,7 +60,8 @@ impl Rect {
 
     /// Whether some cell is in both.
     pub fn overlaps(&self, other: &Rect) -> bool
-        ensures { IsTrue result ↔ ((x : ℤ) × ((y : ℤ) × (holds self.now x y && holds other.now x y ≡ true))) }
+        ensures sides { result ≡ not (is_thin (common self.now other.now)) }
+        ensures cells { IsTrue result ↔ ((x : ℤ) × ((y : ℤ) × (holds self.now x y && holds other.now x y ≡ true))) }
     {
         !self.meet(other).is_empty()
     }

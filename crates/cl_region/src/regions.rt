@@ -1,5 +1,5 @@
 //! Regions: sets of cells, kept as rectangles that share none.
-ghost use Rattle.std.specs.Prelude.{◌≡◌, ℤ, ◌*◌, ◌≤◌, ◌&&◌, ◌||◌, ◌++◌, List, [], not, length, OnOk, OnErr, IfOk};
+ghost use Rattle.std.specs.Prelude.{◌≡◌, ℤ, ◌*◌, ◌≤◌, ◌&&◌, ◌||◌, ◌++◌, [], not, length, OnOk, OnErr, IfOk};
 ghost use Rattle.cl_region.specs.Places.{held, holds};
 ghost use Rattle.cl_region.specs.Pieces.{ArePieces, around, cut, cut_all, cut_by_each, kept};
 
@@ -52,11 +52,11 @@ impl Region {
         self.rects.as_slice()
     }
 
-    /// Adds the cells of a rectangle. The rectangles that were there stay; behind them stand pieces of
-    /// what is new. Where memory is wanting, nothing changes.
+    /// Adds the cells of a rectangle. The rectangles that were there stay; behind them stand the pieces
+    /// that it has outside of each of them. Where memory is wanting, nothing changes.
     pub fn add(&mut self, rect: Rect) -> Result<(), AllocError>
         ensures cells { OnOk result ((x y : ℤ) → held self.new x y ≡ held self.old x y || holds rect x y) }
-        ensures kept { OnOk result ((new : List Rect) × (self.new ≡ self.old ++ new)) }
+        ensures pieces { OnOk result (self.new ≡ self.old ++ cut_by_each self.old (kept rect)) }
         ensures unchanged { OnErr result (self.new ≡ self.old) }
     {
         let new = outside_of_each(self.alloc, self.rects.as_slice(), rect)?;
@@ -68,6 +68,7 @@ impl Region {
     /// pieces, every other stays. Where memory is wanting, nothing changes.
     pub fn minus(&mut self, rect: Rect) -> Result<(), AllocError>
         ensures cells { OnOk result ((x y : ℤ) → held self.new x y ≡ held self.old x y && not (holds rect x y)) }
+        ensures pieces { OnOk result (self.new ≡ cut_all rect self.old) }
         ensures few { length self.new ≤ 4 * length self.old }
         ensures unchanged { OnErr result (self.new ≡ self.old) }
     {
