@@ -3,3 +3,14 @@ pub mod OneOutcome
 pub mod ReadingLemmas
 pub mod SettlingLemmas
 pub mod ReviewLemmas
+pub mod FaultLemmas
+pub mod ExpressionFaults
+pub mod DataFaults
+pub mod BodyFaults
+pub mod DisplayFaults
+pub mod StatementFaults
+pub mod TypeFaults
+pub mod FrameFaults
+pub mod DeclarationFaults
+pub mod FirstFault
+pub mod TextOrder

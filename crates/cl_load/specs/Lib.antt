@@ -7,3 +7,4 @@ pub mod Readings
 pub mod Outcome
 pub mod Settling
 pub mod Loads
+pub mod Faults

@@ -1,10 +1,33 @@
 //! What the definitions of this crate say. The contract is the law.
-ghost use Rattle.std.specs.Prelude.{◌≡◌, ℕ, List, Result};
+ghost use Rattle.std.specs.Prelude.{◌≡◌, ◌≤◌, ℕ, List, Contains, Result, Err};
 ghost use Rattle.cl_syntax.specs.declared.applications.App.{App};
-ghost use Rattle.cl_load.specs.Loads.{HasOutcome};
+ghost use Rattle.cl_forms.specs.Datum.{Datum};
+ghost use Rattle.cl_forms.specs.Load.{Unknown};
+ghost use Rattle.cl_forms.specs.Tree.{Tree};
+ghost use Rattle.cl_forms.specs.declared.worlds.World.{World};
+ghost use Rattle.cl_declare.specs.Declarations.{Declared, declared_by, declarations_of};
+ghost use Rattle.cl_load.specs.Faults.{StandsIn, AreInOrder};
+ghost use Rattle.cl_load.specs.Loads.{AreForms, HasOutcome, data_of};
 
 /// A text declares one application, or it has one first refusal, and not both.
 #[tactic(auto, using(crate::proofs::OneOutcome::one_outcome))]
 pub fn one_outcome()
     ensures { (bytes : List ℕ) (a b : Result App (ℕ × ℕ)) → HasOutcome bytes a → HasOutcome bytes b → a ≡ b }
+{}
+
+/// The fault of a form stands in it, whatever was read before.
+#[tactic(auto, using(crate::proofs::FirstFault::faults_stand_in_their_form))]
+pub fn faults_stand_in_their_form()
+    ensures { (w : World) (d : Datum) (s : Declared) (u : Unknown) (n o : ℕ) → declared_by w d s u ≡ Err (n, o) → StandsIn o d }
+{}
+
+/// Of the faults of forms that stand in order, the one that is found first has the least offset.
+#[tactic(auto, using(crate::proofs::FirstFault::first_fault_has_least_offset))]
+pub fn first_fault_has_least_offset()
+    ensures { (w : World) (ds : List Datum) (u : Unknown) (n o : ℕ) → AreInOrder ds → declarations_of w ds u ≡ Err (n, o) → (d : Datum) → Contains ds d → (s : Declared) (v : Unknown) (m p : ℕ) → declared_by w d s v ≡ Err (m, p) → o ≤ p }
+{}
+
+/// The forms of a text stand in order.
+pub fn data_stand_in_order()
+    ensures { (bytes : List ℕ) (forms : List Tree) → AreForms bytes forms → AreInOrder (data_of forms) }
 {}

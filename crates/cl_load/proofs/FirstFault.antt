@@ -1,0 +1,129 @@
+-- The fault that is found first in the forms of a text is the one of least offset.
+use Rattle.std.proofs.Common.{◌≡◌, ◌≤◌, ℕ, Bool, true, false, if◌then◌else◌, List, [], ◌∷◌, All, Contains, IfErr, refl, sym, ap, ◌∙◌, subst, le_of_eq, le_of_lt}
+use Rattle.std.specs.Prelude.{Option, Some, None, Result, Ok, Err}
+use Rattle.std.proofs.lemmas.List.Elements.{All-nil, All-cons, All-contains, All-weaker}
+use Rattle.cl_forms.specs.Datum.{Datum, word, parts_of, offset}
+use Rattle.cl_forms.specs.Load.{Load, Unknown, Fault, after, ◌>>=◌, give, refuse}
+use Rattle.cl_forms.specs.declared.worlds.World.{World}
+use Rattle.cl_declare.specs.Declarations.{Declared, kind_named, is_later_declaration, declared_as, declared_by_head, declared_headed, declared_listed, declared_by, declared_all, nothing_read, declarations_of, record_row, function_row, display_row, command_row, with_record, with_function, with_display, with_command, with_frame}
+use Rattle.cl_declare.specs.Frames.{frame_row}
+use Rattle.cl_declare.specs.declared.heads.DeclarationKind.{DeclarationKind}
+use Rattle.cl_declare.specs.declared.heads.DeclarationKind.TheVariants.{Record, Function, Display, Command, Frame}
+use Rattle.cl_load.specs.Faults.{StandsIn, IsBefore, AreInOrder}
+use Rattle.cl_load.proofs.FaultLemmas.{FaultsAt, outcome}
+use Rattle.cl_load.proofs.DataFaults.{CoversEach}
+use Rattle.cl_load.proofs.DeclarationFaults.{record_faults, function_faults, display_faults, command_faults, declaration_faults}
+use Rattle.cl_load.proofs.FrameFaults.{frame_faults}
+
+stands : (d : Datum) (r : Result (Declared × Unknown) Fault) (n o : ℕ) → IfErr r (λ fault. StandsIn fault.1 d) → r ≡ Err (n, o)
+    → StandsIn o d
+stands d r n o h e = subst (λ (q : Result (Declared × Unknown) Fault). IfErr q (λ fault. StandsIn fault.1 d)) e h
+
+pub faults_stand_in_their_form : (w : World) (d : Datum) (s : Declared) (u : Unknown) (n o : ℕ) → declared_by w d s u ≡ Err (n, o)
+    → StandsIn o d
+faults_stand_in_their_form w d s u n o e =
+    stands d (declared_by w d s u) n o ((declaration_faults {P = λ p. StandsIn p d} w d s (λ p h. h)).stand u) e
+
+same_one : (a b : Fault) → ◌≡◌ {A = Option Fault} (Some a) (Some b) → a ≡ b
+same_one a b h = cc
+
+-- ---- the fault of a declaration does not depend on what was read before
+
+abbrev fault_in : {A : Type 0} → Result A Fault → Option Fault
+fault_in (Ok x) = None
+fault_in (Err fault) = Some fault
+
+-- at any offset
+abbrev Anywhere : ℕ → Type 0
+Anywhere o = Unit {0}
+
+anywhere : (ds : List Datum) → CoversEach Anywhere ds
+anywhere [] = tt
+anywhere (d ∷ ds) = (λ o s. tt, anywhere ds)
+
+given_same : {A B : Type 0} (f g : A → B) (r s : Result (A × Unknown) Fault) → outcome r ≡ outcome s
+    → fault_in (after r (λ x. give (f x))) ≡ fault_in (after s (λ x. give (g x)))
+given_same f g (Ok x) (Ok y) h = refl
+given_same f g (Ok x) (Err b) h = cc
+given_same f g (Err a) (Ok y) h = cc
+given_same f g (Err a) (Err b) h = cc
+
+-- the same fault, or none
+abbrev SameFault : Load Declared → Load Declared → Type 0
+SameFault m k = (u v : Unknown) → fault_in (m u) ≡ fault_in (k v)
+
+row_same : {A : Type 0} (m : Load A) (f g : A → Declared) → FaultsAt Anywhere m → SameFault (m >>= λ x. give (f x)) (m >>= λ x. give (g x))
+row_same m f g h = λ u v. given_same f g (m u) (m v) (h.steady u v)
+
+kind_same : (w : World) (kind : DeclarationKind) (at : ℕ) (ds : List Datum) (s t : Declared)
+    → SameFault (declared_as w kind at ds s) (declared_as w kind at ds t)
+kind_same w Record at ds s t = row_same (record_row at ds) (with_record s) (with_record t) (record_faults at ds tt)
+kind_same w Function at ds s t =
+    row_same (function_row w at ds) (with_function s) (with_function t) (function_faults w at ds tt (anywhere ds))
+kind_same w Display at ds s t =
+    row_same (display_row w at ds) (with_display s) (with_display t) (display_faults w at ds tt (anywhere ds))
+kind_same w Command at ds s t =
+    row_same (command_row w at ds) (with_command s) (with_command t) (command_faults w at ds tt (anywhere ds))
+kind_same w Frame at ds s t = row_same (frame_row w at ds) (with_frame s) (with_frame t) (frame_faults w at ds tt (anywhere ds))
+
+neither : (b : Bool) (at : ℕ) → SameFault (if b then refuse 0 at else refuse 5 at) (if b then refuse 0 at else refuse 5 at)
+neither true at = λ u v. refl
+neither false at = λ u v. refl
+
+head_same : (w : World) (kind : Option DeclarationKind) (x : List ℕ) (head_at at : ℕ) (ds : List Datum) (s t : Declared)
+    → SameFault (declared_by_head w kind x head_at at ds s) (declared_by_head w kind x head_at at ds t)
+head_same w (Some kind) x head_at at ds s t = kind_same w kind at ds s t
+head_same w None x head_at at ds s t = neither (is_later_declaration x) head_at
+
+headed_same : (w : World) (d : Datum) (at : ℕ) (ds : List Datum) (s t : Declared)
+    → SameFault (declared_headed w d at ds s) (declared_headed w d at ds t)
+headed_same w (word x head_at) at ds s t = head_same w (kind_named x) x head_at at ds s t
+headed_same w d at ds s t = λ u v. refl
+
+listed_same : (w : World) (at : ℕ) (ds : List Datum) (s t : Declared) → SameFault (declared_listed w at ds s) (declared_listed w at ds t)
+listed_same w at [] s t = λ u v. refl
+listed_same w at (d ∷ ds) s t = headed_same w d at ds s t
+
+declared_same : (w : World) (d : Datum) (s t : Declared) → SameFault (declared_by w d s) (declared_by w d t)
+declared_same w d s t = listed_same w (offset d) (parts_of d) s t
+
+-- ---- the first fault
+
+-- no fault of the datum has an offset below this one
+abbrev NoneBelow : World → ℕ → Datum → Type 0
+NoneBelow w o d = (s : Declared) (u : Unknown) (m p : ℕ) → declared_by w d s u ≡ Err (m, p) → o ≤ p
+
+faultless : (a b : Result (Declared × Unknown) Fault) (x : Declared × Unknown) (fault : Fault) → fault_in a ≡ fault_in b → a ≡ Ok x
+    → b ≡ Err fault → ⊥
+faultless a b x fault h e f = let g : None ≡ Some fault = sym (ap fault_in e) ∙ h ∙ ap fault_in f in cc
+
+same_offset : (a b : Result (Declared × Unknown) Fault) (n o m p : ℕ) → fault_in a ≡ fault_in b → a ≡ Err (n, o)
+    → b ≡ Err (m, p) → o ≡ p
+same_offset a b n o m p h e f =
+    let g : ◌≡◌ {A = Option Fault} (Some (n, o)) (Some (m, p)) = sym (ap fault_in e) ∙ h ∙ ap fault_in f in
+    ap (λ k. k.1) (same_one (n, o) (m, p) g)
+
+least_from : (w : World) (d : Datum) (ds : List Datum) (s : Declared) (u : Unknown) (n o : ℕ) → All (IsBefore d) ds
+    → ((x : Declared × Unknown) → declared_all w ds x.0 x.1 ≡ Err (n, o) → All (NoneBelow w o) ds)
+    → (r : Result (Declared × Unknown) Fault) → declared_by w d s u ≡ r → after r (λ t. declared_all w ds t) ≡ Err (n, o)
+    → All (NoneBelow w o) (d ∷ ds)
+least_from w d ds s u n o before rest (Ok x) e h =
+    All-cons (NoneBelow w o) d ds
+    (λ t v m p f. absurd (faultless (declared_by w d s u) (declared_by w d t v) x (m, p) (declared_same w d s t u v) e f)) (rest x h)
+least_from w d ds s u n o before rest (Err fault) e h =
+    let found : declared_by w d s u ≡ Err (n, o) = e ∙ h in
+    All-cons (NoneBelow w o) d ds
+    (λ t v m p f. le_of_eq (same_offset (declared_by w d s u) (declared_by w d t v) n o m p (declared_same w d s t u v) found f))
+    (All-weaker (IsBefore d) (NoneBelow w o)
+    (λ c b t v m p f. le_of_lt (b o p (faults_stand_in_their_form w d s u n o found) (faults_stand_in_their_form w c t v m p f))) ds before)
+
+least : (w : World) (ds : List Datum) (s : Declared) (u : Unknown) (n o : ℕ) → AreInOrder ds → declared_all w ds s u ≡ Err (n, o)
+    → All (NoneBelow w o) ds
+least w [] s u n o i h = All-nil (NoneBelow w o)
+least w (d ∷ ds) s u n o i h =
+    least_from w d ds s u n o i.0 (λ x k. least w ds x.0 x.1 n o i.1 k) (declared_by w d s u) refl h
+
+pub first_fault_has_least_offset : (w : World) (ds : List Datum) (u : Unknown) (n o : ℕ) → AreInOrder ds
+    → declarations_of w ds u ≡ Err (n, o) → (d : Datum) → Contains ds d
+    → (s : Declared) (v : Unknown) (m p : ℕ) → declared_by w d s v ≡ Err (m, p) → o ≤ p
+first_fault_has_least_offset w ds u n o i h d c = All-contains (NoneBelow w o) ds d (least w ds nothing_read u n o i h) c

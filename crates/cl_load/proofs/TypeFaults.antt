@@ -1,0 +1,72 @@
+-- The faults of a slot's type stand in it, or at the form that asks for it.
+use Rattle.std.proofs.Common.{inl, inr, ℕ, false, List, [], ◌∷◌, refl}
+use Rattle.std.specs.Prelude.{Option, Some, None}
+use Rattle.cl_syntax.specs.declared.type_specs.TypeSpec.{TypeSpec}
+use Rattle.cl_forms.specs.Datum.{Datum, number, literal, word, quoted, stray, list, in_order, offset}
+use Rattle.cl_forms.specs.Load.{refuse}
+use Rattle.cl_forms.specs.TypeNames.{is_plain_type, is_ranged_type, is_later_type}
+use Rattle.cl_forms.specs.World.{name_in, symbol_of, record_in}
+use Rattle.cl_forms.specs.declared.worlds.World.{World}
+use Rattle.cl_declare.specs.SlotTypes.{type_named, plain_type, record_type, ranged_type, type_row, type_headed, type_parts, is_option_key, type_options, type_first, type_listed, type_of}
+use Rattle.cl_load.proofs.FaultLemmas.{FaultsAt, gives, refuses, notes_then, binds, chooses}
+use Rattle.cl_load.proofs.ExpressionFaults.{Covers, covers_offset}
+use Rattle.cl_load.proofs.DataFaults.{CoversEach, covers_order}
+
+module _ {P : ℕ → Type 0} where
+  plain_faults : (x : List ℕ) (at : ℕ) (ds : List Datum) → P at → FaultsAt P (plain_type x at ds)
+  plain_faults x at [] h = gives
+  plain_faults x at (d ∷ ds) h = refuses h
+
+  record_faults : (fields : Option (Option ℕ)) (x : List ℕ) (name_at at : ℕ) (ds : List Datum) → P at
+      → FaultsAt P (record_type fields x name_at at ds)
+  record_faults None x name_at at ds h = notes_then false name_at (type_named x)
+  record_faults (Some fields) x name_at at ds h = plain_faults x at ds h
+
+  ranged_faults : (x : List ℕ) (name_at : ℕ) (ds : List Datum) → P name_at → FaultsAt P (ranged_type x name_at ds)
+  ranged_faults x name_at [] g = gives
+  ranged_faults x name_at (d ∷ ds) g = refuses g
+
+  row_faults : (w : World) (x : List ℕ) (name_at at : ℕ) (ds : List Datum) → P name_at → P at → FaultsAt P (type_row w x name_at at ds)
+  row_faults w x name_at at ds g h =
+      chooses (is_plain_type x) (plain_faults x at ds h)
+      (chooses (is_ranged_type x) (ranged_faults x name_at ds g)
+      (chooses (is_later_type x) (refuses g) (record_faults (record_in w x) x name_at at ds h)))
+
+  named_faults : (name : Option (List ℕ)) (w : World) (name_at at : ℕ) (ds : List Datum) → P name_at → P at
+      → FaultsAt {A = TypeSpec} P (elim name [ None ↦ refuse 6 at | Some x ↦ type_row w x name_at at ds ])
+  named_faults None w name_at at ds g h = refuses h
+  named_faults (Some x) w name_at at ds g h = row_faults w x name_at at ds g h
+
+  headed_faults : (w : World) (at : ℕ) (d : Datum) (ds : List Datum) → P at → Covers P d → FaultsAt P (type_headed w at d ds)
+  headed_faults w at d ds h c = named_faults (name_in d) w (offset d) at ds (covers_offset d c) h
+
+  parts_faults : (w : World) (at : ℕ) (ds : List Datum) → P at → CoversEach P ds → FaultsAt P (type_parts w at ds)
+  parts_faults w at [] h c = refuses h
+  parts_faults w at (d ∷ ds) h c = headed_faults w at d ds h c.0
+
+  options_faults : (w : World) (at : ℕ) (ds options : List Datum) → P at → CoversEach P ds → CoversEach P options
+      → FaultsAt P (type_options w at ds options)
+  options_faults w at ds [] h c b = parts_faults w at ds h c
+  options_faults w at ds (o ∷ more) h c b =
+      chooses (is_option_key (symbol_of o)) (binds (parts_faults w at ds h c) λ t. refuses (covers_offset o b.0)) (refuses h)
+
+  first_faults : (w : World) (at : ℕ) (d : Datum) (ds : List Datum) → P at → Covers P d → CoversEach P ds
+      → FaultsAt P (type_first w at d ds)
+  first_faults w at (list es list_at) ds h c b = options_faults w at (in_order es) ds h (covers_order es (λ o s. c o (inr s))) b
+  first_faults w at (number z first_at) ds h c b = headed_faults w at (number z first_at) ds h c
+  first_faults w at (literal s first_at) ds h c b = headed_faults w at (literal s first_at) ds h c
+  first_faults w at (word x first_at) ds h c b = headed_faults w at (word x first_at) ds h c
+  first_faults w at (quoted x first_at name_at) ds h c b = headed_faults w at (quoted x first_at name_at) ds h c
+  first_faults w at (stray first_at) ds h c b = headed_faults w at (stray first_at) ds h c
+
+  listed_faults : (w : World) (at : ℕ) (ds : List Datum) → P at → CoversEach P ds → FaultsAt P (type_listed w at ds)
+  listed_faults w at [] h c = refuses h
+  listed_faults w at (d ∷ ds) h c = first_faults w at d ds h c.0 c.1
+
+  pub type_faults : (w : World) (d : Datum) → Covers P d → FaultsAt P (type_of w d)
+  type_faults w (list ds at) c = listed_faults w at (in_order ds) (c at (inl refl)) (covers_order ds (λ o s. c o (inr s)))
+  type_faults w (number z at) c = headed_faults w at (number z at) [] (c at refl) c
+  type_faults w (literal s at) c = headed_faults w at (literal s at) [] (c at refl) c
+  type_faults w (word x at) c = headed_faults w at (word x at) [] (c at refl) c
+  type_faults w (quoted x at name_at) c = headed_faults w at (quoted x at name_at) [] (c at (inl refl)) c
+  type_faults w (stray at) c = headed_faults w at (stray at) [] (c at refl) c
