@@ -6,7 +6,7 @@ ghost use Rattle.cl_syntax.specs.Statement.{statements_of};
 ghost use Rattle.cl_syntax.specs.Expr.{bindings_of};
 ghost use Rattle.cl_syntax.specs.App.{slot_type};
 ghost use Rattle.cl_syntax.specs.declared.type_specs.TypeSpec.{TypeSpec};
-ghost use Rattle.cl_eval.specs.Outcome.{cost_of};
+ghost use Rattle.cl_eval.specs.Outcome.{RisesBy, cost_of};
 ghost use Rattle.cl_eval.specs.Scope.{variables_of};
 ghost use Rattle.cl_eval.specs.Meaning.{listed, means, tested};
 ghost use Rattle.cl_eval.specs.Statements.{act_parts, acts_in, assigned, does, for_each, in_turn};
