@@ -38,7 +38,8 @@ impl BoxItem {
 
     /// Where it stands, its sizes and its ink.
     pub fn area(&self) -> Area
-        ensures { result ≡ self.now.area }
+        ensures value { result ≡ self.now.area }
+        ensures range { IsArea result }
     {
         self.area
     }

@@ -38,7 +38,8 @@ impl PointItem {
 
     /// Where it stands, its sizes and its ink.
     pub fn area(&self) -> Area
-        ensures { result ≡ self.now.area }
+        ensures value { result ≡ self.now.area }
+        ensures range { IsArea result }
     {
         self.area
     }
@@ -120,7 +121,8 @@ impl FillItem {
 
     /// Where it stands, its sizes and its ink.
     pub fn area(&self) -> Area
-        ensures { result ≡ self.now.area }
+        ensures value { result ≡ self.now.area }
+        ensures range { IsArea result }
     {
         self.area
     }
