@@ -20,7 +20,8 @@ pub trait Printable: Leaf {
     // its kind, its place and what else there is to say of it
     ghost line_of: { Self → List ℕ };
 
-    /// Puts its line behind a line, moved by `at`.
+    /// Puts its line behind a line, moved by `at`. Where memory is wanting, what stands in `out` then is
+    /// not said.
     fn put_line(&self, at: Shift, out: &mut Vec<u8>) -> Result<(), AllocError>
         requires { IsInRange (moved at (Self.bounds self.now)) }
         ensures { OnOk result (out.new.items ≡ out.old.items ++ line_of (Self.moved_by at self.now)) };
