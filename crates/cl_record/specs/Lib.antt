@@ -2,6 +2,7 @@ pub mod Shifts
 pub mod Labels
 pub mod Heads
 pub mod Trees
+pub mod Branches
 pub mod Marks
 pub mod Replays
 pub mod Counts

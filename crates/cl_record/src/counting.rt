@@ -16,8 +16,8 @@ fn count_node<L: Leaf>(node: &Node<L>) -> u64
 {
     match node {
         Node::Leaf(_) => 1,
-        Node::Presentation(presented) => count_inside(&presented.inside),
-        Node::Update(piece) => count_inside(&piece.inside),
+        Node::Presentation(presented) => count_inside(presented.inside()),
+        Node::Update(piece) => count_inside(piece.inside()),
     }
 }
 

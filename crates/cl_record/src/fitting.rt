@@ -18,11 +18,11 @@ pub(crate) fn node_fits<L: Leaf>(node: &Node<L>, by: Shift) -> bool
 {
     match node {
         Node::Leaf(leaf) => leaf.bounds().fits(by),
-        Node::Presentation(presented) => inside_fits(&presented.inside, presented.place, by),
+        Node::Presentation(presented) => inside_fits(presented.inside(), presented.place(), by),
         Node::Update(piece) => {
             let extent = piece.head().measures().extent;
-            match joined_near(piece.place, by) {
-                Some(at) => extent.fits(at) && inside_fits(&piece.inside, piece.place, by),
+            match joined_near(piece.place(), by) {
+                Some(at) => extent.fits(at) && inside_fits(piece.inside(), piece.place(), by),
                 None => false,
             }
         }

@@ -1,5 +1,5 @@
 //! The history of a pane.
-ghost use Rattle.std.specs.Prelude.{◌≡◌, ◌<◌, ◌^◌, ◌++◌, ◌∷◌, ℤ, [], OnOk, true};
+ghost use Rattle.std.specs.Prelude.{◌≡◌, ◌<◌, ◌^◌, ◌++◌, ◌∷◌, ℤ, [], OnErr, OnOk, true};
 ghost use Rattle.cl_region.specs.Places.{held, holds};
 ghost use Rattle.cl_record.specs.Counts.{count_of};
 ghost use Rattle.cl_record.specs.Lines.{history_lines};
@@ -117,11 +117,16 @@ impl<L: Leaf> History<L> {
 
 impl<L: Printable> History<L> {
     /// Puts its lines behind the others: one for each item and for the opening of each presentation and
-    /// update, in order, each behind two spaces for each presentation and update around it.
+    /// update, in order, each behind two spaces for each presentation and update around it. Where memory
+    /// is wanting, the lines stay as they were.
     pub fn print(&self, alloc: Global, out: &mut Vec<Text>) -> Result<(), AllocError>
-        ensures { OnOk result (out.new.items ≡ out.old.items ++ history_lines L.line_of L.moved_by self.now) }
+        ensures ok { OnOk result (out.new.items ≡ out.old.items ++ history_lines L.line_of L.moved_by self.now) }
+        ensures unchanged { OnErr result (out.new.items ≡ out.old.items) }
     {
         let _ = self.nodes.as_slice();
-        print_inside(alloc, &self.nodes, STILL, STILL, b"", out)
+        let mut lines = Vec::new(alloc);
+        print_inside(alloc, &self.nodes, STILL, STILL, b"", &mut lines)?;
+        out.append(&mut lines)?;
+        Ok(())
     }
 }

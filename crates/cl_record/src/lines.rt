@@ -1,7 +1,7 @@
 //! The lines of items and of openings.
 ghost use Rattle.std.specs.Prelude.{◌≡◌, ◌++◌, ◌∷◌, [], OnOk, pos};
 ghost use Rattle.std.specs.Fmt.{signed_decimal};
-ghost use Rattle.cl_medium.specs.Items.{bounds_of, line as line_of, moved_area};
+ghost use Rattle.cl_medium.specs.Items.{line as line_of};
 ghost use Rattle.cl_region.specs.Places.{IsInRange, moved};
 ghost use Rattle.cl_record.specs.Lines.{head_line, item_line, label_line, numbers, ruled_line};
 
@@ -20,7 +20,8 @@ pub trait Printable: Leaf {
     // its kind, its place and what else there is to say of it
     ghost line_of: { Self → List ℕ };
 
-    /// Puts its line behind a line, moved by `at`.
+    /// Puts its line behind a line, moved by `at`. Where memory is wanting, what stands in `out` then is
+    /// not said.
     fn put_line(&self, at: Shift, out: &mut Vec<u8>) -> Result<(), AllocError>
         requires { IsInRange (moved at (Self.bounds self.now)) }
         ensures { OnOk result (out.new.items ≡ out.old.items ++ line_of (Self.moved_by at self.now)) };
@@ -32,19 +33,19 @@ impl Printable for AnyLeaf {
     fn put_line(&self, at: Shift, out: &mut Vec<u8>) -> Result<(), AllocError> {
         match self {
             AnyLeaf::Text(item) => {
-                let area = placed(item.area(), at);
+                let area = item.area().shifted(at);
                 put_small(out, b"text", area)?;
                 put_bytes(out, item.text())?
             }
             AnyLeaf::Point(item) => {
-                let area = placed(item.area(), at);
+                let area = item.area().shifted(at);
                 put_small(out, b"point", area)?;
                 put_bytes(out, &[item.byte()])?
             }
-            AnyLeaf::Line(item) => put_ruled(out, item.direction(), placed(item.area(), at))?,
-            AnyLeaf::Outline(item) => put_sized(out, b"box", placed(item.area(), at))?,
+            AnyLeaf::Line(item) => put_ruled(out, item.direction(), item.area().shifted(at))?,
+            AnyLeaf::Outline(item) => put_sized(out, b"box", item.area().shifted(at))?,
             AnyLeaf::Fill(item) => {
-                let area = placed(item.area(), at);
+                let area = item.area().shifted(at);
                 put_sized(out, b"fill", area)?;
                 put_bytes(out, &[item.byte()])?
             }
@@ -153,16 +154,4 @@ fn put_bytes(line: &mut Vec<u8>, bytes: &[u8]) -> Result<(), AllocError>
     line.push(b' ')?;
     line.extend_from_slice(bytes)?;
     Ok(())
-}
-
-// The same area elsewhere.
-fn placed(area: Area, at: Shift) -> Area
-    requires { IsInRange (moved at (bounds_of area)) }
-    ensures { result ≡ moved_area at area }
-{
-    Area {
-        x: area.x + at.dx,
-        y: area.y + at.dy,
-        ..area
-    }
 }

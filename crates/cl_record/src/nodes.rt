@@ -29,8 +29,8 @@ pub enum Node<L: Leaf> {
 #[derive(Drop)]
 pub struct Presented<L: Leaf> {
     label: Label,
-    pub(crate) place: Shift,
-    pub(crate) inside: Nodes<L>,
+    place: Shift,
+    inside: Nodes<L>,
 }
 
 /// What an update's body drew. The records inside and the head stand relative to its place.
@@ -38,8 +38,8 @@ pub struct Presented<L: Leaf> {
 #[derive(Drop)]
 pub struct Piece<L: Leaf> {
     head: Head,
-    pub(crate) place: Shift,
-    pub(crate) inside: Nodes<L>,
+    place: Shift,
+    inside: Nodes<L>,
 }
 
 /// Records in a row, seen as their trees.
@@ -47,6 +47,40 @@ pub struct Piece<L: Leaf> {
 #[derive(Drop)]
 pub struct Nodes<L: Leaf> {
     items: Vec<Node<L>>,
+}
+
+impl<L: Leaf> Model for Presented<L> {
+    ghost use Rattle.std.specs.Prelude.{◌+◌};
+    ghost use Rattle.std.proofs.Common.{arith};
+    ghost use Rattle.cl_record.specs.Branches.{ShownAt, shown_code};
+    ghost use Rattle.cl_record.specs.Trees.{size_of_all, trees_of};
+
+    ghost Value = { ShownAt L };
+
+    ghost coded = { shown_code L.code };
+
+    ghost view = { λ s. record { label = s.label; place = s.place; inside = s.inside } };
+
+    ghost size = { λ s. 1 + size_of_all (trees_of s.inside) };
+
+    ghost size_decreases = { λ s h. Prim.omega arith };
+}
+
+impl<L: Leaf> Model for Piece<L> {
+    ghost use Rattle.std.specs.Prelude.{◌+◌};
+    ghost use Rattle.std.proofs.Common.{arith};
+    ghost use Rattle.cl_record.specs.Branches.{PieceAt, piece_code};
+    ghost use Rattle.cl_record.specs.Trees.{size_of_all, trees_of};
+
+    ghost Value = { PieceAt L };
+
+    ghost coded = { piece_code L.code };
+
+    ghost view = { λ p. record { head = p.head; place = p.place; inside = p.inside } };
+
+    ghost size = { λ p. 1 + size_of_all (trees_of p.inside) };
+
+    ghost size_decreases = { λ p h. Prim.omega arith };
 }
 
 impl<L: Leaf> Model for Nodes<L> {
@@ -148,7 +182,8 @@ impl<L: Leaf> Piece<L> {
 }
 
 impl<L: Leaf> Node<L> {
-    /// A presentation of these records, placed where it is made.
+    /// A presentation of these records, of which there may be none. It leaves them where they are: its
+    /// place is (0, 0) until it is moved.
     pub fn presentation(label: Label, inside: Nodes<L>) -> Node<L>
         ensures tree { tree_of result ≡ shown label still (trees_of inside) }
         ensures range { StaysInRange L.bounds still (tree_of result) }
@@ -161,7 +196,8 @@ impl<L: Leaf> Node<L> {
         })
     }
 
-    /// An update that drew these records, placed where it is made.
+    /// An update that drew these records, of which there may be none. It leaves them where they are: its
+    /// place is (0, 0) until it is moved.
     pub fn update(head: Head, inside: Nodes<L>) -> Node<L>
         requires { IsInRange head.measures.extent }
         ensures tree { tree_of result ≡ piece head still (trees_of inside) }
@@ -181,8 +217,8 @@ impl<L: Leaf> Node<L> {
     {
         match self {
             Node::Leaf(_) => STILL,
-            Node::Presentation(presented) => presented.place,
-            Node::Update(piece) => piece.place,
+            Node::Presentation(presented) => presented.place(),
+            Node::Update(piece) => piece.place(),
         }
     }
 
@@ -192,8 +228,8 @@ impl<L: Leaf> Node<L> {
     {
         match self {
             Node::Leaf(_) => &[],
-            Node::Presentation(presented) => presented.inside.as_slice(),
-            Node::Update(piece) => piece.inside.as_slice(),
+            Node::Presentation(presented) => presented.inside().as_slice(),
+            Node::Update(piece) => piece.inside().as_slice(),
         }
     }
 

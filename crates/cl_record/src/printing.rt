@@ -35,8 +35,8 @@ fn print_node<L: Printable>(
             let deeper = deeper(alloc, margin)?;
             print_inside(
                 alloc,
-                &presented.inside,
-                presented.place,
+                presented.inside(),
+                presented.place(),
                 at,
                 deeper.as_slice(),
                 out,
@@ -47,8 +47,8 @@ fn print_node<L: Printable>(
             let deeper = deeper(alloc, margin)?;
             print_inside(
                 alloc,
-                &piece.inside,
-                piece.place,
+                piece.inside(),
+                piece.place(),
                 at,
                 deeper.as_slice(),
                 out,

@@ -45,9 +45,9 @@ fn replay_node<L: Leaf, C: Canvas<L>>(node: &Node<L>, at: Shift, rects: &[Rect],
     match node {
         Node::Leaf(leaf) => replay_leaf(leaf, at, rects, canvas),
         Node::Presentation(presented) => {
-            replay_inside(&presented.inside, presented.place, at, rects, canvas)
+            replay_inside(presented.inside(), presented.place(), at, rects, canvas)
         }
-        Node::Update(piece) => replay_inside(&piece.inside, piece.place, at, rects, canvas),
+        Node::Update(piece) => replay_inside(piece.inside(), piece.place(), at, rects, canvas),
     }
 }
 

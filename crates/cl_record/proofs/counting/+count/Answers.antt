@@ -1,4 +1,4 @@
-use Rattle.std.proofs.Common.{rules, ◌≡◌, ◌∷◌, ◌∙◌, List, refl, suc, add-one, arith, drop, drop-cons, ap, sym, subst}
+use Rattle.std.proofs.Common.{rules, ◌≡◌, ◌∷◌, ◌∙◌, List, suc, add-one, arith, drop, drop-cons, ap, sym, subst}
 use Rattle.cl_record.specs.Seen.{forest_of, tree_of}
 use Rattle.cl_record.specs.Trees.{trees_of}
 use Rattle.cl_record.specs.declared.nodes.Node.{Node}
@@ -41,20 +41,20 @@ pub count_node-count_inside-requires : goal.count_node-count_inside-requires
 count_node-count_inside-requires g t c κs within =
     let s = c.in-Presentation.presented in
     let few = rw c.in-Presentation.is at c.requires in
-    (search rules, (within, rw (← count-shown g.L.Leaf.moved_by s.place s.label (trees_of s.inside)) few))
+    (search rules, (within, rw (c.inside.ensures, ← count-shown g.L.Leaf.moved_by s.place s.label (trees_of s.inside)) few))
 
 pub count_node-count_inside-requires-in-Update : goal.count_node-count_inside-requires-in-Update
 count_node-count_inside-requires-in-Update g t c κs within =
     let p = c.in-Update.piece in
     let few = rw c.in-Update.is at c.requires in
-    (search rules, (within, rw (← count-piece g.L.Leaf.moved_by p.place p.head (trees_of p.inside)) few))
+    (search rules, (within, rw (c.inside-in-Update.ensures, ← count-piece g.L.Leaf.moved_by p.place p.head (trees_of p.inside)) few))
 
 pub count_node-returns-in-Presentation : goal.count_node-returns-in-Presentation
 count_node-returns-in-Presentation g t c =
     let s = c.in-Presentation.presented in
-    c.count_inside.ensures ∙ (sym (count-shown g.L.Leaf.moved_by s.place s.label (trees_of s.inside)) ∙ rw c.in-Presentation.is refl)
+    c.count_inside.ensures ∙ rw (c.inside.ensures, c.in-Presentation.is) (sym (count-shown g.L.Leaf.moved_by s.place s.label (trees_of s.inside)))
 
 pub count_node-returns-in-Update : goal.count_node-returns-in-Update
 count_node-returns-in-Update g t c =
     let p = c.in-Update.piece in
-    c.count_inside-in-Update.ensures ∙ (sym (count-piece g.L.Leaf.moved_by p.place p.head (trees_of p.inside)) ∙ rw c.in-Update.is refl)
+    c.count_inside-in-Update.ensures ∙ rw (c.inside-in-Update.ensures, c.in-Update.is) (sym (count-piece g.L.Leaf.moved_by p.place p.head (trees_of p.inside)))

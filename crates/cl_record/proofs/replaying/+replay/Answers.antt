@@ -33,10 +33,10 @@ replay_inside-returns g t c =
 
 pub replay_node-returns-in-Presentation : goal.replay_node-returns-in-Presentation
 replay_node-returns-in-Presentation g t c =
-    rw (c.in-Presentation.is, touched_shown g.C.Canvas.shows g.C.Canvas.cell g.C.Canvas.keeps g.L.Leaf.cell g.L.Leaf.bounds g.L.Leaf.moved_by c.args.rects.now g.met.L.Leaf.moves_twice c.args.at c.in-Presentation.presented.place c.in-Presentation.presented.label (trees_of c.in-Presentation.presented.inside))
+    rw (c.in-Presentation.is, touched_shown g.C.Canvas.shows g.C.Canvas.cell g.C.Canvas.keeps g.L.Leaf.cell g.L.Leaf.bounds g.L.Leaf.moved_by c.args.rects.now g.met.L.Leaf.moves_twice c.args.at c.in-Presentation.presented.place c.in-Presentation.presented.label (trees_of c.in-Presentation.presented.inside), ← c.place.ensures, ← c.inside.ensures)
     c.replay_inside.ensures
 
 pub replay_node-returns-in-Update : goal.replay_node-returns-in-Update
 replay_node-returns-in-Update g t c =
-    rw (c.in-Update.is, touched_piece g.C.Canvas.shows g.C.Canvas.cell g.C.Canvas.keeps g.L.Leaf.cell g.L.Leaf.bounds g.L.Leaf.moved_by c.args.rects.now g.met.L.Leaf.moves_twice c.args.at c.in-Update.piece.place c.in-Update.piece.head (trees_of c.in-Update.piece.inside))
+    rw (c.in-Update.is, touched_piece g.C.Canvas.shows g.C.Canvas.cell g.C.Canvas.keeps g.L.Leaf.cell g.L.Leaf.bounds g.L.Leaf.moved_by c.args.rects.now g.met.L.Leaf.moves_twice c.args.at c.in-Update.piece.place c.in-Update.piece.head (trees_of c.in-Update.piece.inside), ← c.place-in-Update.ensures, ← c.inside-in-Update.ensures)
     c.replay_inside-in-Update.ensures
