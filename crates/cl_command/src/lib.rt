@@ -1,7 +1,7 @@
 // Command lines.
 #![tactic(auto)]
 
-pub mod lines;
+mod lines;
 mod naming;
 #[cfg(test)]
 mod tests;

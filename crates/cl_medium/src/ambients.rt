@@ -5,6 +5,8 @@ ghost use Rattle.cl_medium.specs.Ambients.{IsAmbient, IsNearSum, MovesWhereNear,
 
 use std::marker::Model;
 
+use cl_region::FURTHEST;
+
 /// The cursor, the left margin, the origin, all of them from -1,000,000 to 1,000,000, and the ink, from
 /// 0 to 7.
 #[derive(Clone, Copy)]
@@ -28,9 +30,6 @@ impl Model for Ambient {
 
     ghost inverse = { λ ambient. record { x = ambient.x; y = ambient.y; margin = ambient.margin; origin_x = ambient.origin_x; origin_y = ambient.origin_y; ink = ambient.ink } };
 }
-
-/// No coordinate lies further out than this.
-const FURTHEST: i64 = 1_000_000;
 
 impl Ambient {
     /// That of the start of a pane: all numbers are 0.

@@ -1,20 +1,20 @@
 //! What is drawn on a pane: items, and the state from which they are drawn.
 #![tactic(auto)]
 
-pub mod ambients;
-pub mod any_leaf;
-pub mod areas;
-pub mod boxes;
-pub mod drawing;
-pub mod fills;
+mod ambients;
+mod any_leaf;
+mod areas;
+mod boxes;
+mod drawing;
+mod fills;
 mod glyphs;
 mod laws;
-pub mod leaves;
-pub mod lines;
+mod leaves;
+mod lines;
 mod placing;
 #[cfg(test)]
 mod tests;
-pub mod texts;
+mod texts;
 
 pub use ambients::{Ambient, enter_room, indent, leave_room, newline};
 pub use any_leaf::AnyLeaf;

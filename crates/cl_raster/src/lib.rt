@@ -2,7 +2,7 @@
 #![tactic(auto)]
 
 mod filling;
-pub mod rasters;
+mod rasters;
 #[cfg(test)]
 mod tests;
 

@@ -5,26 +5,11 @@ use Rattle.cl_medium.specs.Items.{Painted}
 use Rattle.cl_region.specs.Places.{common, held, holds, is_thin}
 use Rattle.cl_region.specs.declared.rects.Rect.{Rect}
 use Rattle.cl_region.proofs.Corners.{both, common-holds, false_holds, thin_test, wrong}
+use Rattle.cl_region.proofs.Cuts.{is_not, or_elim, or_left, or_right}
 use Rattle.cl_record.specs.Replays.{meets_one, painted, touching}
 
 thin_none : (r : Rect) (x y : ℤ) → holds r x y ≡ true → is_thin r ≡ true → ⊥
 thin_none r x y h t = false_holds (holds r x y) (((thin_test r (is_thin r) refl).0 t).holds_none x y) h
-
-is_not : (b : Bool) → (b ≡ true → ⊥) → not b ≡ true
-is_not true h = absurd (h refl)
-is_not false h = refl
-
-or_left : (p q : Bool) → p ≡ true → p || q ≡ true
-or_left true q h = refl
-or_left false q h = absurd (wrong h)
-
-or_right : (p q : Bool) → q ≡ true → p || q ≡ true
-or_right true q h = refl
-or_right false q h = h
-
-or_elim : {P : Type 0} (p q : Bool) → (p ≡ true → P) → (q ≡ true → P) → p || q ≡ true → P
-or_elim true q f g h = f refl
-or_elim false q f g h = g h
 
 -- rectangles that hold a place of another one meet it
 meets_held : (rects : List Rect) (r : Rect) (x y : ℤ) → held rects x y ≡ true → holds r x y ≡ true → meets_one rects r ≡ true

@@ -1,17 +1,17 @@
 //! Records of output: what was drawn, as a tree of presentations and updates with leaves, and its replay.
 #![tactic(auto)]
 
-pub mod canvases;
+mod canvases;
 mod counting;
 mod fitting;
-pub mod heads;
-pub mod histories;
-pub mod labels;
-pub mod lines;
-pub mod nodes;
+mod heads;
+mod histories;
+mod labels;
+mod lines;
+mod nodes;
 mod printing;
 mod replaying;
-pub mod shifts;
+mod shifts;
 #[cfg(test)]
 mod tests;
 mod values;
@@ -22,3 +22,4 @@ pub use histories::History;
 pub use labels::Label;
 pub use lines::Printable;
 pub use nodes::{Node, Nodes, Piece, Presented};
+pub use shifts::STILL;

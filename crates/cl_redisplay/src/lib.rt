@@ -1,12 +1,12 @@
 //! Painting of histories on the cells of a screen.
 #![tactic(auto)]
 
-pub mod areas;
+mod areas;
 mod items;
-pub mod painting;
+mod painting;
 #[cfg(test)]
 mod tests;
-pub mod windows;
+mod windows;
 
 pub use areas::Area;
 pub use painting::{blank, paint};

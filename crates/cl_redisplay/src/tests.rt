@@ -12,7 +12,7 @@ fn push(nodes: &mut Nodes<AnyLeaf>, drawn: Drawn) -> Result<(), AllocError> {
     match drawn {
         Drawn::Item(leaf) => {
             let node = Node::Leaf(leaf);
-            if node.fits(cl_record::shifts::STILL) {
+            if node.fits(cl_record::STILL) {
                 nodes.push(node)?;
             }
             Ok(())

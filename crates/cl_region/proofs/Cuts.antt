@@ -10,14 +10,14 @@ by_test : (P : List Rect → Type 0) (b : Bool) (x y : List Rect) → (b ≡ tru
 by_test P b x y =
     elim b as (λ v. (v ≡ true → P x) → (v ≡ false → P y) → P (if v then x else y)) [ true ↦ λ f g. f refl | false ↦ λ f g. g refl ]
 
-or_elim : {P : Type 0} (p q : Bool) → (p ≡ true → P) → (q ≡ true → P) → p || q ≡ true → P
+pub or_elim : {P : Type 0} (p q : Bool) → (p ≡ true → P) → (q ≡ true → P) → p || q ≡ true → P
 or_elim true q f g h = f refl
 or_elim false q f g h = g h
 
-or_left : (p q : Bool) → p ≡ true → p || q ≡ true
+pub or_left : (p q : Bool) → p ≡ true → p || q ≡ true
 or_left p q h = rw h refl
 
-or_right : (p q : Bool) → q ≡ true → p || q ≡ true
+pub or_right : (p q : Bool) → q ≡ true → p || q ≡ true
 or_right true q h = refl
 or_right false q h = h
 
@@ -62,7 +62,7 @@ not_held : (b : Bool) → not b ≡ true → b ≡ true → ⊥
 not_held true h k = wrong h
 not_held false h k = wrong k
 
-is_not : (b : Bool) → (b ≡ true → ⊥) → not b ≡ true
+pub is_not : (b : Bool) → (b ≡ true → ⊥) → not b ≡ true
 is_not true h = absurd (h refl)
 is_not false h = refl
 

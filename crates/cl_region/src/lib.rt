@@ -1,10 +1,10 @@
 //! Places on a plane of whole cells, rectangles and regions.
 #![tactic(auto)]
 
-pub mod rects;
-pub mod regions;
+mod rects;
+mod regions;
 #[cfg(test)]
 mod tests;
 
-pub use rects::{Rect, Shift};
+pub use rects::{FURTHEST, Rect, Shift};
 pub use regions::Region;

@@ -20,7 +20,7 @@ pub struct Shift {
 }
 
 /// No coordinate of a drawn thing lies further out than this.
-const FURTHEST: i64 = 1_000_000;
+pub const FURTHEST: i64 = 1_000_000;
 
 impl Rect {
     /// Whether this cell is one of the rectangle's.

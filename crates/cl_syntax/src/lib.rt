@@ -1,18 +1,18 @@
 // The trees of the application language.
 #![tactic(auto)]
 
-pub mod applications;
-pub mod declarations;
-pub mod display_forms;
-pub mod expressions;
-pub mod figures;
-pub mod names;
-pub mod operators;
-pub mod statements;
-pub mod tables;
+mod applications;
+mod declarations;
+mod display_forms;
+mod expressions;
+mod figures;
+mod names;
+mod operators;
+mod statements;
+mod tables;
 #[cfg(test)]
 mod tests;
-pub mod type_specs;
+mod type_specs;
 
 pub use applications::App;
 pub use declarations::{
