@@ -1,5 +1,5 @@
 -- The fault that is found first in the forms of a text is the one of least offset.
-use Rattle.std.proofs.Common.{◌≡◌, ◌≤◌, ℕ, Bool, true, false, if◌then◌else◌, List, [], ◌∷◌, All, Contains, IfErr, refl, sym, ap, ◌∙◌, subst, le_of_eq, le_of_lt}
+use Rattle.std.proofs.Common.{◌≡◌, ◌≤◌, ℕ, suc, Bool, true, false, if◌then◌else◌, List, [], ◌∷◌, All, Contains, IfErr, refl, sym, ap, ◌∙◌, subst, le_of_eq, le_of_lt}
 use Rattle.std.specs.Prelude.{Option, Some, None, Result, Ok, Err}
 use Rattle.std.proofs.lemmas.List.Elements.{All-nil, All-cons, All-contains, All-weaker}
 use Rattle.cl_forms.specs.Datum.{Datum, word, parts_of, offset}
@@ -9,7 +9,7 @@ use Rattle.cl_declare.specs.Declarations.{Declared, kind_named, is_later_declara
 use Rattle.cl_declare.specs.Frames.{frame_row}
 use Rattle.cl_declare.specs.declared.heads.DeclarationKind.{DeclarationKind}
 use Rattle.cl_declare.specs.declared.heads.DeclarationKind.TheVariants.{Record, Function, Display, Command, Frame}
-use Rattle.cl_load.specs.Faults.{StandsIn, IsBefore, AreInOrder}
+use Rattle.cl_load.specs.Faults.{StandsIn, IsBefore, AreInOrder, HasFault, IsLeastFault}
 use Rattle.cl_load.proofs.FaultLemmas.{FaultsAt, outcome}
 use Rattle.cl_load.proofs.DataFaults.{CoversEach}
 use Rattle.cl_load.proofs.DeclarationFaults.{record_faults, function_faults, display_faults, command_faults, declaration_faults}
@@ -123,7 +123,40 @@ least w [] s u n o i h = All-nil (NoneBelow w o)
 least w (d ∷ ds) s u n o i h =
     least_from w d ds s u n o i.0 (λ x k. least w ds x.0 x.1 n o i.1 k) (declared_by w d s u) refl h
 
+-- ---- the fault that is found is that of one of the data
+
+found_in : (r : Result (Declared × Unknown) Fault) (fault : Fault) → fault_in r ≡ Some fault → r ≡ Err fault
+found_in (Ok x) fault h = cc
+found_in (Err other) fault h = cc
+
+always : (w : World) (d : Datum) (s : Declared) (u : Unknown) (n o : ℕ) → declared_by w d s u ≡ Err (n, o) → HasFault w d n o
+always w d s u n o e = λ t v.
+    found_in (declared_by w d t v) (n, o) (sym (declared_same w d s t u v) ∙ ap fault_in e)
+
+-- one of the data that has the fault
+abbrev Owner : World → List Datum → (n o : ℕ) → Type 0
+Owner w ds n o = (d : Datum) × (Contains ds d × HasFault w d n o)
+
+owner_from : (w : World) (d : Datum) (ds : List Datum) (s : Declared) (u : Unknown) (n o : ℕ)
+    → ((x : Declared × Unknown) → declared_all w ds x.0 x.1 ≡ Err (n, o) → Owner w ds n o)
+    → (r : Result (Declared × Unknown) Fault) → declared_by w d s u ≡ r → after r (λ t. declared_all w ds t) ≡ Err (n, o)
+    → Owner w (d ∷ ds) n o
+owner_from w d ds s u n o rest (Ok x) e h =
+    let later = rest x h in
+    (later.0, ((suc later.1.0.0, omega (arith, later.1.0.1), later.1.0.2), later.1.1))
+owner_from w d ds s u n o rest (Err fault) e h = (d, ((0, omega arith, refl), always w d s u n o (e ∙ h)))
+
+owner : (w : World) (ds : List Datum) (s : Declared) (u : Unknown) (n o : ℕ) → declared_all w ds s u ≡ Err (n, o) → Owner w ds n o
+owner w [] s u n o h = cc
+owner w (d ∷ ds) s u n o h =
+    owner_from w d ds s u n o (λ x k. owner w ds x.0 x.1 n o k) (declared_by w d s u) refl h
+
 pub first_fault_has_least_offset : (w : World) (ds : List Datum) (u : Unknown) (n o : ℕ) → AreInOrder ds
-    → declarations_of w ds u ≡ Err (n, o) → (d : Datum) → Contains ds d
-    → (s : Declared) (v : Unknown) (m p : ℕ) → declared_by w d s v ≡ Err (m, p) → o ≤ p
-first_fault_has_least_offset w ds u n o i h d c = All-contains (NoneBelow w o) ds d (least w ds nothing_read u n o i h) c
+    → declarations_of w ds u ≡ Err (n, o) → IsLeastFault w ds n o
+first_fault_has_least_offset w ds u n o i h =
+    let one = owner w ds nothing_read u n o h in
+    record
+      form = one.0
+      stands = one.1.0
+      has = one.1.1
+      least = λ d m p c f. All-contains (NoneBelow w o) ds d (least w ds nothing_read u n o i h) c nothing_read u m p (f nothing_read u)
