@@ -3,9 +3,8 @@ ghost use Rattle.std.specs.Prelude.{◌≡◌, pos, ◌+ℤ◌};
 ghost use Rattle.cl_region.specs.Places.{IsNear};
 ghost use Rattle.cl_medium.specs.Ambients.{IsAmbient, IsNearSum, MovesWhereNear, after_indent, after_newline, after_room, ambient_start, in_room};
 
-use std::marker::Model;
-
 use cl_region::FURTHEST;
+use std::marker::Model;
 
 /// The cursor, the left margin, the origin, all of them from -1,000,000 to 1,000,000, and the ink, from
 /// 0 to 7.
