@@ -33,7 +33,8 @@ pub fn place_of_length(commands: &Commands, line: &[u8], count: usize) -> Option
 // The command-line name of the command in this place.
 fn name_at(commands: &Commands, place: usize) -> &[u8]
     requires { place < length commands.now }
-    ensures { drop place (line_names commands.now) ≡ result.now ∷ drop (place + 1) (line_names commands.now) }
+    ensures { drop place (line_names commands.now)
+        ≡ result.now ∷ drop (place + 1) (line_names commands.now) }
 {
     match commands.at(place) {
         Some(command) => command.line_name.as_slice(),

@@ -33,7 +33,8 @@ pub fn form_in<L: Language>(
     scope: &Scope,
     unknown: &mut Option<u32>,
 ) -> Result<L, LoadRefusal>
-    ensures { Gives itself result unknown.new (form_in L.rows world.now (datum_of datum.now) (variables_of scope.now) unknown.old) }
+    ensures { Gives itself result unknown.new
+        (form_in L.rows world.now (datum_of datum.now) (variables_of scope.now) unknown.old) }
 {
     match datum {
         Datum::List(parts, at) => form_row(alloc, world, *at, parts.as_slice(), scope, unknown),
@@ -55,7 +56,9 @@ pub fn body_in<L: Language>(
     scope: &Scope,
     unknown: &mut Option<u32>,
 ) -> Result<L::Body, LoadRefusal>
-    ensures { Gives L.items result unknown.new (body_in L.rows world.now (datums_of (map datum_of parts.now)) (variables_of scope.now) unknown.old) }
+    ensures { Gives L.items result unknown.new
+        (body_in L.rows world.now (datums_of (map datum_of parts.now)) (variables_of scope.now)
+        unknown.old) }
 {
     let mut body = L::empty(alloc);
     for part in parts {
@@ -75,7 +78,10 @@ fn form_row<L: Language>(
     scope: &Scope,
     unknown: &mut Option<u32>,
 ) -> Result<L, LoadRefusal>
-    ensures { Gives itself result unknown.new (form_row L.rows world.now at (parts_in L.rows world.now (datums_of (map datum_of parts.now))) (variables_of scope.now) unknown.old) }
+    ensures { Gives itself result unknown.new
+        (form_row L.rows world.now at
+        (parts_in L.rows world.now (datums_of (map datum_of parts.now)))
+        (variables_of scope.now) unknown.old) }
 {
     let Some((head, parts)) = parts.split_first() else {
         return Err(LoadRefusal::Refused(6, at));
@@ -103,7 +109,10 @@ fn head_row<L: Language>(
     scope: &Scope,
     unknown: &mut Option<u32>,
 ) -> Result<L, LoadRefusal>
-    ensures { Gives itself result unknown.new (headed_row L.rows world.now (word head.now head_at) at (parts_in L.rows world.now (datums_of (map datum_of parts.now))) (variables_of scope.now) unknown.old) }
+    ensures { Gives itself result unknown.new
+        (headed_row L.rows world.now (word head.now head_at) at
+        (parts_in L.rows world.now (datums_of (map datum_of parts.now)))
+        (variables_of scope.now) unknown.old) }
 {
     match control_named(head.as_slice()) {
         Some(control) => control_row(alloc, world, control, at, parts, scope, unknown),
@@ -121,7 +130,10 @@ fn control_row<L: Language>(
     scope: &Scope,
     unknown: &mut Option<u32>,
 ) -> Result<L, LoadRefusal>
-    ensures { Gives itself result unknown.new (control_row L.rows world.now control at (parts_in L.rows world.now (datums_of (map datum_of parts.now))) (variables_of scope.now) unknown.old) }
+    ensures { Gives itself result unknown.new
+        (control_row L.rows world.now control at
+        (parts_in L.rows world.now (datums_of (map datum_of parts.now)))
+        (variables_of scope.now) unknown.old) }
 {
     match control {
         Control::If => if_row(alloc, world, at, parts, scope, unknown),
@@ -143,7 +155,9 @@ fn if_row<L: Language>(
     scope: &Scope,
     unknown: &mut Option<u32>,
 ) -> Result<L, LoadRefusal>
-    ensures { Gives itself result unknown.new (if_row L.rows at (parts_in L.rows world.now (datums_of (map datum_of parts.now))) (variables_of scope.now) unknown.old) }
+    ensures { Gives itself result unknown.new
+        (if_row L.rows at (parts_in L.rows world.now (datums_of (map datum_of parts.now)))
+        (variables_of scope.now) unknown.old) }
 {
     match parts {
         [test, first, other] => {
@@ -167,7 +181,10 @@ fn if_branches<L: Language>(
     scope: &Scope,
     unknown: &mut Option<u32>,
 ) -> Result<L, LoadRefusal>
-    ensures { Gives itself result unknown.new (choice_then L.rows test (form_in L.rows world.now (datum_of first.now) (variables_of scope.now)) (form_in L.rows world.now (datum_of other.now) (variables_of scope.now)) unknown.old) }
+    ensures { Gives itself result unknown.new
+        (choice_then L.rows test
+        (form_in L.rows world.now (datum_of first.now) (variables_of scope.now))
+        (form_in L.rows world.now (datum_of other.now) (variables_of scope.now)) unknown.old) }
 {
     let first = form_in::<L>(alloc, world, first, scope, unknown)?;
     let opening = Opening { test, first };
@@ -183,7 +200,9 @@ fn if_else<L: Language>(
     scope: &Scope,
     unknown: &mut Option<u32>,
 ) -> Result<L, LoadRefusal>
-    ensures { Gives itself result unknown.new (choice_else L.rows opening.test opening.first (form_in L.rows world.now (datum_of other.now) (variables_of scope.now)) unknown.old) }
+    ensures { Gives itself result unknown.new
+        (choice_else L.rows opening.test opening.first
+        (form_in L.rows world.now (datum_of other.now) (variables_of scope.now)) unknown.old) }
 {
     let other = form_in::<L>(alloc, world, other, scope, unknown)?;
     Ok(choice_of(alloc, opening, other)?)
@@ -206,7 +225,9 @@ fn when_row<L: Language>(
     scope: &Scope,
     unknown: &mut Option<u32>,
 ) -> Result<L, LoadRefusal>
-    ensures { Gives itself result unknown.new (when_row L.rows at (parts_in L.rows world.now (datums_of (map datum_of parts.now))) (variables_of scope.now) unknown.old) }
+    ensures { Gives itself result unknown.new
+        (when_row L.rows at (parts_in L.rows world.now (datums_of (map datum_of parts.now)))
+        (variables_of scope.now) unknown.old) }
 {
     let Some((test, body)) = parts.split_first() else {
         return Err(LoadRefusal::Refused(6, at));
@@ -226,7 +247,9 @@ fn let_row<L: Language>(
     scope: &Scope,
     unknown: &mut Option<u32>,
 ) -> Result<L, LoadRefusal>
-    ensures { Gives itself result unknown.new (let_row L.rows at (parts_in L.rows world.now (datums_of (map datum_of parts.now))) (variables_of scope.now) unknown.old) }
+    ensures { Gives itself result unknown.new
+        (let_row L.rows at (parts_in L.rows world.now (datums_of (map datum_of parts.now)))
+        (variables_of scope.now) unknown.old) }
 {
     let Some((bindings, body)) = parts.split_first() else {
         return Err(LoadRefusal::Refused(6, at));
@@ -250,7 +273,10 @@ fn dolist_row<L: Language>(
     scope: &Scope,
     unknown: &mut Option<u32>,
 ) -> Result<L, LoadRefusal>
-    ensures { Gives itself result unknown.new (dolist_row L.rows world.now at (parts_in L.rows world.now (datums_of (map datum_of parts.now))) (variables_of scope.now) unknown.old) }
+    ensures { Gives itself result unknown.new
+        (dolist_row L.rows world.now at
+        (parts_in L.rows world.now (datums_of (map datum_of parts.now)))
+        (variables_of scope.now) unknown.old) }
 {
     let Some((binding, body)) = parts.split_first() else {
         return Err(LoadRefusal::Refused(6, at));
@@ -277,7 +303,10 @@ fn dolist_body<L: Language>(
     scope: &Scope,
     unknown: &mut Option<u32>,
 ) -> Result<L, LoadRefusal>
-    ensures { Gives itself result unknown.new (dolist_body L.rows name list (parts_in L.rows world.now (datums_of (map datum_of body.now))) (variables_of scope.now) unknown.old) }
+    ensures { Gives itself result unknown.new
+        (dolist_body L.rows name list
+        (parts_in L.rows world.now (datums_of (map datum_of body.now))) (variables_of scope.now)
+        unknown.old) }
 {
     let body = body_in::<L>(alloc, world, body, &Scope::One(&name, &*scope), unknown)?;
     Ok(L::each(name, list, body))
@@ -296,7 +325,10 @@ fn own_row<L: Language>(
     scope: &Scope,
     unknown: &mut Option<u32>,
 ) -> Result<L, LoadRefusal>
-    ensures { Gives itself result unknown.new (own_row L.rows world.now head.now head_at at (parts_in L.rows world.now (datums_of (map datum_of parts.now))) (variables_of scope.now) unknown.old) }
+    ensures { Gives itself result unknown.new
+        (own_row L.rows world.now head.now head_at at
+        (parts_in L.rows world.now (datums_of (map datum_of parts.now)))
+        (variables_of scope.now) unknown.old) }
 {
     match L::own_row(alloc, world, head, head_at, at, parts, scope, unknown)? {
         Own::Whole(form) => Ok(form),
@@ -320,7 +352,9 @@ fn closed_row<L: Language>(
     scope: &Scope,
     unknown: &mut Option<u32>,
 ) -> Result<L, LoadRefusal>
-    ensures { Gives itself result unknown.new (closed_row L.rows opening (parts_in L.rows world.now (datums_of (map datum_of body.now))) (variables_of scope.now) unknown.old) }
+    ensures { Gives itself result unknown.new
+        (closed_row L.rows opening (parts_in L.rows world.now (datums_of (map datum_of body.now)))
+        (variables_of scope.now) unknown.old) }
 {
     let body = body_in::<L>(alloc, world, body, scope, unknown)?;
     Ok(L::closed(opening, body))

@@ -34,7 +34,8 @@ pub fn declarations_in(
     forms: &[Datum],
     unknown: &mut Option<u32>,
 ) -> Result<Declarations, LoadRefusal>
-    ensures { Gives declared_of result unknown.new (declarations_of world.now (map datum_of forms.now) unknown.old) }
+    ensures { Gives declared_of result unknown.new
+        (declarations_of world.now (map datum_of forms.now) unknown.old) }
 {
     let mut declarations = Declarations {
         records: Records::new(alloc),
@@ -56,7 +57,8 @@ fn declare(
     declarations: &mut Declarations,
     unknown: &mut Option<u32>,
 ) -> Result<(), LoadRefusal>
-    ensures { Leaves result (declared_of declarations.new) unknown.new (declared_by world.now (datum_of form.now) (declared_of declarations.old) unknown.old) }
+    ensures { Leaves result (declared_of declarations.new) unknown.new
+        (declared_by world.now (datum_of form.now) (declared_of declarations.old) unknown.old) }
 {
     let at = form.offset();
     let Some((head, parts)) = form.parts().split_first() else {
@@ -91,7 +93,9 @@ fn declare_headed(
     declarations: &mut Declarations,
     unknown: &mut Option<u32>,
 ) -> Result<(), LoadRefusal>
-    ensures { Leaves result (declared_of declarations.new) unknown.new (declared_headed world.now (word head.now head_at) at (map datum_of parts.now) (declared_of declarations.old) unknown.old) }
+    ensures { Leaves result (declared_of declarations.new) unknown.new
+        (declared_headed world.now (word head.now head_at) at (map datum_of parts.now)
+        (declared_of declarations.old) unknown.old) }
 {
     match kind_named(head.as_slice()) {
         Some(kind) => declare_as(alloc, world, kind, at, parts, declarations, unknown),
@@ -114,7 +118,9 @@ fn declare_as(
     declarations: &mut Declarations,
     unknown: &mut Option<u32>,
 ) -> Result<(), LoadRefusal>
-    ensures { Leaves result (declared_of declarations.new) unknown.new (declared_as world.now kind at (map datum_of parts.now) (declared_of declarations.old) unknown.old) }
+    ensures { Leaves result (declared_of declarations.new) unknown.new
+        (declared_as world.now kind at (map datum_of parts.now) (declared_of declarations.old)
+        unknown.old) }
 {
     match kind {
         DeclarationKind::Record => declarations.add_record(record_row(alloc, at, parts)?)?,
@@ -136,7 +142,8 @@ fn declare_as(
 
 impl Declarations {
     fn add_record(&mut self, declaration: RecordDecl) -> Result<(), AllocError>
-        ensures { OnOk result (declared_of self.new ≡ with_record (declared_of self.old) declaration) }
+        ensures { OnOk result
+            (declared_of self.new ≡ with_record (declared_of self.old) declaration) }
     {
         if self.records.get(&declaration.name).is_some() {
             return Ok(());
@@ -145,7 +152,8 @@ impl Declarations {
     }
 
     fn add_function(&mut self, function: FunctionDecl) -> Result<(), AllocError>
-        ensures { OnOk result (declared_of self.new ≡ with_function (declared_of self.old) function) }
+        ensures { OnOk result
+            (declared_of self.new ≡ with_function (declared_of self.old) function) }
     {
         if self.functions.get(&function.name).is_some() {
             return Ok(());

@@ -35,7 +35,8 @@ pub fn shape_in(
     scope: &Scope,
     unknown: &mut Option<u32>,
 ) -> Result<Shape, LoadRefusal>
-    ensures { Gives itself result unknown.new (shape_of world.now (datum_of datum.now) (variables_of scope.now) unknown.old) }
+    ensures { Gives itself result unknown.new
+        (shape_of world.now (datum_of datum.now) (variables_of scope.now) unknown.old) }
 {
     form_in(alloc, world, datum, scope, unknown)
 }
@@ -48,7 +49,9 @@ pub fn shapes_in(
     scope: &Scope,
     unknown: &mut Option<u32>,
 ) -> Result<Shapes, LoadRefusal>
-    ensures { Gives itself result unknown.new (shapes_of world.now (datums_of (map datum_of parts.now)) (variables_of scope.now) unknown.old) }
+    ensures { Gives itself result unknown.new
+        (shapes_of world.now (datums_of (map datum_of parts.now)) (variables_of scope.now)
+        unknown.old) }
 {
     body_in::<Shape>(alloc, world, parts, scope, unknown)
 }
@@ -121,7 +124,9 @@ fn own_row(
     scope: &Scope,
     unknown: &mut Option<u32>,
 ) -> Result<Own<Shape, Opening>, LoadRefusal>
-    ensures { Gives itself result unknown.new (own_row world.now head.now head_at at (subs world.now (datums_of (map datum_of parts.now))) (variables_of scope.now) unknown.old) }
+    ensures { Gives itself result unknown.new
+        (own_row world.now head.now head_at at (subs world.now (datums_of (map datum_of parts.now)))
+        (variables_of scope.now) unknown.old) }
 {
     match setting_named(head.as_slice()) {
         Some(setting) => setting_row(alloc, world, setting, at, parts, scope, unknown),
@@ -138,7 +143,9 @@ fn setting_row(
     scope: &Scope,
     unknown: &mut Option<u32>,
 ) -> Result<Own<Shape, Opening>, LoadRefusal>
-    ensures { Gives itself result unknown.new (setting_row setting at (subs world.now (datums_of (map datum_of parts.now))) (variables_of scope.now) unknown.old) }
+    ensures { Gives itself result unknown.new
+        (setting_row setting at (subs world.now (datums_of (map datum_of parts.now)))
+        (variables_of scope.now) unknown.old) }
 {
     match setting {
         Setting::Margin => indent_row(alloc, world, at, parts, scope, unknown),
@@ -156,7 +163,9 @@ fn indent_row(
     scope: &Scope,
     unknown: &mut Option<u32>,
 ) -> Result<Own<Shape, Opening>, LoadRefusal>
-    ensures { Gives itself result unknown.new (indent_row at (subs world.now (datums_of (map datum_of parts.now))) (variables_of scope.now) unknown.old) }
+    ensures { Gives itself result unknown.new
+        (indent_row at (subs world.now (datums_of (map datum_of parts.now)))
+        (variables_of scope.now) unknown.old) }
 {
     let Some((number, _)) = parts.split_first() else {
         return Err(LoadRefusal::Refused(6, at));
@@ -174,7 +183,9 @@ fn ink_row(
     scope: &Scope,
     unknown: &mut Option<u32>,
 ) -> Result<Own<Shape, Opening>, LoadRefusal>
-    ensures { Gives itself result unknown.new (ink_row at (subs world.now (datums_of (map datum_of parts.now))) (variables_of scope.now) unknown.old) }
+    ensures { Gives itself result unknown.new
+        (ink_row at (subs world.now (datums_of (map datum_of parts.now))) (variables_of scope.now)
+        unknown.old) }
 {
     let Some((number, _)) = parts.split_first() else {
         return Err(LoadRefusal::Refused(6, at));

@@ -50,7 +50,8 @@ pub fn frame_row(
     parts: &[Datum],
     unknown: &mut Option<u32>,
 ) -> Result<FrameForm, LoadRefusal>
-    ensures { Gives itself result unknown.new (frame_row world.now at (map datum_of parts.now) unknown.old) }
+    ensures { Gives itself result unknown.new
+        (frame_row world.now at (map datum_of parts.now) unknown.old) }
 {
     match parts {
         [] => Err(LoadRefusal::Refused(6, at)),
@@ -71,7 +72,9 @@ fn frame_of(
     sections: &[Datum],
     slots: SlotDecls,
 ) -> Result<FrameForm, LoadRefusal>
-    ensures { (u : Unknown) → Gives itself result u (frame_of at (datum_of name.now) (map datum_of sections.now) slots u) }
+    ensures { (u : Unknown)
+        → Gives itself result u
+        (frame_of at (datum_of name.now) (map datum_of sections.now) slots u) }
 {
     let size = size_row(at, section(b":size", sections))?;
     let pane = first_pane(alloc, at, section(b":panes", sections))?;
@@ -113,7 +116,8 @@ fn first_pane(alloc: Global, at: u32, panes: &[Datum]) -> Result<PaneForm, LoadR
 
 /// `(NAME X Y WIDTH HEIGHT DISPLAY)`
 fn pane_row(alloc: Global, at: u32, pane_at: u32, parts: &[Datum]) -> Result<PaneForm, LoadRefusal>
-    ensures { (u : Unknown) → Gives itself result u (pane_row at pane_at (map datum_of parts.now) u) }
+    ensures { (u : Unknown)
+        → Gives itself result u (pane_row at pane_at (map datum_of parts.now) u) }
 {
     match parts {
         [] => Err(LoadRefusal::Refused(6, at)),
@@ -128,7 +132,9 @@ fn place_row(
     name: &Datum,
     place: &[Datum],
 ) -> Result<PaneForm, LoadRefusal>
-    ensures { (u : Unknown) → Gives itself result u (place_row at pane_at (symbol_of (datum_of name.now)) (map datum_of place.now) u) }
+    ensures { (u : Unknown)
+        → Gives itself result u
+        (place_row at pane_at (symbol_of (datum_of name.now)) (map datum_of place.now) u) }
 {
     match place {
         [] => Err(LoadRefusal::Refused(6, at)),
@@ -148,7 +154,9 @@ fn extent_row(
     y: &Datum,
     extent: &[Datum],
 ) -> Result<PaneForm, LoadRefusal>
-    ensures { (u : Unknown) → Gives itself result u (extent_row at pane_at (symbol_of (datum_of name.now)) (datum_of x.now) (datum_of y.now) (map datum_of extent.now) u) }
+    ensures { (u : Unknown)
+        → Gives itself result u (extent_row at pane_at (symbol_of (datum_of name.now))
+        (datum_of x.now) (datum_of y.now) (map datum_of extent.now) u) }
 {
     match extent {
         [width, height, display] => Ok(PaneForm {

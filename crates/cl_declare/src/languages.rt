@@ -66,7 +66,10 @@ pub trait Language: Sized + Drop {
         scope: &Scope,
         unknown: &mut Option<u32>,
     ) -> Result<Own<Self, Self::Opening>, LoadRefusal>
-        ensures { Gives itself result unknown.new (rows.own world.now head.now head_at at (subs world.now (datums_of (map datum_of parts.now))) (variables_of scope.now) unknown.old) };
+        ensures { Gives itself result unknown.new
+            (rows.own world.now head.now head_at at
+            (subs world.now (datums_of (map datum_of parts.now))) (variables_of scope.now)
+            unknown.old) };
 
     /// A form of its own with its body.
     fn closed(opening: Self::Opening, body: Self::Body) -> Self

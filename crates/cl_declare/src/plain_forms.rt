@@ -27,7 +27,10 @@ pub fn plain_row(
     scope: &Scope,
     unknown: &mut Option<u32>,
 ) -> Result<Shape, LoadRefusal>
-    ensures { Gives itself result unknown.new (plain_row world.now head.now head_at at (subs world.now (datums_of (map datum_of parts.now))) (variables_of scope.now) unknown.old) }
+    ensures { Gives itself result unknown.new
+        (plain_row world.now head.now head_at at
+        (subs world.now (datums_of (map datum_of parts.now))) (variables_of scope.now)
+        unknown.old) }
 {
     match figure_named(head.as_slice()) {
         Some(figure) => draw_row(alloc, world, figure, at, parts, scope, unknown),
@@ -46,7 +49,9 @@ fn draw_row(
     scope: &Scope,
     unknown: &mut Option<u32>,
 ) -> Result<Shape, LoadRefusal>
-    ensures { Gives itself result unknown.new (draw_row figure at (subs world.now (datums_of (map datum_of parts.now))) (variables_of scope.now) unknown.old) }
+    ensures { Gives itself result unknown.new
+        (draw_row figure at (subs world.now (datums_of (map datum_of parts.now)))
+        (variables_of scope.now) unknown.old) }
 {
     if figure_count(figure) != parts.len() {
         return Err(LoadRefusal::Refused(6, at));
@@ -65,7 +70,10 @@ fn written_row(
     scope: &Scope,
     unknown: &mut Option<u32>,
 ) -> Result<Shape, LoadRefusal>
-    ensures { Gives itself result unknown.new (written_row world.now head.now head_at at (subs world.now (datums_of (map datum_of parts.now))) (variables_of scope.now) unknown.old) }
+    ensures { Gives itself result unknown.new
+        (written_row world.now head.now head_at at
+        (subs world.now (datums_of (map datum_of parts.now))) (variables_of scope.now)
+        unknown.old) }
 {
     if head.as_slice() == b"write-text".as_slice() {
         write_row(alloc, world, at, parts, scope, unknown)
@@ -88,7 +96,9 @@ fn write_row(
     scope: &Scope,
     unknown: &mut Option<u32>,
 ) -> Result<Shape, LoadRefusal>
-    ensures { Gives itself result unknown.new (write_row at (subs world.now (datums_of (map datum_of parts.now))) (variables_of scope.now) unknown.old) }
+    ensures { Gives itself result unknown.new
+        (write_row at (subs world.now (datums_of (map datum_of parts.now))) (variables_of scope.now)
+        unknown.old) }
 {
     match parts {
         [text] => Ok(Shape::write_text(expr_in(alloc, world, text, scope, unknown)?)),
@@ -100,7 +110,9 @@ fn write_row(
 /// `(newline)`
 #[tactic(auto, using(crate::proofs::DisplayRows::newline_counts))]
 fn newline_row(at: u32, parts: &[Datum]) -> Result<Shape, LoadRefusal>
-    ensures { (w : World) (unknown : Unknown) → Gives itself result unknown (newline_row at (subs w (datums_of (map datum_of parts.now))) unknown) }
+    ensures { (w : World) (unknown : Unknown)
+        → Gives itself result unknown
+        (newline_row at (subs w (datums_of (map datum_of parts.now))) unknown) }
 {
     match parts {
         [] => Ok(Shape::newline()),
@@ -120,7 +132,10 @@ fn call_row(
     scope: &Scope,
     unknown: &mut Option<u32>,
 ) -> Result<Shape, LoadRefusal>
-    ensures { Gives itself result unknown.new (call_row world.now head.now head_at at (subs world.now (datums_of (map datum_of parts.now))) (variables_of scope.now) unknown.old) }
+    ensures { Gives itself result unknown.new
+        (call_row world.now head.now head_at at
+        (subs world.now (datums_of (map datum_of parts.now))) (variables_of scope.now)
+        unknown.old) }
 {
     let Some(count) = world.display(head) else {
         return Err(LoadRefusal::Refused(5, head_at));

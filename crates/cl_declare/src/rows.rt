@@ -45,7 +45,8 @@ pub fn function_row(
     parts: &[Datum],
     unknown: &mut Option<u32>,
 ) -> Result<FunctionDecl, LoadRefusal>
-    ensures { Gives itself result unknown.new (function_row world.now at (map datum_of parts.now) unknown.old) }
+    ensures { Gives itself result unknown.new
+        (function_row world.now at (map datum_of parts.now) unknown.old) }
 {
     match parts {
         [name, parameters, body] => {
@@ -77,7 +78,8 @@ pub fn display_row(
     parts: &[Datum],
     unknown: &mut Option<u32>,
 ) -> Result<DisplayDecl, LoadRefusal>
-    ensures { Gives itself result unknown.new (display_row world.now at (map datum_of parts.now) unknown.old) }
+    ensures { Gives itself result unknown.new
+        (display_row world.now at (map datum_of parts.now) unknown.old) }
 {
     match parts {
         [] => Err(LoadRefusal::Refused(6, at)),
@@ -107,7 +109,8 @@ pub fn command_row(
     parts: &[Datum],
     unknown: &mut Option<u32>,
 ) -> Result<CommandDecl, LoadRefusal>
-    ensures { Gives itself result unknown.new (command_row world.now at (map datum_of parts.now) unknown.old) }
+    ensures { Gives itself result unknown.new
+        (command_row world.now at (map datum_of parts.now) unknown.old) }
 {
     match parts {
         [] => Err(LoadRefusal::Refused(6, at)),
@@ -132,7 +135,9 @@ fn command_headed(
     body: &[Datum],
     unknown: &mut Option<u32>,
 ) -> Result<CommandDecl, LoadRefusal>
-    ensures { Gives itself result unknown.new (command_headed world.now at (datum_of head.now) (datum_of arguments.now) (map datum_of body.now) unknown.old) }
+    ensures { Gives itself result unknown.new
+        (command_headed world.now at (datum_of head.now) (datum_of arguments.now)
+        (map datum_of body.now) unknown.old) }
 {
     match head {
         Datum::List(parts, _) => command_listed(
@@ -166,7 +171,9 @@ fn command_listed(
     body: &[Datum],
     unknown: &mut Option<u32>,
 ) -> Result<CommandDecl, LoadRefusal>
-    ensures { Gives itself result unknown.new (command_listed world.now at (map datum_of parts.now) (datum_of arguments.now) (map datum_of body.now) unknown.old) }
+    ensures { Gives itself result unknown.new
+        (command_listed world.now at (map datum_of parts.now) (datum_of arguments.now)
+        (map datum_of body.now) unknown.old) }
 {
     match parts {
         [] => Err(LoadRefusal::Refused(6, at)),
@@ -190,7 +197,9 @@ fn command_named(
     body: &[Datum],
     unknown: &mut Option<u32>,
 ) -> Result<CommandDecl, LoadRefusal>
-    ensures { Gives itself result unknown.new (command_named world.now at (symbol_of (datum_of name.now)) (map datum_of keys.now) (datum_of arguments.now) (map datum_of body.now) unknown.old) }
+    ensures { Gives itself result unknown.new
+        (command_named world.now at (symbol_of (datum_of name.now)) (map datum_of keys.now)
+        (datum_of arguments.now) (map datum_of body.now) unknown.old) }
 {
     none_yet(keys)?;
     none_yet(arguments.parts())?;

@@ -38,7 +38,8 @@ fn type_listed(
     parts: &[Datum],
     unknown: &mut Option<u32>,
 ) -> Result<TypeSpec, LoadRefusal>
-    ensures { Gives itself result unknown.new (type_listed world.now at (map datum_of parts.now) unknown.old) }
+    ensures { Gives itself result unknown.new
+        (type_listed world.now at (map datum_of parts.now) unknown.old) }
 {
     match parts {
         [] => Err(LoadRefusal::Refused(6, at)),
@@ -54,7 +55,8 @@ fn type_first(
     more: &[Datum],
     unknown: &mut Option<u32>,
 ) -> Result<TypeSpec, LoadRefusal>
-    ensures { Gives itself result unknown.new (type_first world.now at (datum_of first.now) (map datum_of more.now) unknown.old) }
+    ensures { Gives itself result unknown.new
+        (type_first world.now at (datum_of first.now) (map datum_of more.now) unknown.old) }
 {
     match first {
         Datum::List(parts, _) => type_options(world, at, parts.as_slice(), more, unknown),
@@ -74,7 +76,9 @@ fn type_options(
     options: &[Datum],
     unknown: &mut Option<u32>,
 ) -> Result<TypeSpec, LoadRefusal>
-    ensures { Gives itself result unknown.new (type_options world.now at (map datum_of parts.now) (map datum_of options.now) unknown.old) }
+    ensures { Gives itself result unknown.new
+        (type_options world.now at (map datum_of parts.now) (map datum_of options.now)
+        unknown.old) }
 {
     match options {
         [] => type_parts(world, at, parts, unknown),
@@ -94,7 +98,8 @@ fn type_parts(
     parts: &[Datum],
     unknown: &mut Option<u32>,
 ) -> Result<TypeSpec, LoadRefusal>
-    ensures { Gives itself result unknown.new (type_parts world.now at (map datum_of parts.now) unknown.old) }
+    ensures { Gives itself result unknown.new
+        (type_parts world.now at (map datum_of parts.now) unknown.old) }
 {
     match parts {
         [] => Err(LoadRefusal::Refused(6, at)),
@@ -109,7 +114,8 @@ fn type_headed(
     arguments: &[Datum],
     unknown: &mut Option<u32>,
 ) -> Result<TypeSpec, LoadRefusal>
-    ensures { Gives itself result unknown.new (type_headed world.now at (datum_of head.now) (map datum_of arguments.now) unknown.old) }
+    ensures { Gives itself result unknown.new
+        (type_headed world.now at (datum_of head.now) (map datum_of arguments.now) unknown.old) }
 {
     match name_in(head) {
         Some(name) => type_row(world, name, head.offset(), at, arguments, unknown),
@@ -125,7 +131,8 @@ fn type_row(
     arguments: &[Datum],
     unknown: &mut Option<u32>,
 ) -> Result<TypeSpec, LoadRefusal>
-    ensures { Gives itself result unknown.new (type_row world.now name.now name_at at (map datum_of arguments.now) unknown.old) }
+    ensures { Gives itself result unknown.new
+        (type_row world.now name.now name_at at (map datum_of arguments.now) unknown.old) }
 {
     if is_plain_type(name.as_slice()) {
         plain_type(name, at, arguments)
@@ -139,7 +146,8 @@ fn type_row(
 }
 
 fn plain_type(name: &Text, at: u32, arguments: &[Datum]) -> Result<TypeSpec, LoadRefusal>
-    ensures { (u : Unknown) → Gives itself result u (plain_type name.now at (map datum_of arguments.now) u) }
+    ensures { (u : Unknown)
+        → Gives itself result u (plain_type name.now at (map datum_of arguments.now) u) }
 {
     match arguments {
         [] => Ok(TypeSpec { name: name.copy()? }),
@@ -148,7 +156,8 @@ fn plain_type(name: &Text, at: u32, arguments: &[Datum]) -> Result<TypeSpec, Loa
 }
 
 fn ranged_type(name: &Text, name_at: u32, arguments: &[Datum]) -> Result<TypeSpec, LoadRefusal>
-    ensures { (u : Unknown) → Gives itself result u (ranged_type name.now name_at (map datum_of arguments.now) u) }
+    ensures { (u : Unknown)
+        → Gives itself result u (ranged_type name.now name_at (map datum_of arguments.now) u) }
 {
     match arguments {
         [] => Ok(TypeSpec { name: name.copy()? }),
@@ -165,7 +174,9 @@ fn record_type(
     arguments: &[Datum],
     unknown: &mut Option<u32>,
 ) -> Result<TypeSpec, LoadRefusal>
-    ensures { Gives itself result unknown.new (record_type (record_in world.now name.now) name.now name_at at (map datum_of arguments.now) unknown.old) }
+    ensures { Gives itself result unknown.new
+        (record_type (record_in world.now name.now) name.now name_at at (map datum_of arguments.now)
+        unknown.old) }
 {
     match world.record_fields(name) {
         Some(_) => plain_type(name, at, arguments),

@@ -20,7 +20,8 @@ pub fn sections_read(
     sections: &[Datum],
     unknown: &mut Option<u32>,
 ) -> Result<SlotDecls, LoadRefusal>
-    ensures { Gives itself result unknown.new (sections_read world.now at (map datum_of sections.now) [] unknown.old) }
+    ensures { Gives itself result unknown.new
+        (sections_read world.now at (map datum_of sections.now) [] unknown.old) }
 {
     let mut slots = SlotDecls::new(alloc);
     for datum in sections {
@@ -37,7 +38,8 @@ fn section_read(
     slots: &mut SlotDecls,
     unknown: &mut Option<u32>,
 ) -> Result<(), LoadRefusal>
-    ensures { Leaves result slots.new unknown.new (section_read world.now at (map datum_of parts.now) slots.old unknown.old) }
+    ensures { Leaves result slots.new unknown.new
+        (section_read world.now at (map datum_of parts.now) slots.old unknown.old) }
 {
     let Some((key, parts)) = parts.split_first() else {
         return Ok(());
@@ -61,7 +63,8 @@ fn slots_read(
     slots: &mut SlotDecls,
     unknown: &mut Option<u32>,
 ) -> Result<(), LoadRefusal>
-    ensures { Leaves result slots.new unknown.new (slots_read world.now at (map datum_of parts.now) slots.old unknown.old) }
+    ensures { Leaves result slots.new unknown.new
+        (slots_read world.now at (map datum_of parts.now) slots.old unknown.old) }
 {
     for slot in parts {
         let slot = slot_row(alloc, world, at, slot.parts(), unknown)?;
@@ -89,7 +92,8 @@ fn slot_row(
     parts: &[Datum],
     unknown: &mut Option<u32>,
 ) -> Result<SlotDecl, LoadRefusal>
-    ensures { Gives itself result unknown.new (slot_row world.now at (map datum_of parts.now) unknown.old) }
+    ensures { Gives itself result unknown.new
+        (slot_row world.now at (map datum_of parts.now) unknown.old) }
 {
     match parts {
         [name, spec, value] => {
@@ -156,7 +160,8 @@ fn extent_noted(world: &World, extent: &[Datum], unknown: &mut Option<u32>)
 }
 
 fn note_display(world: &World, display: &Datum, unknown: &mut Option<u32>)
-    ensures { name_noted world.now (offset (datum_of display.now)) (name_in (datum_of display.now)) unknown.old ≡ Ok (tt, unknown.new) }
+    ensures { name_noted world.now (offset (datum_of display.now)) (name_in (datum_of display.now))
+        unknown.old ≡ Ok (tt, unknown.new) }
 {
     if let Some(name) = name_in(display) {
         note(unknown, world.display(name).is_some(), display.offset());

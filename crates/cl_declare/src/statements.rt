@@ -25,7 +25,8 @@ pub fn act_in(
     scope: &Scope,
     unknown: &mut Option<u32>,
 ) -> Result<Act, LoadRefusal>
-    ensures { Gives itself result unknown.new (act_of world.now (datum_of datum.now) (variables_of scope.now) unknown.old) }
+    ensures { Gives itself result unknown.new
+        (act_of world.now (datum_of datum.now) (variables_of scope.now) unknown.old) }
 {
     form_in(alloc, world, datum, scope, unknown)
 }
@@ -38,7 +39,9 @@ pub fn acts_in(
     scope: &Scope,
     unknown: &mut Option<u32>,
 ) -> Result<Acts, LoadRefusal>
-    ensures { Gives itself result unknown.new (acts_of world.now (datums_of (map datum_of parts.now)) (variables_of scope.now) unknown.old) }
+    ensures { Gives itself result unknown.new
+        (acts_of world.now (datums_of (map datum_of parts.now)) (variables_of scope.now)
+        unknown.old) }
 {
     body_in::<Act>(alloc, world, parts, scope, unknown)
 }
@@ -111,7 +114,10 @@ fn plain_row(
     scope: &Scope,
     unknown: &mut Option<u32>,
 ) -> Result<Act, LoadRefusal>
-    ensures { Gives itself result unknown.new (plain_row world.now head.now head_at at (subs world.now (datums_of (map datum_of parts.now))) (variables_of scope.now) unknown.old) }
+    ensures { Gives itself result unknown.new
+        (plain_row world.now head.now head_at at
+        (subs world.now (datums_of (map datum_of parts.now))) (variables_of scope.now)
+        unknown.old) }
 {
     if head.as_slice() == b"setf".as_slice() {
         setf_row(alloc, world, at, parts, scope, unknown)
@@ -134,7 +140,9 @@ fn setf_row(
     scope: &Scope,
     unknown: &mut Option<u32>,
 ) -> Result<Act, LoadRefusal>
-    ensures { Gives itself result unknown.new (setf_row world.now at (subs world.now (datums_of (map datum_of parts.now))) (variables_of scope.now) unknown.old) }
+    ensures { Gives itself result unknown.new
+        (setf_row world.now at (subs world.now (datums_of (map datum_of parts.now)))
+        (variables_of scope.now) unknown.old) }
 {
     match parts {
         [place, value] => {
@@ -156,7 +164,8 @@ fn place_in(
     parts: &[Datum],
     unknown: &mut Option<u32>,
 ) -> Result<Text, LoadRefusal>
-    ensures { Gives itself result unknown.new (place_in world.now at (map datum_of parts.now) unknown.old) }
+    ensures { Gives itself result unknown.new
+        (place_in world.now at (map datum_of parts.now) unknown.old) }
 {
     match parts {
         [slot, name] => {
@@ -178,7 +187,8 @@ fn place_named(
     datum: &Datum,
     unknown: &mut Option<u32>,
 ) -> Result<Text, LoadRefusal>
-    ensures { Gives itself result unknown.new (place_named world.now at (datum_of datum.now) unknown.old) }
+    ensures { Gives itself result unknown.new
+        (place_named world.now at (datum_of datum.now) unknown.old) }
 {
     let name = named_part(at, datum)?;
     note(unknown, world.has_slot(&name), datum.offset());
@@ -195,7 +205,9 @@ fn reply_row(
     scope: &Scope,
     unknown: &mut Option<u32>,
 ) -> Result<Act, LoadRefusal>
-    ensures { Gives itself result unknown.new (reply_row at (subs world.now (datums_of (map datum_of parts.now))) (variables_of scope.now) unknown.old) }
+    ensures { Gives itself result unknown.new
+        (reply_row at (subs world.now (datums_of (map datum_of parts.now))) (variables_of scope.now)
+        unknown.old) }
 {
     match parts {
         [text] => Ok(Act::reply(expr_in(alloc, world, text, scope, unknown)?)),

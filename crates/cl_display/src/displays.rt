@@ -42,7 +42,8 @@ pub fn display<L: Ledger>(
     requires { limits.depth ≤ 512 }
     ensures shows { Shows result (fresh limits app.now forms.now env.now slots.now) }
     ensures few { IsFew result }
-    ensures ledger { RisesBy (met_memory result) steps.old steps.new (cost_of (fresh limits app.now forms.now env.now slots.now)) }
+    ensures ledger { RisesBy (met_memory result) steps.old steps.new
+        (cost_of (fresh limits app.now forms.now env.now slots.now)) }
 {
     let context = Context {
         alloc,

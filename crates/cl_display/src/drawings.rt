@@ -51,7 +51,8 @@ impl Drawing {
 
     /// Draws a text at the cursor.
     pub fn write(&mut self, value: &Value) -> Result<(), Stop>
-        ensures { Comes (always (drawing_of self.new)) result (written (drawing_of self.old) (data_of value.now)) }
+        ensures { Comes (always (drawing_of self.new)) result
+            (written (drawing_of self.old) (data_of value.now)) }
     {
         match value {
             Value::Text(text) => self.write_text(text),
@@ -60,7 +61,8 @@ impl Drawing {
     }
 
     fn write_text(&mut self, text: &Text) -> Result<(), Stop>
-        ensures { Comes (always (drawing_of self.new)) result (drawn text.now (drawing_of self.old)) }
+        ensures { Comes (always (drawing_of self.new)) result
+            (drawn text.now (drawing_of self.old)) }
     {
         let mut ambient = self.ambient;
         match draw_text(&mut ambient, text) {
@@ -90,7 +92,8 @@ impl Drawing {
 
     // One more item of this weight.
     pub(crate) fn add(&mut self, leaf: AnyLeaf, weight: u64) -> Result<(), Stop>
-        ensures { Comes (always (drawing_of self.new)) result (added leaf weight (drawing_of self.old)) }
+        ensures { Comes (always (drawing_of self.new)) result
+            (added leaf weight (drawing_of self.old)) }
     {
         let Some(whole) = heavier(self.weight, weight) else {
             return Err(Stop::Trap(10));
@@ -114,7 +117,8 @@ impl Drawing {
 
 // The sum of two weights, where it is not too heavy.
 fn heavier(weight: u64, more: u64) -> Option<u64>
-    ensures { MatchOption result (1000000 < weight + more) (λ sum. (sum ≡ weight + more) × (sum ≤ 1000000)) }
+    ensures { MatchOption result (1000000 < weight + more)
+        (λ sum. (sum ≡ weight + more) × (sum ≤ 1000000)) }
 {
     let sum = weight.checked_add(more)?;
     if sum <= HEAVY { Some(sum) } else { None }

@@ -38,7 +38,8 @@ fn byte_in(value: &Value) -> Option<u8>
 impl Drawing {
     /// Draws a figure by the values of its parts: its place, its sizes, and a text of one byte.
     pub fn figure(&mut self, figure: Figure, values: &[Value]) -> Result<(), Stop>
-        ensures { Comes (always (drawing_of self.new)) result (figured figure (map data_of values.now) (drawing_of self.old)) }
+        ensures { Comes (always (drawing_of self.new)) result
+            (figured figure (map data_of values.now) (drawing_of self.old)) }
     {
         match figure {
             Figure::Point => self.point(values),
@@ -50,7 +51,8 @@ impl Drawing {
     }
 
     fn point(&mut self, values: &[Value]) -> Result<(), Stop>
-        ensures { Comes (always (drawing_of self.new)) result (pointed (map data_of values.now) (drawing_of self.old)) }
+        ensures { Comes (always (drawing_of self.new)) result
+            (pointed (map data_of values.now) (drawing_of self.old)) }
     {
         match values {
             [x, y, text] => self.point_at(number_in(x), number_in(y), byte_in(text)),
@@ -59,7 +61,8 @@ impl Drawing {
     }
 
     fn point_at(&mut self, x: Option<i64>, y: Option<i64>, byte: Option<u8>) -> Result<(), Stop>
-        ensures { Comes (always (drawing_of self.new)) result (pointed_at x y byte (drawing_of self.old)) }
+        ensures { Comes (always (drawing_of self.new)) result
+            (pointed_at x y byte (drawing_of self.old)) }
     {
         let Some(x) = x else {
             return Err(Stop::Trap(1));
@@ -75,7 +78,8 @@ impl Drawing {
     }
 
     fn line_across(&mut self, values: &[Value]) -> Result<(), Stop>
-        ensures { Comes (always (drawing_of self.new)) result (ruled_across (map data_of values.now) (drawing_of self.old)) }
+        ensures { Comes (always (drawing_of self.new)) result
+            (ruled_across (map data_of values.now) (drawing_of self.old)) }
     {
         match values {
             [x, y, length] => self.line_across_at(number_in(x), number_in(y), number_in(length)),
@@ -89,7 +93,8 @@ impl Drawing {
         y: Option<i64>,
         length: Option<i64>,
     ) -> Result<(), Stop>
-        ensures { Comes (always (drawing_of self.new)) result (ruled_across_at x y length (drawing_of self.old)) }
+        ensures { Comes (always (drawing_of self.new)) result
+            (ruled_across_at x y length (drawing_of self.old)) }
     {
         let Some(x) = x else {
             return Err(Stop::Trap(1));
@@ -105,7 +110,8 @@ impl Drawing {
     }
 
     fn line_down(&mut self, values: &[Value]) -> Result<(), Stop>
-        ensures { Comes (always (drawing_of self.new)) result (ruled_down (map data_of values.now) (drawing_of self.old)) }
+        ensures { Comes (always (drawing_of self.new)) result
+            (ruled_down (map data_of values.now) (drawing_of self.old)) }
     {
         match values {
             [x, y, length] => self.line_down_at(number_in(x), number_in(y), number_in(length)),
@@ -119,7 +125,8 @@ impl Drawing {
         y: Option<i64>,
         length: Option<i64>,
     ) -> Result<(), Stop>
-        ensures { Comes (always (drawing_of self.new)) result (ruled_down_at x y length (drawing_of self.old)) }
+        ensures { Comes (always (drawing_of self.new)) result
+            (ruled_down_at x y length (drawing_of self.old)) }
     {
         let Some(x) = x else {
             return Err(Stop::Trap(1));
@@ -136,7 +143,8 @@ impl Drawing {
 
     #[tactic(auto, using(crate::proofs::FigureLemmas::outlined_counts))]
     fn outline(&mut self, values: &[Value]) -> Result<(), Stop>
-        ensures { Comes (always (drawing_of self.new)) result (outlined (map data_of values.now) (drawing_of self.old)) }
+        ensures { Comes (always (drawing_of self.new)) result
+            (outlined (map data_of values.now) (drawing_of self.old)) }
     {
         match values {
             [x, y, width, height] => self.outline_at(
@@ -156,7 +164,8 @@ impl Drawing {
         width: Option<i64>,
         height: Option<i64>,
     ) -> Result<(), Stop>
-        ensures { Comes (always (drawing_of self.new)) result (outlined_at x y width height (drawing_of self.old)) }
+        ensures { Comes (always (drawing_of self.new)) result
+            (outlined_at x y width height (drawing_of self.old)) }
     {
         let Some(x) = x else {
             return Err(Stop::Trap(1));
@@ -176,7 +185,8 @@ impl Drawing {
 
     #[tactic(auto, using(crate::proofs::FigureLemmas::filled_counts))]
     fn filled(&mut self, values: &[Value]) -> Result<(), Stop>
-        ensures { Comes (always (drawing_of self.new)) result (filled (map data_of values.now) (drawing_of self.old)) }
+        ensures { Comes (always (drawing_of self.new)) result
+            (filled (map data_of values.now) (drawing_of self.old)) }
     {
         match values {
             [x, y, width, height, text] => self.filled_at(
@@ -198,7 +208,8 @@ impl Drawing {
         height: Option<i64>,
         byte: Option<u8>,
     ) -> Result<(), Stop>
-        ensures { Comes (always (drawing_of self.new)) result (filled_at x y width height byte (drawing_of self.old)) }
+        ensures { Comes (always (drawing_of self.new)) result
+            (filled_at x y width height byte (drawing_of self.old)) }
     {
         let Some(x) = x else {
             return Err(Stop::Trap(1));
@@ -221,7 +232,8 @@ impl Drawing {
 
     // What was drawn from the origin.
     fn add_shape(&mut self, drawn: Drawn) -> Result<(), Stop>
-        ensures { (leaf : AnyLeaf) (area : Area) → IsDrawn leaf area drawn → Comes (always (drawing_of self.new)) result (shaped leaf area (drawing_of self.old)) }
+        ensures { (leaf : AnyLeaf) (area : Area) → IsDrawn leaf area drawn
+            → Comes (always (drawing_of self.new)) result (shaped leaf area (drawing_of self.old)) }
     {
         match drawn {
             Drawn::Item(leaf) => {

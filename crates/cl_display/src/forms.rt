@@ -32,7 +32,10 @@ fn draw<L: Ledger>(
     steps: &mut Steps<L>,
 ) -> Result<(), Stop>
     requires { level + left < 2 ^ 32 }
-    ensures meaning { Agrees (always (drawing_of drawing.new)) result meter.new (draws left context.now.budget context.now.app.now context.now.slots.now level (variables_of scope.now) form.now (drawing_of drawing.old) meter.old.cost meter.old.deepest) }
+    ensures meaning { Agrees (always (drawing_of drawing.new)) result meter.new
+        (draws left context.now.budget context.now.app.now context.now.slots.now level
+        (variables_of scope.now) form.now (drawing_of drawing.old) meter.old.cost
+        meter.old.deepest) }
     ensures ledger { steps.new + meter.old.cost ≡ steps.old + meter.new.cost }
 {
     meter.enter(left, context.budget, level, steps)?;
@@ -61,7 +64,12 @@ fn draw_parts<L: Ledger>(
     steps: &mut Steps<L>,
 ) -> Result<(), Stop>
     requires { level + left < 2 ^ 32 }
-    ensures meaning { Agrees (always (drawing_of drawing.new)) result meter.new (shape_parts context.now.app.now (means left context.now.budget context.now.app.now context.now.slots.now) (draws left context.now.budget context.now.app.now context.now.slots.now) level (variables_of scope.now) form.now (drawing_of drawing.old) meter.old.cost meter.old.deepest) }
+    ensures meaning { Agrees (always (drawing_of drawing.new)) result meter.new
+        (shape_parts context.now.app.now
+        (means left context.now.budget context.now.app.now context.now.slots.now)
+        (draws left context.now.budget context.now.app.now context.now.slots.now) level
+        (variables_of scope.now) form.now (drawing_of drawing.old) meter.old.cost
+        meter.old.deepest) }
     ensures ledger { steps.new + meter.old.cost ≡ steps.old + meter.new.cost }
 {
     match &form.kind {
@@ -200,7 +208,10 @@ pub(crate) fn draw_all<L: Ledger>(
     steps: &mut Steps<L>,
 ) -> Result<(), Stop>
     requires { level + left < 2 ^ 32 }
-    ensures meaning { Agrees (always (drawing_of drawing.new)) result meter.new (in_order (draws left context.now.budget context.now.app.now context.now.slots.now) level (variables_of scope.now) (forms_of forms.now) (drawing_of drawing.old) meter.old.cost meter.old.deepest) }
+    ensures meaning { Agrees (always (drawing_of drawing.new)) result meter.new
+        (in_order (draws left context.now.budget context.now.app.now context.now.slots.now) level
+        (variables_of scope.now) (forms_of forms.now) (drawing_of drawing.old) meter.old.cost
+        meter.old.deepest) }
     ensures ledger { steps.new + meter.old.cost ≡ steps.old + meter.new.cost }
 {
     for form in forms {
@@ -223,7 +234,11 @@ fn draw_in<L: Ledger>(
     steps: &mut Steps<L>,
 ) -> Result<(), Stop>
     requires { level + left < 2 ^ 32 }
-    ensures meaning { Agrees (always (drawing_of drawing.new)) result meter.new (draws_in (means left context.now.budget context.now.app.now context.now.slots.now) (draws left context.now.budget context.now.app.now context.now.slots.now) level (bindings_of bindings.now) (forms_of body.now) (variables_of scope.now) (drawing_of drawing.old) meter.old.cost meter.old.deepest) }
+    ensures meaning { Agrees (always (drawing_of drawing.new)) result meter.new
+        (draws_in (means left context.now.budget context.now.app.now context.now.slots.now)
+        (draws left context.now.budget context.now.app.now context.now.slots.now) level
+        (bindings_of bindings.now) (forms_of body.now) (variables_of scope.now)
+        (drawing_of drawing.old) meter.old.cost meter.old.deepest) }
     ensures ledger { steps.new + meter.old.cost ≡ steps.old + meter.new.cost }
 {
     let frame = evaluate_bindings(context, bindings, scope, left, level, meter, steps)?;
@@ -246,7 +261,10 @@ fn draw_each<L: Ledger>(
     steps: &mut Steps<L>,
 ) -> Result<(), Stop>
     requires { level + left < 2 ^ 32 }
-    ensures meaning { Agrees (always (drawing_of drawing.new)) result meter.new (for_each (draws left context.now.budget context.now.app.now context.now.slots.now) level (variables_of scope.now) name.now (forms_of body.now) (map data_of list.now) (drawing_of drawing.old) meter.old.cost meter.old.deepest) }
+    ensures meaning { Agrees (always (drawing_of drawing.new)) result meter.new
+        (for_each (draws left context.now.budget context.now.app.now context.now.slots.now) level
+        (variables_of scope.now) name.now (forms_of body.now) (map data_of list.now)
+        (drawing_of drawing.old) meter.old.cost meter.old.deepest) }
     ensures ledger { steps.new + meter.old.cost ≡ steps.old + meter.new.cost }
 {
     for item in list {
@@ -269,7 +287,10 @@ fn call<L: Ledger>(
     steps: &mut Steps<L>,
 ) -> Result<(), Stop>
     requires { level + left < 2 ^ 32 }
-    ensures meaning { Agrees (always (drawing_of drawing.new)) result meter.new (called (draws left context.now.budget context.now.app.now context.now.slots.now) level (display_named name.now context.now.app.now) (map data_of values.now) (drawing_of drawing.old) meter.old.cost meter.old.deepest) }
+    ensures meaning { Agrees (always (drawing_of drawing.new)) result meter.new
+        (called (draws left context.now.budget context.now.app.now context.now.slots.now) level
+        (display_named name.now context.now.app.now) (map data_of values.now)
+        (drawing_of drawing.old) meter.old.cost meter.old.deepest) }
     ensures ledger { steps.new + meter.old.cost ≡ steps.old + meter.new.cost }
 {
     match context.app.shape_of(name) {
@@ -304,7 +325,11 @@ fn draw_indented<L: Ledger>(
     steps: &mut Steps<L>,
 ) -> Result<(), Stop>
     requires { level + left < 2 ^ 32 }
-    ensures meaning { Agrees (always (drawing_of drawing.new)) result meter.new (within (draws left context.now.budget context.now.app.now context.now.slots.now) level (variables_of scope.now) (forms_of body.now) (indented (data_of number.now) (drawing_of drawing.old)) (margin_back (drawing_of drawing.old).ambient) meter.old.cost meter.old.deepest) }
+    ensures meaning { Agrees (always (drawing_of drawing.new)) result meter.new
+        (within (draws left context.now.budget context.now.app.now context.now.slots.now) level
+        (variables_of scope.now) (forms_of body.now)
+        (indented (data_of number.now) (drawing_of drawing.old))
+        (margin_back (drawing_of drawing.old).ambient) meter.old.cost meter.old.deepest) }
     ensures ledger { steps.new + meter.old.cost ≡ steps.old + meter.new.cost }
 {
     let before = drawing.ambient;
@@ -328,7 +353,11 @@ fn draw_in_ink<L: Ledger>(
     steps: &mut Steps<L>,
 ) -> Result<(), Stop>
     requires { level + left < 2 ^ 32 }
-    ensures meaning { Agrees (always (drawing_of drawing.new)) result meter.new (within (draws left context.now.budget context.now.app.now context.now.slots.now) level (variables_of scope.now) (forms_of body.now) (inked (data_of number.now) (drawing_of drawing.old)) (ink_back (drawing_of drawing.old).ambient) meter.old.cost meter.old.deepest) }
+    ensures meaning { Agrees (always (drawing_of drawing.new)) result meter.new
+        (within (draws left context.now.budget context.now.app.now context.now.slots.now) level
+        (variables_of scope.now) (forms_of body.now)
+        (inked (data_of number.now) (drawing_of drawing.old))
+        (ink_back (drawing_of drawing.old).ambient) meter.old.cost meter.old.deepest) }
     ensures ledger { steps.new + meter.old.cost ≡ steps.old + meter.new.cost }
 {
     let before = drawing.ambient;
@@ -351,7 +380,11 @@ fn draw_in_room<L: Ledger>(
     steps: &mut Steps<L>,
 ) -> Result<(), Stop>
     requires { level + left < 2 ^ 32 }
-    ensures meaning { Agrees (always (drawing_of drawing.new)) result meter.new (within (draws left context.now.budget context.now.app.now context.now.slots.now) level (variables_of scope.now) (forms_of body.now) (Ok (room_entered (drawing_of drawing.old))) (room_left (outer_of (drawing_of drawing.old))) meter.old.cost meter.old.deepest) }
+    ensures meaning { Agrees (always (drawing_of drawing.new)) result meter.new
+        (within (draws left context.now.budget context.now.app.now context.now.slots.now) level
+        (variables_of scope.now) (forms_of body.now)
+        (Ok (room_entered (drawing_of drawing.old)))
+        (room_left (outer_of (drawing_of drawing.old))) meter.old.cost meter.old.deepest) }
     ensures ledger { steps.new + meter.old.cost ≡ steps.old + meter.new.cost }
 {
     let outer = drawing.enter_room();

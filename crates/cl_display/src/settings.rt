@@ -21,7 +21,8 @@ pub struct Outer {
 impl Drawing {
     /// Adds a number to the margin.
     pub fn indent(&mut self, value: &Value) -> Result<(), Stop>
-        ensures { Comes (always (drawing_of self.new)) result (indented (data_of value.now) (drawing_of self.old)) }
+        ensures { Comes (always (drawing_of self.new)) result
+            (indented (data_of value.now) (drawing_of self.old)) }
     {
         let Value::Int(number) = value else {
             return Err(Stop::Trap(1));
@@ -38,7 +39,8 @@ impl Drawing {
 
     /// Takes one of the eight inks.
     pub fn take_ink(&mut self, value: &Value) -> Result<(), Stop>
-        ensures { Comes (always (drawing_of self.new)) result (inked (data_of value.now) (drawing_of self.old)) }
+        ensures { Comes (always (drawing_of self.new)) result
+            (inked (data_of value.now) (drawing_of self.old)) }
     {
         let Value::Int(number) = value else {
             return Err(Stop::Trap(1));

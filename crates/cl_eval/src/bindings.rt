@@ -26,7 +26,10 @@ pub fn evaluate_let<L: Ledger>(
     steps: &mut Steps<L>,
 ) -> Result<Value, Stop>
     requires { level + left < 2 ^ 32 }
-    ensures meaning { Agrees data_of result meter.new (let_in (means left context.now.budget context.now.app.now context.now.slots.now) level (bindings_of bindings.now) body.now (variables_of scope.now) meter.old.cost meter.old.deepest) }
+    ensures meaning { Agrees data_of result meter.new
+        (let_in (means left context.now.budget context.now.app.now context.now.slots.now) level
+        (bindings_of bindings.now) body.now (variables_of scope.now) meter.old.cost
+        meter.old.deepest) }
     ensures ledger { steps.new + meter.old.cost ≡ steps.old + meter.new.cost }
 {
     let frame = evaluate_bindings(context, bindings, scope, left, level, meter, steps)?;
@@ -46,7 +49,9 @@ pub fn evaluate_bindings<L: Ledger>(
     steps: &mut Steps<L>,
 ) -> Result<Env, Stop>
     requires { level + left < 2 ^ 32 }
-    ensures meaning { Agrees (λ frame. frame ++ variables_of scope.now) result meter.new (bound (means left context.now.budget context.now.app.now context.now.slots.now) level (bindings_of bindings.now) (variables_of scope.now) meter.old.cost meter.old.deepest) }
+    ensures meaning { Agrees (λ frame. frame ++ variables_of scope.now) result meter.new
+        (bound (means left context.now.budget context.now.app.now context.now.slots.now) level
+        (bindings_of bindings.now) (variables_of scope.now) meter.old.cost meter.old.deepest) }
     ensures ledger { steps.new + meter.old.cost ≡ steps.old + meter.new.cost }
 {
     let mut frame = Env::new(context.alloc);

@@ -28,7 +28,11 @@ pub fn evaluate_operation<L: Ledger>(
     steps: &mut Steps<L>,
 ) -> Result<Value, Stop>
     requires { level + left < 2 ^ 32 }
-    ensures meaning { Agrees data_of result meter.new (operation_on context.now.app.now (means left context.now.budget context.now.app.now context.now.slots.now) level (variables_of scope.now) operator.now (terms_of parts.now) meter.old.cost meter.old.deepest) }
+    ensures meaning { Agrees data_of result meter.new
+        (operation_on context.now.app.now
+        (means left context.now.budget context.now.app.now context.now.slots.now) level
+        (variables_of scope.now) operator.now (terms_of parts.now) meter.old.cost
+        meter.old.deepest) }
     ensures ledger { steps.new + meter.old.cost ≡ steps.old + meter.new.cost }
 {
     match parts {
@@ -60,7 +64,10 @@ pub fn call<L: Ledger>(
     steps: &mut Steps<L>,
 ) -> Result<Value, Stop>
     requires { level + left < 2 ^ 32 }
-    ensures meaning { Agrees data_of result meter.new (called (means left context.now.budget context.now.app.now context.now.slots.now) level (function_named name.now context.now.app.now) (map data_of values.now) meter.old.cost meter.old.deepest) }
+    ensures meaning { Agrees data_of result meter.new
+        (called (means left context.now.budget context.now.app.now context.now.slots.now) level
+        (function_named name.now context.now.app.now) (map data_of values.now) meter.old.cost
+        meter.old.deepest) }
     ensures ledger { steps.new + meter.old.cost ≡ steps.old + meter.new.cost }
 {
     match context.app.function(name) {

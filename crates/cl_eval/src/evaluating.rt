@@ -36,7 +36,8 @@ pub fn eval<L: Ledger>(
 ) -> Evaluated
     requires { limits.depth ≤ 512 }
     ensures meaning { Evaluates result (meant limits app.now slots.now env.now expr.now) }
-    ensures ledger { RisesBy (met_memory result) steps.old steps.new (cost_of (meant limits app.now slots.now env.now expr.now)) }
+    ensures ledger { RisesBy (met_memory result) steps.old steps.new
+        (cost_of (meant limits app.now slots.now env.now expr.now)) }
 {
     let context = Context {
         alloc,

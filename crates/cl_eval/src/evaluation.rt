@@ -39,7 +39,9 @@ pub fn evaluate<L: Ledger>(
     steps: &mut Steps<L>,
 ) -> Result<Value, Stop>
     requires { level + left < 2 ^ 32 }
-    ensures meaning { Agrees data_of result meter.new (means left context.now.budget context.now.app.now context.now.slots.now level (variables_of scope.now) expr.now meter.old.cost meter.old.deepest) }
+    ensures meaning { Agrees data_of result meter.new
+        (means left context.now.budget context.now.app.now context.now.slots.now level
+        (variables_of scope.now) expr.now meter.old.cost meter.old.deepest) }
     ensures ledger { steps.new + meter.old.cost ≡ steps.old + meter.new.cost }
 {
     meter.enter(left, context.budget, level, steps)?;
@@ -58,7 +60,10 @@ fn evaluate_parts<L: Ledger>(
     steps: &mut Steps<L>,
 ) -> Result<Value, Stop>
     requires { level + left < 2 ^ 32 }
-    ensures meaning { Agrees data_of result meter.new (parts context.now.app.now context.now.slots.now (means left context.now.budget context.now.app.now context.now.slots.now) level (variables_of scope.now) expr.now meter.old.cost meter.old.deepest) }
+    ensures meaning { Agrees data_of result meter.new
+        (parts context.now.app.now context.now.slots.now
+        (means left context.now.budget context.now.app.now context.now.slots.now) level
+        (variables_of scope.now) expr.now meter.old.cost meter.old.deepest) }
     ensures ledger { steps.new + meter.old.cost ≡ steps.old + meter.new.cost }
 {
     match &expr.kind {
@@ -147,7 +152,9 @@ pub fn evaluate_test<L: Ledger>(
     steps: &mut Steps<L>,
 ) -> Result<bool, Stop>
     requires { level + left < 2 ^ 32 }
-    ensures meaning { Agrees itself result meter.new (tested (means left context.now.budget context.now.app.now context.now.slots.now) level (variables_of scope.now) expr.now meter.old.cost meter.old.deepest) }
+    ensures meaning { Agrees itself result meter.new
+        (tested (means left context.now.budget context.now.app.now context.now.slots.now) level
+        (variables_of scope.now) expr.now meter.old.cost meter.old.deepest) }
     ensures ledger { steps.new + meter.old.cost ≡ steps.old + meter.new.cost }
 {
     let value = evaluate(context, expr, scope, left, level, meter, steps)?;
@@ -166,7 +173,9 @@ pub fn evaluate_list<L: Ledger>(
     steps: &mut Steps<L>,
 ) -> Result<Values, Stop>
     requires { level + left < 2 ^ 32 }
-    ensures meaning { Agrees itself result meter.new (listed (means left context.now.budget context.now.app.now context.now.slots.now) level (variables_of scope.now) expr.now meter.old.cost meter.old.deepest) }
+    ensures meaning { Agrees itself result meter.new
+        (listed (means left context.now.budget context.now.app.now context.now.slots.now) level
+        (variables_of scope.now) expr.now meter.old.cost meter.old.deepest) }
     ensures ledger { steps.new + meter.old.cost ≡ steps.old + meter.new.cost }
 {
     let value = evaluate(context, expr, scope, left, level, meter, steps)?;
@@ -185,7 +194,9 @@ pub fn evaluate_each<L: Ledger>(
     steps: &mut Steps<L>,
 ) -> Result<Vec<Value>, Stop>
     requires { level + left < 2 ^ 32 }
-    ensures meaning { Agrees items_are result meter.new (each (means left context.now.budget context.now.app.now context.now.slots.now) level (variables_of scope.now) (terms_of parts.now) [] meter.old.cost meter.old.deepest) }
+    ensures meaning { Agrees items_are result meter.new
+        (each (means left context.now.budget context.now.app.now context.now.slots.now) level
+        (variables_of scope.now) (terms_of parts.now) [] meter.old.cost meter.old.deepest) }
     ensures ledger { steps.new + meter.old.cost ≡ steps.old + meter.new.cost }
 {
     let mut values = Vec::new(context.alloc);
@@ -208,7 +219,9 @@ fn evaluate_every<L: Ledger>(
     steps: &mut Steps<L>,
 ) -> Result<Value, Stop>
     requires { level + left < 2 ^ 32 }
-    ensures meaning { Agrees data_of result meter.new (every (means left context.now.budget context.now.app.now context.now.slots.now) level (variables_of scope.now) (terms_of parts.now) meter.old.cost meter.old.deepest) }
+    ensures meaning { Agrees data_of result meter.new
+        (every (means left context.now.budget context.now.app.now context.now.slots.now) level
+        (variables_of scope.now) (terms_of parts.now) meter.old.cost meter.old.deepest) }
     ensures ledger { steps.new + meter.old.cost ≡ steps.old + meter.new.cost }
 {
     for part in parts {
@@ -232,7 +245,9 @@ fn evaluate_some<L: Ledger>(
     steps: &mut Steps<L>,
 ) -> Result<Value, Stop>
     requires { level + left < 2 ^ 32 }
-    ensures meaning { Agrees data_of result meter.new (some (means left context.now.budget context.now.app.now context.now.slots.now) level (variables_of scope.now) (terms_of parts.now) meter.old.cost meter.old.deepest) }
+    ensures meaning { Agrees data_of result meter.new
+        (some (means left context.now.budget context.now.app.now context.now.slots.now) level
+        (variables_of scope.now) (terms_of parts.now) meter.old.cost meter.old.deepest) }
     ensures ledger { steps.new + meter.old.cost ≡ steps.old + meter.new.cost }
 {
     for part in parts {

@@ -57,8 +57,10 @@ pub fn exec<T: Types, L: Ledger>(
     steps: &mut Steps<L>,
 ) -> Executed
     requires { limits.depth ≤ 512 }
-    ensures meaning { Executes result (ran limits app.now (T.holds types.now) statements.now env.now slots.now) }
-    ensures ledger { RisesBy (met_memory result) steps.old steps.new (cost_of (ran limits app.now (T.holds types.now) statements.now env.now slots.now)) }
+    ensures meaning { Executes result
+        (ran limits app.now (T.holds types.now) statements.now env.now slots.now) }
+    ensures ledger { RisesBy (met_memory result) steps.old steps.new
+        (cost_of (ran limits app.now (T.holds types.now) statements.now env.now slots.now)) }
 {
     let program = Program {
         alloc,
@@ -101,7 +103,9 @@ fn act<T: Types, L: Ledger>(
     steps: &mut Steps<L>,
 ) -> Result<(), Stop>
     requires { level + left < 2 ^ 32 }
-    ensures meaning { Agrees (always effects.new) result meter.new (does left program.now.budget program.now.app.now (T.holds program.now.types.now) level (variables_of scope.now) statement.now effects.old meter.old.cost meter.old.deepest) }
+    ensures meaning { Agrees (always effects.new) result meter.new
+        (does left program.now.budget program.now.app.now (T.holds program.now.types.now) level
+        (variables_of scope.now) statement.now effects.old meter.old.cost meter.old.deepest) }
     ensures ledger { steps.new + meter.old.cost ≡ steps.old + meter.new.cost }
 {
     meter.enter(left, program.budget, level, steps)?;
@@ -130,7 +134,11 @@ fn act_parts<T: Types, L: Ledger>(
     steps: &mut Steps<L>,
 ) -> Result<(), Stop>
     requires { level + left < 2 ^ 32 }
-    ensures meaning { Agrees (always effects.new) result meter.new (act_parts program.now.app.now (T.holds program.now.types.now) (means left program.now.budget program.now.app.now) (does left program.now.budget program.now.app.now (T.holds program.now.types.now)) level (variables_of scope.now) statement.now effects.old meter.old.cost meter.old.deepest) }
+    ensures meaning { Agrees (always effects.new) result meter.new
+        (act_parts program.now.app.now (T.holds program.now.types.now)
+        (means left program.now.budget program.now.app.now)
+        (does left program.now.budget program.now.app.now (T.holds program.now.types.now)) level
+        (variables_of scope.now) statement.now effects.old meter.old.cost meter.old.deepest) }
     ensures ledger { steps.new + meter.old.cost ≡ steps.old + meter.new.cost }
 {
     match &statement.kind {
@@ -262,7 +270,10 @@ fn act_all<T: Types, L: Ledger>(
     steps: &mut Steps<L>,
 ) -> Result<(), Stop>
     requires { level + left < 2 ^ 32 }
-    ensures meaning { Agrees (always effects.new) result meter.new (in_turn (does left program.now.budget program.now.app.now (T.holds program.now.types.now)) level (variables_of scope.now) (statements_of statements.now) effects.old meter.old.cost meter.old.deepest) }
+    ensures meaning { Agrees (always effects.new) result meter.new
+        (in_turn (does left program.now.budget program.now.app.now (T.holds program.now.types.now))
+        level (variables_of scope.now) (statements_of statements.now) effects.old meter.old.cost
+        meter.old.deepest) }
     ensures ledger { steps.new + meter.old.cost ≡ steps.old + meter.new.cost }
 {
     for statement in statements {
@@ -287,7 +298,11 @@ fn act_in<T: Types, L: Ledger>(
     steps: &mut Steps<L>,
 ) -> Result<(), Stop>
     requires { level + left < 2 ^ 32 }
-    ensures meaning { Agrees (always effects.new) result meter.new (acts_in ((means left program.now.budget program.now.app.now) effects.old.slots) (does left program.now.budget program.now.app.now (T.holds program.now.types.now)) level (bindings_of bindings.now) (statements_of body.now) (variables_of scope.now) effects.old meter.old.cost meter.old.deepest) }
+    ensures meaning { Agrees (always effects.new) result meter.new
+        (acts_in ((means left program.now.budget program.now.app.now) effects.old.slots)
+        (does left program.now.budget program.now.app.now (T.holds program.now.types.now)) level
+        (bindings_of bindings.now) (statements_of body.now) (variables_of scope.now) effects.old
+        meter.old.cost meter.old.deepest) }
     ensures ledger { steps.new + meter.old.cost ≡ steps.old + meter.new.cost }
 {
     let frame = frame_of(
@@ -319,7 +334,10 @@ fn act_each<T: Types, L: Ledger>(
     steps: &mut Steps<L>,
 ) -> Result<(), Stop>
     requires { level + left < 2 ^ 32 }
-    ensures meaning { Agrees (always effects.new) result meter.new (for_each (does left program.now.budget program.now.app.now (T.holds program.now.types.now)) level (variables_of scope.now) name.now (statements_of body.now) (map data_of list.now) effects.old meter.old.cost meter.old.deepest) }
+    ensures meaning { Agrees (always effects.new) result meter.new
+        (for_each (does left program.now.budget program.now.app.now (T.holds program.now.types.now))
+        level (variables_of scope.now) name.now (statements_of body.now) (map data_of list.now)
+        effects.old meter.old.cost meter.old.deepest) }
     ensures ledger { steps.new + meter.old.cost ≡ steps.old + meter.new.cost }
 {
     for item in list {

@@ -68,7 +68,8 @@ impl Meter {
         steps: &mut Steps<L>,
     ) -> Result<(), Stop>
         requires { level + left < 2 ^ 32 }
-        ensures meaning { Entered result self.new (entering left budget level self.old.cost self.old.deepest) }
+        ensures meaning { Entered result self.new
+            (entering left budget level self.old.cost self.old.deepest) }
         ensures ledger { steps.new + self.old.cost ≡ steps.old + self.new.cost }
     {
         if self.cost >= budget {

@@ -67,7 +67,8 @@ fn number(exact: i128) -> Result<Value, Stop>
 }
 
 fn divide(first: i64, second: i64) -> Result<Value, Stop>
-    ensures { Comes data_of result (if is_zero second then Err 3 else number (quotient first second)) }
+    ensures { Comes data_of result
+        (if is_zero second then Err 3 else number (quotient first second)) }
 {
     if second == 0 {
         Err(Stop::Trap(3))
@@ -77,7 +78,8 @@ fn divide(first: i64, second: i64) -> Result<Value, Stop>
 }
 
 fn leave(first: i64, second: i64) -> Result<Value, Stop>
-    ensures { Comes data_of result (if is_zero second then Err 3 else Ok (int (remainder first second))) }
+    ensures { Comes data_of result
+        (if is_zero second then Err 3 else Ok (int (remainder first second))) }
 {
     if second == 0 {
         Err(Stop::Trap(3))

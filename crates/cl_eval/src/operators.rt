@@ -98,7 +98,8 @@ pub fn add(values: &mut Values, value: Value) -> Result<(), Stop>
 
 /// A copy of the value more, where it is kept.
 pub fn add_if(kept: bool, values: &mut Values, value: &Value) -> Result<(), Stop>
-    ensures { Comes (λ _. values.new) result (Ok (if kept then values.old ++ data_of value.now ∷ [] else values.old)) }
+    ensures { Comes (λ _. values.new) result
+        (Ok (if kept then values.old ++ data_of value.now ∷ [] else values.old)) }
 {
     if kept {
         add(values, value.copy()?)

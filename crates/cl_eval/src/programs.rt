@@ -41,7 +41,9 @@ pub fn value_of<T: Types, L: Ledger>(
     steps: &mut Steps<L>,
 ) -> Result<Value, Stop>
     requires { level + left < 2 ^ 32 }
-    ensures meaning { Agrees data_of result meter.new (means left program.now.budget program.now.app.now slots.now level (variables_of scope.now) expr.now meter.old.cost meter.old.deepest) }
+    ensures meaning { Agrees data_of result meter.new
+        (means left program.now.budget program.now.app.now slots.now level (variables_of scope.now)
+        expr.now meter.old.cost meter.old.deepest) }
     ensures ledger { steps.new + meter.old.cost ≡ steps.old + meter.new.cost }
 {
     let context = Context {
@@ -65,7 +67,9 @@ pub fn is_true<T: Types, L: Ledger>(
     steps: &mut Steps<L>,
 ) -> Result<bool, Stop>
     requires { level + left < 2 ^ 32 }
-    ensures meaning { Agrees itself result meter.new (tested (means left program.now.budget program.now.app.now slots.now) level (variables_of scope.now) expr.now meter.old.cost meter.old.deepest) }
+    ensures meaning { Agrees itself result meter.new
+        (tested (means left program.now.budget program.now.app.now slots.now) level
+        (variables_of scope.now) expr.now meter.old.cost meter.old.deepest) }
     ensures ledger { steps.new + meter.old.cost ≡ steps.old + meter.new.cost }
 {
     let context = Context {
@@ -89,7 +93,9 @@ pub fn list_of<T: Types, L: Ledger>(
     steps: &mut Steps<L>,
 ) -> Result<Values, Stop>
     requires { level + left < 2 ^ 32 }
-    ensures meaning { Agrees itself result meter.new (listed (means left program.now.budget program.now.app.now slots.now) level (variables_of scope.now) expr.now meter.old.cost meter.old.deepest) }
+    ensures meaning { Agrees itself result meter.new
+        (listed (means left program.now.budget program.now.app.now slots.now) level
+        (variables_of scope.now) expr.now meter.old.cost meter.old.deepest) }
     ensures ledger { steps.new + meter.old.cost ≡ steps.old + meter.new.cost }
 {
     let context = Context {
@@ -113,7 +119,9 @@ pub fn frame_of<T: Types, L: Ledger>(
     steps: &mut Steps<L>,
 ) -> Result<Env, Stop>
     requires { level + left < 2 ^ 32 }
-    ensures meaning { Agrees (λ frame. frame ++ variables_of scope.now) result meter.new (bound (means left program.now.budget program.now.app.now slots.now) level (bindings_of bindings.now) (variables_of scope.now) meter.old.cost meter.old.deepest) }
+    ensures meaning { Agrees (λ frame. frame ++ variables_of scope.now) result meter.new
+        (bound (means left program.now.budget program.now.app.now slots.now) level
+        (bindings_of bindings.now) (variables_of scope.now) meter.old.cost meter.old.deepest) }
     ensures ledger { steps.new + meter.old.cost ≡ steps.old + meter.new.cost }
 {
     let context = Context {
@@ -132,7 +140,9 @@ pub fn assign<T: Types>(
     value: Value,
     effects: &mut Effects,
 ) -> Result<(), Stop>
-    ensures { Comes (always effects.new) result (assigned (T.holds program.now.types.now) name.now (slot_type name.now program.now.app.now) effects.old (data_of value)) }
+    ensures { Comes (always effects.new) result
+        (assigned (T.holds program.now.types.now) name.now (slot_type name.now program.now.app.now)
+        effects.old (data_of value)) }
 {
     let Some(spec) = program.app.slot_spec(name) else {
         return Err(Stop::Trap(1));

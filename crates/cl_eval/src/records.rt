@@ -42,7 +42,8 @@ pub fn record_operation(
 }
 
 fn make(alloc: Global, app: &App, name: &Text, values: &[Value]) -> Result<Value, Stop>
-    ensures { Comes data_of result (made name.now (record_named name.now app.now) (map data_of values.now)) }
+    ensures { Comes data_of result
+        (made name.now (record_named name.now app.now) (map data_of values.now)) }
 {
     match app.record(name) {
         Some(declared) if declared.fields.len() == values.len() => {

@@ -27,7 +27,10 @@ pub fn map_over<L: Ledger>(
     steps: &mut Steps<L>,
 ) -> Result<Values, Stop>
     requires { level + left < 2 ^ 32 }
-    ensures meaning { Agrees itself result meter.new (mapped (means left context.now.budget context.now.app.now context.now.slots.now) level (variables_of scope.now) name.now body.now (map data_of list.now) [] meter.old.cost meter.old.deepest) }
+    ensures meaning { Agrees itself result meter.new
+        (mapped (means left context.now.budget context.now.app.now context.now.slots.now) level
+        (variables_of scope.now) name.now body.now (map data_of list.now) [] meter.old.cost
+        meter.old.deepest) }
     ensures ledger { steps.new + meter.old.cost ≡ steps.old + meter.new.cost }
 {
     let mut values = Values::new(context.alloc);
@@ -53,7 +56,10 @@ pub fn filter_over<L: Ledger>(
     steps: &mut Steps<L>,
 ) -> Result<Values, Stop>
     requires { level + left < 2 ^ 32 }
-    ensures meaning { Agrees itself result meter.new (filtered (means left context.now.budget context.now.app.now context.now.slots.now) level (variables_of scope.now) name.now body.now (map data_of list.now) [] meter.old.cost meter.old.deepest) }
+    ensures meaning { Agrees itself result meter.new
+        (filtered (means left context.now.budget context.now.app.now context.now.slots.now) level
+        (variables_of scope.now) name.now body.now (map data_of list.now) [] meter.old.cost
+        meter.old.deepest) }
     ensures ledger { steps.new + meter.old.cost ≡ steps.old + meter.new.cost }
 {
     let mut values = Values::new(context.alloc);
@@ -81,7 +87,10 @@ pub fn fold_over<L: Ledger>(
     steps: &mut Steps<L>,
 ) -> Result<Value, Stop>
     requires { level + left < 2 ^ 32 }
-    ensures meaning { Agrees data_of result meter.new (folded (means left context.now.budget context.now.app.now context.now.slots.now) level (variables_of scope.now) name.now accumulator.now body.now (map data_of list.now) (data_of opening) meter.old.cost meter.old.deepest) }
+    ensures meaning { Agrees data_of result meter.new
+        (folded (means left context.now.budget context.now.app.now context.now.slots.now) level
+        (variables_of scope.now) name.now accumulator.now body.now (map data_of list.now)
+        (data_of opening) meter.old.cost meter.old.deepest) }
     ensures ledger { steps.new + meter.old.cost ≡ steps.old + meter.new.cost }
 {
     let mut value = opening;

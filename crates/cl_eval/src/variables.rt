@@ -58,7 +58,8 @@ impl Env {
 
 // The value of the last variable of that name.
 fn newest<'a>(variables: &'a [(Text, Value)], name: &[u8]) -> Option<&'a Value>
-    ensures { option_map (λ v. data_of v.now) result ≡ found name.now (reverse (map entry_of variables.now)) }
+    ensures { option_map (λ v. data_of v.now) result
+        ≡ found name.now (reverse (map entry_of variables.now)) }
 {
     let mut left = variables;
     while let Some((last, rest)) = left.split_last() {
@@ -109,7 +110,8 @@ impl Scope<'_> {
 
 // The value that is given to the first parameter of that name.
 fn find<'a>(names: &[Text], values: &'a [Value], name: &[u8]) -> Option<&'a Value>
-    ensures { option_map (λ v. data_of v.now) result ≡ found name.now (given names.now (map data_of values.now)) }
+    ensures { option_map (λ v. data_of v.now) result
+        ≡ found name.now (given names.now (map data_of values.now)) }
 {
     match names.split_first() {
         Some((first, names)) => match values.split_first() {

@@ -15,7 +15,8 @@ use std::alloc::{AllocError, Global};
 pub fn atom(alloc: Global, text: &[u8], token: Token) -> Result<Form, AllocError>
     requires inside { InText (length text.now) token }
     requires atom { IsAtom token.kind }
-    ensures { IfOk result (λ form. spelled (tree_of form) ≡ lexeme_of text.now token.kind token.start token.end ∷ []) }
+    ensures { IfOk result (λ form. spelled (tree_of form)
+        ≡ lexeme_of text.now token.kind token.start token.end ∷ []) }
 {
     let at = token.start;
     let (start, end) = (at as usize, token.end as usize);

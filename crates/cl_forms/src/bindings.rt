@@ -34,7 +34,8 @@ pub fn bound_in(
     scope: &Scope,
     unknown: &mut Option<u32>,
 ) -> Result<Bindings, LoadRefusal>
-    ensures { Gives (bound_of (variables_of scope.now)) result unknown.new (bound_in world.now (datum_of datum.now) at (variables_of scope.now) unknown.old) }
+    ensures { Gives (bound_of (variables_of scope.now)) result unknown.new
+        (bound_in world.now (datum_of datum.now) at (variables_of scope.now) unknown.old) }
 {
     match datum {
         Datum::List(parts, _) => bound_all(alloc, world, at, parts.as_slice(), scope, unknown),
@@ -56,7 +57,9 @@ fn bound_all(
     scope: &Scope,
     unknown: &mut Option<u32>,
 ) -> Result<Bindings, LoadRefusal>
-    ensures { Gives (bound_of (variables_of scope.now)) result unknown.new (bound_all world.now (datums_of (map datum_of parts.now)) at (variables_of scope.now) unknown.old) }
+    ensures { Gives (bound_of (variables_of scope.now)) result unknown.new
+        (bound_all world.now (datums_of (map datum_of parts.now)) at (variables_of scope.now)
+        unknown.old) }
 {
     let mut bindings = Vec::new(alloc);
     let mut names = Vec::new(alloc);
@@ -79,7 +82,8 @@ pub fn binding_in(
     scope: &Scope,
     unknown: &mut Option<u32>,
 ) -> Result<Binding, LoadRefusal>
-    ensures { Gives itself result unknown.new (binding_in world.now (datum_of datum.now) at (variables_of scope.now) unknown.old) }
+    ensures { Gives itself result unknown.new
+        (binding_in world.now (datum_of datum.now) at (variables_of scope.now) unknown.old) }
 {
     match datum {
         Datum::List(parts, _) => binding_row(alloc, world, at, parts.as_slice(), scope, unknown),
@@ -101,7 +105,9 @@ fn binding_row(
     scope: &Scope,
     unknown: &mut Option<u32>,
 ) -> Result<Binding, LoadRefusal>
-    ensures { Gives itself result unknown.new (binding_row at (subs world.now (datums_of (map datum_of parts.now))) (variables_of scope.now) unknown.old) }
+    ensures { Gives itself result unknown.new
+        (binding_row at (subs world.now (datums_of (map datum_of parts.now)))
+        (variables_of scope.now) unknown.old) }
 {
     match parts {
         [name, value] => {
@@ -126,7 +132,9 @@ pub fn map_row(
     scope: &Scope,
     unknown: &mut Option<u32>,
 ) -> Result<Expr, LoadRefusal>
-    ensures { Gives itself result unknown.new (map_row at (subs world.now (datums_of (map datum_of parts.now))) (variables_of scope.now) unknown.old) }
+    ensures { Gives itself result unknown.new
+        (map_row at (subs world.now (datums_of (map datum_of parts.now))) (variables_of scope.now)
+        unknown.old) }
 {
     match parts {
         [name, list, body] => {
@@ -153,7 +161,9 @@ pub fn filter_row(
     scope: &Scope,
     unknown: &mut Option<u32>,
 ) -> Result<Expr, LoadRefusal>
-    ensures { Gives itself result unknown.new (filter_row at (subs world.now (datums_of (map datum_of parts.now))) (variables_of scope.now) unknown.old) }
+    ensures { Gives itself result unknown.new
+        (filter_row at (subs world.now (datums_of (map datum_of parts.now)))
+        (variables_of scope.now) unknown.old) }
 {
     match parts {
         [name, list, body] => {
@@ -180,7 +190,9 @@ pub fn fold_row(
     scope: &Scope,
     unknown: &mut Option<u32>,
 ) -> Result<Expr, LoadRefusal>
-    ensures { Gives itself result unknown.new (fold_row at (subs world.now (datums_of (map datum_of parts.now))) (variables_of scope.now) unknown.old) }
+    ensures { Gives itself result unknown.new
+        (fold_row at (subs world.now (datums_of (map datum_of parts.now))) (variables_of scope.now)
+        unknown.old) }
 {
     match parts {
         [name, list, accumulator, opening, body] => {
@@ -213,7 +225,9 @@ pub fn let_row(
     scope: &Scope,
     unknown: &mut Option<u32>,
 ) -> Result<Expr, LoadRefusal>
-    ensures { Gives itself result unknown.new (let_row at (subs world.now (datums_of (map datum_of parts.now))) (variables_of scope.now) unknown.old) }
+    ensures { Gives itself result unknown.new
+        (let_row at (subs world.now (datums_of (map datum_of parts.now))) (variables_of scope.now)
+        unknown.old) }
 {
     match parts {
         [bindings, body] => {

@@ -30,7 +30,9 @@ pub fn make_row(
     scope: &Scope,
     unknown: &mut Option<u32>,
 ) -> Result<Expr, LoadRefusal>
-    ensures { Gives itself result unknown.new (make_row world.now at (subs world.now (datums_of (map datum_of parts.now))) (variables_of scope.now) unknown.old) }
+    ensures { Gives itself result unknown.new
+        (make_row world.now at (subs world.now (datums_of (map datum_of parts.now)))
+        (variables_of scope.now) unknown.old) }
 {
     let Some((datum, parts)) = parts.split_first() else {
         return Err(LoadRefusal::Refused(6, at));
@@ -60,7 +62,10 @@ fn make_counted(
     scope: &Scope,
     unknown: &mut Option<u32>,
 ) -> Result<Expr, LoadRefusal>
-    ensures { Gives itself result unknown.new (make_counted (record_in world.now name) name name_at at (subs world.now (datums_of (map datum_of parts.now))) (variables_of scope.now) unknown.old) }
+    ensures { Gives itself result unknown.new
+        (make_counted (record_in world.now name) name name_at at
+        (subs world.now (datums_of (map datum_of parts.now))) (variables_of scope.now)
+        unknown.old) }
 {
     match world.record_fields(&name) {
         Some(count) => {
@@ -82,7 +87,9 @@ fn made(
     scope: &Scope,
     unknown: &mut Option<u32>,
 ) -> Result<Expr, LoadRefusal>
-    ensures { Gives itself result unknown.new (made name (subs world.now (datums_of (map datum_of parts.now))) (variables_of scope.now) unknown.old) }
+    ensures { Gives itself result unknown.new
+        (made name (subs world.now (datums_of (map datum_of parts.now))) (variables_of scope.now)
+        unknown.old) }
 {
     let exprs = each(alloc, world, parts, scope, unknown)?;
     Ok(Expr::operation(Operator::Record(RecordOperator::Make(name)), exprs))
@@ -99,7 +106,9 @@ pub fn get_row(
     scope: &Scope,
     unknown: &mut Option<u32>,
 ) -> Result<Expr, LoadRefusal>
-    ensures { Gives itself result unknown.new (get_row at (subs world.now (datums_of (map datum_of parts.now))) (variables_of scope.now) unknown.old) }
+    ensures { Gives itself result unknown.new
+        (get_row at (subs world.now (datums_of (map datum_of parts.now))) (variables_of scope.now)
+        unknown.old) }
 {
     match parts {
         [record, field] => {
@@ -124,7 +133,9 @@ pub fn with_row(
     scope: &Scope,
     unknown: &mut Option<u32>,
 ) -> Result<Expr, LoadRefusal>
-    ensures { Gives itself result unknown.new (with_row at (subs world.now (datums_of (map datum_of parts.now))) (variables_of scope.now) unknown.old) }
+    ensures { Gives itself result unknown.new
+        (with_row at (subs world.now (datums_of (map datum_of parts.now))) (variables_of scope.now)
+        unknown.old) }
 {
     match parts {
         [record, field, value] => {
@@ -141,14 +152,16 @@ pub fn with_row(
 }
 
 fn get_of(alloc: Global, field: Text, from: Expr) -> Result<Expr, AllocError>
-    ensures { IfOk result (λ e. e ≡ operation (operator.Record (Get field)) (terms_of (from ∷ []))) }
+    ensures { IfOk result
+        (λ e. e ≡ operation (operator.Record (Get field)) (terms_of (from ∷ []))) }
 {
     let parts = vec![in alloc; from]?;
     Ok(Expr::operation(Operator::Record(RecordOperator::Get(field)), parts))
 }
 
 fn with_of(alloc: Global, field: Text, from: Expr, value: Expr) -> Result<Expr, AllocError>
-    ensures { IfOk result (λ e. e ≡ operation (operator.Record (With field)) (terms_of (from ∷ value ∷ []))) }
+    ensures { IfOk result
+        (λ e. e ≡ operation (operator.Record (With field)) (terms_of (from ∷ value ∷ []))) }
 {
     let parts = vec![in alloc; from, value]?;
     Ok(Expr::operation(Operator::Record(RecordOperator::With(field)), parts))

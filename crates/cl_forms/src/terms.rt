@@ -28,7 +28,8 @@ pub fn expr_in(
     scope: &Scope,
     unknown: &mut Option<u32>,
 ) -> Result<Expr, LoadRefusal>
-    ensures { Gives itself result unknown.new (expr_of world.now (datum_of datum.now) (variables_of scope.now) unknown.old) }
+    ensures { Gives itself result unknown.new
+        (expr_of world.now (datum_of datum.now) (variables_of scope.now) unknown.old) }
 {
     match datum {
         Datum::Number(number, _) => Ok(Expr::constant(Value::Int(*number))),
@@ -46,7 +47,8 @@ fn word_row(
     scope: &Scope,
     unknown: &mut Option<u32>,
 ) -> Result<Expr, LoadRefusal>
-    ensures { Gives itself result unknown.new (word_row word.now at (variables_of scope.now) unknown.old) }
+    ensures { Gives itself result unknown.new
+        (word_row word.now at (variables_of scope.now) unknown.old) }
 {
     if word.as_slice() == b"true".as_slice() {
         Ok(Expr::constant(Value::Bool(true)))
@@ -65,7 +67,8 @@ fn name_row(
     scope: &Scope,
     unknown: &mut Option<u32>,
 ) -> Result<Expr, LoadRefusal>
-    ensures { Gives itself result unknown.new (name_row word.now at (variables_of scope.now) unknown.old) }
+    ensures { Gives itself result unknown.new
+        (name_row word.now at (variables_of scope.now) unknown.old) }
 {
     if !is_name(word.as_slice()) {
         return Err(LoadRefusal::Refused(6, at));
@@ -85,7 +88,9 @@ fn form_row(
     scope: &Scope,
     unknown: &mut Option<u32>,
 ) -> Result<Expr, LoadRefusal>
-    ensures { Gives itself result unknown.new (form_row world.now at (subs world.now (datums_of (map datum_of parts.now))) (variables_of scope.now) unknown.old) }
+    ensures { Gives itself result unknown.new
+        (form_row world.now at (subs world.now (datums_of (map datum_of parts.now)))
+        (variables_of scope.now) unknown.old) }
 {
     let Some((head, parts)) = parts.split_first() else {
         return Err(LoadRefusal::Refused(6, at));
@@ -113,7 +118,10 @@ fn head_row(
     scope: &Scope,
     unknown: &mut Option<u32>,
 ) -> Result<Expr, LoadRefusal>
-    ensures { Gives itself result unknown.new (headed_row world.now (word head.now head_at) at (subs world.now (datums_of (map datum_of parts.now))) (variables_of scope.now) unknown.old) }
+    ensures { Gives itself result unknown.new
+        (headed_row world.now (word head.now head_at) at
+        (subs world.now (datums_of (map datum_of parts.now))) (variables_of scope.now)
+        unknown.old) }
 {
     if let Some(special) = special_named(head.as_slice()) {
         return special_row(alloc, world, special, at, parts, scope, unknown);
@@ -134,7 +142,9 @@ fn special_row(
     scope: &Scope,
     unknown: &mut Option<u32>,
 ) -> Result<Expr, LoadRefusal>
-    ensures { Gives itself result unknown.new (special_row world.now special at (subs world.now (datums_of (map datum_of parts.now))) (variables_of scope.now) unknown.old) }
+    ensures { Gives itself result unknown.new
+        (special_row world.now special at (subs world.now (datums_of (map datum_of parts.now)))
+        (variables_of scope.now) unknown.old) }
 {
     match special {
         Special::Slot => slot_row(world, at, parts, unknown),
@@ -161,7 +171,9 @@ pub fn each(
     scope: &Scope,
     unknown: &mut Option<u32>,
 ) -> Result<Vec<Expr>, LoadRefusal>
-    ensures { Gives terms_in result unknown.new (each (subs world.now (datums_of (map datum_of parts.now))) (variables_of scope.now) unknown.old) }
+    ensures { Gives terms_in result unknown.new
+        (each (subs world.now (datums_of (map datum_of parts.now))) (variables_of scope.now)
+        unknown.old) }
 {
     let mut exprs = Vec::new(alloc);
     for part in parts {
@@ -182,7 +194,9 @@ fn if_row(
     scope: &Scope,
     unknown: &mut Option<u32>,
 ) -> Result<Expr, LoadRefusal>
-    ensures { Gives itself result unknown.new (if_row at (subs world.now (datums_of (map datum_of parts.now))) (variables_of scope.now) unknown.old) }
+    ensures { Gives itself result unknown.new
+        (if_row at (subs world.now (datums_of (map datum_of parts.now))) (variables_of scope.now)
+        unknown.old) }
 {
     match parts {
         [test, then, other] => {
@@ -206,7 +220,8 @@ fn slot_row(
     parts: &[Datum],
     unknown: &mut Option<u32>,
 ) -> Result<Expr, LoadRefusal>
-    ensures { Gives itself result unknown.new (slot_row world.now at (subs world.now (datums_of (map datum_of parts.now))) unknown.old) }
+    ensures { Gives itself result unknown.new
+        (slot_row world.now at (subs world.now (datums_of (map datum_of parts.now))) unknown.old) }
 {
     match parts {
         [name] => slot_part(world, at, name, unknown),
@@ -221,7 +236,8 @@ fn slot_part(
     datum: &Datum,
     unknown: &mut Option<u32>,
 ) -> Result<Expr, LoadRefusal>
-    ensures { Gives itself result unknown.new (slot_part world.now at (datum_of datum.now) unknown.old) }
+    ensures { Gives itself result unknown.new
+        (slot_part world.now at (datum_of datum.now) unknown.old) }
 {
     let name = named_part(at, datum)?;
     note(unknown, world.has_slot(&name), datum.offset());
@@ -240,7 +256,9 @@ fn operation_row(
     scope: &Scope,
     unknown: &mut Option<u32>,
 ) -> Result<Expr, LoadRefusal>
-    ensures { Gives itself result unknown.new (operation_row operator at (subs world.now (datums_of (map datum_of parts.now))) (variables_of scope.now) unknown.old) }
+    ensures { Gives itself result unknown.new
+        (operation_row operator at (subs world.now (datums_of (map datum_of parts.now)))
+        (variables_of scope.now) unknown.old) }
 {
     if !fits(count_of(&operator), parts.len()) {
         return Err(LoadRefusal::Refused(6, at));
@@ -262,7 +280,10 @@ fn call_row(
     scope: &Scope,
     unknown: &mut Option<u32>,
 ) -> Result<Expr, LoadRefusal>
-    ensures { Gives itself result unknown.new (call_row world.now head.now head_at at (subs world.now (datums_of (map datum_of parts.now))) (variables_of scope.now) unknown.old) }
+    ensures { Gives itself result unknown.new
+        (call_row world.now head.now head_at at
+        (subs world.now (datums_of (map datum_of parts.now))) (variables_of scope.now)
+        unknown.old) }
 {
     let Some(count) = world.function(head) else {
         return Err(LoadRefusal::Refused(5, head_at));

@@ -95,7 +95,8 @@ fn add_declaration(world: &mut World, parts: &[Datum]) -> Result<(), AllocError>
 }
 
 fn add_head(world: &mut World, head: &[u8], name: &Datum, more: &[Datum]) -> Result<(), AllocError>
-    ensures { OnOk result (world.new ≡ with_head world.old head.now (datum_of name.now) (map datum_of more.now)) }
+    ensures { OnOk result
+        (world.new ≡ with_head world.old head.now (datum_of name.now) (map datum_of more.now)) }
 {
     if head == b"define-record".as_slice() {
         add_record(world, name, names_counted(more))
@@ -130,7 +131,8 @@ fn add_callee(
     name: &Datum,
     count: Option<usize>,
 ) -> Result<(), AllocError>
-    ensures { OnOk result (world.new ≡ with_callee world.old kind (name_in (datum_of name.now)) count) }
+    ensures { OnOk result
+        (world.new ≡ with_callee world.old kind (name_in (datum_of name.now)) count) }
 {
     let Some(name) = name_in(name) else {
         return Ok(());

@@ -31,7 +31,9 @@ pub fn placed(frame: FrameForm) -> Result<FrameDecl, LoadRefusal>
 }
 
 fn spanned(frame: FrameForm, width: u16, height: u16) -> Result<FrameDecl, LoadRefusal>
-    ensures value { Makes itself result (spanned frame width height (span_of width frame.pane.x frame.pane.width) (span_of height frame.pane.y frame.pane.height)) }
+    ensures value { Makes itself result
+        (spanned frame width height (span_of width frame.pane.x frame.pane.width)
+        (span_of height frame.pane.y frame.pane.height)) }
     ensures size { IfOk result (λ f. (f.width ≡ width) × (f.height ≡ height)) }
     ensures pane { IfOk result (λ f. IsWithin f) }
 {

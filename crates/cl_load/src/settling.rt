@@ -44,7 +44,8 @@ fn only_placed(length: u32, frames: &mut Vec<FrameForm>) -> Result<FrameDecl, Lo
     ensures value { Makes itself result (placed_only (only_frame length frames.old.items)) }
     ensures size { IfOk result (λ f. IsSize f.width f.height) }
     ensures pane { IfOk result (λ f. IsWithin f) }
-    ensures unread { (functions : Functions) → NoneReads functions frames.old.items → IfOk result (λ f. AnyReads functions f.slots → ⊥) }
+    ensures unread { (functions : Functions) → NoneReads functions frames.old.items
+        → IfOk result (λ f. AnyReads functions f.slots → ⊥) }
 {
     let frame = only_frame(length, frames)?;
     placed(frame)

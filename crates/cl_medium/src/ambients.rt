@@ -23,11 +23,33 @@ impl Model for Ambient {
 
     ghost Value = { AmbientAt };
 
-    ghost view = { λ ambient. record { x = ambient.x; y = ambient.y; margin = ambient.margin; origin_x = ambient.origin_x; origin_y = ambient.origin_y; ink = ambient.ink } };
+    ghost view = { λ ambient. record {
+      x = ambient.x;
+      y = ambient.y;
+      margin = ambient.margin;
+      origin_x = ambient.origin_x;
+      origin_y = ambient.origin_y;
+      ink = ambient.ink;
+    } };
 
-    ghost invariant = { λ ambient. IsAmbient (record { x = ambient.x; y = ambient.y; margin = ambient.margin; origin_x = ambient.origin_x; origin_y = ambient.origin_y; ink = ambient.ink }) };
+    ghost invariant = { λ ambient. IsAmbient
+        (record {
+          x = ambient.x;
+          y = ambient.y;
+          margin = ambient.margin;
+          origin_x = ambient.origin_x;
+          origin_y = ambient.origin_y;
+          ink = ambient.ink;
+        }) };
 
-    ghost inverse = { λ ambient. record { x = ambient.x; y = ambient.y; margin = ambient.margin; origin_x = ambient.origin_x; origin_y = ambient.origin_y; ink = ambient.ink } };
+    ghost inverse = { λ ambient. record {
+      x = ambient.x;
+      y = ambient.y;
+      margin = ambient.margin;
+      origin_x = ambient.origin_x;
+      origin_y = ambient.origin_y;
+      ink = ambient.ink;
+    } };
 }
 
 impl Ambient {
@@ -49,7 +71,8 @@ impl Ambient {
 /// Sets the cursor to the margin of the next row. It is false exactly where that row is past
 /// 1,000,000, and then nothing changes.
 pub fn newline(ambient: &mut Ambient) -> bool
-    ensures { MovesWhereNear (ambient.old.y +ℤ pos 1) ambient.old (after_newline ambient.old) ambient.new result }
+    ensures { MovesWhereNear (ambient.old.y +ℤ pos 1) ambient.old (after_newline ambient.old)
+        ambient.new result }
 {
     match near_sum(ambient.y, 1) {
         Some(y) => {
@@ -64,7 +87,8 @@ pub fn newline(ambient: &mut Ambient) -> bool
 /// Adds to the margin, and leaves the cursor. It is false exactly where the margin would leave the
 /// range, and then nothing changes.
 pub fn indent(ambient: &mut Ambient, n: i64) -> bool
-    ensures { MovesWhereNear (ambient.old.margin +ℤ n) ambient.old (after_indent ambient.old n) ambient.new result }
+    ensures { MovesWhereNear (ambient.old.margin +ℤ n) ambient.old (after_indent ambient.old n)
+        ambient.new result }
 {
     match near_sum(ambient.margin, n) {
         Some(margin) => {

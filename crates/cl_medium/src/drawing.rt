@@ -45,7 +45,8 @@ pub fn draw_text(ambient: &mut Ambient, text: &Text) -> Drawn
 
 /// One byte in one cell. Here and below x and y are those from the origin, and the cursor stays.
 pub fn draw_point(ambient: &Ambient, x: i64, y: i64, byte: u8) -> Drawn
-    ensures { let area = shape_area ambient.now x y (pos 1) (pos 1) in IsDrawn (point_leaf area byte) area result }
+    ensures { let area = shape_area ambient.now x y (pos 1) (pos 1) in IsDrawn
+        (point_leaf area byte) area result }
 {
     match fit_area(ambient, x, y, 1, 1) {
         Fit::Within(area) => Drawn::Item(AnyLeaf::Point(PointItem::new(area, byte))),
@@ -56,7 +57,8 @@ pub fn draw_point(ambient: &Ambient, x: i64, y: i64, byte: u8) -> Drawn
 
 /// `length` cells to the right.
 pub fn draw_hline(ambient: &Ambient, x: i64, y: i64, length: i64) -> Drawn
-    ensures { let area = shape_area ambient.now x y length (pos 1) in IsDrawn (hline_leaf area) area result }
+    ensures { let area = shape_area ambient.now x y length (pos 1) in IsDrawn (hline_leaf area) area
+        result }
 {
     match fit_area(ambient, x, y, length, 1) {
         Fit::Within(area) => {
@@ -69,7 +71,8 @@ pub fn draw_hline(ambient: &Ambient, x: i64, y: i64, length: i64) -> Drawn
 
 /// `length` cells down.
 pub fn draw_vline(ambient: &Ambient, x: i64, y: i64, length: i64) -> Drawn
-    ensures { let area = shape_area ambient.now x y (pos 1) length in IsDrawn (vline_leaf area) area result }
+    ensures { let area = shape_area ambient.now x y (pos 1) length in IsDrawn (vline_leaf area) area
+        result }
 {
     match fit_area(ambient, x, y, 1, length) {
         Fit::Within(area) => Drawn::Item(AnyLeaf::Line(LineItem::new(area, Direction::Vertical))),
@@ -80,7 +83,8 @@ pub fn draw_vline(ambient: &Ambient, x: i64, y: i64, length: i64) -> Drawn
 
 /// The outline of `width` columns and `height` rows.
 pub fn draw_box(ambient: &Ambient, x: i64, y: i64, width: i64, height: i64) -> Drawn
-    ensures { let area = shape_area ambient.now x y width height in IsDrawn (box_leaf area) area result }
+    ensures { let area = shape_area ambient.now x y width height in IsDrawn (box_leaf area) area
+        result }
 {
     match fit_area(ambient, x, y, width, height) {
         Fit::Within(area) => Drawn::Item(AnyLeaf::Outline(BoxItem::new(area))),
@@ -91,7 +95,8 @@ pub fn draw_box(ambient: &Ambient, x: i64, y: i64, width: i64, height: i64) -> D
 
 /// One byte all over `width` columns and `height` rows.
 pub fn fill_box(ambient: &Ambient, x: i64, y: i64, width: i64, height: i64, byte: u8) -> Drawn
-    ensures { let area = shape_area ambient.now x y width height in IsDrawn (fill_leaf area byte) area result }
+    ensures { let area = shape_area ambient.now x y width height in IsDrawn (fill_leaf area byte)
+        area result }
 {
     match fit_area(ambient, x, y, width, height) {
         Fit::Within(area) => Drawn::Item(AnyLeaf::Fill(FillItem::new(area, byte))),

@@ -42,13 +42,17 @@ pub trait Leaf: Drop {
     fn same(&self, other: &Self) -> bool
         ensures { IsTrue result ↔ (self.now ≡ other.now) };
 
-    ghost within: { (l : Self) (x y : ℤ) (c : Painted) → cell l x y ≡ Some c → holds (bounds l) x y ≡ true };
+    ghost within: { (l : Self) (x y : ℤ) (c : Painted) → cell l x y ≡ Some c
+        → holds (bounds l) x y ≡ true };
 
     ghost moves_bounds: { (v : Shift) (l : Self) → bounds (moved_by v l) ≡ moved v (bounds l) };
 
-    ghost moves_cells: { (v : Shift) (l : Self) (x y : ℤ) → cell (moved_by v l) (x +ℤ v.dx) (y +ℤ v.dy) ≡ cell l x y };
+    ghost moves_cells: { (v : Shift) (l : Self) (x y : ℤ)
+        → cell (moved_by v l) (x +ℤ v.dx) (y +ℤ v.dy) ≡ cell l x y };
 
-    ghost moves_twice: { (v w : Shift) (l : Self) → moved_by w (moved_by v l) ≡ moved_by (record { dx = v.dx +ℤ w.dx; dy = v.dy +ℤ w.dy }) l };
+    ghost moves_twice: { (v w : Shift) (l : Self)
+        → moved_by w (moved_by v l)
+        ≡ moved_by (record { dx = v.dx +ℤ w.dx; dy = v.dy +ℤ w.dy }) l };
 
     ghost stays: { (l : Self) → moved_by (record { dx = pos 0; dy = pos 0 }) l ≡ l };
 }

@@ -34,7 +34,8 @@ impl CountTable {
 
     // The place of a name, which is listed then.
     pub(crate) fn ready(&mut self, alloc: Global, name: &str) -> Result<usize, AllocError>
-        ensures counts { OnOk result (self.new ≡ updated self.old name.now (count_of self.old name.now)) }
+        ensures counts { OnOk result
+            (self.new ≡ updated self.old name.now (count_of self.old name.now)) }
         ensures place { IfOk result (λ k. IsFirst self.new k × (name_at self.new k ≡ name.now)) }
         ensures err { OnErr result (self.new ≡ self.old) }
     {
@@ -51,14 +52,17 @@ impl CountTable {
     // One more.
     pub(crate) fn raise(&mut self, place: usize)
         requires { IsFirst self.old place }
-        ensures { self.new ≡ updated self.old (name_at self.old place) (one_more (count_of self.old (name_at self.old place))) }
+        ensures { self.new
+            ≡ updated self.old (name_at self.old place)
+            (one_more (count_of self.old (name_at self.old place))) }
     {
         let count = &mut self.list[place];
         count.1 = raised(count.1);
     }
 
     fn find(&self, name: &str) -> Option<usize>
-        ensures { MatchOption result (place_in self.now name.now ≡ length self.now) (λ k. IsFirst self.now k × (name_at self.now k ≡ name.now)) }
+        ensures { MatchOption result (place_in self.now name.now ≡ length self.now)
+            (λ k. IsFirst self.now k × (name_at self.now k ≡ name.now)) }
     {
         position_of(self.list.as_slice(), name)
     }

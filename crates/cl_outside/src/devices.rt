@@ -27,7 +27,8 @@ pub trait Device {
         requires columns { (1 ≤ width) × (width ≤ 512) }
         requires rows { (1 ≤ height) × (height ≤ 256) }
         ensures lent { lent self.new ≡ lent self.old }
-        ensures shows { ClearSent width height (picture self.new) (broken self.new) (cleared self.new) result }
+        ensures shows { ClearSent width height (picture self.new) (broken self.new)
+            (cleared self.new) result }
         ensures cause { SentRose (faults self.old) (faults self.new) result };
 
     /// Shows the glyphs from column `x` of row `y` on, with this ink; those that lie outside the
@@ -37,6 +38,7 @@ pub trait Device {
         requires span { IsSpan ink glyphs.now }
         ensures lent { lent self.new ≡ lent self.old }
         ensures cleared { cleared self.new ≡ cleared self.old }
-        ensures shows { SpanSent (cleared self.old) (picture self.old) (picture self.new) x y ink glyphs.now (broken self.new) result }
+        ensures shows { SpanSent (cleared self.old) (picture self.old) (picture self.new) x y ink
+            glyphs.now (broken self.new) result }
         ensures cause { SentRose (faults self.old) (faults self.new) result };
 }

@@ -27,7 +27,13 @@ impl<R: Files + Drop> Model for FilePlace<R> {
 
     ghost Value = { Filing };
 
-    ghost view = { λ p. record { opened = is_some p.source; made = is_some p.sink; app_faults = p.app_faults; making_faults = p.making_faults; writing_faults = p.writing_faults } };
+    ghost view = { λ p. record {
+      opened = is_some p.source;
+      made = is_some p.sink;
+      app_faults = p.app_faults;
+      making_faults = p.making_faults;
+      writing_faults = p.writing_faults;
+    } };
 }
 
 impl<R: Files + Drop> FilePlace<R> {

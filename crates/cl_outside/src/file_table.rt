@@ -32,7 +32,8 @@ impl FileTable {
 
     // The place of a name.
     pub(crate) fn find(&self, name: &str) -> Option<usize>
-        ensures { MatchOption result (place_in self.now.entries name.now ≡ length self.now.entries) (λ k. IsFirst self.now.entries k × (name_at self.now.entries k ≡ name.now)) }
+        ensures { MatchOption result (place_in self.now.entries name.now ≡ length self.now.entries)
+            (λ k. IsFirst self.now.entries k × (name_at self.now.entries k ≡ name.now)) }
     {
         position_of(self.list.as_slice(), name)
     }
@@ -61,7 +62,8 @@ impl FileTable {
         room: usize,
     ) -> Result<usize, AllocError>
         ensures entries { OnOk result (self.new.entries ≡ updated self.old.entries name.now []) }
-        ensures place { IfOk result (λ k. IsFirst self.new.entries k × (name_at self.new.entries k ≡ name.now)) }
+        ensures place { IfOk result
+            (λ k. IsFirst self.new.entries k × (name_at self.new.entries k ≡ name.now)) }
         ensures room { IfOk result (λ k. room ≤ slice_index self.new.rooms k) }
         ensures err { OnErr result (self.new ≡ self.old) }
     {
@@ -82,8 +84,11 @@ impl FileTable {
     // Writes behind the bytes of a file, which has room for them.
     pub(crate) fn append(&mut self, place: usize, bytes: &[u8])
         requires first { IsFirst self.old.entries place }
-        requires room { length (bytes_of self.old.entries (name_at self.old.entries place)) + length bytes.now ≤ slice_index self.old.rooms place }
-        ensures entries { self.new.entries ≡ updated self.old.entries (name_at self.old.entries place) (bytes_of self.old.entries (name_at self.old.entries place) ++ bytes.now) }
+        requires room { length (bytes_of self.old.entries (name_at self.old.entries place)) + length
+            bytes.now ≤ slice_index self.old.rooms place }
+        ensures entries { self.new.entries
+            ≡ updated self.old.entries (name_at self.old.entries place)
+            (bytes_of self.old.entries (name_at self.old.entries place) ++ bytes.now) }
         ensures room { slice_index self.old.rooms place ≤ slice_index self.new.rooms place }
     {
         let file = &mut self.list[place];
@@ -94,7 +99,8 @@ impl FileTable {
 
     fn replace(&mut self, place: usize, content: Vec<u8>)
         requires { IsFirst self.old.entries place }
-        ensures entries { self.new.entries ≡ updated self.old.entries (name_at self.old.entries place) content.items }
+        ensures entries { self.new.entries
+            ≡ updated self.old.entries (name_at self.old.entries place) content.items }
         ensures room { slice_index self.new.rooms place ≡ vec_capacity content }
     {
         let file = &mut self.list[place];
@@ -103,8 +109,10 @@ impl FileTable {
 
     fn add(&mut self, alloc: Global, name: &str, content: Vec<u8>) -> Result<(), AllocError>
         requires { place_in self.old.entries name.now ≡ length self.old.entries }
-        ensures entries { OnOk result (self.new.entries ≡ updated self.old.entries name.now content.items) }
-        ensures room { OnOk result (slice_index self.new.rooms (length self.old.entries) ≡ vec_capacity content) }
+        ensures entries { OnOk result
+            (self.new.entries ≡ updated self.old.entries name.now content.items) }
+        ensures room { OnOk result
+            (slice_index self.new.rooms (length self.old.entries) ≡ vec_capacity content) }
         ensures err { OnErr result (self.new ≡ self.old) }
     {
         let name = String::from_str(alloc, name)?;

@@ -64,7 +64,9 @@ impl Grid {
         requires column { x < width }
         requires row { y < 256 }
         requires span { IsSpan ink glyphs.now }
-        ensures { (height : ℕ) → IsPainted (picture_in self.old width height) (picture_in self.new width height) x y ink glyphs.now }
+        ensures { (height : ℕ)
+            → IsPainted (picture_in self.old width height) (picture_in self.new width height) x y
+            ink glyphs.now }
     {
         let count = glyphs.len().min(usize::from(width - x));
         self.paint(place(x, y), ink, &glyphs[..count]);

@@ -8,7 +8,8 @@ pub(crate) fn hand_over(content: &[u8], at: usize, buf: &mut [u8]) -> usize
     requires room { 0 < length buf.old }
     requires within { at ≤ length content.now }
     ensures within { at + result ≤ length content.now }
-    ensures bytes { ReadTook (Some (drop at content.now)) (Some (drop (at + result) content.now)) buf.new (Took.Bytes result) }
+    ensures bytes { ReadTook (Some (drop at content.now)) (Some (drop (at + result) content.now))
+        buf.new (Took.Bytes result) }
     ensures amount { ReadsAll (drop at content.now) buf.new (Took.Bytes result) }
 {
     let rest = &content[at..];

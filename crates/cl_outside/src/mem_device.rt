@@ -30,7 +30,15 @@ impl Model for MemDevice {
 
     ghost Value = { MemoryDevice };
 
-    ghost view = { λ d. record { cells = d.grid; width = d.width; height = d.height; broken = d.broken; cleared = d.cleared; plan = d.plan; faults = d.faults } };
+    ghost view = { λ d. record {
+      cells = d.grid;
+      width = d.width;
+      height = d.height;
+      broken = d.broken;
+      cleared = d.cleared;
+      plan = d.plan;
+      faults = d.faults;
+    } };
 
     ghost invariant = { λ d. (d.width ≤ 512) × (d.height ≤ 256) };
 }
@@ -93,7 +101,8 @@ impl Device for MemDevice {
     fn clear(&mut self, width: u16, height: u16) -> Sent
         requires columns { (1 ≤ width) × (width ≤ 512) }
         requires rows { (1 ≤ height) × (height ≤ 256) }
-        ensures shows { ClearSent width height (told_picture self.new.broken (picture_of self.new)) self.new.broken self.new.cleared result }
+        ensures shows { ClearSent width height (told_picture self.new.broken (picture_of self.new))
+            self.new.broken self.new.cleared result }
         ensures cause { SentRose self.old.faults self.new.faults result }
         ensures fails { (result ≡ Sent.Failed) ↔ IsToFail self.old.plan }
         ensures plan { self.new.plan ≡ counted self.old.plan }

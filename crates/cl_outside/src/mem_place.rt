@@ -36,7 +36,17 @@ impl Model for MemPlace {
 
     ghost Value = { MemoryPlace };
 
-    ghost view = { λ p. record { files = p.files.entries; faults = p.faults; source = named_source p.files.entries p.source; sink = named_sink p.files.entries p.sink; room = p.room; pieces = p.pieces; plan = p.plan; making_faults = p.making_faults; writing_faults = p.writing_faults } };
+    ghost view = { λ p. record {
+      files = p.files.entries;
+      faults = p.faults;
+      source = named_source p.files.entries p.source;
+      sink = named_sink p.files.entries p.sink;
+      room = p.room;
+      pieces = p.pieces;
+      plan = p.plan;
+      making_faults = p.making_faults;
+      writing_faults = p.writing_faults;
+    } };
 
     ghost invariant = { λ p. IsPlace p.files p.faults p.source p.sink p.room };
 }
@@ -92,7 +102,8 @@ impl MemPlace {
     // that no read needs memory to count a fault.
     pub(crate) fn open(&mut self, name: &str) -> Opened
         ensures step { OpenStep self.old self.new name.now result }
-        ensures fails { FailsWhere result (IsToFail self.old.plan ⊎ (found self.old.files name.now ≡ None)) }
+        ensures fails { FailsWhere result
+            (IsToFail self.old.plan ⊎ (found self.old.files name.now ≡ None)) }
     {
         let fails = self.plan.next_fails();
         let Ok(fault) = self.faults.ready(self.alloc, name) else {
@@ -137,7 +148,8 @@ impl MemPlace {
         requires open { IsSome self.old.source }
         requires room { 0 < length buf.old }
         ensures step { ReadStep self.old self.new self.old.source result }
-        ensures bytes { ReadTook (left_in self.old.files self.old.source) (left_in self.new.files self.new.source) buf.new result }
+        ensures bytes { ReadTook (left_in self.old.files self.old.source)
+            (left_in self.new.files self.new.source) buf.new result }
         ensures amount { ReadsAllOf (left_in self.old.files self.old.source) buf.new result }
         ensures fails { (result ≡ Took.Failed) ↔ IsToFail self.old.plan }
     {
@@ -164,8 +176,11 @@ impl MemPlace {
         requires made { IsSome self.old.sink }
         requires some { 0 < length bytes.now }
         ensures step { WriteStep self.old self.new self.old.sink bytes.now result }
-        ensures bytes { WriteTook (taken_in self.old.files self.old.sink) (taken_in self.new.files self.new.sink) bytes.now result }
-        ensures fails { (result ≡ Took.Failed) ↔ (IsToFail self.old.plan ⊎ (length (sink_bytes self.old.files self.old.sink) ≡ self.old.room)) }
+        ensures bytes { WriteTook (taken_in self.old.files self.old.sink)
+            (taken_in self.new.files self.new.sink) bytes.now result }
+        ensures fails { (result ≡ Took.Failed)
+            ↔ (IsToFail self.old.plan
+            ⊎ (length (sink_bytes self.old.files self.old.sink) ≡ self.old.room)) }
     {
         let Some(place) = self.sink else {
             unreachable!()

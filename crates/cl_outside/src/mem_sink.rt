@@ -25,7 +25,13 @@ impl Model for MemSink {
 
     ghost Value = { MemorySink };
 
-    ghost view = { λ s. record { taken = s.taken.items; room = s.room; pieces = s.pieces; plan = s.plan; faults = s.faults } };
+    ghost view = { λ s. record {
+      taken = s.taken.items;
+      room = s.room;
+      pieces = s.pieces;
+      plan = s.plan;
+      faults = s.faults;
+    } };
 
     ghost invariant = { λ s. (length s.taken.items ≤ s.room) × (s.room ≤ vec_capacity s.taken) };
 }
@@ -74,7 +80,8 @@ impl Sink for MemSink {
         requires { 0 < length bytes.now }
         ensures bytes { WriteTook (Some self.old.taken) (Some self.new.taken) bytes.now result }
         ensures cause { FailedRose self.old.faults self.new.faults result }
-        ensures fails { (result ≡ Took.Failed) ↔ (IsToFail self.old.plan ⊎ (length self.old.taken ≡ self.old.room)) }
+        ensures fails { (result ≡ Took.Failed)
+            ↔ (IsToFail self.old.plan ⊎ (length self.old.taken ≡ self.old.room)) }
         ensures plan { self.new.plan ≡ counted self.old.plan }
         ensures count { CountsFault self.old.faults self.new.faults result }
         ensures room { self.new.room ≡ self.old.room }

@@ -23,7 +23,8 @@ impl Model for MemSource {
 
     ghost Value = { MemorySource };
 
-    ghost view = { λ s. record { left = drop s.at s.content.items; plan = s.plan; faults = s.faults } };
+    ghost view = { λ s. record
+        { left = drop s.at s.content.items; plan = s.plan; faults = s.faults } };
 
     ghost invariant = { λ s. s.at ≤ length s.content.items };
 }

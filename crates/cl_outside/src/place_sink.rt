@@ -27,7 +27,13 @@ impl<'a, P: Place> Sink for PlaceSink<'a, P> {
 
     ghost faults = { λ s. P.writing_faults s.place.now };
 
-    ghost lent = { λ s. record { reference = s.place.ghost_name; files = P.others s.place.now; opened = P.opened s.place.now; app_faults = P.app_faults s.place.now; making_faults = P.making_faults s.place.now } };
+    ghost lent = { λ s. record {
+      reference = s.place.ghost_name;
+      files = P.others s.place.now;
+      opened = P.opened s.place.now;
+      app_faults = P.app_faults s.place.now;
+      making_faults = P.making_faults s.place.now;
+    } };
 
     fn write(&mut self, bytes: &[u8]) -> Took {
         self.place.write_sink(bytes)

@@ -51,9 +51,12 @@ pub trait Place {
         ensures opened { OnDone result (opened self.new ≡ true) }
         ensures reads { OnDone result (reads self.new name.now) }
         ensures start { OnDone result (HasBytes (file self.old name.now) (left self.new)) }
-        ensures memory { OnMemory result ((opened self.new ≡ opened self.old) × (left self.new ≡ left self.old)) }
-        ensures memory_reads { OnMemory result ((other : List ℕ) → reads self.old other → reads self.new other) }
-        ensures cause { OpenedRose (app_faults self.old name.now) (app_faults self.new name.now) result }
+        ensures memory { OnMemory result
+            ((opened self.new ≡ opened self.old) × (left self.new ≡ left self.old)) }
+        ensures memory_reads { OnMemory result
+            ((other : List ℕ) → reads self.old other → reads self.new other) }
+        ensures cause { OpenedRose (app_faults self.old name.now) (app_faults self.new name.now)
+            result }
         ensures later { (other : List ℕ) → app_faults self.old other ≤ app_faults self.new other };
 
     /// Hands over the next bytes of the open source.
@@ -78,20 +81,26 @@ pub trait Place {
     /// is said of that file.
     fn make_sink(&mut self, name: &str) -> Opened
         ensures lent { lent self.new ≡ lent self.old }
-        ensures files { (other : List ℕ) → other ≢ name.now → file self.new other ≡ file self.old other }
+        ensures files { (other : List ℕ) → other ≢ name.now
+            → file self.new other ≡ file self.old other }
         ensures opened { opened self.new ≡ opened self.old }
         ensures reads { (other : List ℕ) → reads self.old other → reads self.new other }
         ensures left { (reads self.old name.now → ⊥) → left self.new ≡ left self.old }
-        ensures app_faults { (other : List ℕ) → app_faults self.new other ≡ app_faults self.old other }
+        ensures app_faults { (other : List ℕ)
+            → app_faults self.new other ≡ app_faults self.old other }
         ensures writing { writing_faults self.new ≡ writing_faults self.old }
         ensures made { OnDone result (made self.new ≡ true) }
         ensures empty { OnDone result (IsEmptyFile (file self.new name.now)) }
         ensures taken { OnDone result (HasBytes (file self.new name.now) (taken self.new)) }
         ensures named { OnDone result (others self.new name.now ≡ None) }
-        ensures others { OnDone result ((other : List ℕ) → other ≢ name.now → others self.new other ≡ file self.new other) }
-        ensures memory { OnMemory result ((made self.new ≡ made self.old) × (taken self.new ≡ taken self.old) × (left self.new ≡ left self.old)) }
-        ensures memory_files { OnMemory result ((other : List ℕ) → file self.new other ≡ file self.old other) }
-        ensures memory_others { OnMemory result ((other : List ℕ) → others self.new other ≡ others self.old other) }
+        ensures others { OnDone result
+            ((other : List ℕ) → other ≢ name.now → others self.new other ≡ file self.new other) }
+        ensures memory { OnMemory result ((made self.new ≡ made self.old)
+            × (taken self.new ≡ taken self.old) × (left self.new ≡ left self.old)) }
+        ensures memory_files { OnMemory result
+            ((other : List ℕ) → file self.new other ≡ file self.old other) }
+        ensures memory_others { OnMemory result
+            ((other : List ℕ) → others self.new other ≡ others self.old other) }
         ensures cause { OpenedRose (making_faults self.old) (making_faults self.new) result };
 
     /// Writes behind what the made sink took before.
@@ -101,8 +110,10 @@ pub trait Place {
         ensures lent { lent self.new ≡ lent self.old }
         ensures opened { opened self.new ≡ opened self.old }
         ensures reads { (other : List ℕ) → reads self.old other → reads self.new other }
-        ensures left { ((name : List ℕ) → reads self.old name → IsSome (others self.old name)) → left self.new ≡ left self.old }
-        ensures app_faults { (other : List ℕ) → app_faults self.new other ≡ app_faults self.old other }
+        ensures left { ((name : List ℕ) → reads self.old name → IsSome (others self.old name))
+            → left self.new ≡ left self.old }
+        ensures app_faults { (other : List ℕ)
+            → app_faults self.new other ≡ app_faults self.old other }
         ensures making { making_faults self.new ≡ making_faults self.old }
         ensures made { made self.new ≡ true }
         ensures others { (other : List ℕ) → others self.new other ≡ others self.old other }
@@ -110,5 +121,6 @@ pub trait Place {
         ensures cause { FailedRose (writing_faults self.old) (writing_faults self.new) result };
 
     // each file is one of the others, or the one that holds what the made sink took
-    ghost told: { (place : Self) (name : List ℕ) → IsTold (others place name) (taken place) (file place name) };
+    ghost told: { (place : Self) (name : List ℕ)
+        → IsTold (others place name) (taken place) (file place name) };
 }

@@ -55,7 +55,8 @@ pub fn declared_in(alloc: Global, space: Space, forms: &[Datum]) -> Result<Vec<N
 }
 
 fn add_declared(names: &mut Vec<NameAt>, space: Space, parts: &[Datum]) -> Result<(), AllocError>
-    ensures { OnOk result (names.new.items ≡ names.old.items ++ declares space (map datum_of parts.now)) }
+    ensures { OnOk result
+        (names.new.items ≡ names.old.items ++ declares space (map datum_of parts.now)) }
 {
     match parts {
         [] => Ok(()),

@@ -8,6 +8,8 @@ ghost use Rattle.cl_phases.specs.SlotReads.{ReadsSlot};
 /// An expression reads a slot exactly where its value may depend on one: where it names one, itself or through calls.
 #[tactic(auto, using(crate::proofs::UseLemmas::read_is_used))]
 pub fn reads_are_uses()
-    ensures used { (app : App) (t : Term) → ReadsSlot app.functions t → (x : List ℕ) × Uses app (slot x) t }
-    ensures read { (app : App) (t : Term) (x : List ℕ) → Uses app (slot x) t → ReadsSlot app.functions t }
+    ensures used { (app : App) (t : Term) → ReadsSlot app.functions t
+        → (x : List ℕ) × Uses app (slot x) t }
+    ensures read { (app : App) (t : Term) (x : List ℕ) → Uses app (slot x) t
+        → ReadsSlot app.functions t }
 {}

@@ -33,7 +33,8 @@ fn spaces_twice(alloc: Global, forms: &[Datum]) -> Result<Option<u32>, AllocErro
 }
 
 fn space_twice(alloc: Global, space: Space, forms: &[Datum]) -> Result<Option<u32>, AllocError>
-    ensures { IfOk result (λ r. r ≡ names_twice space (declared_in space (map datum_of forms.now))) }
+    ensures { IfOk result
+        (λ r. r ≡ names_twice space (declared_in space (map datum_of forms.now))) }
 {
     let names = declared_in(alloc, space, forms)?;
     let repeated = first_repeated(alloc, names.as_slice())?;
@@ -42,7 +43,8 @@ fn space_twice(alloc: Global, space: Space, forms: &[Datum]) -> Result<Option<u3
 }
 
 fn commands_twice(alloc: Global, forms: &[Datum]) -> Result<Option<u32>, AllocError>
-    ensures { IfOk result (λ r. r ≡ commands_twice (declared_in Commands (map datum_of forms.now))) }
+    ensures { IfOk result
+        (λ r. r ≡ commands_twice (declared_in Commands (map datum_of forms.now))) }
 {
     let names = declared_in(alloc, Space::Commands, forms)?;
     let repeated = first_repeated(alloc, names.as_slice())?;

@@ -22,7 +22,8 @@ impl Model for Raster {
 
     ghost Value = { Picture };
 
-    ghost view = { λ r. record { width = r.width; height = r.height; glyphs = r.glyphs.items; inks = r.inks.items } };
+    ghost view = { λ r. record
+        { width = r.width; height = r.height; glyphs = r.glyphs.items; inks = r.inks.items } };
 
     ghost invariant = { λ r. AreCells r.width r.height r.glyphs.items r.inks.items };
 }

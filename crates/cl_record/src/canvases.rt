@@ -26,5 +26,6 @@ pub trait Canvas<L: Leaf> {
 
     ghost keeps_itself: { (canvas : Self) → keeps canvas canvas };
 
-    ghost keeps_through: { (first second third : Self) → keeps first second → keeps second third → keeps first third };
+    ghost keeps_through: { (first second third : Self) → keeps first second → keeps second third
+        → keeps first third };
 }

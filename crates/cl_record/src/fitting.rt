@@ -32,7 +32,9 @@ pub(crate) fn node_fits<L: Leaf>(node: &Node<L>, by: Shift) -> bool
 // Whether what a branch with this place holds, moved so far, stays in the range.
 #[cycle(fit)]
 fn inside_fits<L: Leaf>(inside: &Nodes<L>, place: Shift, by: Shift) -> bool
-    ensures { IsTrue result ↔ (IsShift (joined place by) × StayInRange L.bounds (joined place by) (trees_of inside.now)) }
+    ensures { IsTrue result
+        ↔ (IsShift (joined place by)
+        × StayInRange L.bounds (joined place by) (trees_of inside.now)) }
 {
     let Some(at) = joined_near(place, by) else {
         return false;
@@ -47,7 +49,8 @@ fn inside_fits<L: Leaf>(inside: &Nodes<L>, place: Shift, by: Shift) -> bool
 
 // One move after the other, where it stays within the range.
 fn joined_near(first: Shift, second: Shift) -> Option<Shift>
-    ensures { MatchOption result (IsShift (joined first second) → ⊥) (λ v. (v ≡ joined first second) × IsShift v) }
+    ensures { MatchOption result (IsShift (joined first second) → ⊥)
+        (λ v. (v ≡ joined first second) × IsShift v) }
 {
     let dx = far_sum(first.dx, second.dx)?;
     let dy = far_sum(first.dy, second.dy)?;

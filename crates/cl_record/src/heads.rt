@@ -58,13 +58,15 @@ impl Model for Head {
 
     ghost coded = { head_code };
 
-    ghost view = { λ h. record { site = h.site; id = data_of h.id; cache = h.cache; measures = measured h.measures } };
+    ghost view = { λ h. record
+        { site = h.site; id = data_of h.id; cache = h.cache; measures = measured h.measures } };
 }
 
 impl Head {
     /// The head of these parts.
     pub fn new(site: Site, id: Value, cache: Option<Values>, measures: Measures) -> Head
-        ensures { result ≡ record { site = site; id = data_of id; cache = cache; measures = measured measures } }
+        ensures { result
+            ≡ record { site = site; id = data_of id; cache = cache; measures = measured measures } }
     {
         Head {
             site,

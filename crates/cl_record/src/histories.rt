@@ -88,7 +88,8 @@ impl<L: Leaf> History<L> {
     /// the region that the canvas shows has the cell of the last leaf of the whole history that paints
     /// it, or else the cell that it had. It takes no memory.
     pub fn replay<C: Canvas<L>>(&self, region: &Region, canvas: &mut C)
-        ensures paints { Paints C.shows C.cell C.keeps L.cell canvas.old canvas.new (touching L.bounds region.now (drawn (history_marks L.moved_by self.now))) }
+        ensures paints { Paints C.shows C.cell C.keeps L.cell canvas.old canvas.new
+            (touching L.bounds region.now (drawn (history_marks L.moved_by self.now))) }
         ensures region { (x y : ℤ) → C.shows canvas.old x y ≡ true → held region.now x y ≡ true
             → C.cell canvas.new x y ≡ painted L.cell (drawn (history_marks L.moved_by self.now)) x y (C.cell canvas.old x y) }
     {
@@ -97,7 +98,8 @@ impl<L: Leaf> History<L> {
 
     /// The same of the places of one rectangle.
     pub fn replay_in<C: Canvas<L>>(&self, rect: &Rect, canvas: &mut C)
-        ensures paints { Paints C.shows C.cell C.keeps L.cell canvas.old canvas.new (touching L.bounds (rect.now ∷ []) (drawn (history_marks L.moved_by self.now))) }
+        ensures paints { Paints C.shows C.cell C.keeps L.cell canvas.old canvas.new
+            (touching L.bounds (rect.now ∷ []) (drawn (history_marks L.moved_by self.now))) }
         ensures rect { (x y : ℤ) → C.shows canvas.old x y ≡ true → holds rect.now x y ≡ true
             → C.cell canvas.new x y ≡ painted L.cell (drawn (history_marks L.moved_by self.now)) x y (C.cell canvas.old x y) }
     {
@@ -106,7 +108,8 @@ impl<L: Leaf> History<L> {
 
     // The same of the places that one of the rectangles holds.
     fn replay_rects<C: Canvas<L>>(&self, rects: &[Rect], canvas: &mut C)
-        ensures paints { Paints C.shows C.cell C.keeps L.cell canvas.old canvas.new (touching L.bounds rects.now (drawn (history_marks L.moved_by self.now))) }
+        ensures paints { Paints C.shows C.cell C.keeps L.cell canvas.old canvas.new
+            (touching L.bounds rects.now (drawn (history_marks L.moved_by self.now))) }
         ensures rects { (x y : ℤ) → C.shows canvas.old x y ≡ true → held rects.now x y ≡ true
             → C.cell canvas.new x y ≡ painted L.cell (drawn (history_marks L.moved_by self.now)) x y (C.cell canvas.old x y) }
     {
@@ -120,7 +123,8 @@ impl<L: Printable> History<L> {
     /// update, in order, each behind two spaces for each presentation and update around it. Where memory
     /// is wanting, the lines stay as they were.
     pub fn print(&self, alloc: Global, out: &mut Vec<Text>) -> Result<(), AllocError>
-        ensures ok { OnOk result (out.new.items ≡ out.old.items ++ history_lines L.line_of L.moved_by self.now) }
+        ensures ok { OnOk result
+            (out.new.items ≡ out.old.items ++ history_lines L.line_of L.moved_by self.now) }
         ensures unchanged { OnErr result (out.new.items ≡ out.old.items) }
     {
         let _ = self.nodes.as_slice();

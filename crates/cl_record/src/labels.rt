@@ -22,13 +22,15 @@ impl Model for Label {
 
     ghost coded = { label_code };
 
-    ghost view = { λ l. record { object = data_of l.object; type_name = l.type_name; single_box = l.single_box } };
+    ghost view = { λ l. record
+        { object = data_of l.object; type_name = l.type_name; single_box = l.single_box } };
 }
 
 impl Label {
     /// The label of these parts.
     pub fn new(object: Value, type_name: Text, single_box: bool) -> Label
-        ensures { result ≡ record { object = data_of object; type_name = type_name; single_box = single_box } }
+        ensures { result
+            ≡ record { object = data_of object; type_name = type_name; single_box = single_box } }
     {
         Label {
             object,

@@ -24,7 +24,8 @@ pub trait Printable: Leaf {
     /// not said.
     fn put_line(&self, at: Shift, out: &mut Vec<u8>) -> Result<(), AllocError>
         requires { IsInRange (moved at (Self.bounds self.now)) }
-        ensures { OnOk result (out.new.items ≡ out.old.items ++ line_of (Self.moved_by at self.now)) };
+        ensures { OnOk result
+            (out.new.items ≡ out.old.items ++ line_of (Self.moved_by at self.now)) };
 }
 
 impl Printable for AnyLeaf {
@@ -92,7 +93,9 @@ fn put_ruled(line: &mut Vec<u8>, direction: Direction, area: Area) -> Result<(),
 
 // The kind, the place, the length and the ink.
 fn put_long(line: &mut Vec<u8>, kind: &[u8], area: Area, length: i64) -> Result<(), AllocError>
-    ensures { OnOk result (line.new.items ≡ line.old.items ++ (kind.now ++ numbers (area.x ∷ area.y ∷ length ∷ pos area.ink ∷ []))) }
+    ensures { OnOk result (line.new.items
+        ≡ line.old.items
+        ++ (kind.now ++ numbers (area.x ∷ area.y ∷ length ∷ pos area.ink ∷ []))) }
 {
     put_place(line, kind, area)?;
     put_number(line, length)?;
@@ -102,7 +105,8 @@ fn put_long(line: &mut Vec<u8>, kind: &[u8], area: Area, length: i64) -> Result<
 
 // The kind, the place and the ink.
 fn put_small(line: &mut Vec<u8>, kind: &[u8], area: Area) -> Result<(), AllocError>
-    ensures { OnOk result (line.new.items ≡ line.old.items ++ (kind.now ++ numbers (area.x ∷ area.y ∷ pos area.ink ∷ []))) }
+    ensures { OnOk result (line.new.items
+        ≡ line.old.items ++ (kind.now ++ numbers (area.x ∷ area.y ∷ pos area.ink ∷ []))) }
 {
     put_place(line, kind, area)?;
     put_number(line, i64::from(area.ink))?;
@@ -111,7 +115,11 @@ fn put_small(line: &mut Vec<u8>, kind: &[u8], area: Area) -> Result<(), AllocErr
 
 // The kind, the place, both sizes and the ink.
 fn put_sized(line: &mut Vec<u8>, kind: &[u8], area: Area) -> Result<(), AllocError>
-    ensures { OnOk result (line.new.items ≡ line.old.items ++ (kind.now ++ numbers (area.x ∷ area.y ∷ area.width ∷ area.height ∷ pos area.ink ∷ []))) }
+    ensures { OnOk result (line.new.items
+        ≡ line.old.items
+        ++ (kind.now
+        ++ numbers
+        (area.x ∷ area.y ∷ area.width ∷ area.height ∷ pos area.ink ∷ []))) }
 {
     put_place(line, kind, area)?;
     put_sizes(line, area)?;
@@ -120,7 +128,8 @@ fn put_sized(line: &mut Vec<u8>, kind: &[u8], area: Area) -> Result<(), AllocErr
 
 // Both sizes and the ink.
 fn put_sizes(line: &mut Vec<u8>, area: Area) -> Result<(), AllocError>
-    ensures { OnOk result (line.new.items ≡ line.old.items ++ numbers (area.width ∷ area.height ∷ pos area.ink ∷ [])) }
+    ensures { OnOk result (line.new.items
+        ≡ line.old.items ++ numbers (area.width ∷ area.height ∷ pos area.ink ∷ [])) }
 {
     put_number(line, area.width)?;
     put_number(line, area.height)?;
@@ -130,7 +139,8 @@ fn put_sizes(line: &mut Vec<u8>, area: Area) -> Result<(), AllocError>
 
 // The kind and the place.
 fn put_place(line: &mut Vec<u8>, kind: &[u8], area: Area) -> Result<(), AllocError>
-    ensures { OnOk result (line.new.items ≡ line.old.items ++ (kind.now ++ numbers (area.x ∷ area.y ∷ []))) }
+    ensures { OnOk result
+        (line.new.items ≡ line.old.items ++ (kind.now ++ numbers (area.x ∷ area.y ∷ []))) }
 {
     line.extend_from_slice(kind)?;
     put_number(line, area.x)?;

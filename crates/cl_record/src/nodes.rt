@@ -246,7 +246,8 @@ impl<L: Leaf> Node<L> {
         requires { StaysInRange L.bounds by (tree_of self.old) }
         ensures tree { tree_of self.new ≡ tree_moved L.moved_by by (tree_of self.old) }
         ensures range { StaysInRange L.bounds still (tree_of self.new) }
-        ensures marks { marks_of L.moved_by (tree_of self.new) ≡ all_moved L.moved_by by (marks_of L.moved_by (tree_of self.old)) }
+        ensures marks { marks_of L.moved_by (tree_of self.new)
+            ≡ all_moved L.moved_by by (marks_of L.moved_by (tree_of self.old)) }
     {
         match self {
             Node::Leaf(leaf) => leaf.shift(by),

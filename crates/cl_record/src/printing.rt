@@ -26,7 +26,8 @@ fn print_node<L: Printable>(
     out: &mut Vec<Text>,
 ) -> Result<(), AllocError>
     requires { StaysInRange L.bounds at (tree_of node.now) }
-    ensures { OnOk result (out.new.items ≡ out.old.items ++ tree_lines L.line_of L.moved_by margin.now at (tree_of node.now)) }
+    ensures { OnOk result (out.new.items
+        ≡ out.old.items ++ tree_lines L.line_of L.moved_by margin.now at (tree_of node.now)) }
 {
     match node {
         Node::Leaf(leaf) => print_item(alloc, leaf, at, margin, out)?,
@@ -70,7 +71,10 @@ pub(crate) fn print_inside<L: Printable>(
 ) -> Result<(), AllocError>
     requires place { IsShift (joined place at) }
     requires range { StayInRange L.bounds (joined place at) (trees_of inside.now) }
-    ensures { OnOk result (out.new.items ≡ out.old.items ++ row_lines L.line_of L.moved_by margin.now (joined place at) (trees_of inside.now)) }
+    ensures { OnOk result (out.new.items
+        ≡ out.old.items
+        ++ row_lines L.line_of L.moved_by margin.now (joined place at)
+        (trees_of inside.now)) }
 {
     let at = joined(place, at);
     for node in inside.as_slice() {
@@ -96,7 +100,8 @@ fn print_item<L: Printable>(
     out: &mut Vec<Text>,
 ) -> Result<(), AllocError>
     requires { IsInRange (moved at (L.bounds leaf.now)) }
-    ensures { OnOk result (out.new.items ≡ out.old.items ++ (margin.now ++ L.line_of (L.moved_by at leaf.now)) ∷ []) }
+    ensures { OnOk result
+        (out.new.items ≡ out.old.items ++ (margin.now ++ L.line_of (L.moved_by at leaf.now)) ∷ []) }
 {
     let mut line = Vec::from_slice(alloc, margin)?;
     leaf.put_line(at, &mut line)?;
@@ -110,7 +115,8 @@ fn print_label(
     margin: &[u8],
     out: &mut Vec<Text>,
 ) -> Result<(), AllocError>
-    ensures { OnOk result (out.new.items ≡ out.old.items ++ (margin.now ++ label_line label.now) ∷ []) }
+    ensures { OnOk result
+        (out.new.items ≡ out.old.items ++ (margin.now ++ label_line label.now) ∷ []) }
 {
     let mut line = Vec::from_slice(alloc, margin)?;
     put_label(&mut line, label)?;
@@ -124,7 +130,8 @@ fn print_head(
     margin: &[u8],
     out: &mut Vec<Text>,
 ) -> Result<(), AllocError>
-    ensures { OnOk result (out.new.items ≡ out.old.items ++ (margin.now ++ head_line head.now) ∷ []) }
+    ensures { OnOk result
+        (out.new.items ≡ out.old.items ++ (margin.now ++ head_line head.now) ∷ []) }
 {
     let mut line = Vec::from_slice(alloc, margin)?;
     put_head(&mut line, head)?;

@@ -28,7 +28,8 @@ fn meets_one(rects: &[Rect], rect: &Rect) -> bool
 // Paints a leaf, moved by `at`, where it shares a place with one of the rectangles.
 fn replay_leaf<L: Leaf, C: Canvas<L>>(leaf: &L, at: Shift, rects: &[Rect], canvas: &mut C)
     requires { IsInRange (moved at (L.bounds leaf.now)) }
-    ensures { Paints C.shows C.cell C.keeps L.cell canvas.old canvas.new (touching L.bounds rects.now (L.moved_by at leaf.now ∷ [])) }
+    ensures { Paints C.shows C.cell C.keeps L.cell canvas.old canvas.new
+        (touching L.bounds rects.now (L.moved_by at leaf.now ∷ [])) }
 {
     let bounds = leaf.bounds().shifted(at);
     if meets_one(rects, &bounds) {
@@ -40,7 +41,9 @@ fn replay_leaf<L: Leaf, C: Canvas<L>>(leaf: &L, at: Shift, rects: &[Rect], canva
 #[cycle(replay)]
 fn replay_node<L: Leaf, C: Canvas<L>>(node: &Node<L>, at: Shift, rects: &[Rect], canvas: &mut C)
     requires { StaysInRange L.bounds at (tree_of node.now) }
-    ensures { Paints C.shows C.cell C.keeps L.cell canvas.old canvas.new (touching L.bounds rects.now (drawn (all_moved L.moved_by at (marks_of L.moved_by (tree_of node.now))))) }
+    ensures { Paints C.shows C.cell C.keeps L.cell canvas.old canvas.new
+        (touching L.bounds rects.now
+        (drawn (all_moved L.moved_by at (marks_of L.moved_by (tree_of node.now))))) }
 {
     match node {
         Node::Leaf(leaf) => replay_leaf(leaf, at, rects, canvas),
@@ -63,7 +66,9 @@ pub(crate) fn replay_inside<L: Leaf, C: Canvas<L>>(
 )
     requires place { IsShift (joined place at) }
     requires range { StayInRange L.bounds (joined place at) (trees_of inside.now) }
-    ensures { Paints C.shows C.cell C.keeps L.cell canvas.old canvas.new (touching L.bounds rects.now (drawn (all_moved L.moved_by (joined place at) (marks_of_all L.moved_by (trees_of inside.now))))) }
+    ensures { Paints C.shows C.cell C.keeps L.cell canvas.old canvas.new
+        (touching L.bounds rects.now (drawn (all_moved L.moved_by (joined place at)
+        (marks_of_all L.moved_by (trees_of inside.now))))) }
 {
     let at = joined(place, at);
     for node in inside.as_slice() {

@@ -32,7 +32,8 @@ pub(crate) fn put_value(line: &mut Vec<u8>, value: &Value) -> Result<(), AllocEr
 // Puts values, parted by spaces, in parentheses behind a line.
 #[cycle(print)]
 fn put_parts(line: &mut Vec<u8>, parts: &[Value]) -> Result<(), AllocError>
-    ensures { OnOk result (line.new.items ≡ line.old.items ++ 40 ∷ (printed_parts true (parts_of parts.now) ++ 41 ∷ [])) }
+    ensures { OnOk result (line.new.items
+        ≡ line.old.items ++ 40 ∷ (printed_parts true (parts_of parts.now) ++ 41 ∷ [])) }
 {
     line.push(b'(')?;
     let mut first = true;

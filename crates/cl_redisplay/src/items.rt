@@ -58,7 +58,8 @@ fn paint_place<L: Leaf>(raster: &mut Raster, area: Area, x: u16, y: u16, item: &
     requires column { x < raster.old.width }
     requires row { y < raster.old.height }
     requires range { IsInRange (moved at (L.bounds item.now)) }
-    ensures { PaintsPart L.cell raster.old raster.new area (record { x = x; y = y; width = 1; height = 1 }) (L.moved_by at item.now) }
+    ensures { PaintsPart L.cell raster.old raster.new area
+        (record { x = x; y = y; width = 1; height = 1 }) (L.moved_by at item.now) }
 {
     if let Some(cell) = item.cell_at(at, i64::from(x - area.x), i64::from(y - area.y)) {
         raster.set(x, y, cell);

@@ -46,8 +46,13 @@ pub fn handle<L: Ledger>(
     requires width { pane.now.screen.width ≡ app.now.frame.width }
     requires height { pane.now.screen.height ≡ app.now.frame.height }
     requires area { pane.now.area ≡ area_of app.now.frame.pane }
-    ensures handles { HandlesTo (handled app.now limits (record { slots = slots.old; line = line.old; pane = marks_of_pane pane.now.history }) gesture.now) result slots.old slots.new line.old line.new }
-    ensures ledger { RisesBy (handling_met result) steps.old steps.new (handled app.now limits (record { slots = slots.old; line = line.old; pane = marks_of_pane pane.now.history }) gesture.now).cost }
+    ensures handles { HandlesTo (handled app.now limits
+        (record { slots = slots.old; line = line.old; pane = marks_of_pane pane.now.history })
+        gesture.now) result slots.old slots.new line.old line.new }
+    ensures ledger { RisesBy (handling_met result) steps.old steps.new
+        (handled app.now limits
+        (record { slots = slots.old; line = line.old; pane = marks_of_pane pane.now.history })
+        gesture.now).cost }
 {
     match gesture {
         Gesture::Type(text) => type_text(alloc, text.as_slice(), pane, slots, line),
@@ -73,8 +78,12 @@ fn tell_history(
     slots: &Slots,
     line: &Line,
 ) -> Handling
-    ensures handles { HandlesTo (asked app.now (record { slots = slots.now; line = line.now; pane = marks_of_pane pane.now.history }) name.now) result slots.now slots.now line.now line.now }
-    ensures cost { (asked app.now (record { slots = slots.now; line = line.now; pane = marks_of_pane pane.now.history }) name.now).cost ≡ 0 }
+    ensures handles { HandlesTo (asked app.now
+        (record { slots = slots.now; line = line.now; pane = marks_of_pane pane.now.history })
+        name.now) result slots.now slots.now line.now line.now }
+    ensures cost { (asked app.now (record
+        { slots = slots.now; line = line.now; pane = marks_of_pane pane.now.history })
+        name.now).cost ≡ 0 }
 {
     let own_name = app.frame.pane.name.as_slice();
     if !name.eq_ignore_ascii_case(own_name) {
@@ -87,8 +96,12 @@ fn tell_history(
 }
 
 fn type_text(alloc: Global, text: &[u8], pane: &Pane, slots: &Slots, line: &mut Line) -> Handling
-    ensures handles { HandlesTo (typed (record { slots = slots.now; line = line.old; pane = marks_of_pane pane.now.history }) text.now) result slots.now slots.now line.old line.new }
-    ensures cost { (typed (record { slots = slots.now; line = line.old; pane = marks_of_pane pane.now.history }) text.now).cost ≡ 0 }
+    ensures handles { HandlesTo (typed
+        (record { slots = slots.now; line = line.old; pane = marks_of_pane pane.now.history })
+        text.now) result slots.now slots.now line.old line.new }
+    ensures cost { (typed (record
+        { slots = slots.now; line = line.old; pane = marks_of_pane pane.now.history })
+        text.now).cost ≡ 0 }
 {
     match line.push_text(text) {
         Pushed::Done => Handling::Replied(Lines::new(alloc)),
@@ -106,8 +119,14 @@ fn finish_line<L: Ledger>(
     steps: &mut Steps<L>,
 ) -> Handling
     requires { limits.depth ≤ 512 }
-    ensures handles { HandlesTo (returned app.now limits (record { slots = slots.old; line = line.old; pane = marks_of_pane pane.now.history }) (finish_of (line_names app.now.commands) line.old)) result slots.old slots.new line.old line.new }
-    ensures ledger { RisesBy (handling_met result) steps.old steps.new (returned app.now limits (record { slots = slots.old; line = line.old; pane = marks_of_pane pane.now.history }) (finish_of (line_names app.now.commands) line.old)).cost }
+    ensures handles { HandlesTo (returned app.now limits
+        (record { slots = slots.old; line = line.old; pane = marks_of_pane pane.now.history })
+        (finish_of (line_names app.now.commands) line.old)) result slots.old slots.new line.old
+        line.new }
+    ensures ledger { RisesBy (handling_met result) steps.old steps.new
+        (returned app.now limits
+        (record { slots = slots.old; line = line.old; pane = marks_of_pane pane.now.history })
+        (finish_of (line_names app.now.commands) line.old)).cost }
 {
     match line.finish(&app.commands) {
         Finished::Unknown => reply(alloc, b"! unknown"),
@@ -130,8 +149,14 @@ fn run_command<L: Ledger>(
     steps: &mut Steps<L>,
 ) -> Handling
     requires { limits.depth ≤ 512 }
-    ensures handles { HandlesTo (run_of command.now.line_name (record { slots = slots.old; line = line.old; pane = marks_of_pane pane.now.history }) (command_run limits app.now command.now slots.old)) result slots.old slots.new line.old line.new }
-    ensures ledger { RisesBy (handling_met result) steps.old steps.new (run_of command.now.line_name (record { slots = slots.old; line = line.old; pane = marks_of_pane pane.now.history }) (command_run limits app.now command.now slots.old)).cost }
+    ensures handles { HandlesTo (run_of command.now.line_name
+        (record { slots = slots.old; line = line.old; pane = marks_of_pane pane.now.history })
+        (command_run limits app.now command.now slots.old)) result slots.old slots.new line.old
+        line.new }
+    ensures ledger { RisesBy (handling_met result) steps.old steps.new
+        (run_of command.now.line_name
+        (record { slots = slots.old; line = line.old; pane = marks_of_pane pane.now.history })
+        (command_run limits app.now command.now slots.old)).cost }
 {
     let env = Env::new(alloc);
     match exec(

@@ -102,11 +102,13 @@ impl Pane {
     ) -> PaneReport
         requires depth { limits.depth ≤ 512 }
         requires painted { IsPainted self.old }
-        ensures settles { SettlesTo (marks_of_pane self.old.history) (marks_of_pane self.new.history) (pane_fresh limits app.now slots.now) result }
+        ensures settles { SettlesTo (marks_of_pane self.old.history)
+            (marks_of_pane self.new.history) (pane_fresh limits app.now slots.now) result }
         ensures painted { IsPainted self.new }
         ensures size { SameSize self.old.screen self.new.screen }
         ensures area { self.new.area ≡ self.old.area }
-        ensures ledger { RisesBy (met_memory result) steps.old steps.new (cost_of (pane_fresh limits app.now slots.now)) }
+        ensures ledger { RisesBy (met_memory result) steps.old steps.new
+            (cost_of (pane_fresh limits app.now slots.now)) }
         ensures later { steps.old ≤ steps.new }
     {
         let erased = self.items;
@@ -136,7 +138,9 @@ impl Pane {
     pub fn row(&self, y: u16) -> &[u8]
         requires painted { IsPainted self.now }
         requires row { y < self.now.screen.height }
-        ensures { result.now ≡ shown_row self.now.area (marks_in (marks_of_pane self.now.history)) self.now.screen.width y }
+        ensures { result.now
+            ≡ shown_row self.now.area (marks_in (marks_of_pane self.now.history))
+            self.now.screen.width y }
     {
         self.screen.row(y)
     }
@@ -145,7 +149,9 @@ impl Pane {
     pub fn inks(&self, y: u16) -> &[u8]
         requires painted { IsPainted self.now }
         requires row { y < self.now.screen.height }
-        ensures digits { map ink_digit result.now ≡ shown_ink_row self.now.area (marks_in (marks_of_pane self.now.history)) self.now.screen.width y }
+        ensures digits { map ink_digit result.now
+            ≡ shown_ink_row self.now.area (marks_in (marks_of_pane self.now.history))
+            self.now.screen.width y }
         ensures range { All IsInk result.now }
     {
         self.screen.inks(y)

@@ -43,8 +43,14 @@ impl Session {
         steps: &mut Steps<L>,
     ) -> End
         requires { Fits loaded.now.app slots.old self.old }
-        ensures serves { stop_of gestures.old ≡ stop.Going → ServesTo loaded.now.app self.old.limits (world_of self.old slots.old) (world_of self.new slots.new) (progress_of G.left G.faults gestures.old) (progress_of G.left G.faults gestures.new) (O.taken out.old) (O.taken out.new) steps.old steps.new (O.faults out.old) (O.faults out.new) result }
-        ensures stays { StaysAt (stop_of gestures.old) (Some result) (IsSame gestures.old gestures.new out.old out.new steps.old steps.new (world_of self.old slots.old) (world_of self.new slots.new)) }
+        ensures serves { stop_of gestures.old ≡ stop.Going
+            → ServesTo loaded.now.app self.old.limits (world_of self.old slots.old)
+            (world_of self.new slots.new) (progress_of G.left G.faults gestures.old)
+            (progress_of G.left G.faults gestures.new) (O.taken out.old) (O.taken out.new)
+            steps.old steps.new (O.faults out.old) (O.faults out.new) result }
+        ensures stays { StaysAt (stop_of gestures.old) (Some result)
+            (IsSame gestures.old gestures.new out.old out.new steps.old steps.new
+            (world_of self.old slots.old) (world_of self.new slots.new)) }
         ensures lent { G.lent (source_of gestures.new) ≡ G.lent (source_of gestures.old) }
         ensures out_lent { O.lent out.new ≡ O.lent out.old }
         ensures later { G.faults (source_of gestures.old) ≤ G.faults (source_of gestures.new) }
@@ -73,8 +79,14 @@ impl Session {
         steps: &mut Steps<L>,
     ) -> Option<End>
         requires { Fits loaded.now.app slots.old self.old }
-        ensures turns { stop_of gestures.old ≡ stop.Going → Turns loaded.now.app self.old.limits (world_of self.old slots.old) (world_of self.new slots.new) (progress_of G.left G.faults gestures.old) (progress_of G.left G.faults gestures.new) (O.taken out.old) (O.taken out.new) steps.old steps.new (O.faults out.old) (O.faults out.new) result }
-        ensures stays { StaysAt (stop_of gestures.old) result (IsSame gestures.old gestures.new out.old out.new steps.old steps.new (world_of self.old slots.old) (world_of self.new slots.new)) }
+        ensures turns { stop_of gestures.old ≡ stop.Going
+            → Turns loaded.now.app self.old.limits (world_of self.old slots.old)
+            (world_of self.new slots.new) (progress_of G.left G.faults gestures.old)
+            (progress_of G.left G.faults gestures.new) (O.taken out.old) (O.taken out.new)
+            steps.old steps.new (O.faults out.old) (O.faults out.new) result }
+        ensures stays { StaysAt (stop_of gestures.old) result
+            (IsSame gestures.old gestures.new out.old out.new steps.old steps.new
+            (world_of self.old slots.old) (world_of self.new slots.new)) }
         ensures lent { G.lent (source_of gestures.new) ≡ G.lent (source_of gestures.old) }
         ensures out_lent { O.lent out.new ≡ O.lent out.old }
         ensures later { G.faults (source_of gestures.old) ≤ G.faults (source_of gestures.new) }

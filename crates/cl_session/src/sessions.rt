@@ -43,11 +43,15 @@ impl Session {
         budget: u64,
         steps: &mut Steps<L>,
     ) -> Result<Session, AllocError>
-        ensures world { IfOk result (λ s. world_of s slots.now ≡ opening loaded.now.app s.limits slots.now) }
+        ensures world { IfOk result
+            (λ s. world_of s slots.now ≡ opening loaded.now.app s.limits slots.now) }
         ensures limits { IfOk result (λ s. (s.limits.budget ≡ budget) × (s.limits.depth ≡ 512)) }
-        ensures ledger { IfOk result (λ s. steps.new ≡ steps.old + cost_of (pane_fresh s.limits loaded.now.app slots.now)) }
+        ensures ledger { IfOk result
+            (λ s. steps.new ≡ steps.old + cost_of (pane_fresh s.limits loaded.now.app slots.now)) }
         ensures later { steps.old ≤ steps.new }
-        ensures at_most { steps.new ≤ steps.old + cost_of (pane_fresh (record { budget = budget; depth = 512 }) loaded.now.app slots.now) }
+        ensures at_most { steps.new
+            ≤ steps.old + cost_of
+            (pane_fresh (record { budget = budget; depth = 512 }) loaded.now.app slots.now) }
         ensures fits { IfOk result (Fits loaded.now.app slots.now) }
     {
         let line = Line::new(alloc)?;
@@ -80,8 +84,10 @@ impl Session {
         steps: &mut Steps<L>,
     ) -> Replies
         requires { Fits loaded.now.app slots.old self.old }
-        ensures steps { StepsTo loaded.now.app self.old self.new slots.old slots.new gesture.now result }
-        ensures ledger { Spends loaded.now.app self.old.limits (world_of self.old slots.old) gesture.now (met_of result) steps.old steps.new }
+        ensures steps { StepsTo loaded.now.app self.old self.new slots.old slots.new gesture.now
+            result }
+        ensures ledger { Spends loaded.now.app self.old.limits (world_of self.old slots.old)
+            gesture.now (met_of result) steps.old steps.new }
         ensures later { steps.old ≤ steps.new }
         ensures fits { Fits loaded.now.app slots.new self.new }
     {
@@ -134,16 +140,21 @@ impl Session {
     ) -> PaneReport
         requires depth { self.old.limits.depth ≤ 512 }
         requires painted { IsPainted self.old.pane }
-        requires current { due ≡ false → IsCurrent app.now self.old.limits slots.now (marks_of_pane self.old.pane.history) }
-        ensures settles { SettlesIf due app.now self.old.limits slots.now (marks_of_pane self.old.pane.history) (marks_of_pane self.new.pane.history) result }
+        requires current { due ≡ false
+            → IsCurrent app.now self.old.limits slots.now (marks_of_pane self.old.pane.history) }
+        ensures settles { SettlesIf due app.now self.old.limits slots.now
+            (marks_of_pane self.old.pane.history) (marks_of_pane self.new.pane.history) result }
         ensures painted { IsPainted self.new.pane }
         ensures size { SameSize self.old.pane.screen self.new.pane.screen }
         ensures area { self.new.pane.area ≡ self.old.pane.area }
-        ensures current { IsCurrent app.now self.old.limits slots.now (marks_of_pane self.new.pane.history) }
+        ensures current { IsCurrent app.now self.old.limits slots.now
+            (marks_of_pane self.new.pane.history) }
         ensures line { self.new.line ≡ self.old.line }
         ensures limits { self.new.limits ≡ self.old.limits }
         ensures outgoing { self.new.outgoing ≡ self.old.outgoing }
-        ensures ledger { RisesBy (met_memory result) steps.old steps.new (settled_if (due || is_none (marks_of_pane self.old.pane.history)) app.now self.old.limits slots.now (marks_of_pane self.old.pane.history) (met_memory result)).cost }
+        ensures ledger { RisesBy (met_memory result) steps.old steps.new
+            (settled_if (due || is_none (marks_of_pane self.old.pane.history)) app.now
+            self.old.limits slots.now (marks_of_pane self.old.pane.history) (met_memory result)).cost }
         ensures later { steps.old ≤ steps.new }
     {
         if due || self.pane.history.is_none() {

@@ -20,7 +20,8 @@ pub fn say_replies<O: Sink>(
 ) -> bool
     requires { outgoing.old ≡ [] }
     ensures lent { O.lent out.new ≡ O.lent out.old }
-    ensures says { Says result (O.taken out.old) (O.taken out.new) (said (lines_of name.now replies.now)) (O.faults out.old) (O.faults out.new) }
+    ensures says { Says result (O.taken out.old) (O.taken out.new)
+        (said (lines_of name.now replies.now)) (O.faults out.old) (O.faults out.new) }
     ensures none { outgoing.new ≡ [] }
     ensures later { O.faults out.old ≤ O.faults out.new }
 {
@@ -35,7 +36,8 @@ pub fn say_replies<O: Sink>(
 pub fn say_bad<O: Sink>(outgoing: &mut Outgoing, out: &mut O, number: u32) -> bool
     requires { outgoing.old ≡ [] }
     ensures lent { O.lent out.new ≡ O.lent out.old }
-    ensures says { Says result (O.taken out.old) (O.taken out.new) (said (bad_line number ∷ [])) (O.faults out.old) (O.faults out.new) }
+    ensures says { Says result (O.taken out.old) (O.taken out.new) (said (bad_line number ∷ []))
+        (O.faults out.old) (O.faults out.new) }
     ensures none { outgoing.new ≡ [] }
     ensures later { O.faults out.old ≤ O.faults out.new }
 {
@@ -51,7 +53,8 @@ pub fn say_bad<O: Sink>(outgoing: &mut Outgoing, out: &mut O, number: u32) -> bo
 pub fn say_lost<O: Sink>(outgoing: &mut Outgoing, out: &mut O) -> bool
     requires { outgoing.old ≡ [] }
     ensures lent { O.lent out.new ≡ O.lent out.old }
-    ensures says { Says result (O.taken out.old) (O.taken out.new) (said (codes "! memory" ∷ [])) (O.faults out.old) (O.faults out.new) }
+    ensures says { Says result (O.taken out.old) (O.taken out.new) (said (codes "! memory" ∷ []))
+        (O.faults out.old) (O.faults out.new) }
     ensures none { outgoing.new ≡ [] }
     ensures later { O.faults out.old ≤ O.faults out.new }
 {
@@ -62,7 +65,8 @@ pub fn say_lost<O: Sink>(outgoing: &mut Outgoing, out: &mut O) -> bool
 fn say_pieces<O: Sink>(outgoing: &mut Outgoing, out: &mut O, pieces: &[&[u8]]) -> bool
     requires { outgoing.old ≡ [] }
     ensures lent { O.lent out.new ≡ O.lent out.old }
-    ensures says { Says result (O.taken out.old) (O.taken out.new) (joined (map (λ p. p.now) pieces.now)) (O.faults out.old) (O.faults out.new) }
+    ensures says { Says result (O.taken out.old) (O.taken out.new)
+        (joined (map (λ p. p.now) pieces.now)) (O.faults out.old) (O.faults out.new) }
     ensures none { outgoing.new ≡ [] }
     ensures later { O.faults out.old ≤ O.faults out.new }
 {
@@ -80,7 +84,9 @@ fn put_replies<O: Sink>(
     replies: &Replies,
 ) -> bool
     ensures lent { O.lent out.new ≡ O.lent out.old }
-    ensures puts { Puts result (O.taken out.old) (O.taken out.new) (outgoing.old ++ said (lines_of name.now replies.now)) outgoing.new (O.faults out.old) (O.faults out.new) }
+    ensures puts { Puts result (O.taken out.old) (O.taken out.new)
+        (outgoing.old ++ said (lines_of name.now replies.now)) outgoing.new (O.faults out.old)
+        (O.faults out.new) }
     ensures later { O.faults out.old ≤ O.faults out.new }
 {
     if !put_own(outgoing, out, replies) {
@@ -91,7 +97,9 @@ fn put_replies<O: Sink>(
 
 fn put_own<O: Sink>(outgoing: &mut Outgoing, out: &mut O, replies: &Replies) -> bool
     ensures lent { O.lent out.new ≡ O.lent out.old }
-    ensures puts { Puts result (O.taken out.old) (O.taken out.new) (outgoing.old ++ said (own_lines replies.now.memory replies.now.own)) outgoing.new (O.faults out.old) (O.faults out.new) }
+    ensures puts { Puts result (O.taken out.old) (O.taken out.new)
+        (outgoing.old ++ said (own_lines replies.now.memory replies.now.own)) outgoing.new
+        (O.faults out.old) (O.faults out.new) }
     ensures later { O.faults out.old ≤ O.faults out.new }
 {
     if replies.memory {
@@ -103,7 +111,8 @@ fn put_own<O: Sink>(outgoing: &mut Outgoing, out: &mut O, replies: &Replies) -> 
 // Lines, each with its line feed.
 fn put_lines<O: Sink>(outgoing: &mut Outgoing, out: &mut O, lines: &[Text]) -> bool
     ensures lent { O.lent out.new ≡ O.lent out.old }
-    ensures puts { Puts result (O.taken out.old) (O.taken out.new) (outgoing.old ++ said lines.now) outgoing.new (O.faults out.old) (O.faults out.new) }
+    ensures puts { Puts result (O.taken out.old) (O.taken out.new) (outgoing.old ++ said lines.now)
+        outgoing.new (O.faults out.old) (O.faults out.new) }
     ensures later { O.faults out.old ≤ O.faults out.new }
 {
     for line in lines {
@@ -121,7 +130,9 @@ fn put_report<O: Sink>(
     report: PaneReport,
 ) -> bool
     ensures lent { O.lent out.new ≡ O.lent out.old }
-    ensures puts { Puts result (O.taken out.old) (O.taken out.new) (outgoing.old ++ said (report_lines name.now report)) outgoing.new (O.faults out.old) (O.faults out.new) }
+    ensures puts { Puts result (O.taken out.old) (O.taken out.new)
+        (outgoing.old ++ said (report_lines name.now report)) outgoing.new (O.faults out.old)
+        (O.faults out.new) }
     ensures later { O.faults out.old ≤ O.faults out.new }
 {
     match report {
@@ -146,7 +157,10 @@ fn put_report<O: Sink>(
 
 fn put_shown<O: Sink>(outgoing: &mut Outgoing, out: &mut O, name: &[u8], report: Report) -> bool
     ensures lent { O.lent out.new ≡ O.lent out.old }
-    ensures puts { Puts result (O.taken out.old) (O.taken out.new) (outgoing.old ++ said (report_line name.now report.kept report.moved report.drawn report.erased ∷ [])) outgoing.new (O.faults out.old) (O.faults out.new) }
+    ensures puts { Puts result (O.taken out.old) (O.taken out.new)
+        (outgoing.old
+        ++ said (report_line name.now report.kept report.moved report.drawn report.erased ∷ []))
+        outgoing.new (O.faults out.old) (O.faults out.new) }
     ensures later { O.faults out.old ≤ O.faults out.new }
 {
     if !put_head(outgoing, out, name, report.kept, report.moved) {
@@ -163,7 +177,9 @@ fn put_head<O: Sink>(
     moved: u64,
 ) -> bool
     ensures lent { O.lent out.new ≡ O.lent out.old }
-    ensures puts { Puts result (O.taken out.old) (O.taken out.new) (outgoing.old ++ report_head name.now kept moved) outgoing.new (O.faults out.old) (O.faults out.new) }
+    ensures puts { Puts result (O.taken out.old) (O.taken out.new)
+        (outgoing.old ++ report_head name.now kept moved) outgoing.new (O.faults out.old)
+        (O.faults out.new) }
     ensures later { O.faults out.old ≤ O.faults out.new }
 {
     let mut first = Buffer::new();
@@ -175,7 +191,9 @@ fn put_head<O: Sink>(
 
 fn put_tail<O: Sink>(outgoing: &mut Outgoing, out: &mut O, drawn: u64, erased: u64) -> bool
     ensures lent { O.lent out.new ≡ O.lent out.old }
-    ensures puts { Puts result (O.taken out.old) (O.taken out.new) (outgoing.old ++ (report_tail drawn erased ++ 10 ∷ [])) outgoing.new (O.faults out.old) (O.faults out.new) }
+    ensures puts { Puts result (O.taken out.old) (O.taken out.new)
+        (outgoing.old ++ (report_tail drawn erased ++ 10 ∷ [])) outgoing.new (O.faults out.old)
+        (O.faults out.new) }
     ensures later { O.faults out.old ≤ O.faults out.new }
 {
     let mut first = Buffer::new();

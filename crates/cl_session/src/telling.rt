@@ -17,7 +17,9 @@ use std::alloc::{AllocError, Global};
 /// The glyphs of each row of the screen.
 pub fn frame_lines(alloc: Global, pane: &Pane) -> Result<Lines, AllocError>
     requires { IsPainted pane.now }
-    ensures { IfOk result (λ l. l ≡ shown_rows pane.now.area (marks_in (marks_of_pane pane.now.history)) pane.now.screen.width pane.now.screen.height) }
+    ensures { IfOk result (λ l. l
+        ≡ shown_rows pane.now.area (marks_in (marks_of_pane pane.now.history))
+        pane.now.screen.width pane.now.screen.height) }
 {
     let mut lines = Lines::new(alloc);
     for y in 0..pane.screen.height() {
@@ -29,7 +31,9 @@ pub fn frame_lines(alloc: Global, pane: &Pane) -> Result<Lines, AllocError>
 /// The inks of each row of the screen, as digits.
 pub fn ink_lines(alloc: Global, pane: &Pane) -> Result<Lines, AllocError>
     requires { IsPainted pane.now }
-    ensures { IfOk result (λ l. l ≡ shown_ink_rows pane.now.area (marks_in (marks_of_pane pane.now.history)) pane.now.screen.width pane.now.screen.height) }
+    ensures { IfOk result (λ l. l
+        ≡ shown_ink_rows pane.now.area (marks_in (marks_of_pane pane.now.history))
+        pane.now.screen.width pane.now.screen.height) }
 {
     let mut lines = Lines::new(alloc);
     for row in 0..pane.screen.height() {
@@ -53,7 +57,9 @@ fn digits(alloc: Global, inks: &[u8]) -> Result<Vec<u8>, AllocError>
 
 /// A line with the pane's name and how many lines follow, and the lines of its history.
 pub fn history_lines(alloc: Global, pane: &Pane, name: &[u8]) -> Result<Lines, AllocError>
-    ensures { IfOk result (λ l. l ≡ headed name.now (lines_from item_line 0 (marks_in (marks_of_pane pane.now.history)))) }
+    ensures { IfOk result (λ l. l
+        ≡ headed name.now
+        (lines_from item_line 0 (marks_in (marks_of_pane pane.now.history)))) }
 {
     let texts = printed(alloc, pane)?;
     let mut lines = one_line(alloc, &head(alloc, name, texts.len())?)?;
@@ -74,7 +80,8 @@ fn head(alloc: Global, name: &[u8], count: usize) -> Result<Vec<u8>, AllocError>
 
 // The others.
 fn printed(alloc: Global, pane: &Pane) -> Result<Vec<Text>, AllocError>
-    ensures { IfOk result (λ v. v.items ≡ lines_from item_line 0 (marks_in (marks_of_pane pane.now.history))) }
+    ensures { IfOk result
+        (λ v. v.items ≡ lines_from item_line 0 (marks_in (marks_of_pane pane.now.history))) }
 {
     let mut texts = Vec::new(alloc);
     if let Some(history) = &pane.history {

@@ -39,7 +39,8 @@ impl Outgoing {
     /// no memory.
     pub fn put<O: Sink>(&mut self, out: &mut O, bytes: &[u8]) -> bool
         ensures lent { O.lent out.new ≡ O.lent out.old }
-        ensures puts { Puts result (O.taken out.old) (O.taken out.new) (self.old ++ bytes.now) self.new (O.faults out.old) (O.faults out.new) }
+        ensures puts { Puts result (O.taken out.old) (O.taken out.new) (self.old ++ bytes.now)
+            self.new (O.faults out.old) (O.faults out.new) }
         ensures later { O.faults out.old ≤ O.faults out.new }
     {
         if bytes.len() <= ROOM - self.bytes.len() {
@@ -69,7 +70,9 @@ impl Outgoing {
     /// Lets pieces wait, one after another.
     pub fn put_all<O: Sink>(&mut self, out: &mut O, pieces: &[&[u8]]) -> bool
         ensures lent { O.lent out.new ≡ O.lent out.old }
-        ensures puts { Puts result (O.taken out.old) (O.taken out.new) (self.old ++ joined (map (λ p. p.now) pieces.now)) self.new (O.faults out.old) (O.faults out.new) }
+        ensures puts { Puts result (O.taken out.old) (O.taken out.new)
+            (self.old ++ joined (map (λ p. p.now) pieces.now)) self.new (O.faults out.old)
+            (O.faults out.new) }
         ensures later { O.faults out.old ≤ O.faults out.new }
     {
         for piece in pieces {
@@ -90,7 +93,8 @@ impl Outgoing {
     /// Writes all that waits; false where the sink failed, and then what was not written is lost.
     pub fn flush<O: Sink>(&mut self, out: &mut O) -> bool
         ensures lent { O.lent out.new ≡ O.lent out.old }
-        ensures puts { Puts result (O.taken out.old) (O.taken out.new) self.old self.new (O.faults out.old) (O.faults out.new) }
+        ensures puts { Puts result (O.taken out.old) (O.taken out.new) self.old self.new
+            (O.faults out.old) (O.faults out.new) }
         ensures none { self.new ≡ [] }
         ensures later { O.faults out.old ≤ O.faults out.new }
     {
@@ -103,7 +107,8 @@ impl Outgoing {
 /// Writes bytes by repeated writes; false where the sink failed. It takes no memory.
 pub fn write_all<O: Sink>(out: &mut O, bytes: &[u8]) -> bool
     ensures lent { O.lent out.new ≡ O.lent out.old }
-    ensures puts { Puts result (O.taken out.old) (O.taken out.new) bytes.now [] (O.faults out.old) (O.faults out.new) }
+    ensures puts { Puts result (O.taken out.old) (O.taken out.new) bytes.now [] (O.faults out.old)
+        (O.faults out.new) }
     ensures later { O.faults out.old ≤ O.faults out.new }
 {
     let mut at = 0;

@@ -43,8 +43,10 @@ fn main(rt: HostRuntime) -> ExitCode {
 // Ends with the status of a run on these words.
 fn run(rt: HostRuntime, words: &[String]) -> ExitCode
     ensures no_other { IsStatus (exit_status result) }
-    ensures command_due { (name : List ℕ) → IsRun (map string_bytes words.now) name → exit_status result ≡ 2 → ⊥ }
-    ensures usage_due { IsNoCommand (map string_bytes words.now) → (exit_status result ≡ 2) ⊎ (exit_status result ≡ 5) ⊎ (exit_status result ≡ 7) }
+    ensures command_due { (name : List ℕ) → IsRun (map string_bytes words.now) name
+        → exit_status result ≡ 2 → ⊥ }
+    ensures usage_due { IsNoCommand (map string_bytes words.now)
+        → (exit_status result ≡ 2) ⊎ (exit_status result ≡ 5) ⊎ (exit_status result ≡ 7) }
 {
     let alloc = rt.alloc();
     let Ok(texts) = texts_of(alloc, words) else {

@@ -50,10 +50,15 @@ pub fn run_words<P: Place, G: Source, O: Sink, L: Ledger>(
     out: &mut O,
     steps: &mut Steps<L>,
 ) -> How
-    ensures ran { Ran (map (λ w. w.now) words.now) (P.file place.old) (P.app_faults place.old) (P.app_faults place.new) (streams (G.left gestures.old) (G.faults gestures.old) (O.taken out.old) (O.faults out.old) steps.old) (streams (G.left gestures.new) (G.faults gestures.new) (O.taken out.new) (O.faults out.new) steps.new) result }
+    ensures ran { Ran (map (λ w. w.now) words.now) (P.file place.old) (P.app_faults place.old)
+        (P.app_faults place.new) (streams (G.left gestures.old) (G.faults gestures.old)
+        (O.taken out.old) (O.faults out.old) steps.old)
+        (streams (G.left gestures.new) (G.faults gestures.new) (O.taken out.new) (O.faults out.new)
+        steps.new) result }
     ensures files { (name : List ℕ) → P.file place.new name ≡ P.file place.old name }
     ensures place_lent { P.lent place.new ≡ P.lent place.old }
-    ensures place_later { (name : List ℕ) → P.app_faults place.old name ≤ P.app_faults place.new name }
+    ensures place_later { (name : List ℕ)
+        → P.app_faults place.old name ≤ P.app_faults place.new name }
     ensures later { G.faults gestures.old ≤ G.faults gestures.new }
     ensures out_lent { O.lent out.new ≡ O.lent out.old }
     ensures out_later { O.faults out.old ≤ O.faults out.new }
@@ -80,7 +85,10 @@ fn run_text<G: Source, O: Sink, L: Ledger>(
     out: &mut O,
     steps: &mut Steps<L>,
 ) -> How
-    ensures ran { RanText text.now (streams (G.left gestures.old) (G.faults gestures.old) (O.taken out.old) (O.faults out.old) steps.old) (streams (G.left gestures.new) (G.faults gestures.new) (O.taken out.new) (O.faults out.new) steps.new) result }
+    ensures ran { RanText text.now (streams (G.left gestures.old) (G.faults gestures.old)
+        (O.taken out.old) (O.faults out.old) steps.old)
+        (streams (G.left gestures.new) (G.faults gestures.new) (O.taken out.new) (O.faults out.new)
+        steps.new) result }
     ensures later { G.faults gestures.old ≤ G.faults gestures.new }
     ensures out_lent { O.lent out.new ≡ O.lent out.old }
     ensures out_later { O.faults out.old ≤ O.faults out.new }
@@ -106,7 +114,10 @@ fn run_loaded<G: Source, O: Sink, L: Ledger>(
     out: &mut O,
     steps: &mut Steps<L>,
 ) -> How
-    ensures ran { RanLoaded loaded.app (streams (G.left gestures.old) (G.faults gestures.old) (O.taken out.old) (O.faults out.old) steps.old) (streams (G.left gestures.new) (G.faults gestures.new) (O.taken out.new) (O.faults out.new) steps.new) result }
+    ensures ran { RanLoaded loaded.app (streams (G.left gestures.old) (G.faults gestures.old)
+        (O.taken out.old) (O.faults out.old) steps.old)
+        (streams (G.left gestures.new) (G.faults gestures.new) (O.taken out.new) (O.faults out.new)
+        steps.new) result }
     ensures later { G.faults gestures.old ≤ G.faults gestures.new }
     ensures out_lent { O.lent out.new ≡ O.lent out.old }
     ensures out_later { O.faults out.old ≤ O.faults out.new }
@@ -152,7 +163,11 @@ fn serve<G: Source, O: Sink, L: Ledger>(
 ) -> End
     requires opening { IsOpening opening.old.loaded.app opening.old }
     requires none_ahead { room ≡ [] }
-    ensures ended { (spent : ℕ) → steps.old ≡ spent + opening_cost opening.old.loaded.app → EndsAs opening.old.loaded.app (streams (G.left gestures.old) (G.faults gestures.old) (O.taken out.old) (O.faults out.old) spent) (streams (G.left gestures.new) (G.faults gestures.new) (O.taken out.new) (O.faults out.new) steps.new) result }
+    ensures ended { (spent : ℕ) → steps.old ≡ spent + opening_cost opening.old.loaded.app
+        → EndsAs opening.old.loaded.app (streams (G.left gestures.old) (G.faults gestures.old)
+        (O.taken out.old) (O.faults out.old) spent)
+        (streams (G.left gestures.new) (G.faults gestures.new) (O.taken out.new)
+        (O.faults out.new) steps.new) result }
     ensures later { G.faults gestures.old ≤ G.faults gestures.new }
     ensures out_lent { O.lent out.new ≡ O.lent out.old }
     ensures out_later { O.faults out.old ≤ O.faults out.new }

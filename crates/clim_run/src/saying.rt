@@ -12,7 +12,8 @@ const USAGE: &str = "usage: clim_run run APP [--wire NAME] [--budget N] | check 
 /// Writes the usage line; false where the sink failed.
 pub fn say_usage<O: Sink>(out: &mut O) -> bool
     ensures lent { O.lent out.new ≡ O.lent out.old }
-    ensures says { Says result (O.taken out.old) (O.taken out.new) usage_line (O.faults out.old) (O.faults out.new) }
+    ensures says { Says result (O.taken out.old) (O.taken out.new) usage_line (O.faults out.old)
+        (O.faults out.new) }
     ensures later { O.faults out.old ≤ O.faults out.new }
 {
     write_all(out, USAGE.as_bytes())
@@ -22,7 +23,8 @@ pub fn say_usage<O: Sink>(out: &mut O) -> bool
 /// failed. It takes no memory.
 pub fn say_refusal<O: Sink>(out: &mut O, number: u8, offset: u32) -> bool
     ensures lent { O.lent out.new ≡ O.lent out.old }
-    ensures says { Says result (O.taken out.old) (O.taken out.new) (refusal_line number offset) (O.faults out.old) (O.faults out.new) }
+    ensures says { Says result (O.taken out.old) (O.taken out.new) (refusal_line number offset)
+        (O.faults out.old) (O.faults out.new) }
     ensures later { O.faults out.old ≤ O.faults out.new }
 {
     let mut number_digits = Buffer::new();
@@ -42,7 +44,8 @@ pub fn say_refusal<O: Sink>(out: &mut O, number: u8, offset: u32) -> bool
 // Writes pieces, one after another.
 fn write_pieces<O: Sink>(out: &mut O, pieces: &[&[u8]]) -> bool
     ensures lent { O.lent out.new ≡ O.lent out.old }
-    ensures puts { Puts result (O.taken out.old) (O.taken out.new) (joined (map (λ p. p.now) pieces.now)) [] (O.faults out.old) (O.faults out.new) }
+    ensures puts { Puts result (O.taken out.old) (O.taken out.new)
+        (joined (map (λ p. p.now) pieces.now)) [] (O.faults out.old) (O.faults out.new) }
     ensures later { O.faults out.old ≤ O.faults out.new }
 {
     for piece in pieces {

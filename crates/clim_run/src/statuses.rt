@@ -31,14 +31,55 @@ pub fn clim_main<P: Place, G: Source, O: Sink, L: Ledger>(
     steps: &mut Steps<L>,
 ) -> Status
     // What each status says.
-    ensures status_0 { result.0 ≡ 0 → Serves (map (λ w. w.now) words.now) (P.file place.old) (streams (G.left gestures.old) (G.faults gestures.old) (O.taken out.old) (O.faults out.old) steps.old) (streams (G.left gestures.new) (G.faults gestures.new) (O.taken out.new) (O.faults out.new) steps.new) end.Done }
-    ensures status_1 { result.0 ≡ 1 → Refuses (map (λ w. w.now) words.now) (P.file place.old) (streams (G.left gestures.old) (G.faults gestures.old) (O.taken out.old) (O.faults out.old) steps.old) (streams (G.left gestures.new) (G.faults gestures.new) (O.taken out.new) (O.faults out.new) steps.new) }
-    ensures status_2 { result.0 ≡ 2 → IsNoCommand (map (λ w. w.now) words.now) × SaysWhole (streams (G.left gestures.old) (G.faults gestures.old) (O.taken out.old) (O.faults out.old) steps.old) (streams (G.left gestures.new) (G.faults gestures.new) (O.taken out.new) (O.faults out.new) steps.new) usage_line }
-    ensures status_3 { result.0 ≡ 3 → AppFaultRose (map (λ w. w.now) words.now) (P.app_faults place.old) (P.app_faults place.new) × (streams (G.left gestures.new) (G.faults gestures.new) (O.taken out.new) (O.faults out.new) steps.new ≡ streams (G.left gestures.old) (G.faults gestures.old) (O.taken out.old) (O.faults out.old) steps.old) }
-    ensures status_4 { result.0 ≡ 4 → Serves (map (λ w. w.now) words.now) (P.file place.old) (streams (G.left gestures.old) (G.faults gestures.old) (O.taken out.old) (O.faults out.old) steps.old) (streams (G.left gestures.new) (G.faults gestures.new) (O.taken out.new) (O.faults out.new) steps.new) end.ReadFault }
-    ensures status_5 { result.0 ≡ 5 → OutputFailed (map (λ w. w.now) words.now) (P.file place.old) (streams (G.left gestures.old) (G.faults gestures.old) (O.taken out.old) (O.faults out.old) steps.old) (streams (G.left gestures.new) (G.faults gestures.new) (O.taken out.new) (O.faults out.new) steps.new) }
-    ensures status_7 { result.0 ≡ 7 → RanOutOfMemory (map (λ w. w.now) words.now) (P.file place.old) (streams (G.left gestures.old) (G.faults gestures.old) (O.taken out.old) (O.faults out.old) steps.old) (streams (G.left gestures.new) (G.faults gestures.new) (O.taken out.new) (O.faults out.new) steps.new) }
-    ensures status_8 { result.0 ≡ 8 → Serves (map (λ w. w.now) words.now) (P.file place.old) (streams (G.left gestures.old) (G.faults gestures.old) (O.taken out.old) (O.faults out.old) steps.old) (streams (G.left gestures.new) (G.faults gestures.new) (O.taken out.new) (O.faults out.new) steps.new) end.TooMany }
+    ensures status_0 { result.0 ≡ 0
+        → Serves (map (λ w. w.now) words.now) (P.file place.old)
+        (streams (G.left gestures.old) (G.faults gestures.old) (O.taken out.old)
+        (O.faults out.old) steps.old)
+        (streams (G.left gestures.new) (G.faults gestures.new) (O.taken out.new)
+        (O.faults out.new) steps.new) end.Done }
+    ensures status_1 { result.0 ≡ 1
+        → Refuses (map (λ w. w.now) words.now) (P.file place.old)
+        (streams (G.left gestures.old) (G.faults gestures.old) (O.taken out.old)
+        (O.faults out.old) steps.old)
+        (streams (G.left gestures.new) (G.faults gestures.new) (O.taken out.new)
+        (O.faults out.new) steps.new) }
+    ensures status_2 { result.0 ≡ 2
+        → IsNoCommand (map (λ w. w.now) words.now)
+        × SaysWhole (streams (G.left gestures.old) (G.faults gestures.old) (O.taken out.old)
+        (O.faults out.old) steps.old)
+        (streams (G.left gestures.new) (G.faults gestures.new) (O.taken out.new)
+        (O.faults out.new) steps.new) usage_line }
+    ensures status_3 { result.0 ≡ 3
+        → AppFaultRose (map (λ w. w.now) words.now) (P.app_faults place.old)
+        (P.app_faults place.new)
+        × (streams (G.left gestures.new) (G.faults gestures.new) (O.taken out.new)
+        (O.faults out.new) steps.new
+        ≡ streams (G.left gestures.old) (G.faults gestures.old) (O.taken out.old)
+        (O.faults out.old) steps.old) }
+    ensures status_4 { result.0 ≡ 4
+        → Serves (map (λ w. w.now) words.now) (P.file place.old)
+        (streams (G.left gestures.old) (G.faults gestures.old) (O.taken out.old)
+        (O.faults out.old) steps.old)
+        (streams (G.left gestures.new) (G.faults gestures.new) (O.taken out.new)
+        (O.faults out.new) steps.new) end.ReadFault }
+    ensures status_5 { result.0 ≡ 5
+        → OutputFailed (map (λ w. w.now) words.now) (P.file place.old)
+        (streams (G.left gestures.old) (G.faults gestures.old) (O.taken out.old)
+        (O.faults out.old) steps.old)
+        (streams (G.left gestures.new) (G.faults gestures.new) (O.taken out.new)
+        (O.faults out.new) steps.new) }
+    ensures status_7 { result.0 ≡ 7
+        → RanOutOfMemory (map (λ w. w.now) words.now) (P.file place.old)
+        (streams (G.left gestures.old) (G.faults gestures.old) (O.taken out.old)
+        (O.faults out.old) steps.old)
+        (streams (G.left gestures.new) (G.faults gestures.new) (O.taken out.new)
+        (O.faults out.new) steps.new) }
+    ensures status_8 { result.0 ≡ 8
+        → Serves (map (λ w. w.now) words.now) (P.file place.old)
+        (streams (G.left gestures.old) (G.faults gestures.old) (O.taken out.old)
+        (O.faults out.old) steps.old)
+        (streams (G.left gestures.new) (G.faults gestures.new) (O.taken out.new)
+        (O.faults out.new) steps.new) end.TooMany }
     ensures no_other { IsStatus result.0 }
 
     // When they are due.
@@ -51,7 +92,8 @@ pub fn clim_main<P: Place, G: Source, O: Sink, L: Ledger>(
 
     ensures files { (name : List ℕ) → P.file place.new name ≡ P.file place.old name }
     ensures place_lent { P.lent place.new ≡ P.lent place.old }
-    ensures place_later { (name : List ℕ) → P.app_faults place.old name ≤ P.app_faults place.new name }
+    ensures place_later { (name : List ℕ)
+        → P.app_faults place.old name ≤ P.app_faults place.new name }
     ensures later { G.faults gestures.old ≤ G.faults gestures.new }
     ensures out_lent { O.lent out.new ≡ O.lent out.old }
     ensures out_later { O.faults out.old ≤ O.faults out.new }

@@ -35,7 +35,8 @@ enum PieceRead {
 /// Reads the file of this name to its end, or up to 1,048,577 bytes.
 pub fn read_text<P: Place>(alloc: Global, place: &mut P, name: &str) -> TextRead
     ensures text { ReadsText (P.file place.old name.now) result }
-    ensures cause { TextRose (P.app_faults place.old name.now) (P.app_faults place.new name.now) result }
+    ensures cause { TextRose (P.app_faults place.old name.now) (P.app_faults place.new name.now)
+        result }
     ensures files { (other : List ℕ) → P.file place.new other ≡ P.file place.old other }
     ensures later { (other : List ℕ) → P.app_faults place.old other ≤ P.app_faults place.new other }
     ensures lent { P.lent place.new ≡ P.lent place.old }
@@ -51,7 +52,8 @@ pub fn read_text<P: Place>(alloc: Global, place: &mut P, name: &str) -> TextRead
 fn read_opened<P: Place>(alloc: Global, place: &mut P) -> TextRead
     requires { P.opened place.old ≡ true }
     ensures text { ReadsOpened (P.left place.old) (P.left place.new) result }
-    ensures cause { (name : List ℕ) → P.reads place.old name → TextRose (P.app_faults place.old name) (P.app_faults place.new name) result }
+    ensures cause { (name : List ℕ) → P.reads place.old name
+        → TextRose (P.app_faults place.old name) (P.app_faults place.new name) result }
     ensures files { (other : List ℕ) → P.file place.new other ≡ P.file place.old other }
     ensures later { (other : List ℕ) → P.app_faults place.old other ≤ P.app_faults place.new other }
     ensures lent { P.lent place.new ≡ P.lent place.old }
@@ -72,8 +74,10 @@ fn read_opened<P: Place>(alloc: Global, place: &mut P) -> TextRead
 fn read_piece<P: Place>(place: &mut P, text: &mut Vec<u8>) -> PieceRead
     requires open { P.opened place.old ≡ true }
     requires short { vec_len text.old < MOST_BYTES }
-    ensures piece { PieceOf (P.left place.old) (P.left place.new) text.old.items text.new.items result }
-    ensures cause { (name : List ℕ) → P.reads place.old name → PieceRose (P.app_faults place.old name) (P.app_faults place.new name) result }
+    ensures piece { PieceOf (P.left place.old) (P.left place.new) text.old.items text.new.items
+        result }
+    ensures cause { (name : List ℕ) → P.reads place.old name
+        → PieceRose (P.app_faults place.old name) (P.app_faults place.new name) result }
     ensures files { (other : List ℕ) → P.file place.new other ≡ P.file place.old other }
     ensures later { (other : List ℕ) → P.app_faults place.old other ≤ P.app_faults place.new other }
     ensures lent { P.lent place.new ≡ P.lent place.old }
