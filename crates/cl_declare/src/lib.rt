@@ -15,8 +15,6 @@ mod rows;
 mod slot_types;
 mod slots;
 mod statements;
-#[cfg(test)]
-mod tests;
 
 pub use declarations::{Declarations, declarations_in};
 pub use display_forms::{shape_in, shapes_in};

@@ -15,8 +15,6 @@ mod operators;
 mod programs;
 mod records;
 mod slot_table;
-#[cfg(test)]
-mod tests;
 mod texts;
 mod traversal;
 mod variables;

@@ -15,8 +15,6 @@ mod record_terms;
 mod refusals;
 mod scopes;
 mod terms;
-#[cfg(test)]
-mod tests;
 mod type_names;
 mod words;
 mod worlds;

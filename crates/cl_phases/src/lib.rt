@@ -7,8 +7,6 @@ mod laws;
 mod limits;
 mod repeats;
 mod slot_reads;
-#[cfg(test)]
-mod tests;
 mod twice;
 
 pub use laws::reads_are_uses;

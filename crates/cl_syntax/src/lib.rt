@@ -1,4 +1,4 @@
-// The trees of the application language.
+//! The trees of the application language.
 #![tactic(auto)]
 
 mod applications;
@@ -10,8 +10,6 @@ mod names;
 mod operators;
 mod statements;
 mod tables;
-#[cfg(test)]
-mod tests;
 mod type_specs;
 
 pub use applications::App;

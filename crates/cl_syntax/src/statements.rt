@@ -122,7 +122,8 @@ impl Act {
 
     /// `(let ((NAME E) ...) STATEMENT ...)`: each binding sees the earlier ones.
     pub fn bind(bindings: Vec<Binding>, body: Acts) -> Act
-        ensures { result ≡ statement.bind (bindings_of bindings.items) (statement.statements_of body) }
+        ensures { result
+            ≡ statement.bind (bindings_of bindings.items) (statement.statements_of body) }
     {
         Act {
             kind: ActKind::Let(bindings, body),

@@ -62,7 +62,8 @@ impl<D: Declared> Table<D> {
     /// Puts a declaration behind the others. Where memory is wanting, it hands it back.
     pub fn add(&mut self, declaration: D) -> Result<(), D>
         requires { named (D.own_name declaration) self.old ≡ None }
-        ensures ok { OnOk result (self.new ≡ self.old ++ (D.own_name declaration, declaration) ∷ []) }
+        ensures ok { OnOk result
+            (self.new ≡ self.old ++ (D.own_name declaration, declaration) ∷ []) }
         ensures err { OnErr result (self.new ≡ self.old) }
         ensures handed_back { IfErr result (λ d. d ≡ declaration) }
     {

@@ -1,5 +1,5 @@
 //! A text and its forms, and whole expressions as texts.
-use crate::{Form, LoadRefusal, Scope, all_forms, data_in, expr_in, world_of};
+use cl_forms::{Form, LoadRefusal, Scope, all_forms, data_in, expr_in, world_of};
 use cl_sexp::read_forms;
 use std::alloc::Global;
 use std::test::Fail;

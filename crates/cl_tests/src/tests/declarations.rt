@@ -1,5 +1,5 @@
 //! Display forms and statements as texts.
-use crate::{act_in, shape_in};
+use cl_declare::{act_in, shape_in};
 use cl_forms::{Datum, LoadRefusal, Scope, World, all_forms, data_in, world_of};
 use cl_sexp::read_forms;
 use std::alloc::Global;

@@ -1,5 +1,5 @@
 //! What no clause says: that calls succeed while there is memory.
-use super::*;
+use cl_syntax::{Act, Expr, Names, RecordDecl, Records, Shape};
 use cl_value::{Text, Value};
 use std::alloc::{AllocError, Global};
 use std::test::Fail;

@@ -1,6 +1,6 @@
 //! What is found in whole texts. Offsets are those of a separate reference.
-use crate::{any_reads_slot, first_past, first_twice};
 use cl_forms::{Datum, Datums, Scope, World, all_forms, data_in, expr_in, name_in, world_of};
+use cl_phases::{any_reads_slot, first_past, first_twice};
 use cl_sexp::read_forms;
 use cl_syntax::{Expr, FunctionDecl, Functions, Names, SlotDecl, SlotDecls, TypeSpec};
 use cl_value::Text;

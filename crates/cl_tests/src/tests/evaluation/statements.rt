@@ -7,8 +7,8 @@ use super::trees::Step::{
     Calculate, Chars, Compare, Int, Lists, Null, Slot, Texts, Truth, Variable,
 };
 use super::trees::{Step, text, tree};
-use crate::{Executed, Limits, Lines, Slots, Types, exec};
 use Deed::{Dolist, If, Let, Progn, Reply, Setf, When};
+use cl_eval::{Executed, Limits, Lines, Slots, Types, exec};
 use cl_outside::own_steps;
 use cl_syntax::Arithmetic::{Add, Quotient};
 use cl_syntax::Comparison::Greater;

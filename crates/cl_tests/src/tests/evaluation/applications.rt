@@ -1,7 +1,7 @@
 //! The application of the tests: the record `point`, the functions `twice` and `forever`, and the slot `count`.
 use super::trees::Step::{Calculate, Call, Variable};
 use super::trees::{Step, names, text, tree};
-use crate::{Env, Slots};
+use cl_eval::{Env, Slots};
 use cl_syntax::Arithmetic::Add;
 use cl_syntax::{
     App, Commands, Displays, Expr, FrameDecl, FunctionDecl, Functions, PaneDecl, RecordDecl,

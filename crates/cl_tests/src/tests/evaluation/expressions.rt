@@ -5,7 +5,7 @@ use super::trees::Step::{
     Lists, Make, Map, Name, Not, Null, Or, Slot, Texts, Truth, Variable, With,
 };
 use super::trees::{Step, tree};
-use crate::{Env, Evaluated, Limits, Slots, eval};
+use cl_eval::{Env, Evaluated, Limits, Slots, eval};
 use cl_outside::own_steps;
 use cl_syntax::Arithmetic::{Add, Multiply, Quotient, Subtract};
 use cl_syntax::Comparison::Greater;
