@@ -155,8 +155,9 @@ pub first_fault_has_least_offset : (w : World) (ds : List Datum) (u : Unknown) (
     → declarations_of w ds u ≡ Err (n, o) → IsLeastFault w ds n o
 first_fault_has_least_offset w ds u n o i h =
     let one = owner w ds nothing_read u n o h in
-    record
-      form = one.0
-      stands = one.1.0
-      has = one.1.1
-      least = λ d m p c f. All-contains (NoneBelow w o) ds d (least w ds nothing_read u n o i h) c nothing_read u m p (f nothing_read u)
+    record {
+      form = one.0;
+      stands = one.1.0;
+      has = one.1.1;
+      least = λ d m p c f. All-contains (NoneBelow w o) ds d (least w ds nothing_read u n o i h) c nothing_read u m p (f nothing_read u);
+    }
