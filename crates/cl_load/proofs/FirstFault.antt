@@ -1,5 +1,5 @@
 -- The fault that is found first in the forms of a text is the one of least offset.
-use Rattle.std.proofs.Common.{◌≡◌, ◌≤◌, ℕ, suc, Bool, true, false, if◌then◌else◌, List, [], ◌∷◌, All, Contains, IfErr, refl, sym, ap, ◌∙◌, subst, le_of_eq, le_of_lt}
+use Rattle.std.proofs.Common.{◌≡◌, ◌≤◌, ℕ, suc, arith, Bool, true, false, if◌then◌else◌, List, [], ◌∷◌, All, Contains, IfErr, refl, sym, ap, ◌∙◌, subst, le_of_eq, le_of_lt}
 use Rattle.std.specs.Prelude.{Option, Some, None, Result, Ok, Err}
 use Rattle.std.proofs.lemmas.List.Elements.{All-nil, All-cons, All-contains, All-weaker}
 use Rattle.cl_forms.specs.Datum.{Datum, word, parts_of, offset}
