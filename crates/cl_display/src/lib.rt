@@ -9,8 +9,6 @@ mod forms;
 mod histories;
 mod laws;
 mod settings;
-#[cfg(test)]
-mod tests;
 
 pub use displays::{Shown, display};
 pub use histories::History;

@@ -21,6 +21,3 @@ pub use laws::{
     cutting_keeps_the_bytes, gestures_are_spelled, pieces_are_well_cut, there_is_one_cut,
 };
 pub use reader::Gestures;
-
-#[cfg(test)]
-mod tests;

@@ -12,8 +12,6 @@ mod laws;
 mod leaves;
 mod lines;
 mod placing;
-#[cfg(test)]
-mod tests;
 mod texts;
 
 pub use ambients::{Ambient, enter_room, indent, leave_room, newline};

@@ -47,6 +47,3 @@ pub use reader_source::ReaderSource;
 pub use sinks::Sink;
 pub use sources::Source;
 pub use writer_sink::WriterSink;
-
-#[cfg(test)]
-mod tests;

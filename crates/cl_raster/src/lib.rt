@@ -3,8 +3,6 @@
 
 mod filling;
 mod rasters;
-#[cfg(test)]
-mod tests;
 
 pub use filling::clip;
 pub use rasters::Raster;

@@ -12,8 +12,6 @@ mod nodes;
 mod printing;
 mod replaying;
 mod shifts;
-#[cfg(test)]
-mod tests;
 mod values;
 
 pub use canvases::Canvas;

@@ -4,8 +4,6 @@
 mod areas;
 mod items;
 mod painting;
-#[cfg(test)]
-mod tests;
 mod windows;
 
 pub use areas::Area;

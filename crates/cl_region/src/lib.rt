@@ -3,8 +3,6 @@
 
 mod rects;
 mod regions;
-#[cfg(test)]
-mod tests;
 
 pub use rects::{FURTHEST, Rect, Shift};
 pub use regions::Region;

@@ -12,8 +12,6 @@ mod begin;
 mod byte;
 mod laws;
 mod quoted;
-#[cfg(test)]
-mod tests;
 mod word;
 
 pub use laws::{first_fault_is_told, tokens_are_read, tokens_join, tokens_lie, tokens_rise};

@@ -20,8 +20,6 @@ mod laws;
 mod measure;
 mod order;
 mod row;
-#[cfg(test)]
-mod tests;
 
 pub use laws::{
     data_tells_values, depth_within_size, measures_agree, order_is_total, order_tells_values,
