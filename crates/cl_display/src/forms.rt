@@ -120,11 +120,29 @@ fn draw_parts<L: Ledger>(
             meter,
             steps,
         ),
-        ShapeKind::If(test, then, other) => {
-            if evaluate_test(context, test, scope, left, level, meter, steps)? {
-                draw(context, then, scope, left, level, drawing, meter, steps)
+        ShapeKind::If(choice) => {
+            if evaluate_test(context, &choice.test, scope, left, level, meter, steps)? {
+                draw(
+                    context,
+                    &choice.then,
+                    scope,
+                    left,
+                    level,
+                    drawing,
+                    meter,
+                    steps,
+                )
             } else {
-                draw(context, other, scope, left, level, drawing, meter, steps)
+                draw(
+                    context,
+                    &choice.other,
+                    scope,
+                    left,
+                    level,
+                    drawing,
+                    meter,
+                    steps,
+                )
             }
         }
         ShapeKind::When(test, body) => {

@@ -70,11 +70,11 @@ fn evaluate_parts<L: Ledger>(
         ExprKind::Constant(value) => Ok(value.copy()?),
         ExprKind::Variable(name) => find_value(scope.get(name.as_slice())),
         ExprKind::Slot(name) => find_value(context.slots.get(name.as_slice())),
-        ExprKind::If(test, then, other) => {
-            if evaluate_test(context, test, scope, left, level, meter, steps)? {
-                evaluate(context, then, scope, left, level, meter, steps)
+        ExprKind::If(choice) => {
+            if evaluate_test(context, &choice.test, scope, left, level, meter, steps)? {
+                evaluate(context, &choice.then, scope, left, level, meter, steps)
             } else {
-                evaluate(context, other, scope, left, level, meter, steps)
+                evaluate(context, &choice.other, scope, left, level, meter, steps)
             }
         }
         ExprKind::Let(bindings, body) => {
@@ -82,13 +82,13 @@ fn evaluate_parts<L: Ledger>(
         }
         ExprKind::And(parts) => evaluate_every(context, parts, scope, left, level, meter, steps),
         ExprKind::Or(parts) => evaluate_some(context, parts, scope, left, level, meter, steps),
-        ExprKind::Map(name, list, body) => {
-            let list = evaluate_list(context, list, scope, left, level, meter, steps)?;
+        ExprKind::Map(each) => {
+            let list = evaluate_list(context, &each.list, scope, left, level, meter, steps)?;
             let values = map_over(
                 context,
-                name,
+                &each.name,
                 list.as_slice(),
-                body,
+                &each.body,
                 scope,
                 left,
                 level,
@@ -97,13 +97,13 @@ fn evaluate_parts<L: Ledger>(
             )?;
             limit(Value::List(values))
         }
-        ExprKind::Filter(name, list, body) => {
-            let list = evaluate_list(context, list, scope, left, level, meter, steps)?;
+        ExprKind::Filter(each) => {
+            let list = evaluate_list(context, &each.list, scope, left, level, meter, steps)?;
             let values = filter_over(
                 context,
-                name,
+                &each.name,
                 list.as_slice(),
-                body,
+                &each.body,
                 scope,
                 left,
                 level,
@@ -112,17 +112,17 @@ fn evaluate_parts<L: Ledger>(
             )?;
             limit(Value::List(values))
         }
-        ExprKind::Fold(name, list, accumulator, opening, body) => {
-            let list = evaluate(context, list, scope, left, level, meter, steps)?;
-            let opening = evaluate(context, opening, scope, left, level, meter, steps)?;
+        ExprKind::Fold(fold) => {
+            let list = evaluate(context, &fold.list, scope, left, level, meter, steps)?;
+            let opening = evaluate(context, &fold.opening, scope, left, level, meter, steps)?;
             let list = elements(list)?;
             fold_over(
                 context,
-                name,
+                &fold.name,
                 list.as_slice(),
-                accumulator,
+                &fold.accumulator,
                 opening,
-                body,
+                &fold.body,
                 scope,
                 left,
                 level,

@@ -168,10 +168,10 @@ fn act_parts<T: Types, L: Ledger>(
             )?;
             reply(effects, text)
         }
-        ActKind::If(test, then, other) => {
+        ActKind::If(choice) => {
             if is_true(
                 program,
-                test,
+                &choice.test,
                 &effects.slots,
                 scope,
                 left,
@@ -179,9 +179,27 @@ fn act_parts<T: Types, L: Ledger>(
                 meter,
                 steps,
             )? {
-                act(program, then, scope, left, level, effects, meter, steps)
+                act(
+                    program,
+                    &choice.then,
+                    scope,
+                    left,
+                    level,
+                    effects,
+                    meter,
+                    steps,
+                )
             } else {
-                act(program, other, scope, left, level, effects, meter, steps)
+                act(
+                    program,
+                    &choice.other,
+                    scope,
+                    left,
+                    level,
+                    effects,
+                    meter,
+                    steps,
+                )
             }
         }
         ActKind::When(test, body) => {

@@ -128,16 +128,16 @@ fn names_slot(expr: &Expr) -> bool
         ExprKind::Constant(_) => false,
         ExprKind::Variable(_) => false,
         ExprKind::Slot(_) => true,
-        ExprKind::If(test, then, other) => {
-            names_slot(test) || names_slot(then) || names_slot(other)
+        ExprKind::If(choice) => {
+            names_slot(&choice.test) || names_slot(&choice.then) || names_slot(&choice.other)
         }
         ExprKind::Let(bindings, body) => names_slot_bound(bindings) || names_slot(body),
         ExprKind::And(parts) => names_slot_among(parts),
         ExprKind::Or(parts) => names_slot_among(parts),
-        ExprKind::Map(_, list, body) => names_slot(list) || names_slot(body),
-        ExprKind::Filter(_, list, body) => names_slot(list) || names_slot(body),
-        ExprKind::Fold(_, list, _, opening, body) => {
-            names_slot(list) || names_slot(opening) || names_slot(body)
+        ExprKind::Map(each) => names_slot(&each.list) || names_slot(&each.body),
+        ExprKind::Filter(each) => names_slot(&each.list) || names_slot(&each.body),
+        ExprKind::Fold(fold) => {
+            names_slot(&fold.list) || names_slot(&fold.opening) || names_slot(&fold.body)
         }
         ExprKind::Operation(_, parts) => names_slot_among(parts),
         ExprKind::Call(_, parts) => names_slot_among(parts),
@@ -179,10 +179,10 @@ fn add_calls(expr: &Expr, names: &mut Names) -> Result<(), AllocError>
         ExprKind::Constant(_) => Ok(()),
         ExprKind::Variable(_) => Ok(()),
         ExprKind::Slot(_) => Ok(()),
-        ExprKind::If(test, then, other) => {
-            add_calls(test, names)?;
-            add_calls(then, names)?;
-            add_calls(other, names)
+        ExprKind::If(choice) => {
+            add_calls(&choice.test, names)?;
+            add_calls(&choice.then, names)?;
+            add_calls(&choice.other, names)
         }
         ExprKind::Let(bindings, body) => {
             add_calls_bound(bindings, names)?;
@@ -190,18 +190,18 @@ fn add_calls(expr: &Expr, names: &mut Names) -> Result<(), AllocError>
         }
         ExprKind::And(parts) => add_calls_among(parts, names),
         ExprKind::Or(parts) => add_calls_among(parts, names),
-        ExprKind::Map(_, list, body) => {
-            add_calls(list, names)?;
-            add_calls(body, names)
+        ExprKind::Map(each) => {
+            add_calls(&each.list, names)?;
+            add_calls(&each.body, names)
         }
-        ExprKind::Filter(_, list, body) => {
-            add_calls(list, names)?;
-            add_calls(body, names)
+        ExprKind::Filter(each) => {
+            add_calls(&each.list, names)?;
+            add_calls(&each.body, names)
         }
-        ExprKind::Fold(_, list, _, opening, body) => {
-            add_calls(list, names)?;
-            add_calls(opening, names)?;
-            add_calls(body, names)
+        ExprKind::Fold(fold) => {
+            add_calls(&fold.list, names)?;
+            add_calls(&fold.opening, names)?;
+            add_calls(&fold.body, names)
         }
         ExprKind::Operation(_, parts) => add_calls_among(parts, names),
         ExprKind::Call(name, parts) => {

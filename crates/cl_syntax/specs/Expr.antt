@@ -15,12 +15,13 @@ abbrev pub term_of : ExprKind → Term
 term_of (kind.Constant v) = term.constant (data_of v)
 term_of (kind.Variable x) = term.variable x
 term_of (kind.Slot x) = term.slot x
-term_of (kind.If t u v) = term.choice t.value u.value v.value
+term_of (kind.If c) = term.choice c.value.test c.value.then c.value.other
 term_of (kind.Let bs t) = term.bind (bindings_of bs.items) t.value
 term_of (kind.And ts) = term.every (terms_of ts.items)
 term_of (kind.Or ts) = term.some (terms_of ts.items)
-term_of (kind.Map x t u) = term.map x t.value u.value
-term_of (kind.Filter x t u) = term.filter x t.value u.value
-term_of (kind.Fold x t a u v) = term.fold x t.value a u.value v.value
+term_of (kind.Map e) = term.map e.value.name e.value.list e.value.body
+term_of (kind.Filter e) = term.filter e.value.name e.value.list e.value.body
+term_of (kind.Fold f) =
+    term.fold f.value.name f.value.list f.value.accumulator f.value.opening f.value.body
 term_of (kind.Operation o ts) = term.operation o (terms_of ts.items)
 term_of (kind.Call f ts) = term.call f (terms_of ts.items)

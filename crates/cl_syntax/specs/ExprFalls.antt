@@ -21,12 +21,12 @@ pub kind-nodes : (k : ExprKind) → deep-ExprKind k ≤ nodes (term_of k)
 kind-nodes (kind.Constant v) = omega arith
 kind-nodes (kind.Variable x) = omega arith
 kind-nodes (kind.Slot x) = omega arith
-kind-nodes (kind.If t u v) = omega arith
+kind-nodes (kind.If c) = omega arith
 kind-nodes (kind.Let bs t) = omega (arith, most-bound bs.items)
 kind-nodes (kind.And ts) = omega (arith, most-nodes ts.items)
 kind-nodes (kind.Or ts) = omega (arith, most-nodes ts.items)
-kind-nodes (kind.Map x t u) = omega arith
-kind-nodes (kind.Filter x t u) = omega arith
-kind-nodes (kind.Fold x t a u v) = omega arith
+kind-nodes (kind.Map e) = omega arith
+kind-nodes (kind.Filter e) = omega arith
+kind-nodes (kind.Fold f) = omega arith
 kind-nodes (kind.Operation o ts) = omega (arith, most-nodes ts.items)
 kind-nodes (kind.Call f ts) = omega (arith, most-nodes ts.items)

@@ -34,7 +34,7 @@ pub enum ShapeKind {
     /// `(with-room-for-graphics FORM ...)`
     Room(Shapes),
     /// `(if TEST THEN ELSE)`
-    If(Expr, Box<Shape>, Box<Shape>),
+    If(Box<ShapeChoice>),
     /// `(when TEST FORM ...)`
     When(Expr, Shapes),
     /// `(let ((NAME E) ...) FORM ...)`
@@ -52,6 +52,15 @@ pub enum ShapeKind {
 #[derive(Drop)]
 pub struct Shapes {
     items: Vec<Shape>,
+}
+
+/// A test, and the form that draws where it is true and where it is false.
+#[cycle(shape)]
+#[derive(Drop)]
+pub struct ShapeChoice {
+    pub test: Expr,
+    pub then: Shape,
+    pub other: Shape,
 }
 
 impl Model for Shape {
@@ -154,8 +163,9 @@ impl Shape {
     pub fn choice(alloc: Global, test: Expr, then: Shape, other: Shape) -> Result<Shape, AllocError>
         ensures { IfOk result (λ s. s ≡ form.choice test then other) }
     {
+        let choice = ShapeChoice { test, then, other };
         Ok(Shape {
-            kind: ShapeKind::If(test, Box::new(alloc, then)?, Box::new(alloc, other)?),
+            kind: ShapeKind::If(Box::new(alloc, choice)?),
         })
     }
 

@@ -26,7 +26,7 @@ pub enum ExprKind {
     /// `(slot NAME)`
     Slot(Text),
     /// `(if TEST THEN ELSE)`
-    If(Box<Expr>, Box<Expr>, Box<Expr>),
+    If(Box<ExprChoice>),
     /// `(let ((NAME E) ...) BODY)`
     Let(Vec<Binding>, Box<Expr>),
     /// `(and E ...)`
@@ -34,11 +34,11 @@ pub enum ExprKind {
     /// `(or E ...)`
     Or(Vec<Expr>),
     /// `(map NAME LIST BODY)`
-    Map(Text, Box<Expr>, Box<Expr>),
+    Map(Box<Iteration>),
     /// `(filter NAME LIST BODY)`
-    Filter(Text, Box<Expr>, Box<Expr>),
+    Filter(Box<Iteration>),
     /// `(fold NAME LIST ACCUMULATOR OPENING BODY)`
-    Fold(Text, Box<Expr>, Text, Box<Expr>, Box<Expr>),
+    Fold(Box<Folding>),
     /// An operator over the values of its parts.
     Operation(Operator, Vec<Expr>),
     /// `(FUNCTION E ...)`
@@ -51,6 +51,36 @@ pub enum ExprKind {
 pub struct Binding {
     pub name: Text,
     pub value: Expr,
+}
+
+/// A test, and what is evaluated where it is true and where it is false.
+#[cycle(expr)]
+#[derive(Drop)]
+pub struct ExprChoice {
+    pub test: Expr,
+    pub then: Expr,
+    pub other: Expr,
+}
+
+/// A name for each element of a list, and what is evaluated for each.
+#[cycle(expr)]
+#[derive(Drop)]
+pub struct Iteration {
+    pub name: Text,
+    pub list: Expr,
+    pub body: Expr,
+}
+
+/// A name for each element of a list, a name for what is there so far with its opening, and what is
+/// evaluated for each.
+#[cycle(expr)]
+#[derive(Drop)]
+pub struct Folding {
+    pub name: Text,
+    pub list: Expr,
+    pub accumulator: Text,
+    pub opening: Expr,
+    pub body: Expr,
 }
 
 impl Model for Expr {
@@ -106,11 +136,9 @@ impl Expr {
     pub fn choice(alloc: Global, test: Expr, then: Expr, other: Expr) -> Result<Expr, AllocError>
         ensures { IfOk result (λ e. e ≡ term.choice test then other) }
     {
-        let test = Box::new(alloc, test)?;
-        let then = Box::new(alloc, then)?;
-        let other = Box::new(alloc, other)?;
+        let choice = ExprChoice { test, then, other };
         Ok(Expr {
-            kind: ExprKind::If(test, then, other),
+            kind: ExprKind::If(Box::new(alloc, choice)?),
         })
     }
 
@@ -145,8 +173,9 @@ impl Expr {
     pub fn map(alloc: Global, name: Text, list: Expr, body: Expr) -> Result<Expr, AllocError>
         ensures { IfOk result (λ e. e ≡ term.map name list body) }
     {
+        let each = Iteration { name, list, body };
         Ok(Expr {
-            kind: ExprKind::Map(name, Box::new(alloc, list)?, Box::new(alloc, body)?),
+            kind: ExprKind::Map(Box::new(alloc, each)?),
         })
     }
 
@@ -154,8 +183,9 @@ impl Expr {
     pub fn filter(alloc: Global, name: Text, list: Expr, body: Expr) -> Result<Expr, AllocError>
         ensures { IfOk result (λ e. e ≡ term.filter name list body) }
     {
+        let each = Iteration { name, list, body };
         Ok(Expr {
-            kind: ExprKind::Filter(name, Box::new(alloc, list)?, Box::new(alloc, body)?),
+            kind: ExprKind::Filter(Box::new(alloc, each)?),
         })
     }
 
@@ -170,11 +200,15 @@ impl Expr {
     ) -> Result<Expr, AllocError>
         ensures { IfOk result (λ e. e ≡ term.fold name list accumulator opening body) }
     {
-        let list = Box::new(alloc, list)?;
-        let opening = Box::new(alloc, opening)?;
-        let body = Box::new(alloc, body)?;
+        let fold = Folding {
+            name,
+            list,
+            accumulator,
+            opening,
+            body,
+        };
         Ok(Expr {
-            kind: ExprKind::Fold(name, list, accumulator, opening, body),
+            kind: ExprKind::Fold(Box::new(alloc, fold)?),
         })
     }
 

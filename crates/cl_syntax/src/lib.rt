@@ -17,11 +17,11 @@ pub use declarations::{
     CommandDecl, Commands, DisplayDecl, Displays, FrameDecl, FunctionDecl, Functions, PaneDecl,
     RecordDecl, Records, SlotDecl, SlotDecls,
 };
-pub use display_forms::{Shape, ShapeKind, Shapes};
-pub use expressions::{Binding, Expr, ExprKind};
+pub use display_forms::{Shape, ShapeChoice, ShapeKind, Shapes};
+pub use expressions::{Binding, Expr, ExprChoice, ExprKind, Folding, Iteration};
 pub use figures::Figure;
 pub use names::Names;
 pub use operators::{Arithmetic, Comparison, ListOperator, Operator, RecordOperator, TextOperator};
-pub use statements::{Act, ActKind, Acts};
+pub use statements::{Act, ActChoice, ActKind, Acts};
 pub use tables::{Declared, Table};
 pub use type_specs::TypeSpec;

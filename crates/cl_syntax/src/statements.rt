@@ -24,7 +24,7 @@ pub enum ActKind {
     /// `(reply E)`
     Reply(Expr),
     /// `(if TEST THEN ELSE)`
-    If(Expr, Box<Act>, Box<Act>),
+    If(Box<ActChoice>),
     /// `(when TEST STATEMENT ...)`
     When(Expr, Acts),
     /// `(let ((NAME E) ...) STATEMENT ...)`
@@ -40,6 +40,15 @@ pub enum ActKind {
 #[derive(Drop)]
 pub struct Acts {
     items: Vec<Act>,
+}
+
+/// A test, and the statement that runs where it is true and where it is false.
+#[cycle(act)]
+#[derive(Drop)]
+pub struct ActChoice {
+    pub test: Expr,
+    pub then: Act,
+    pub other: Act,
 }
 
 impl Model for Act {
@@ -106,8 +115,9 @@ impl Act {
     pub fn choice(alloc: Global, test: Expr, then: Act, other: Act) -> Result<Act, AllocError>
         ensures { IfOk result (λ a. a ≡ statement.choice test then other) }
     {
+        let choice = ActChoice { test, then, other };
         Ok(Act {
-            kind: ActKind::If(test, Box::new(alloc, then)?, Box::new(alloc, other)?),
+            kind: ActKind::If(Box::new(alloc, choice)?),
         })
     }
 
