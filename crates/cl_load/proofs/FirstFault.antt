@@ -159,5 +159,5 @@ first_fault_has_least_offset w ds u n o i h =
       form = one.0;
       stands = one.1.0;
       has = one.1.1;
-      least = λ d m p c f. All-contains (NoneBelow w o) ds d (least w ds nothing_read u n o i h) c nothing_read u m p (f nothing_read u);
+      least = λ d s v m p c f. All-contains (NoneBelow w o) ds d (least w ds nothing_read u n o i h) c s v m p f;
     }

@@ -32,9 +32,10 @@ AreInOrder (d ∷ ds) = All (IsBefore d) ds × AreInOrder ds
 abbrev pub HasFault : World → Datum → (number at : ℕ) → Type 0
 HasFault w d n o = (s : Declared) (u : Unknown) → declared_by w d s u ≡ Err (n, o)
 
--- one of the forms has this fault, and none has one of a smaller offset
+-- one of the forms has this fault whatever was read before, and no form has, behind any reading, one of a smaller offset
 pub record IsLeastFault (w : World) (ds : List Datum) (number at : ℕ) : Type 0 where
   pub form : Datum
   pub stands : Contains ds form
   pub has : HasFault w form number at
-  pub least : (d : Datum) (m p : ℕ) → Contains ds d → HasFault w d m p → at ≤ p
+  pub least : (d : Datum) (s : Declared) (u : Unknown) (m p : ℕ) → Contains ds d
+      → declared_by w d s u ≡ Err (m, p) → at ≤ p
