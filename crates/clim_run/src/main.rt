@@ -2,19 +2,13 @@
 //! replies to standard output.
 #![tactic(auto)]
 
-mod running;
-mod saying;
-mod statuses;
-mod texts;
-mod words;
-
 ghost use Rattle.std.specs.Prelude.{◌≡◌, ◌⊎◌, ℕ, IfOk, List, map, string_bytes};
 ghost use Rattle.std.specs.Process.{exit_status};
-ghost use Rattle.clim_run.specs.Command.{IsNoCommand, IsRun};
-ghost use Rattle.clim_run.specs.Statuses.{IsStatus};
+ghost use Rattle.cl_program.specs.Command.{IsNoCommand, IsRun};
+ghost use Rattle.cl_program.specs.Statuses.{IsStatus};
 
-use crate::statuses::{Status, clim_main};
 use cl_outside::{FilePlace, ReaderSource, WriterSink, own_steps};
+use cl_program::{Status, clim_main};
 use std::alloc::{AllocError, Global};
 use std::process::ExitCode;
 use std::{env, io};
@@ -83,6 +77,3 @@ fn exit_code(status: Status) -> ExitCode
     let Status(code) = status;
     ExitCode::from(code)
 }
-
-#[cfg(test)]
-mod tests;

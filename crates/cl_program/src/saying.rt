@@ -1,0 +1,57 @@
+ghost use Rattle.std.specs.Prelude.{◌≡◌, ◌≤◌, [], map};
+ghost use Rattle.cl_session.specs.Writing.{Puts, Says, joined};
+ghost use Rattle.cl_program.specs.Command.{refusal_line, usage_line};
+
+use cl_outside::Sink;
+use cl_session::write_all;
+use itoa::Buffer;
+
+/// The line that is said of words that are no command.
+const USAGE: &str = "usage: clim_run run APP [--wire NAME] [--budget N] | check APP | bench N\n";
+
+/// Writes the usage line; false where the sink failed.
+pub fn say_usage<O: Sink>(out: &mut O) -> bool
+    ensures lent { O.lent out.new ≡ O.lent out.old }
+    ensures says { Says result (O.taken out.old) (O.taken out.new) usage_line (O.faults out.old)
+        (O.faults out.new) }
+    ensures later { O.faults out.old ≤ O.faults out.new }
+{
+    write_all(out, USAGE.as_bytes())
+}
+
+/// Writes the line of a refusal with this number, at this offset in bytes; false where the sink
+/// failed. It takes no memory.
+pub fn say_refusal<O: Sink>(out: &mut O, number: u8, offset: u32) -> bool
+    ensures lent { O.lent out.new ≡ O.lent out.old }
+    ensures says { Says result (O.taken out.old) (O.taken out.new) (refusal_line number offset)
+        (O.faults out.old) (O.faults out.new) }
+    ensures later { O.faults out.old ≤ O.faults out.new }
+{
+    let mut number_digits = Buffer::new();
+    let mut offset_digits = Buffer::new();
+    write_pieces(
+        out,
+        &[
+            b"refused ",
+            number_digits.format(number).as_bytes(),
+            b" at ",
+            offset_digits.format(offset).as_bytes(),
+            b"\n",
+        ],
+    )
+}
+
+// Writes pieces, one after another.
+fn write_pieces<O: Sink>(out: &mut O, pieces: &[&[u8]]) -> bool
+    ensures lent { O.lent out.new ≡ O.lent out.old }
+    ensures puts { Puts result (O.taken out.old) (O.taken out.new)
+        (joined (map (λ p. p.now) pieces.now)) [] (O.faults out.old) (O.faults out.new) }
+    ensures later { O.faults out.old ≤ O.faults out.new }
+{
+    for piece in pieces {
+        if !write_all(out, piece) {
+            return false;
+        }
+    }
+    true
+}

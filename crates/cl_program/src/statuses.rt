@@ -1,0 +1,114 @@
+ghost use Rattle.std.specs.Prelude.{◌≡◌, ◌≤◌, ◌⊎◌, ℕ, List, map};
+ghost use Rattle.cl_outside.specs.Causes.{Rose};
+ghost use Rattle.cl_session.specs.declared.serving.End.TheVariants as end;
+ghost use Rattle.cl_program.specs.Command.{IsNoCommand, IsRun, usage_line};
+ghost use Rattle.cl_program.specs.Run.{AppFaultRose, RanOutOfMemory, Refuses, SaysWhole, Serves, streams};
+ghost use Rattle.cl_program.specs.Statuses.{DeclaresApplication, HasFewLines, HasRefusal, IsStatus, OutputFailed};
+
+use crate::running::{How, run_words};
+use cl_outside::{Ledger, Place, Sink, Source, Steps};
+use cl_session::End;
+use std::alloc::Global;
+
+/// The status that the program ends with.
+#[derive(Drop)]
+pub struct Status(pub u8);
+
+/// Runs the program on the words that stand behind its name.
+///
+/// The words `run APP` read the application from the place's file APP, to its end or to 1,048,577
+/// bytes, load it, open its frame with a budget of 1,000,000 forms a display or command, and serve
+/// the gestures. The run stops at the first of these: words that are no command (status 2), a fault
+/// of the place (3), a text that is refused (1), want of memory (7), a fault of the gestures (4) or
+/// of the output (5), a byte behind 1,000,000 lines (8), the end of the gestures (0). Want of memory
+/// comes only before the first gesture.
+pub fn clim_main<P: Place, G: Source, O: Sink, L: Ledger>(
+    alloc: Global,
+    words: &[&str],
+    place: &mut P,
+    gestures: &mut G,
+    out: &mut O,
+    steps: &mut Steps<L>,
+) -> Status
+    // What each status says.
+    ensures status_0 { result.0 ≡ 0
+        → Serves (map (λ w. w.now) words.now) (P.file place.old)
+        (streams (G.left gestures.old) (G.faults gestures.old) (O.taken out.old)
+        (O.faults out.old) steps.old)
+        (streams (G.left gestures.new) (G.faults gestures.new) (O.taken out.new)
+        (O.faults out.new) steps.new) end.Done }
+    ensures status_1 { result.0 ≡ 1
+        → Refuses (map (λ w. w.now) words.now) (P.file place.old)
+        (streams (G.left gestures.old) (G.faults gestures.old) (O.taken out.old)
+        (O.faults out.old) steps.old)
+        (streams (G.left gestures.new) (G.faults gestures.new) (O.taken out.new)
+        (O.faults out.new) steps.new) }
+    ensures status_2 { result.0 ≡ 2
+        → IsNoCommand (map (λ w. w.now) words.now)
+        × SaysWhole (streams (G.left gestures.old) (G.faults gestures.old) (O.taken out.old)
+        (O.faults out.old) steps.old)
+        (streams (G.left gestures.new) (G.faults gestures.new) (O.taken out.new)
+        (O.faults out.new) steps.new) usage_line }
+    ensures status_3 { result.0 ≡ 3
+        → AppFaultRose (map (λ w. w.now) words.now) (P.app_faults place.old)
+        (P.app_faults place.new)
+        × (streams (G.left gestures.new) (G.faults gestures.new) (O.taken out.new)
+        (O.faults out.new) steps.new
+        ≡ streams (G.left gestures.old) (G.faults gestures.old) (O.taken out.old)
+        (O.faults out.old) steps.old) }
+    ensures status_4 { result.0 ≡ 4
+        → Serves (map (λ w. w.now) words.now) (P.file place.old)
+        (streams (G.left gestures.old) (G.faults gestures.old) (O.taken out.old)
+        (O.faults out.old) steps.old)
+        (streams (G.left gestures.new) (G.faults gestures.new) (O.taken out.new)
+        (O.faults out.new) steps.new) end.ReadFault }
+    ensures status_5 { result.0 ≡ 5
+        → OutputFailed (map (λ w. w.now) words.now) (P.file place.old)
+        (streams (G.left gestures.old) (G.faults gestures.old) (O.taken out.old)
+        (O.faults out.old) steps.old)
+        (streams (G.left gestures.new) (G.faults gestures.new) (O.taken out.new)
+        (O.faults out.new) steps.new) }
+    ensures status_7 { result.0 ≡ 7
+        → RanOutOfMemory (map (λ w. w.now) words.now) (P.file place.old)
+        (streams (G.left gestures.old) (G.faults gestures.old) (O.taken out.old)
+        (O.faults out.old) steps.old)
+        (streams (G.left gestures.new) (G.faults gestures.new) (O.taken out.new)
+        (O.faults out.new) steps.new) }
+    ensures status_8 { result.0 ≡ 8
+        → Serves (map (λ w. w.now) words.now) (P.file place.old)
+        (streams (G.left gestures.old) (G.faults gestures.old) (O.taken out.old)
+        (O.faults out.old) steps.old)
+        (streams (G.left gestures.new) (G.faults gestures.new) (O.taken out.new)
+        (O.faults out.new) steps.new) end.TooMany }
+    ensures no_other { IsStatus result.0 }
+
+    // When they are due.
+    ensures usage_due { IsNoCommand (map (λ w. w.now) words.now) → (result.0 ≡ 2) ⊎ (result.0 ≡ 5) }
+    ensures refusal_due { (name : List ℕ) (number at : ℕ) → IsRun (map (λ w. w.now) words.now) name → (Rose (P.app_faults place.old name) (P.app_faults place.new name) → ⊥)
+        → HasRefusal (P.file place.old name) number at → (result.0 ≡ 1) ⊎ (result.0 ≡ 5) ⊎ (result.0 ≡ 7) }
+    ensures complete { (name : List ℕ) → IsRun (map (λ w. w.now) words.now) name → (Rose (P.app_faults place.old name) (P.app_faults place.new name) → ⊥)
+        → (Rose (G.faults gestures.old) (G.faults gestures.new) → ⊥) → (Rose (O.faults out.old) (O.faults out.new) → ⊥)
+        → DeclaresApplication (P.file place.old name) → HasFewLines (G.left gestures.old) → (result.0 ≡ 0) ⊎ (result.0 ≡ 7) }
+
+    ensures files { (name : List ℕ) → P.file place.new name ≡ P.file place.old name }
+    ensures place_lent { P.lent place.new ≡ P.lent place.old }
+    ensures place_later { (name : List ℕ)
+        → P.app_faults place.old name ≤ P.app_faults place.new name }
+    ensures later { G.faults gestures.old ≤ G.faults gestures.new }
+    ensures out_lent { O.lent out.new ≡ O.lent out.old }
+    ensures out_later { O.faults out.old ≤ O.faults out.new }
+    ensures steps_later { steps.old ≤ steps.new }
+{
+    match run_words(alloc, words, place, gestures, out, steps) {
+        How::Usage => Status(2),
+        How::UsageCut => Status(5),
+        How::AppFault => Status(3),
+        How::Refused => Status(1),
+        How::RefusalCut => Status(5),
+        How::Memory => Status(7),
+        How::Ended(End::Done) => Status(0),
+        How::Ended(End::ReadFault) => Status(4),
+        How::Ended(End::TooMany) => Status(8),
+        How::Ended(End::OutputFault) => Status(5),
+    }
+}
