@@ -13,9 +13,6 @@ use cl_syntax::{App, Operator};
 use cl_value::{Value, Values};
 use std::alloc::Global;
 
-#[cfg(test)]
-mod tests;
-
 /// The greatest size of a value.
 pub const MOST_SIZE: u64 = 65_536;
 

@@ -12,9 +12,6 @@ use cl_syntax::{App, RecordOperator};
 use cl_value::{Text, Value, Values};
 use std::alloc::{AllocError, Global};
 
-#[cfg(test)]
-mod tests;
-
 /// What is made of records, or asked of them. A record that is not declared, or that has no such field,
 /// traps with 1.
 #[tactic(auto, using(std::proofs::lemmas::Grind::common_steps, crate::proofs::ListLemmas::list_of_items))]

@@ -10,8 +10,6 @@ mod readings;
 mod reviews;
 mod settling;
 mod slot_types;
-#[cfg(test)]
-mod tests;
 
 pub use application::Loaded;
 pub use cl_forms::LoadRefusal;

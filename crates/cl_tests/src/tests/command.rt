@@ -1,5 +1,5 @@
 //! What no clause says: that calls succeed while there is memory.
-use super::*;
+use cl_command::{Finished, Line, Pushed};
 use cl_syntax::{Acts, CommandDecl, Commands};
 use cl_value::Text;
 use std::alloc::Global;

@@ -1,158 +1,48 @@
-//! A text and its forms, and whole expressions as texts.
-use cl_forms::{Form, LoadRefusal, Scope, all_forms, data_in, expr_in, world_of};
+//! A text and its forms, and expressions as texts.
+use super::reading::{DECLARED, data_behind};
+use cl_forms::{Form, LoadRefusal, Scope, all_forms, expr_in, world_of};
 use cl_sexp::read_forms;
 use std::alloc::Global;
 use std::test::Fail;
 
-/// What stands before each expression.
-const DECLARATIONS: &str =
-    "(define-record p x y)(define-function f (a) a)(define-display d (a) (newline))(define-application-frame w (:slots (n integer 0)))";
-
 /// Each expression with what is answered: that it is read, or the number of its refusal with the
 /// offset in it; 8 is a name that is not declared.
-const EXPRESSIONS: &str = "\
-1 => read
--5 => read
-\"a\" => read
-true => read
-null => read
-'name => read
-':key => read
-' => 6 at 0
-''a => 6 at 0
-'5 => 6 at 0
-'true => 6 at 0
-:key => 6 at 0
-* => 6 at 0
-x => 8 at 0
-(slot n) => read
-(slot m) => 8 at 6
-(slot) => 6 at 0
-(slot 1) => 6 at 0
-(slot :n) => 6 at 0
-(if true 1 2) => read
-(if true 1) => 6 at 0
-(if (foo) (bar) 2) => 5 at 5
-(let ((x 1) (y x)) y) => read
-(let ((x 1)) y) => 8 at 13
-(let (x) 1) => 6 at 0
-(let ((x (foo)) (y)) 1) => 6 at 0
-(let ((x 1))) => 6 at 0
-(let ((x x)) x) => 8 at 9
-(and) => read
-(or 1 z) => 8 at 6
-(not) => 6 at 0
-(not 1 2) => 6 at 0
-(list 1 z 2) => 8 at 8
-(make p 1 2) => read
-(make p 1) => 6 at 0
-(make q 1) => 8 at 6
-(make q z) => 8 at 6
-(make) => 6 at 0
-(make 1 2) => 6 at 0
-(get 1 f) => read
-(get 1 5) => 6 at 0
-(get (foo) 5) => 6 at 0
-(with 1 x 2) => read
-(with 1 x) => 6 at 0
-(map x (list) x) => read
-(map x x x) => 8 at 7
-(map 1 2 3) => 6 at 0
-(filter x (list) y) => 8 at 17
-(fold x (list) a 0 (+ x a)) => read
-(fold x (list) a a x) => 8 at 17
-(fold x (list) 1 0 x) => 6 at 0
-(fold x (list) a 0) => 6 at 0
-(f 1) => read
-(f) => 6 at 0
-(f z) => 8 at 3
-(d 1) => 5 at 1
-(g 1) => 5 at 1
-(newline) => 5 at 1
-(write-text \"a\") => 5 at 1
-(+ 1 2) => read
-(+ 1) => 6 at 0
-(+ (+ 1) (foo)) => 6 at 3
-(subtext \"a\" 0 1) => read
-(subtext \"a\" 0) => 6 at 0
-(is-null 1) => read
-(text) => 6 at 0
-() => 6 at 0
-(1 2) => 6 at 0
-((f) 1) => 6 at 0
-(\"a\") => 6 at 0
-(+ '5 1) => 6 at 3
-(+ ' 1) => 6 at 0
-(+ 1 ') => 6 at 5
-(f 'a) => read
-(range 1 2) => read
-(length (foo) (bar)) => 6 at 0
-(= z y) => 8 at 3
-(F 1) => read
-(LET ((X 1)) x) => read
-(contains (list) 1) => read
-(pad \"a\" 3) => read
-(div 1 0) => read";
+const EXPRESSIONS: [(&str, &str); 3] = [
+    ("(let ((x 1) (y x)) (twice y))", "read"),
+    ("(if (foo) (bar) 2)", "5 at 5"),
+    ("(let ((x 1)) y)", "8 at 13"),
+];
 
-/// What the reading of an expression answers.
-enum Reading {
-    Read,
-    Refused(u8, u32),
-    Memory,
-}
-
-/// The answer to the last form of a text, as an expression without variables.
-fn answer(alloc: Global, text: &[u8]) -> Reading {
-    if text.len() > 4096 {
-        return Reading::Memory;
-    }
-    let Ok(tokens) = read_forms(alloc, text) else {
-        return Reading::Memory;
-    };
-    let Ok(forms) = all_forms(alloc, text, tokens.as_slice()) else {
-        return Reading::Memory;
-    };
-    let Ok(data) = data_in(alloc, forms.as_slice()) else {
-        return Reading::Memory;
-    };
-    let Ok(world) = world_of(alloc, data.as_slice()) else {
-        return Reading::Memory;
-    };
-    let Some(last) = data.as_slice().last() else {
-        return Reading::Memory;
-    };
+/// The answer to an expression without variables around it, in words.
+fn answer(alloc: Global, text: &str) -> Result<String, Fail> {
+    let data = data_behind(alloc, text)?;
+    let world = world_of(alloc, data.as_slice())?;
+    let last = data.as_slice().last().ok_or("no form")?;
     let mut unknown = None;
-    match expr_in(alloc, &world, last, &Scope::Empty, &mut unknown) {
-        Ok(_) => match unknown {
-            Some(at) => Reading::Refused(8, at),
-            None => Reading::Read,
-        },
-        Err(LoadRefusal::Refused(number, at)) => Reading::Refused(number, at),
-        Err(LoadRefusal::Memory) => Reading::Memory,
-    }
+    let refusal = expr_in(alloc, &world, last, &Scope::Empty, &mut unknown).err();
+    said(alloc, refusal, unknown)
 }
 
-/// The answer in words, with the offset from the end of the declarations.
-fn words(alloc: Global, answer: Reading) -> Result<String, Fail> {
-    let start = DECLARATIONS.len() as u32;
-    match answer {
-        Reading::Read => Ok(format!(in alloc; "read")?),
-        Reading::Refused(number, at) => {
-            let offset = at.saturating_sub(start);
-            Ok(format!(in alloc; "{number} at {offset}")?)
-        }
-        Reading::Memory => Ok(format!(in alloc; "memory")?),
-    }
+/// A refusal or the first name that is not declared, in words, with the offset behind what the tests declare.
+pub fn said(
+    alloc: Global,
+    refusal: Option<LoadRefusal>,
+    unknown: Option<u32>,
+) -> Result<String, Fail> {
+    let (number, at) = match (refusal, unknown) {
+        (Some(LoadRefusal::Refused(number, at)), _) => (number, at),
+        (Some(LoadRefusal::Memory), _) => return Err("no memory".into()),
+        (None, Some(at)) => (8, at),
+        (None, None) => return Ok(String::from_str(alloc, "read")?),
+    };
+    let offset = at.saturating_sub(DECLARED.len() as u32);
+    Ok(format!(in alloc; "{number} at {offset}")?)
 }
 
 #[test]
 fn expressions_are_read_or_refused(rt: HostRuntime) -> Result<(), Fail> {
-    for line in EXPRESSIONS.split('\n') {
-        let (expression, wanted) = line.split_once(" => ").ok_or("no => in the line")?;
-        let text = format!(in rt.alloc(); "{DECLARATIONS}{expression}")?;
-        let answer = answer(rt.alloc(), text.as_bytes());
-        let answer = words(rt.alloc(), answer)?;
-        assert_eq!(rt; answer.as_str(), wanted, "{line}");
+    for (text, wanted) in EXPRESSIONS {
+        assert_eq!(rt; answer(rt.alloc(), text)?.as_str(), wanted, "{text}");
     }
     Ok(())
 }

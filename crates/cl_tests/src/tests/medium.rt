@@ -1,4 +1,8 @@
-use super::*;
+//! Items, the cursor, and where an item lies.
+use cl_medium::{
+    Ambient, Drawn, Leaf, draw_box, draw_hline, draw_point, draw_text, draw_vline, enter_room,
+    fill_box, indent, leave_room, newline,
+};
 use cl_outside::Cell;
 use cl_region::Shift;
 use cl_value::Text;

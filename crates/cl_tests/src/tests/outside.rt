@@ -2,7 +2,10 @@ ghost use Rattle.std.specs.Prelude.{◌≡◌, ◌<◌, ◌≤◌, false, IfOk};
 ghost use Rattle.cl_outside.specs.Memory.{AllPositive};
 ghost use Rattle.cl_outside.specs.MemoryDevice.{picture_of};
 
-use super::*;
+use cl_outside::{
+    Cell, Device, FilePlace, LentSource, MemDevice, MemPlace, MemSink, MemSource, NullSink, Opened,
+    Place, PlaceSink, ReaderSource, Sent, Sink, Source, Took, WriterSink, own_steps,
+};
 use std::alloc::{AllocError, Global};
 use std::test::Fail;
 use std::{env, fs, process};

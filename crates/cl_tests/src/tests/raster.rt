@@ -1,5 +1,6 @@
-use super::*;
+//! The cells of a raster.
 use cl_outside::Cell;
+use cl_raster::Raster;
 use cl_region::Rect;
 use std::test::Fail;
 

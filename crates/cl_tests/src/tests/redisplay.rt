@@ -1,8 +1,8 @@
 //! What no clause says: that calls succeed while there is memory.
-use super::*;
 use cl_medium::{Ambient, AnyLeaf, Drawn, draw_box, draw_text, newline};
 use cl_raster::Raster;
 use cl_record::{History, Node, Nodes};
+use cl_redisplay::{Area, blank, paint};
 use cl_value::Text;
 use std::alloc::{AllocError, Global};
 use std::test::Fail;

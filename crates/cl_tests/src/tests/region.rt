@@ -1,4 +1,5 @@
-use super::*;
+//! Rectangles, and regions of them.
+use cl_region::{Rect, Region, Shift};
 use std::test::Fail;
 
 fn rect(x1: i64, y1: i64, x2: i64, y2: i64) -> Rect {

@@ -1,5 +1,6 @@
 //! What no clause says: that calls succeed while there is memory, and what is equal hashes alike.
-use super::*;
+use cl_value::{Text, Value, Values};
+use std::alloc::{AllocError, Global};
 use std::collections::HashMap;
 use std::test::Fail;
 

@@ -1,10 +1,10 @@
 //! What no clause says: that calls succeed while there is memory, and which leaves are painted.
 ghost use Rattle.cl_region.specs.Places.{IsInRange};
 
-use super::*;
 use cl_medium::{
     Ambient, AnyLeaf, Drawn, Leaf, draw_box, draw_text, enter_room, fill_box, leave_room,
 };
+use cl_record::{Canvas, Head, History, Label, Measures, Node, Nodes, STILL, Site};
 use cl_region::{Rect, Region, Shift};
 use cl_value::{Text, Value, Values};
 use std::alloc::{AllocError, Global};
@@ -51,7 +51,7 @@ fn push(nodes: &mut Nodes<AnyLeaf>, drawn: Drawn) -> Result<(), Fail> {
 }
 
 fn push_node(nodes: &mut Nodes<AnyLeaf>, node: Node<AnyLeaf>) -> Result<(), Fail> {
-    if node.fits(shifts::STILL) {
+    if node.fits(STILL) {
         nodes.push(node)?;
     }
     Ok(())

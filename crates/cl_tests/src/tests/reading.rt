@@ -1,0 +1,77 @@
+//! Trees from texts, over what the tests declare.
+use cl_declare::{acts_in, shapes_in};
+use cl_eval::Env;
+use cl_forms::{Datums, Scope, all_forms, data_in, expr_in, world_of};
+use cl_load::{Loaded, load};
+use cl_sexp::read_forms;
+use cl_syntax::{Acts, Expr, Shapes};
+use cl_value::{Text, Value};
+use std::alloc::Global;
+use std::test::Fail;
+
+/// What the tests declare.
+pub const DECLARED: &str = "(define-record point x y)
+(define-function twice (n) (+ n n))
+(define-function forever (n) (forever n))
+(define-display none ())
+(define-display pair (a b) (write-text a) (newline) (write-text b))
+(define-command com-add () (reply \"a\"))
+(define-application-frame tests (:size 9 9) (:slots (count integer 5) (word string \"so\")) (:panes (main 0 0 9 9 none)))
+";
+
+/// The data of a text.
+pub fn data_of(alloc: Global, text: &[u8]) -> Result<Datums, Fail> {
+    if text.len() > 1_048_576 {
+        return Err("too long".into());
+    }
+    let tokens = read_forms(alloc, text)?;
+    let forms = all_forms(alloc, text, tokens.as_slice())?;
+    Ok(data_in(alloc, forms.as_slice())?)
+}
+
+/// The data of what the tests declare, and those of a text behind it.
+pub fn data_behind(alloc: Global, text: &str) -> Result<Datums, Fail> {
+    let text = format!(in alloc; "{DECLARED}{text}")?;
+    data_of(alloc, text.as_bytes())
+}
+
+/// What the tests declare, with the opening slots: `count` is 5, and `word` is "so".
+pub fn loaded(alloc: Global) -> Result<Loaded, Fail> {
+    Ok(load(alloc, DECLARED.as_bytes())?)
+}
+
+/// The variable `v` is 7, and `w` is "vw".
+pub fn variables(alloc: Global) -> Result<Env, Fail> {
+    let mut env = Env::new(alloc);
+    env.bind(Text::from_slice(alloc, b"v")?, Value::Int(7))?;
+    let said = Text::from_slice(alloc, b"vw")?;
+    env.bind(Text::from_slice(alloc, b"w")?, Value::Text(said))?;
+    Ok(env)
+}
+
+/// The expression of this text; a variable may have any name.
+pub fn expression(alloc: Global, text: &str) -> Result<Expr, Fail> {
+    let data = data_behind(alloc, text)?;
+    let world = world_of(alloc, data.as_slice())?;
+    let last = data.as_slice().last().ok_or("no form")?;
+    let mut unknown = None;
+    Ok(expr_in(alloc, &world, last, &Scope::Empty, &mut unknown)?)
+}
+
+/// The statements in this form.
+pub fn statements(alloc: Global, text: &str) -> Result<Acts, Fail> {
+    let data = data_behind(alloc, text)?;
+    let world = world_of(alloc, data.as_slice())?;
+    let last = data.as_slice().last().ok_or("no form")?;
+    let mut unknown = None;
+    Ok(acts_in(alloc, &world, last.parts(), &Scope::Empty, &mut unknown)?)
+}
+
+/// The display forms in this form.
+pub fn display_forms(alloc: Global, text: &str) -> Result<Shapes, Fail> {
+    let data = data_behind(alloc, text)?;
+    let world = world_of(alloc, data.as_slice())?;
+    let last = data.as_slice().last().ok_or("no form")?;
+    let mut unknown = None;
+    Ok(shapes_in(alloc, &world, last.parts(), &Scope::Empty, &mut unknown)?)
+}
