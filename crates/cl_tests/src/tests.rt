@@ -16,5 +16,4 @@ mod redisplay;
 mod region;
 mod sexp;
 mod slot_types;
-mod trees;
 mod value;

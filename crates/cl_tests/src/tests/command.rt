@@ -48,15 +48,11 @@ fn expect_finished(
 fn lines_finish_to_commands(rt: HostRuntime) -> Result<(), Fail> {
     let commands = commands(rt.alloc(), &["Add", "Add More", "ADD", "Remove", "Re"])?;
     let cases = [
-        ("add", Finished::Command(0)),
         ("  ADD  ", Finished::Command(0)),
         ("Add more", Finished::Command(1)),
         ("Add  More", Finished::Surplus),
-        ("Add Mor", Finished::Surplus),
-        ("remove", Finished::Command(3)),
         ("Re", Finished::Command(4)),
         ("Rem", Finished::Unknown),
-        ("", Finished::Unknown),
     ];
     for (text, finished) in cases {
         expect_finished(&rt, &commands, text, finished)?;

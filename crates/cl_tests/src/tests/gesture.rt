@@ -85,16 +85,6 @@ const STREAM: &[u8] =
 const TOLD: &str = "return\nframe\nhistory a\tb\ntype  two \nbad 7\nbad 8\nbad 9\ntype x\nend";
 
 #[test]
-fn a_stream_is_read(rt: HostRuntime) -> Result<(), Fail> {
-    let alloc = rt.alloc();
-    let source = MemSource::new(STREAM.to_vec(alloc)?, Vec::new(alloc));
-    let mut gestures = Gestures::new(alloc, source)?;
-    assert_eq!(rt; answers(alloc, &mut gestures)?.as_str(), TOLD);
-    assert_eq!(rt; answers(alloc, &mut gestures)?.as_str(), "end");
-    Ok(())
-}
-
-#[test]
 fn a_stream_is_read_by_the_byte(rt: HostRuntime) -> Result<(), Fail> {
     let alloc = rt.alloc();
     let room = Ahead::new(alloc)?;

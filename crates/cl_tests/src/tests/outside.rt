@@ -1,6 +1,5 @@
-ghost use Rattle.std.specs.Prelude.{◌≡◌, ◌<◌, ◌≤◌, false, IfOk};
-ghost use Rattle.cl_outside.specs.Memory.{AllPositive};
-ghost use Rattle.cl_outside.specs.MemoryDevice.{picture_of};
+//! What is told in memory and over files, with a call that fails in the middle.
+ghost use Rattle.std.specs.Prelude.{◌≡◌, true, false};
 
 use cl_outside::{
     Cell, Device, FilePlace, LentSource, MemDevice, MemPlace, MemSink, MemSource, NullSink, Opened,
@@ -10,222 +9,169 @@ use std::alloc::{AllocError, Global};
 use std::test::Fail;
 use std::{env, fs, process};
 
-// What some reads answer: the bytes in brackets, or `F`.
-fn reads<S: Source>(
-    alloc: Global,
-    source: &mut S,
-    room: usize,
-    calls: usize,
-) -> Result<String, AllocError> {
-    let mut said = String::new(alloc);
-    let mut buf = [0u8; 8];
-    for _ in 0..calls {
-        let room = room.clamp(1, 8);
-        match source.read(&mut buf[..room]) {
-            Took::Bytes(n) => {
-                said.push('[')?;
-                for byte in &buf[..n] {
-                    said.push(char::from(*byte))?;
-                }
-                said.push(']')?;
-            }
-            Took::Failed => said.push('F')?,
-        }
+/// What a call took of these bytes, in brackets, or `F`.
+fn put_took(said: &mut String, took: Took, bytes: &[u8]) -> Result<(), AllocError> {
+    let Took::Bytes(count) = took else {
+        return Ok(said.push('F')?);
+    };
+    said.push('[')?;
+    for byte in bytes.iter().take(count) {
+        said.push(char::from(*byte))?;
     }
-    Ok(said)
+    Ok(said.push(']')?)
 }
 
-// What writes of these texts answer: how many bytes were taken, or `F`.
-fn writes<S: Sink>(alloc: Global, sink: &mut S, texts: &[&str]) -> Result<String, AllocError> {
-    let mut said = String::new(alloc);
-    for text in texts {
-        let bytes = text.as_bytes();
-        if bytes.is_empty() {
-            continue;
-        }
-        match sink.write(bytes) {
-            Took::Bytes(n) => said.push_str(format!(in alloc; "{n} ")?.as_str())?,
-            Took::Failed => said.push_str("F ")?,
-        }
-    }
-    Ok(said)
-}
-
-fn positive(alloc: Global, pieces: &[usize]) -> Result<Vec<usize>, AllocError>
-    ensures { IfOk result (λ v. AllPositive v.items) }
-{
-    if pieces.iter().all(|piece| *piece > 0) {
-        pieces.to_vec(alloc)
-    } else {
-        Ok(Vec::new(alloc))
-    }
-}
-
-#[test]
-fn sources_in_memory(rt: HostRuntime) -> Result<(), Fail> {
-    let alloc = rt.alloc();
-    let table: [(&str, &[u64], usize, &str); 5] = [
-        ("", &[], 4, "[][][][]"),
-        ("abc", &[], 8, "[abc][][][]"),
-        ("abcdef", &[], 4, "[abcd][ef][][]"),
-        ("abcdef", &[2], 4, "[abcd]F[ef][]"),
-        ("abc", &[1, 4, 9], 2, "F[ab][c]F"),
-    ];
-    for (content, fails, room, said) in table {
-        let content = content.as_bytes().to_vec(alloc)?;
-        let mut source = MemSource::new(content, fails.to_vec(alloc)?);
-        let mut lent = LentSource::new(&mut source);
-        assert_eq!(rt; reads(alloc, &mut lent, room, 4)?.as_str(), said);
-    }
-    Ok(())
-}
-
-#[test]
-fn sinks_in_memory(rt: HostRuntime) -> Result<(), Fail> {
-    let alloc = rt.alloc();
-    let table: [(usize, &[usize], &[u64], &str, &str); 5] = [
-        (0, &[], &[], "F F F ", ""),
-        (9, &[], &[], "3 4 2 ", "abcdefghi"),
-        (8, &[], &[2], "3 F 4 ", "abchijk"),
-        (6, &[2, 9, 1], &[], "2 4 F ", "abdefg"),
-        (9, &[1, 2], &[1], "F 1 2 ", "dhi"),
-    ];
-    for (room, pieces, fails, said, taken) in table {
-        let mut sink = MemSink::new(alloc, room, positive(alloc, pieces)?, fails.to_vec(alloc)?)?;
-        assert_eq!(rt;
-            writes(alloc, &mut sink, &["abc", "defg", "hijk"])?.as_str(),
-            said
-        );
-        assert_eq!(rt; sink.taken(), taken.as_bytes());
-    }
-    let mut null = NullSink::new();
-    assert_eq!(rt; writes(alloc, &mut null, &["abc", "d"])?.as_str(), "3 1 ");
-    Ok(())
-}
-
-// Opens the file of this name and reads it in pieces of four bytes, or says what the opening answers.
-fn read_through<P: Place>(
-    alloc: Global,
-    place: &mut P,
-    name: &str,
-    calls: usize,
-) -> Result<String, AllocError> {
-    match place.open_source(name) {
-        Opened::Failed => return String::from_str(alloc, "failed"),
-        Opened::Memory => return String::from_str(alloc, "memory"),
-        Opened::Done => {}
-    }
+/// What so many reads hand over.
+fn reads<S: Source>(alloc: Global, source: &mut S, calls: u8) -> Result<String, AllocError> {
     let mut said = String::new(alloc);
     let mut buf = [0u8; 4];
     for _ in 0..calls {
-        match place.read_source(&mut buf) {
-            Took::Bytes(n) => {
-                for byte in &buf[..n] {
-                    said.push(char::from(*byte))?;
-                }
-                said.push('|')?;
-            }
-            Took::Failed => said.push('F')?,
+        let took = source.read(&mut buf);
+        put_took(&mut said, took, &buf)?;
+    }
+    Ok(said)
+}
+
+/// What one write takes.
+fn write<S: Sink>(said: &mut String, sink: &mut S, text: &str) -> Result<(), AllocError> {
+    let bytes = text.as_bytes();
+    if bytes.is_empty() {
+        return Ok(());
+    }
+    let took = sink.write(bytes);
+    put_took(said, took, bytes)
+}
+
+/// What writes of `abc`, `defg` and `hijk` take.
+fn writes<S: Sink>(alloc: Global, sink: &mut S) -> Result<String, AllocError> {
+    let mut said = String::new(alloc);
+    write(&mut said, sink, "abc")?;
+    write(&mut said, sink, "defg")?;
+    write(&mut said, sink, "hijk")?;
+    Ok(said)
+}
+
+#[test]
+fn a_source_in_memory(rt: HostRuntime) -> Result<(), Fail> {
+    let alloc = rt.alloc();
+    let mut source = MemSource::new(b"abcdef".to_vec(alloc)?, [2].to_vec(alloc)?);
+    let mut lent = LentSource::new(&mut source);
+    assert_eq!(rt; reads(alloc, &mut lent, 4)?.as_str(), "[abcd]F[ef][]");
+    Ok(())
+}
+
+#[test]
+fn a_sink_in_memory(rt: HostRuntime) -> Result<(), Fail> {
+    let alloc = rt.alloc();
+    let mut sink = MemSink::new(alloc, 6, Vec::new(alloc), [2].to_vec(alloc)?)?;
+    assert_eq!(rt; writes(alloc, &mut sink)?.as_str(), "[abc]F[hij]");
+    assert_eq!(rt; sink.taken(), b"abchij".as_slice());
+    Ok(())
+}
+
+#[test]
+fn a_sink_that_drops_all(rt: HostRuntime) -> Result<(), Fail> {
+    let mut sink = NullSink::new();
+    assert_eq!(rt;
+        writes(rt.alloc(), &mut sink)?.as_str(),
+        "[abc][defg][hijk]"
+    );
+    Ok(())
+}
+
+/// One read more of the open source.
+fn read_on<P: Place>(said: &mut String, place: &mut P) -> Result<(), AllocError>
+    requires { P.opened place.old ≡ true }
+    ensures { P.opened place.new ≡ true }
+{
+    let mut buf = [0u8; 4];
+    let took = place.read_source(&mut buf);
+    put_took(said, took, &buf)
+}
+
+/// What two reads of a file hand over, or what the opening answers.
+fn read_through<P: Place>(alloc: Global, place: &mut P, name: &str) -> Result<String, AllocError> {
+    let mut said = String::new(alloc);
+    match place.open_source(name) {
+        Opened::Failed => said.push_str("failed")?,
+        Opened::Memory => said.push_str("memory")?,
+        Opened::Done => {
+            read_on(&mut said, place)?;
+            read_on(&mut said, place)?;
         }
     }
     Ok(said)
 }
 
-// Makes the file of this name and writes these texts, or says what the making answers.
-fn write_through<P: Place>(
-    alloc: Global,
-    place: &mut P,
-    name: &str,
-    texts: &[&str],
-) -> Result<String, AllocError> {
+/// What the writes to a new file of this name take, or what the making answers.
+fn write_through<P: Place>(alloc: Global, place: &mut P, name: &str) -> Result<String, AllocError> {
     match place.make_sink(name) {
         Opened::Failed => String::from_str(alloc, "failed"),
         Opened::Memory => String::from_str(alloc, "memory"),
-        Opened::Done => writes(alloc, &mut PlaceSink::new(place), texts),
+        Opened::Done => writes(alloc, &mut PlaceSink::new(place)),
     }
 }
 
-fn file(alloc: Global, name: &str, content: &str) -> Result<(String, Vec<u8>), AllocError> {
-    Ok((
-        String::from_str(alloc, name)?,
-        content.as_bytes().to_vec(alloc)?,
-    ))
+/// A place with the file `a`; the fifth of its calls fails.
+fn place(alloc: Global) -> Result<MemPlace, AllocError> {
+    let name = String::from_str(alloc, "a")?;
+    let content = b"abcdef".to_vec(alloc)?;
+    let mut files = Vec::new(alloc);
+    files.push((name, content))?;
+    let fails = [5].to_vec(alloc)?;
+    Ok(MemPlace::new(alloc, files, 7, Vec::new(alloc), fails))
+}
+
+/// Whether the file of this name has these bytes.
+fn has(place: &MemPlace, name: &str, bytes: &[u8]) -> bool {
+    place.file(name) == Some(bytes)
 }
 
 #[test]
-fn places_in_memory(rt: HostRuntime) -> Result<(), Fail> {
+fn a_place_in_memory(rt: HostRuntime) -> Result<(), Fail> {
     let alloc = rt.alloc();
-    let files = vec![in alloc; file(alloc, "a", "abcdef")?, file(alloc, "b", "xy")?]?;
-    let pieces = positive(alloc, &[2, 9])?;
-    let fails = [4, 9].to_vec(alloc)?;
-    let mut place = MemPlace::new(alloc, files, 7, pieces, fails);
-    // calls 1 to 5, of which the fourth fails; then call 6, of a file that is not there
+    let mut place = place(alloc)?;
     assert_eq!(rt;
-        read_through(alloc, &mut place, "a", 4)?.as_str(),
-        "abcd|ef|F|"
+        read_through(alloc, &mut place, "a")?.as_str(),
+        "[abcd][ef]"
     );
-    assert_eq!(rt; read_through(alloc, &mut place, "c", 4)?.as_str(), "failed");
-    // calls 7 to 11: the ninth fails, and the room of seven bytes is full at the last
+    // calls 4 to 7
     assert_eq!(rt;
-        write_through(alloc, &mut place, "c", &["hijk", "lmn", "opqrst", "u"])?.as_str(),
-        "2 F 5 F "
+        write_through(alloc, &mut place, "b")?.as_str(),
+        "F[defg][hij]"
     );
-    assert_eq!(rt;
-        read_through(alloc, &mut place, "c", 3)?.as_str(),
-        "hiop|qrs||"
-    );
-    // a file that is there is made empty
-    assert_eq!(rt;
-        write_through(alloc, &mut place, "b", &["z"])?.as_str(),
-        "1 "
-    );
-    for (name, content) in [
-        ("a", Some("abcdef")),
-        ("b", Some("z")),
-        ("c", Some("hiopqrs")),
-        ("d", None),
-    ] {
-        assert_eq!(rt;
-            place.file(name),
-            content.map(|text| text.as_bytes()),
-            "of {name}"
-        );
-    }
+    assert_eq!(rt; read_through(alloc, &mut place, "c")?.as_str(), "failed");
+    assert!(rt; has(&place, "a", b"abcdef"));
+    assert!(rt; has(&place, "b", b"defghij"));
     Ok(())
 }
 
-// The glyphs and the inks of a device's row.
-fn row(alloc: Global, device: &MemDevice, width: u16, y: u16) -> Result<String, AllocError>
-    requires whole { device.now.broken ≡ false }
-    requires columns { width ≤ (picture_of device.now).width }
-    requires row { y < (picture_of device.now).height }
-{
-    let mut said = String::new(alloc);
-    for x in 0..width {
-        let cell = device.cell(x, y);
-        said.push(char::from(cell.glyph))?;
-        said.push(char::from(cell.ink + 48))?;
-    }
-    Ok(said)
+#[test]
+fn a_device_that_was_not_cleared(rt: HostRuntime) -> Result<(), Fail> {
+    let mut device = MemDevice::new(rt.alloc(), Vec::new(rt.alloc()))?;
+    assert_eq!(rt; device.span(0, 0, 1, b"A"), Sent::Done);
+    Ok(())
 }
 
 #[test]
-fn devices_in_memory(rt: HostRuntime) -> Result<(), Fail> {
-    let alloc = rt.alloc();
-    let mut device = MemDevice::new(alloc, [5].to_vec(alloc)?)?;
-    // a device that was not cleared yet shows no span
-    assert_eq!(rt; device.span(0, 0, 1, b"A"), Sent::Done);
-    assert_eq!(rt; device.cell(0, 0), Cell::BLANK);
-    // call 2; call 3 runs past the last column, call 4 lies below the last row, and call 5 fails
-    assert_eq!(rt; device.clear(4, 2), Sent::Done);
-    assert_eq!(rt; device.span(2, 1, 3, b"abc"), Sent::Done);
-    assert_eq!(rt; device.span(0, 2, 3, b"abc"), Sent::Done);
-    assert_eq!(rt; row(alloc, &device, 4, 0)?.as_str(), " 0 0 0 0");
-    assert_eq!(rt; row(alloc, &device, 4, 1)?.as_str(), " 0 0a3b3");
-    assert_eq!(rt; device.span(0, 0, 0, b"x"), Sent::Failed);
-    // call 6 mends it
+fn a_device_in_memory(rt: HostRuntime) -> Result<(), Fail> {
+    let mut device = MemDevice::new(rt.alloc(), Vec::new(rt.alloc()))?;
+    if device.clear(4, 2) == Sent::Done && device.span(2, 1, 3, b"abc") == Sent::Done {
+        let cell = Cell {
+            glyph: b'b',
+            ink: 3,
+        };
+        assert_eq!(rt; device.cell(3, 1), cell);
+        return Ok(());
+    }
+    Err("no device".into())
+}
+
+#[test]
+fn a_device_that_fails(rt: HostRuntime) -> Result<(), Fail> {
+    let mut device = MemDevice::new(rt.alloc(), [1].to_vec(rt.alloc())?)?;
+    assert_eq!(rt; device.clear(4, 2), Sent::Failed);
     assert_eq!(rt; device.clear(3, 1), Sent::Done);
-    assert_eq!(rt; row(alloc, &device, 3, 0)?.as_str(), " 0 0 0");
     Ok(())
 }
 
@@ -238,44 +184,52 @@ fn steps_in_a_ledger(rt: HostRuntime) {
     assert_eq!(rt; steps.ledger().seen(), 5);
 }
 
+/// The path of a file of one test.
+fn path(rt: &HostRuntime, test: &str) -> Result<String, Fail> {
+    let number = process::id(rt.process());
+    let name = format!(in rt.alloc(); "cl_outside_{test}_{number}")?;
+    Ok(
+        env::temp_dir(rt)?
+            .join(rt.alloc(), name.as_str())?
+            .into_string(),
+    )
+}
+
+#[test]
+fn files(rt: HostRuntime) -> Result<(), Fail> {
+    let alloc = rt.alloc();
+    let path = path(&rt, "place")?;
+    let mut place = FilePlace::new(rt.clone()?);
+    assert_eq!(rt;
+        write_through(alloc, &mut place, path.as_str())?.as_str(),
+        "[abc][defg][hijk]"
+    );
+    assert_eq!(rt;
+        read_through(alloc, &mut place, path.as_str())?.as_str(),
+        "[abcd][efgh]"
+    );
+    assert_eq!(rt; write_through(alloc, &mut place, "/")?.as_str(), "failed");
+    // a folder can be opened and not read
+    assert_eq!(rt; read_through(alloc, &mut place, "/")?.as_str(), "FF");
+    fs::remove_file(&rt, path.as_str())?;
+    Ok(())
+}
+
 #[test]
 fn adapters_over_files(rt: HostRuntime) -> Result<(), Fail> {
     let alloc = rt.alloc();
-    let name = format!(in alloc; "cl_outside_test_{}", process::id(rt.process()))?;
-    let path = env::temp_dir(&rt)?
-        .join(alloc, name.as_str())?
-        .into_string();
+    let path = path(&rt, "adapters")?;
     let path = path.as_str();
-
-    let mut place = FilePlace::new(rt.clone()?);
-    assert_eq!(rt;
-        read_through(alloc, &mut place, path, 1)?.as_str(),
-        "failed"
-    );
-    assert_eq!(rt;
-        write_through(alloc, &mut place, path, &["abc", "defg"])?.as_str(),
-        "3 4 "
-    );
-    assert_eq!(rt;
-        read_through(alloc, &mut place, path, 3)?.as_str(),
-        "abcd|efg||"
-    );
-    assert_eq!(rt;
-        write_through(alloc, &mut place, "/", &["abc"])?.as_str(),
-        "failed"
-    );
-    // a folder can be opened and not read
-    assert_eq!(rt; read_through(alloc, &mut place, "/", 2)?.as_str(), "FF");
-
     let mut sink = WriterSink::new(fs::create(&rt, path)?);
-    assert_eq!(rt; writes(alloc, &mut sink, &["hi", "jkl"])?.as_str(), "2 3 ");
+    assert_eq!(rt; writes(alloc, &mut sink)?.as_str(), "[abc][defg][hijk]");
     let mut source = ReaderSource::new(fs::open(&rt, path)?);
-    assert_eq!(rt; reads(alloc, &mut source, 3, 3)?.as_str(), "[hij][kl][]");
-    let mut source = ReaderSource::new(fs::open(&rt, "/")?);
-    assert_eq!(rt; reads(alloc, &mut source, 3, 2)?.as_str(), "FF");
+    assert_eq!(rt;
+        reads(alloc, &mut source, 4)?.as_str(),
+        "[abcd][efgh][ijk][]"
+    );
     // a file that was opened to be read takes no byte
     let mut sink = WriterSink::new(fs::open(&rt, path)?);
-    assert_eq!(rt; writes(alloc, &mut sink, &["a", "b"])?.as_str(), "F F ");
+    assert_eq!(rt; writes(alloc, &mut sink)?.as_str(), "FFF");
     fs::remove_file(&rt, path)?;
     Ok(())
 }

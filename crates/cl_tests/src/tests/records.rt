@@ -166,44 +166,72 @@ fn assert_page(rt: &impl Abort, page: &Page, leaves: u32, glyphs: &[u8]) {
     assert_eq!(rt; page.glyphs.as_slice(), glyphs);
 }
 
+// Both ways of replaying the history in a rectangle paint these glyphs by so many leaves.
+fn assert_replays(
+    rt: &(impl Abort + AllocGlobal),
+    history: &History<AnyLeaf>,
+    rect: Rect,
+    leaves: u32,
+    glyphs: &[u8],
+) -> Result<(), AllocError> {
+    let region = region(rt.alloc(), rect)?;
+    let mut page = blank_page();
+    history.replay(&region, &mut page);
+    assert_page(rt, &page, leaves, glyphs);
+    let mut page = blank_page();
+    history.replay_in(&rect, &mut page);
+    assert_page(rt, &page, leaves, glyphs);
+    Ok(())
+}
+
+fn rect(x1: i64, y1: i64, x2: i64, y2: i64) -> Rect {
+    Rect { x1, y1, x2, y2 }
+}
+
 #[test]
-fn replays(rt: HostRuntime) -> Result<(), Fail> {
-    let alloc = rt.alloc();
-    let drawing = History::from_nodes(drawing(alloc)?);
-    let branches = History::from_nodes(branches(alloc)?);
-    let whole = Rect {
-        x1: 0,
-        y1: 0,
-        x2: 6,
-        y2: 4,
-    };
-    let last = Rect {
-        x1: 0,
-        y1: 3,
-        x2: 6,
-        y2: 4,
-    };
-    let side = Rect {
-        x1: 4,
-        y1: 1,
-        x2: 5,
-        y2: 2,
-    };
-    let cases: [(&History<AnyLeaf>, Rect, u32, &[u8]); 5] = [
-        (&drawing, whole, 3, b"ab+-+...|.|...+-+.c....."),
-        (&drawing, last, 1, b"..................c....."),
-        (&drawing, side, 1, b"..+-+...|.|...+-+......."),
-        (&branches, whole, 1, b"..............**........"),
-        (&branches, last, 0, b"........................"),
-    ];
-    for (history, rect, leaves, glyphs) in &cases {
-        let mut page = blank_page();
-        history.replay(&region(alloc, *rect)?, &mut page);
-        assert_page(&rt, &page, *leaves, glyphs);
-        let mut page = blank_page();
-        history.replay_in(rect, &mut page);
-        assert_page(&rt, &page, *leaves, glyphs);
-    }
+fn a_drawing_is_replayed(rt: HostRuntime) -> Result<(), Fail> {
+    let history = History::from_nodes(drawing(rt.alloc())?);
+    assert_replays(
+        &rt,
+        &history,
+        rect(0, 0, 6, 4),
+        3,
+        b"ab+-+...|.|...+-+.c.....",
+    )?;
+    assert_replays(
+        &rt,
+        &history,
+        rect(0, 3, 6, 4),
+        1,
+        b"..................c.....",
+    )?;
+    assert_replays(
+        &rt,
+        &history,
+        rect(4, 1, 5, 2),
+        1,
+        b"..+-+...|.|...+-+.......",
+    )?;
+    Ok(())
+}
+
+#[test]
+fn branches_are_replayed(rt: HostRuntime) -> Result<(), Fail> {
+    let history = History::from_nodes(branches(rt.alloc())?);
+    assert_replays(
+        &rt,
+        &history,
+        rect(0, 0, 6, 4),
+        1,
+        b"..............**........",
+    )?;
+    assert_replays(
+        &rt,
+        &history,
+        rect(0, 3, 6, 4),
+        0,
+        b"........................",
+    )?;
     Ok(())
 }
 
@@ -222,24 +250,28 @@ fn assert_lines(
 }
 
 #[test]
-fn lines(rt: HostRuntime) -> Result<(), Fail> {
-    let alloc = rt.alloc();
-    let mut drawing = History::from_nodes(drawing(alloc)?);
+fn a_drawing_is_printed(rt: HostRuntime) -> Result<(), Fail> {
+    let mut history = History::from_nodes(drawing(rt.alloc())?);
     assert_lines(
         &rt,
-        &drawing,
+        &history,
         &[b"text 0 0 0 ab", b"box 2 0 3 3 0", b"text 0 3 0 c"],
     )?;
+    history.clear();
+    assert_lines(&rt, &history, &[])?;
+    Ok(())
+}
+
+#[test]
+fn branches_are_printed(rt: HostRuntime) -> Result<(), Fail> {
     assert_lines(
         &rt,
-        &History::from_nodes(branches(alloc)?),
+        &History::from_nodes(branches(rt.alloc())?),
         &[
             b"presentation entry (\"a\\\"\\\\b\" #point(x null) true ())",
             b"  update 70.0 -5",
             b"    fill 2 2 2 1 0 *",
         ],
     )?;
-    drawing.clear();
-    assert_lines(&rt, &drawing, &[])?;
     Ok(())
 }

@@ -1,29 +1,9 @@
-//! Texts and their tokens or refusals, as a separate reference gives them.
+//! Texts and their tokens, as a separate reference gives them.
 use Kind::{Close, Int, Open, Quote, Symbol, Text};
-use cl_sexp::{Kind, ReadRefusal, read_forms};
+use cl_sexp::{Kind, read_forms};
 use std::test::Fail;
 
-const REFUSED: [(&[u8], u8, u32); 4] = [
-    (b"; \x01 (\r(\n\x01", 1, 8),
-    (b"(a \"b\\\"c\" ; x)\n", 2, 15),
-    (b"(1 99999999999999999999 \x01", 4, 3),
-    (
-        b"((((((((((((((((((((((((((((((((((((((((((((((((((((((((((((((((((",
-        3,
-        64,
-    ),
-];
-
-#[test]
-fn refuses_the_first_fault(rt: HostRuntime) {
-    for (text, number, at) in REFUSED {
-        assert!(rt; text.len() <= 1_048_576);
-        let refused = read_forms(rt.alloc(), text).err();
-        assert_eq!(rt; refused, Some(ReadRefusal::Refused(number, at)), "{text:?}");
-    }
-}
-
-const READ: [(&[u8], &[(Kind, u32, u32)]); 5] = [
+const READ: [(&[u8], &[(Kind, u32, u32)]); 6] = [
     (b"; end", &[]),
     (
         b"-9223372036854775808 007",
@@ -46,6 +26,10 @@ const READ: [(&[u8], &[(Kind, u32, u32)]); 5] = [
             (Quote, 3, 4),
             (Symbol, 9, 10),
         ],
+    ),
+    (
+        b"\"\\\\\"a\"\"",
+        &[(Text, 0, 4), (Symbol, 4, 5), (Text, 5, 7)],
     ),
     (
         b"a\"b\"c(d)",
