@@ -133,53 +133,53 @@ calls::evaluate_operation-returns-in_ok-second-in-len2-clause-meaning g t c =
 pub evaluation::evaluate_parts-returns-in_err-evaluate_test-in-If-clause-meaning : goal.evaluation::evaluate_parts-returns-in_err-evaluate_test-in-If-clause-meaning
 evaluation::evaluate_parts-returns-in_err-evaluate_test-in-If-clause-meaning g t c =
     let p = err_from_is_err_and c.from_residual-in_err-evaluate_test-in-If.result c.from_residual-in_err-evaluate_test-in-If.ensures.1 in
-    let whole : c.args.expr.now ≡ term.choice c.in-If.test.value c.in-If.then.value c.in-If.other.value = sym c.expr.view_is ∙ ap term_of c.in-If.is in
+    let whole : c.args.expr.now ≡ term.choice c.in-If.choice.value.test c.in-If.choice.value.then c.in-If.choice.value.other = sym c.expr.view_is ∙ ap term_of c.in-If.is in
     let stop = rw c.deref.ensures at c.in_err-evaluate_test-in-If.ensures.meaning in
     rw (p.1, p.2, whole)
-    (stop-choice c.args.context.now.app.now c.args.context.now.slots.now (means c.args.left c.args.context.now.budget c.args.context.now.app.now c.args.context.now.slots.now) (grows-means c.args.left c.args.context.now.budget c.args.context.now.app.now c.args.context.now.slots.now) c.args.level (variables_of c.args.scope.now) c.in-If.test.value c.in-If.then.value c.in-If.other.value c.in_err-evaluate_test-in-If.field-0.0 c.evaluate_test.new.meter c.args.meter.now.cost c.args.meter.now.deepest stop)
+    (stop-choice c.args.context.now.app.now c.args.context.now.slots.now (means c.args.left c.args.context.now.budget c.args.context.now.app.now c.args.context.now.slots.now) (grows-means c.args.left c.args.context.now.budget c.args.context.now.app.now c.args.context.now.slots.now) c.args.level (variables_of c.args.scope.now) c.in-If.choice.value.test c.in-If.choice.value.then c.in-If.choice.value.other c.in_err-evaluate_test-in-If.field-0.0 c.evaluate_test.new.meter c.args.meter.now.cost c.args.meter.now.deepest stop)
 
 pub evaluation::evaluate_parts-returns-in_err-list-in-Map-clause-meaning : goal.evaluation::evaluate_parts-returns-in_err-list-in-Map-clause-meaning
 evaluation::evaluate_parts-returns-in_err-list-in-Map-clause-meaning g t c =
     let p = err_from_is_err_and c.from_residual-in_err-list-in-Map.result c.from_residual-in_err-list-in-Map.ensures.1 in
-    let whole : c.args.expr.now ≡ term.map c.in-Map.name c.in-Map.list.value c.in-Map.body.value = sym c.expr.view_is ∙ ap term_of c.in-Map.is in
+    let whole : c.args.expr.now ≡ term.map c.in-Map.each.value.name c.in-Map.each.value.list c.in-Map.each.value.body = sym c.expr.view_is ∙ ap term_of c.in-Map.is in
     let stop = rw c.deref-in-Map.ensures at c.in_err-list-in-Map.ensures.meaning in
     rw (p.1, p.2, whole)
-    (stop-map c.args.context.now.app.now c.args.context.now.slots.now (means c.args.left c.args.context.now.budget c.args.context.now.app.now c.args.context.now.slots.now) (grows-means c.args.left c.args.context.now.budget c.args.context.now.app.now c.args.context.now.slots.now) c.args.level (variables_of c.args.scope.now) c.in-Map.name c.in-Map.list.value c.in-Map.body.value c.in_err-list-in-Map.field-0.0 c.evaluate_list.new.meter c.args.meter.now.cost c.args.meter.now.deepest stop)
+    (stop-map c.args.context.now.app.now c.args.context.now.slots.now (means c.args.left c.args.context.now.budget c.args.context.now.app.now c.args.context.now.slots.now) (grows-means c.args.left c.args.context.now.budget c.args.context.now.app.now c.args.context.now.slots.now) c.args.level (variables_of c.args.scope.now) c.in-Map.each.value.name c.in-Map.each.value.list c.in-Map.each.value.body c.in_err-list-in-Map.field-0.0 c.evaluate_list.new.meter c.args.meter.now.cost c.args.meter.now.deepest stop)
 
 pub evaluation::evaluate_parts-returns-in_err-list-in-Filter-clause-meaning : goal.evaluation::evaluate_parts-returns-in_err-list-in-Filter-clause-meaning
 evaluation::evaluate_parts-returns-in_err-list-in-Filter-clause-meaning g t c =
     let p = err_from_is_err_and c.from_residual-in_err-list-in-Filter.result c.from_residual-in_err-list-in-Filter.ensures.1 in
-    let whole : c.args.expr.now ≡ term.filter c.in-Filter.name c.in-Filter.list.value c.in-Filter.body.value = sym c.expr.view_is ∙ ap term_of c.in-Filter.is in
+    let whole : c.args.expr.now ≡ term.filter c.in-Filter.each.value.name c.in-Filter.each.value.list c.in-Filter.each.value.body = sym c.expr.view_is ∙ ap term_of c.in-Filter.is in
     let stop = rw c.deref-in-Filter.ensures at c.in_err-list-in-Filter.ensures.meaning in
     rw (p.1, p.2, whole)
-    (stop-filter c.args.context.now.app.now c.args.context.now.slots.now (means c.args.left c.args.context.now.budget c.args.context.now.app.now c.args.context.now.slots.now) (grows-means c.args.left c.args.context.now.budget c.args.context.now.app.now c.args.context.now.slots.now) c.args.level (variables_of c.args.scope.now) c.in-Filter.name c.in-Filter.list.value c.in-Filter.body.value c.in_err-list-in-Filter.field-0.0 c.evaluate_list-in-Filter.new.meter c.args.meter.now.cost c.args.meter.now.deepest stop)
+    (stop-filter c.args.context.now.app.now c.args.context.now.slots.now (means c.args.left c.args.context.now.budget c.args.context.now.app.now c.args.context.now.slots.now) (grows-means c.args.left c.args.context.now.budget c.args.context.now.app.now c.args.context.now.slots.now) c.args.level (variables_of c.args.scope.now) c.in-Filter.each.value.name c.in-Filter.each.value.list c.in-Filter.each.value.body c.in_err-list-in-Filter.field-0.0 c.evaluate_list-in-Filter.new.meter c.args.meter.now.cost c.args.meter.now.deepest stop)
 
 pub evaluation::evaluate_parts-returns-in_err-list-in-Fold-clause-meaning : goal.evaluation::evaluate_parts-returns-in_err-list-in-Fold-clause-meaning
 evaluation::evaluate_parts-returns-in_err-list-in-Fold-clause-meaning g t c =
     let p = err_from_is_err_and c.from_residual-in_err-list-in-Fold.result c.from_residual-in_err-list-in-Fold.ensures.1 in
-    let whole : c.args.expr.now ≡ term.fold c.in-Fold.name c.in-Fold.list.value c.in-Fold.accumulator c.in-Fold.opening.value c.in-Fold.body.value = sym c.expr.view_is ∙ ap term_of c.in-Fold.is in
+    let whole : c.args.expr.now ≡ term.fold c.in-Fold.fold.value.name c.in-Fold.fold.value.list c.in-Fold.fold.value.accumulator c.in-Fold.fold.value.opening c.in-Fold.fold.value.body = sym c.expr.view_is ∙ ap term_of c.in-Fold.is in
     let stop = rw c.deref-in-Fold.ensures at c.in_err-list-in-Fold.ensures.meaning in
     rw (p.1, p.2, whole)
-    (stop-fold c.args.context.now.app.now c.args.context.now.slots.now (means c.args.left c.args.context.now.budget c.args.context.now.app.now c.args.context.now.slots.now) (grows-means c.args.left c.args.context.now.budget c.args.context.now.app.now c.args.context.now.slots.now) c.args.level (variables_of c.args.scope.now) c.in-Fold.name c.in-Fold.accumulator c.in-Fold.list.value c.in-Fold.opening.value c.in-Fold.body.value c.in_err-list-in-Fold.field-0.0 c.evaluate-in-Fold.new.meter c.args.meter.now.cost c.args.meter.now.deepest stop)
+    (stop-fold c.args.context.now.app.now c.args.context.now.slots.now (means c.args.left c.args.context.now.budget c.args.context.now.app.now c.args.context.now.slots.now) (grows-means c.args.left c.args.context.now.budget c.args.context.now.app.now c.args.context.now.slots.now) c.args.level (variables_of c.args.scope.now) c.in-Fold.fold.value.name c.in-Fold.fold.value.accumulator c.in-Fold.fold.value.list c.in-Fold.fold.value.opening c.in-Fold.fold.value.body c.in_err-list-in-Fold.field-0.0 c.evaluate-in-Fold.new.meter c.args.meter.now.cost c.args.meter.now.deepest stop)
 
 pub evaluation::evaluate_parts-returns-in_err-opening-in-Fold-clause-meaning : goal.evaluation::evaluate_parts-returns-in_err-opening-in-Fold-clause-meaning
 evaluation::evaluate_parts-returns-in_err-opening-in-Fold-clause-meaning g t c =
     let p = err_from_is_err_and c.from_residual-in_err-opening-in-Fold.result c.from_residual-in_err-opening-in-Fold.ensures.1 in
-    let whole : c.args.expr.now ≡ term.fold c.in-Fold.name c.in-Fold.list.value c.in-Fold.accumulator c.in-Fold.opening.value c.in-Fold.body.value = sym c.expr.view_is ∙ ap term_of c.in-Fold.is in
+    let whole : c.args.expr.now ≡ term.fold c.in-Fold.fold.value.name c.in-Fold.fold.value.list c.in-Fold.fold.value.accumulator c.in-Fold.fold.value.opening c.in-Fold.fold.value.body = sym c.expr.view_is ∙ ap term_of c.in-Fold.is in
     let listed = rw c.deref-in-Fold.ensures at c.in_ok-list-in-Fold.ensures.meaning in
     let stop = rw c.deref-in-Fold-2.ensures at c.in_err-opening-in-Fold.ensures.meaning in
     rw (p.1, p.2, whole)
-    (stop-opening c.args.context.now.app.now c.args.context.now.slots.now (means c.args.left c.args.context.now.budget c.args.context.now.app.now c.args.context.now.slots.now) (grows-means c.args.left c.args.context.now.budget c.args.context.now.app.now c.args.context.now.slots.now) c.args.level (variables_of c.args.scope.now) c.in-Fold.name c.in-Fold.accumulator c.in-Fold.list.value c.in-Fold.opening.value c.in-Fold.body.value c.in_err-opening-in-Fold.field-0.0 c.evaluate-in-Fold-2.new.meter (data_of c.in_ok-list-in-Fold.list) c.args.meter.now.cost c.args.meter.now.deepest
+    (stop-opening c.args.context.now.app.now c.args.context.now.slots.now (means c.args.left c.args.context.now.budget c.args.context.now.app.now c.args.context.now.slots.now) (grows-means c.args.left c.args.context.now.budget c.args.context.now.app.now c.args.context.now.slots.now) c.args.level (variables_of c.args.scope.now) c.in-Fold.fold.value.name c.in-Fold.fold.value.accumulator c.in-Fold.fold.value.list c.in-Fold.fold.value.opening c.in-Fold.fold.value.body c.in_err-opening-in-Fold.field-0.0 c.evaluate-in-Fold-2.new.meter (data_of c.in_ok-list-in-Fold.list) c.args.meter.now.cost c.args.meter.now.deepest
     c.evaluate-in-Fold.new.meter.cost c.evaluate-in-Fold.new.meter.deepest listed stop)
 
 pub evaluation::evaluate_parts-returns-in_err-list-in-Fold-2-clause-meaning : goal.evaluation::evaluate_parts-returns-in_err-list-in-Fold-2-clause-meaning
 evaluation::evaluate_parts-returns-in_err-list-in-Fold-2-clause-meaning g t c =
     let p = err_from_is_err_and c.from_residual-in_err-list-in-Fold-2.result c.from_residual-in_err-list-in-Fold-2.ensures.1 in
-    let whole : c.args.expr.now ≡ term.fold c.in-Fold.name c.in-Fold.list.value c.in-Fold.accumulator c.in-Fold.opening.value c.in-Fold.body.value = sym c.expr.view_is ∙ ap term_of c.in-Fold.is in
+    let whole : c.args.expr.now ≡ term.fold c.in-Fold.fold.value.name c.in-Fold.fold.value.list c.in-Fold.fold.value.accumulator c.in-Fold.fold.value.opening c.in-Fold.fold.value.body = sym c.expr.view_is ∙ ap term_of c.in-Fold.is in
     let listed = rw c.deref-in-Fold.ensures at c.in_ok-list-in-Fold.ensures.meaning in
     let opened = rw c.deref-in-Fold-2.ensures at c.in_ok-opening-in-Fold.ensures.meaning in
     rw (p.1, p.2, whole)
-    (stop-elements c.args.context.now.app.now c.args.context.now.slots.now (means c.args.left c.args.context.now.budget c.args.context.now.app.now c.args.context.now.slots.now) (grows-means c.args.left c.args.context.now.budget c.args.context.now.app.now c.args.context.now.slots.now) c.args.level (variables_of c.args.scope.now) c.in-Fold.name c.in-Fold.accumulator c.in-Fold.list.value c.in-Fold.opening.value c.in-Fold.body.value c.in_err-list-in-Fold-2.field-0.0 c.evaluate-in-Fold-2.new.meter (data_of c.in_ok-list-in-Fold.list) (data_of c.in_ok-opening-in-Fold.opening) c.args.meter.now.cost c.args.meter.now.deepest
+    (stop-elements c.args.context.now.app.now c.args.context.now.slots.now (means c.args.left c.args.context.now.budget c.args.context.now.app.now c.args.context.now.slots.now) (grows-means c.args.left c.args.context.now.budget c.args.context.now.app.now c.args.context.now.slots.now) c.args.level (variables_of c.args.scope.now) c.in-Fold.fold.value.name c.in-Fold.fold.value.accumulator c.in-Fold.fold.value.list c.in-Fold.fold.value.opening c.in-Fold.fold.value.body c.in_err-list-in-Fold-2.field-0.0 c.evaluate-in-Fold-2.new.meter (data_of c.in_ok-list-in-Fold.list) (data_of c.in_ok-opening-in-Fold.opening) c.args.meter.now.cost c.args.meter.now.deepest
     c.evaluate-in-Fold.new.meter.cost c.evaluate-in-Fold.new.meter.deepest listed opened c.in_err-list-in-Fold-2.ensures)
 
 pub evaluation::evaluate_parts-returns-in_err-values-in-Call-clause-meaning : goal.evaluation::evaluate_parts-returns-in_err-values-in-Call-clause-meaning

@@ -22,10 +22,10 @@ act-returns-clause-meaning g t c =
 pub act_parts-returns-in_err-is_true-in-If-clause-meaning : goal.act_parts-returns-in_err-is_true-in-If-clause-meaning
 act_parts-returns-in_err-is_true-in-If-clause-meaning g t c =
     let p = err_from_is_err_and c.from_residual-in_err-is_true-in-If.result c.from_residual-in_err-is_true-in-If.ensures.1 in
-    let whole : c.args.statement.now ≡ act.choice c.in-If.test c.in-If.then.value c.in-If.other.value = sym c.statement.view_is ∙ ap statement_of c.in-If.is in
+    let whole : c.args.statement.now ≡ act.choice c.in-If.choice.value.test c.in-If.choice.value.then c.in-If.choice.value.other = sym c.statement.view_is ∙ ap statement_of c.in-If.is in
+    let stop = rw c.deref.ensures at c.in_err-is_true-in-If.ensures.meaning in
     rw (p.1, p.2, whole)
-    (stop-choice c.args.program.now.app.now (g.T.Types.holds c.args.program.now.types.now) (means c.args.left c.args.program.now.budget c.args.program.now.app.now) (does c.args.left c.args.program.now.budget c.args.program.now.app.now (g.T.Types.holds c.args.program.now.types.now)) (grows-does c.args.left c.args.program.now.budget c.args.program.now.app.now (g.T.Types.holds c.args.program.now.types.now)) c.args.level (variables_of c.args.scope.now) c.in-If.test c.in-If.then.value c.in-If.other.value c.args.effects.now c.args.effects.now c.in_err-is_true-in-If.field-0.0 c.is_true.new.meter c.args.meter.now.cost c.args.meter.now.deepest
-    c.in_err-is_true-in-If.ensures.meaning)
+    (stop-choice c.args.program.now.app.now (g.T.Types.holds c.args.program.now.types.now) (means c.args.left c.args.program.now.budget c.args.program.now.app.now) (does c.args.left c.args.program.now.budget c.args.program.now.app.now (g.T.Types.holds c.args.program.now.types.now)) (grows-does c.args.left c.args.program.now.budget c.args.program.now.app.now (g.T.Types.holds c.args.program.now.types.now)) c.args.level (variables_of c.args.scope.now) c.in-If.choice.value.test c.in-If.choice.value.then c.in-If.choice.value.other c.args.effects.now c.args.effects.now c.in_err-is_true-in-If.field-0.0 c.is_true.new.meter c.args.meter.now.cost c.args.meter.now.deepest stop)
 
 pub act_parts-returns-in_err-is_true-in-When-clause-meaning : goal.act_parts-returns-in_err-is_true-in-When-clause-meaning
 act_parts-returns-in_err-is_true-in-When-clause-meaning g t c =
