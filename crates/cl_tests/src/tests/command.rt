@@ -18,8 +18,10 @@ fn add(alloc: Global, commands: &mut Commands, name: &str) -> Result<(), Fail> {
         body: Acts::new(alloc),
         at: 0,
     };
-    commands.add(command).map_err(|_| "no memory")?;
-    Ok(())
+    match commands.add(command) {
+        Ok(()) => Ok(()),
+        Err(_) => Err("no memory".into()),
+    }
 }
 
 // Commands of these names.

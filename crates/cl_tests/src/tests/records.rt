@@ -127,24 +127,24 @@ fn measures() -> Measures
     }
 }
 
+fn push_value(values: &mut Values, value: Value) -> Result<(), Fail> {
+    match values.push(value) {
+        Ok(()) => Ok(()),
+        Err(_) => Err("no memory".into()),
+    }
+}
+
 // A list of a text, a record and two constants.
 fn object(alloc: Global) -> Result<Value, Fail> {
     let mut fields = Values::new(alloc);
-    fields
-        .push(Value::Symbol(Text::from_slice(alloc, b"x")?))
-        .map_err(|_| "no memory")?;
-    fields.push(Value::Null).map_err(|_| "no memory")?;
+    push_value(&mut fields, Value::Symbol(Text::from_slice(alloc, b"x")?))?;
+    push_value(&mut fields, Value::Null)?;
     let mut parts = Values::new(alloc);
-    parts
-        .push(Value::Text(Text::from_slice(alloc, b"a\"\\b")?))
-        .map_err(|_| "no memory")?;
-    parts
-        .push(Value::Record(Text::from_slice(alloc, b"point")?, fields))
-        .map_err(|_| "no memory")?;
-    parts.push(Value::Bool(true)).map_err(|_| "no memory")?;
-    parts
-        .push(Value::List(Values::new(alloc)))
-        .map_err(|_| "no memory")?;
+    push_value(&mut parts, Value::Text(Text::from_slice(alloc, b"a\"\\b")?))?;
+    let name = Text::from_slice(alloc, b"point")?;
+    push_value(&mut parts, Value::Record(name, fields))?;
+    push_value(&mut parts, Value::Bool(true))?;
+    push_value(&mut parts, Value::List(Values::new(alloc)))?;
     Ok(Value::List(parts))
 }
 

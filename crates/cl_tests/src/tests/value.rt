@@ -8,10 +8,17 @@ fn text(alloc: Global, bytes: &[u8]) -> Result<Value, AllocError> {
     Ok(Value::Text(Text::from_slice(alloc, bytes)?))
 }
 
+fn push(values: &mut Values, value: Value) -> Result<(), Fail> {
+    match values.push(value) {
+        Ok(()) => Ok(()),
+        Err(_) => Err("no memory".into()),
+    }
+}
+
 fn list(alloc: Global, first: Value, second: Value) -> Result<Values, Fail> {
     let mut values = Values::new(alloc);
-    values.push(first).map_err(|_| "no memory")?;
-    values.push(second).map_err(|_| "no memory")?;
+    push(&mut values, first)?;
+    push(&mut values, second)?;
     Ok(values)
 }
 
@@ -24,19 +31,29 @@ fn point(alloc: Global) -> Result<Value, Fail> {
 }
 
 #[test]
-fn measures_and_copies(rt: HostRuntime) -> Result<(), Fail> {
+fn a_record_is_measured(rt: HostRuntime) -> Result<(), Fail> {
     let value = point(rt.alloc())?;
-    assert_eq!(rt;
-        value.size(),
-        1 + 1 + (1 + 3 + 1),
-        "the name counts nothing"
-    );
+    // itself and its fields: the number, and the list with its text and null
+    assert_eq!(rt; value.size(), 7, "the name counts nothing");
     assert_eq!(rt; value.depth(), 3);
-    assert!(rt; value.copy()?.equal(&value));
+    Ok(())
+}
+
+#[test]
+fn a_record_is_copied(rt: HostRuntime) -> Result<(), Fail> {
+    let value = point(rt.alloc())?;
+    let other = value.copy()?;
+    assert!(rt; other.equal(&value));
+    Ok(())
+}
+
+#[test]
+fn flat_values_are_measured(rt: HostRuntime) -> Result<(), Fail> {
     let empty = Value::List(Values::new(rt.alloc()));
-    assert_eq!(rt; (empty.size(), empty.depth()), (1, 1));
+    assert_eq!(rt; empty.size(), 1);
+    assert_eq!(rt; empty.depth(), 1);
     let symbol = Value::Symbol(Text::from_slice(rt.alloc(), b"long-name")?);
-    assert_eq!(rt; (symbol.size(), symbol.depth()), (1, 1));
+    assert_eq!(rt; symbol.size(), 1);
     Ok(())
 }
 
@@ -44,7 +61,7 @@ fn measures_and_copies(rt: HostRuntime) -> Result<(), Fail> {
 fn a_shared_list_is_not_changed(rt: HostRuntime) -> Result<(), Fail> {
     let mut values = list(rt.alloc(), Value::Int(1), Value::Null)?;
     let before = values.copy()?;
-    values.push(Value::Bool(true)).map_err(|_| "no memory")?;
+    push(&mut values, Value::Bool(true))?;
     assert_eq!(rt; before.as_slice().len(), 2);
     assert_eq!(rt; values.as_slice().len(), 3);
     Ok(())
@@ -57,11 +74,17 @@ fn a_vector_becomes_a_list(rt: HostRuntime) -> Result<(), Fail> {
     row.push(point(alloc)?)?;
     row.push(Value::Int(5))?;
     let mut values = Values::from_vec(alloc, row)?;
-    values.push(point(alloc)?).map_err(|_| "no memory")?;
-    assert_eq!(rt; (values.len(), values.is_empty()), (3, false));
-    assert_eq!(rt; (values.size(), values.depth()), (7 + 1 + 7, 3));
-    let none = Values::from_vec(alloc, Vec::new(alloc))?;
-    assert_eq!(rt; (none.len(), none.is_empty()), (0, true));
+    push(&mut values, point(alloc)?)?;
+    assert_eq!(rt; values.len(), 3);
+    assert_eq!(rt; values.size(), 15);
+    assert_eq!(rt; values.depth(), 3);
+    Ok(())
+}
+
+#[test]
+fn no_vector_becomes_no_list(rt: HostRuntime) -> Result<(), Fail> {
+    let none = Values::from_vec(rt.alloc(), Vec::new(rt.alloc()))?;
+    assert!(rt; none.is_empty());
     Ok(())
 }
 
