@@ -54,7 +54,7 @@ pub draw_parts-returns-in_err-evaluate_test-in-If-clause-meaning : goal.draw_par
 draw_parts-returns-in_err-evaluate_test-in-If-clause-meaning g t c =
     let p = err_from_is_err_and c.from_residual-in_err-evaluate_test-in-If.result c.from_residual-in_err-evaluate_test-in-If.ensures.1 in
     let whole : c.args.form.now ≡ shape.choice c.in-If.choice.value.test c.in-If.choice.value.then c.in-If.choice.value.other = sym c.form.view_is ∙ ap form_of c.in-If.is in
-    let stop = rw c.deref.ensures at c.in_err-evaluate_test-in-If.ensures.meaning in
+    let stop = rw c.deref-in-If.ensures at c.in_err-evaluate_test-in-If.ensures.meaning in
     rw (p.1, p.2, whole)
     (stop-choice c.args.context.now.app.now (means c.args.left c.args.context.now.budget c.args.context.now.app.now c.args.context.now.slots.now) (draws c.args.left c.args.context.now.budget c.args.context.now.app.now c.args.context.now.slots.now) (grows-draws c.args.left c.args.context.now.budget c.args.context.now.app.now c.args.context.now.slots.now) c.args.level (variables_of c.args.scope.now) c.in-If.choice.value.test c.in-If.choice.value.then c.in-If.choice.value.other (drawing_of c.args.drawing.now) (drawing_of c.args.drawing.now)
     c.in_err-evaluate_test-in-If.field-0.0 c.evaluate_test.new.meter c.args.meter.now.cost c.args.meter.now.deepest stop)
