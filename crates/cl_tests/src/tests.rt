@@ -14,6 +14,7 @@ mod reading;
 mod records;
 mod redisplay;
 mod region;
+mod saying;
 mod sexp;
 mod slot_types;
 mod value;

@@ -1,5 +1,6 @@
 //! Displays as texts: their items, or the kind of their trap, and their cost, worked out by hand.
 use super::reading::{display_forms, loaded, variables};
+use super::saying::put_bytes;
 use cl_display::{History, Shown, display};
 use cl_eval::Limits;
 use cl_outside::own_steps;
@@ -55,9 +56,7 @@ fn put_history(alloc: Global, said: &mut String, history: &History) -> Result<()
     let mut lines = Vec::new(alloc);
     history.print(alloc, &mut lines)?;
     for line in &lines {
-        for byte in line.as_slice() {
-            said.push(char::from(*byte))?;
-        }
+        put_bytes(said, line.as_slice())?;
         said.push('|')?;
     }
     Ok(())

@@ -1,5 +1,6 @@
 //! Expressions as texts: what they come to, how many forms are entered, and how deep, worked out by hand.
 use super::reading::{expression, loaded, variables};
+use super::saying::put_bytes;
 use cl_eval::{Evaluated, Limits, eval};
 use cl_outside::own_steps;
 use cl_syntax::{Expr, Operator, RecordOperator};
@@ -45,9 +46,7 @@ fn put_numbers(said: &mut String, values: &[Value]) -> Result<(), Fail> {
 }
 
 fn put_text(said: &mut String, text: &Text) -> Result<(), Fail> {
-    for byte in text.as_slice() {
-        said.push(char::from(*byte))?;
-    }
+    put_bytes(said, text.as_slice())?;
     Ok(said.push(' ')?)
 }
 

@@ -1,5 +1,6 @@
 //! Statements as texts: the slot `count` that they leave, what they reply, and their cost, worked out by hand.
 use super::reading::{loaded, statements, variables};
+use super::saying::put_bytes;
 use cl_eval::{Executed, Limits, Lines, exec};
 use cl_load::SlotTypes;
 use cl_outside::own_steps;
@@ -58,9 +59,7 @@ fn run(alloc: Global, text: &str) -> Result<Executed, Fail> {
 /// Each reply with a bar behind it.
 fn put_replies(said: &mut String, lines: &Lines) -> Result<(), Fail> {
     for line in lines.as_slice() {
-        for byte in line.as_slice() {
-            said.push(char::from(*byte))?;
-        }
+        put_bytes(said, line.as_slice())?;
         said.push('|')?;
     }
     Ok(())

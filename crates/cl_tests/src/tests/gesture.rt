@@ -2,6 +2,7 @@
 ghost use Rattle.std.specs.Prelude.{◌≡◌, ◌<◌, ◌≤◌, length, None};
 ghost use Rattle.cl_outside.specs.Outside.{ReadTook, FailedRose};
 
+use super::saying::put_bytes;
 use cl_gesture::{Ahead, Gesture, Gestures, Next};
 use cl_outside::{MemSource, Source, Took};
 use std::alloc::{AllocError, Global};
@@ -28,10 +29,7 @@ impl Source for Dribble<'_> {
 
 fn put_text(told: &mut String, head: &str, bytes: &[u8]) -> Result<(), AllocError> {
     told.push_str(head)?;
-    for byte in bytes {
-        told.push(char::from(*byte))?;
-    }
-    Ok(())
+    put_bytes(told, bytes)
 }
 
 fn put_gesture(told: &mut String, gesture: Gesture) -> Result<(), AllocError> {
