@@ -1,10 +1,15 @@
 #!/usr/bin/env bash
-# run.sh NAME: builds what is needed and runs the example of this name: NAME/NAME.clim with the gestures of NAME/gestures.txt. It writes
-# the transcript, which is NAME/transcript.txt.
+# run.sh NAME: runs the example of this name, NAME/NAME.clim with the gestures of NAME/gestures.txt, and ends with its status. It writes
+# the transcript, which is NAME/transcript.txt. The proved program runs where it is built, and else `rt try`, which proves nothing.
 set -euo pipefail
 name=$1
 here=$(cd "$(dirname "$0")/$name" && pwd)
 cd "$here/../../crates/clim_run"
-echo "$name: proving and building clim_run where that is not done yet; the first build takes some minutes" >&2
-rt run -- run "$here/$name.clim" </dev/null >/dev/null 2>&1 || { echo "$name: the build failed; see: cd crates/clim_run && rt run" >&2; exit 1; }
-exec out/clim_run run "$here/$name.clim" <"$here/gestures.txt"
+if [ -x out/clim_run ]; then
+    echo "$name: run by the proved program, crates/clim_run/out/clim_run" >&2
+    exec out/clim_run run "$here/$name.clim" <"$here/gestures.txt"
+fi
+echo "$name: run by rt try, which proves nothing and takes a minute to compile" >&2
+echo "$name: to build the proved program: cd crates/clim_run && rt run -- run $here/$name.clim <$here/gestures.txt" \
+    "(an hour or more of processor time the first time)" >&2
+exec rt try --data "$name.clim=$here/$name.clim" -- run "$name.clim" <"$here/gestures.txt"

@@ -1,0 +1,148 @@
+//! How what came differs from what was wanted.
+use crate::runs::{Ran, run};
+use crate::settings::Setting;
+use std::alloc::{AllocError, Global};
+use std::fmt;
+
+/// Where a run differs.
+#[derive(Clone, Copy)]
+pub enum Part {
+    /// At a line of the transcript, from 1.
+    Line(usize),
+    Status,
+    OpeningSteps,
+    /// In the steps of a line of gestures, from 1.
+    Steps(usize),
+}
+
+impl fmt::Display for Part {
+    fn fmt<W: fmt::Write>(&self, f: &mut fmt::Formatter<W>) -> fmt::Result {
+        match *self {
+            Part::Line(line) => write!(f, "at line {line}"),
+            Part::Status => write!(f, "in the status"),
+            Part::OpeningSteps => write!(f, "in the steps of the opening"),
+            Part::Steps(line) => write!(f, "in the steps of line {line}"),
+        }
+    }
+}
+
+/// The first thing in which a run differs, as it is printed.
+#[derive(Drop)]
+pub struct Difference {
+    pub part: Part,
+    pub wanted: String,
+    pub came: String,
+}
+
+/// Runs a setting, and answers the first thing that is not as it is wanted: a line of the
+/// transcript, else the status, else the steps.
+pub fn difference_of(alloc: Global, setting: &Setting) -> Result<Option<Difference>, AllocError> {
+    let ran = run(alloc, setting, setting.gestures.as_slice())?;
+    if let Some(difference) = in_transcript(alloc, setting, &ran)? {
+        return Ok(Some(difference));
+    }
+    if ran.status != setting.status {
+        return Ok(Some(Difference {
+            part: Part::Status,
+            wanted: setting.status.to_string(alloc)?,
+            came: ran.status.to_string(alloc)?,
+        }));
+    }
+    match &setting.steps {
+        Some(wanted) => in_steps(alloc, setting, wanted.as_slice()),
+        None => Ok(None),
+    }
+}
+
+fn in_transcript(
+    alloc: Global,
+    setting: &Setting,
+    ran: &Ran,
+) -> Result<Option<Difference>, AllocError> {
+    let wanted = setting.transcript.as_slice();
+    let came = ran.transcript.as_slice();
+    let same = wanted.iter().zip(came).take_while(|(a, b)| a == b).count();
+    if same == wanted.len() && same == came.len() {
+        return Ok(None);
+    }
+    let before = wanted.get(..same).unwrap_or(wanted);
+    let lines = before.iter().filter(|byte| **byte == b'\n').count();
+    let begun = before
+        .iter()
+        .rev()
+        .take_while(|byte| **byte != b'\n')
+        .count();
+    let start = same.saturating_sub(begun);
+    Ok(Some(Difference {
+        part: Part::Line(lines.saturating_add(1)),
+        wanted: shown(alloc, wanted, start)?,
+        came: shown(alloc, came, start)?,
+    }))
+}
+
+/// The most bytes of a line that are printed.
+const MOST_SHOWN: usize = 2000;
+
+// The line that begins there, as it is printed.
+fn shown(alloc: Global, bytes: &[u8], start: usize) -> Result<String, AllocError> {
+    let rest = bytes.get(start..).unwrap_or(&[]);
+    if rest.is_empty() {
+        return String::from_str(alloc, "(no line)");
+    }
+    let end = rest.iter().take_while(|byte| **byte != b'\n').count();
+    let line = rest.get(..end.min(MOST_SHOWN)).unwrap_or(rest);
+    let mut text = String::from_utf8_lossy(alloc, line)?;
+    if end > MOST_SHOWN {
+        text.push_str(" (and more)")?;
+    }
+    if end == rest.len() {
+        text.push_str(" (no line feed)")?;
+    }
+    Ok(text)
+}
+
+fn in_steps(
+    alloc: Global,
+    setting: &Setting,
+    wanted: &[u64],
+) -> Result<Option<Difference>, AllocError> {
+    let came = steps_by_line(alloc, setting, wanted.len())?;
+    let came = came.as_slice();
+    let same = wanted.iter().zip(came).take_while(|(a, b)| a == b).count();
+    if same == wanted.len() && same == came.len() {
+        return Ok(None);
+    }
+    Ok(Some(Difference {
+        part: if same == 0 {
+            Part::OpeningSteps
+        } else {
+            Part::Steps(same)
+        },
+        wanted: number_shown(alloc, wanted.get(same))?,
+        came: number_shown(alloc, came.get(same))?,
+    }))
+}
+
+fn number_shown(alloc: Global, number: Option<&u64>) -> Result<String, AllocError> {
+    match number {
+        Some(number) => number.to_string(alloc),
+        None => String::from_str(alloc, "(no line)"),
+    }
+}
+
+// The steps of the opening, and then of the first lines of gestures, at most so many: each is what
+// a run with one line more comes to.
+fn steps_by_line(alloc: Global, setting: &Setting, most: usize) -> Result<Vec<u64>, AllocError> {
+    let gestures = setting.gestures.as_slice();
+    let mut before = run(alloc, setting, &[])?.steps;
+    let mut counts = Vec::new(alloc);
+    counts.push(before)?;
+    let mut end = 0usize;
+    for line in gestures.split_inclusive(|byte| *byte == b'\n').take(most) {
+        end = end.saturating_add(line.len());
+        let steps = run(alloc, setting, gestures.get(..end).unwrap_or(gestures))?.steps;
+        counts.push(steps.saturating_sub(before))?;
+        before = steps;
+    }
+    Ok(counts)
+}

@@ -1,0 +1,82 @@
+//! One run of the program over objects in memory.
+ghost use Rattle.std.specs.Prelude.{IfOk};
+ghost use Rattle.cl_outside.specs.Memory.{AllPositive};
+
+use crate::settings::Setting;
+use cl_outside::{MemPlace, MemSink, MemSource, own_steps};
+use cl_program::{Status, clim_main};
+use std::alloc::{AllocError, Global};
+
+/// How many bytes more than are wanted the output takes at most: more of them differ anyway.
+const SPARE: usize = 4096;
+
+/// What a run came to.
+#[derive(Drop)]
+pub struct Ran {
+    pub transcript: Vec<u8>,
+    pub status: u64,
+    pub steps: u64,
+}
+
+/// Runs the program on a setting with these bytes as its gestures.
+pub fn run(alloc: Global, setting: &Setting, gestures: &[u8]) -> Result<Ran, AllocError> {
+    let words = texts_of(alloc, setting.words.as_slice())?;
+    let mut place = place_of(alloc, setting)?;
+    let gestures_fail = setting.gestures_fail.as_slice().to_vec(alloc)?;
+    let mut source = MemSource::new(gestures.to_vec(alloc)?, gestures_fail);
+    let mut out = output_of(alloc, setting)?;
+    let mut steps = own_steps();
+    let Status(status) = clim_main(
+        alloc,
+        words.as_slice(),
+        &mut place,
+        &mut source,
+        &mut out,
+        &mut steps,
+    );
+    Ok(Ran {
+        transcript: out.taken().to_vec(alloc)?,
+        status: u64::from(status),
+        steps: steps.ledger().seen(),
+    })
+}
+
+// The words as texts.
+fn texts_of<'a>(alloc: Global, words: &'a [String]) -> Result<Vec<&'a str>, AllocError> {
+    let mut texts = Vec::new(alloc);
+    for word in words {
+        texts.push(word.as_str())?;
+    }
+    Ok(texts)
+}
+
+// A place with the one file `app`.
+fn place_of(alloc: Global, setting: &Setting) -> Result<MemPlace, AllocError> {
+    let name = String::from_str(alloc, "app")?;
+    let application = setting.application.as_slice().to_vec(alloc)?;
+    let mut files = Vec::new(alloc);
+    files.push((name, application))?;
+    let fails = setting.place_fails.as_slice().to_vec(alloc)?;
+    Ok(MemPlace::new(alloc, files, 0, Vec::new(alloc), fails))
+}
+
+// The output. Each write takes a byte or more, so no wanted transcript needs more pieces.
+fn output_of(alloc: Global, setting: &Setting) -> Result<MemSink, AllocError> {
+    let wanted = setting.transcript.len();
+    let most = wanted.saturating_add(SPARE);
+    let room = setting.room.map_or(most, |room| most.min(room as usize));
+    let pieces = pieces_of(alloc, setting.takes as usize, wanted.saturating_add(1))?;
+    let fails = setting.output_fails.as_slice().to_vec(alloc)?;
+    MemSink::new(alloc, room, pieces, fails)
+}
+
+// So many writes of one size.
+fn pieces_of(alloc: Global, size: usize, count: usize) -> Result<Vec<usize>, AllocError>
+    ensures { IfOk result (λ v. AllPositive v.items) }
+{
+    if size > 0 {
+        vec![in alloc; size; count]
+    } else {
+        Ok(Vec::new(alloc))
+    }
+}

@@ -1,0 +1,130 @@
+//! What a case says, worked out: what the program is run on, and what is wanted of it.
+use crate::cases::Case;
+use crate::expanding::{line_of, lines_of, text_of};
+use crate::faults::{Fault, Wrong, not_read};
+use crate::marks::Names;
+use crate::sections::{Kind, Raw, Section};
+use std::alloc::Global;
+use std::fs;
+use std::rt::Files;
+
+/// What the program is run on, and what is wanted of it.
+#[derive(Drop)]
+pub struct Setting {
+    pub words: Vec<String>,
+    pub application: Vec<u8>,
+    pub gestures: Vec<u8>,
+    pub transcript: Vec<u8>,
+    pub status: u64,
+    /// The steps of the opening and of each line of gestures, where they are compared.
+    pub steps: Option<Vec<u64>>,
+    /// The calls that are to fail.
+    pub place_fails: Vec<u64>,
+    pub gestures_fail: Vec<u64>,
+    pub output_fails: Vec<u64>,
+    /// The most bytes of a write, and of all writes.
+    pub takes: u64,
+    pub room: Option<u64>,
+}
+
+/// The setting of a case, with what the names in it stand for.
+pub fn setting_of<'a, R: Files + AllocGlobal>(
+    rt: &R,
+    names: &Names<'a>,
+    case: &'a Case,
+) -> Result<Setting, Fault> {
+    let alloc = rt.alloc();
+    let application = match case.section(Kind::Application) {
+        Some(section) if section.file.is_none() => text_of(alloc, names, &section.block)?,
+        _ => lines_in(rt, names, case, Kind::Application)?,
+    };
+    Ok(Setting {
+        words: words_of(alloc, names, case)?,
+        application,
+        gestures: lines_in(rt, names, case, Kind::Gestures)?,
+        transcript: lines_in(rt, names, case, Kind::Transcript)?,
+        status: case.number(Kind::Status).unwrap_or(0),
+        steps: steps_of(alloc, names, case)?,
+        place_fails: case.numbers(Kind::PlaceFails).to_vec(alloc)?,
+        gestures_fail: case.numbers(Kind::GesturesFail).to_vec(alloc)?,
+        output_fails: case.numbers(Kind::OutputFails).to_vec(alloc)?,
+        takes: case.number(Kind::OutputTakes).unwrap_or(4096),
+        room: case.number(Kind::OutputRoom),
+    })
+}
+
+// The lines of a section, or of the file that it names; none where the case has no such section.
+fn lines_in<'a, R: Files + AllocGlobal>(
+    rt: &R,
+    names: &Names<'a>,
+    case: &'a Case,
+    kind: Kind,
+) -> Result<Vec<u8>, Fault> {
+    let Some(section) = case.section(kind) else {
+        return Ok(Vec::new(rt.alloc()));
+    };
+    match &section.file {
+        Some(file) => read_bytes(rt, section, file.as_str()),
+        None => lines_of(rt.alloc(), names, &section.block),
+    }
+}
+
+fn read_bytes<R: Files + AllocGlobal>(
+    rt: &R,
+    section: &Section,
+    file: &str,
+) -> Result<Vec<u8>, Fault> {
+    match fs::read(rt, file) {
+        Ok(bytes) => Ok(bytes),
+        Err(error) => Err(not_read(&error, Fault::at(section.line, Wrong::NoFile))),
+    }
+}
+
+// The words behind the program's name.
+fn words_of<'a>(alloc: Global, names: &Names<'a>, case: &'a Case) -> Result<Vec<String>, Fault> {
+    let mut words = Vec::new(alloc);
+    let Some(section) = case.section(Kind::Words) else {
+        words.push(String::from_str(alloc, "run")?)?;
+        words.push(String::from_str(alloc, "app")?)?;
+        return Ok(words);
+    };
+    if section.block.text.is_empty() {
+        return Ok(words);
+    }
+    for (index, text) in section.block.text.split('\n').enumerate() {
+        let line = section.block.line.saturating_add(index);
+        let bytes = line_of(alloc, names, Raw { line, text })?;
+        let Ok(word) = String::from_utf8(bytes) else {
+            return Err(Fault::at(line, Wrong::Word));
+        };
+        words.push(word)?;
+    }
+    Ok(words)
+}
+
+// The numbers of steps, where the case says some.
+fn steps_of<'a>(
+    alloc: Global,
+    names: &Names<'a>,
+    case: &'a Case,
+) -> Result<Option<Vec<u64>>, Fault> {
+    let Some(section) = case.section(Kind::Steps) else {
+        return Ok(None);
+    };
+    let bytes = text_of(alloc, names, &section.block)?;
+    let mut steps = Vec::new(alloc);
+    for (index, line) in bytes.split(|byte| *byte == b'\n').enumerate() {
+        match number_in(line) {
+            Some(number) => steps.push(number)?,
+            None => {
+                let line = section.block.line.saturating_add(index);
+                return Err(Fault::at(line, Wrong::Number));
+            }
+        }
+    }
+    Ok(Some(steps))
+}
+
+fn number_in(line: &[u8]) -> Option<u64> {
+    str::from_utf8(line).ok()?.parse().ok()
+}
