@@ -10,6 +10,8 @@ pub enum Part {
     /// At a line of the transcript, from 1.
     Line(usize),
     Status,
+    /// At a line of the wire, from 1.
+    Wire(usize),
     OpeningSteps,
     /// In the steps of a line of gestures, from 1.
     Steps(usize),
@@ -20,8 +22,26 @@ impl fmt::Display for Part {
         match *self {
             Part::Line(line) => write!(f, "at line {line}"),
             Part::Status => write!(f, "in the status"),
+            Part::Wire(line) => write!(f, "at line {line} of the wire"),
             Part::OpeningSteps => write!(f, "in the steps of the opening"),
             Part::Steps(line) => write!(f, "in the steps of line {line}"),
+        }
+    }
+}
+
+// Whose lines are compared.
+#[derive(Clone, Copy)]
+enum Lines {
+    Transcript,
+    Wire,
+}
+
+impl Lines {
+    // The line of this number.
+    fn part(self, line: usize) -> Part {
+        match self {
+            Lines::Transcript => Part::Line(line),
+            Lines::Wire => Part::Wire(line),
         }
     }
 }
@@ -35,10 +55,16 @@ pub struct Difference {
 }
 
 /// Runs a setting, and answers the first thing that is not as it is wanted: a line of the
-/// transcript, else the status, else the steps.
+/// transcript, else the status, else a line of the wire, else the steps.
 pub fn difference_of(alloc: Global, setting: &Setting) -> Result<Option<Difference>, AllocError> {
     let ran = run(alloc, setting, setting.gestures.as_slice())?;
-    if let Some(difference) = in_transcript(alloc, setting, &ran)? {
+    let transcript = setting.transcript.as_slice();
+    if let Some(difference) = in_lines(
+        alloc,
+        Lines::Transcript,
+        transcript,
+        ran.transcript.as_slice(),
+    )? {
         return Ok(Some(difference));
     }
     if ran.status != setting.status {
@@ -48,19 +74,34 @@ pub fn difference_of(alloc: Global, setting: &Setting) -> Result<Option<Differen
             came: ran.status.to_string(alloc)?,
         }));
     }
+    if let Some(difference) = in_wire(alloc, setting, &ran)? {
+        return Ok(Some(difference));
+    }
     match &setting.steps {
         Some(wanted) => in_steps(alloc, setting, wanted.as_slice()),
         None => Ok(None),
     }
 }
 
-fn in_transcript(
+// Where no wire was made, it has no line.
+fn in_wire(alloc: Global, setting: &Setting, ran: &Ran) -> Result<Option<Difference>, AllocError> {
+    let Some(wire) = &setting.wire else {
+        return Ok(None);
+    };
+    in_lines(
+        alloc,
+        Lines::Wire,
+        wire.bytes.as_slice(),
+        ran.wire.as_slice(),
+    )
+}
+
+fn in_lines(
     alloc: Global,
-    setting: &Setting,
-    ran: &Ran,
+    lines_of: Lines,
+    wanted: &[u8],
+    came: &[u8],
 ) -> Result<Option<Difference>, AllocError> {
-    let wanted = setting.transcript.as_slice();
-    let came = ran.transcript.as_slice();
     let same = wanted.iter().zip(came).take_while(|(a, b)| a == b).count();
     if same == wanted.len() && same == came.len() {
         return Ok(None);
@@ -74,7 +115,7 @@ fn in_transcript(
         .count();
     let start = same.saturating_sub(begun);
     Ok(Some(Difference {
-        part: Part::Line(lines.saturating_add(1)),
+        part: lines_of.part(lines.saturating_add(1)),
         wanted: shown(alloc, wanted, start)?,
         came: shown(alloc, came, start)?,
     }))

@@ -16,6 +16,8 @@ pub struct Ran {
     pub transcript: Vec<u8>,
     pub status: u64,
     pub steps: u64,
+    /// What the wire holds, where one was made.
+    pub wire: Vec<u8>,
 }
 
 /// Runs the program on a setting with these bytes as its gestures.
@@ -38,6 +40,7 @@ pub fn run(alloc: Global, setting: &Setting, gestures: &[u8]) -> Result<Ran, All
         transcript: out.taken().to_vec(alloc)?,
         status: u64::from(status),
         steps: steps.ledger().seen(),
+        wire: place.file("wire").unwrap_or(&[]).to_vec(alloc)?,
     })
 }
 
@@ -50,21 +53,32 @@ fn texts_of<'a>(alloc: Global, words: &'a [String]) -> Result<Vec<&'a str>, Allo
     Ok(texts)
 }
 
-// A place with the one file `app`.
+// A place with the one file `app`. A made file takes what the wire is wanted to be, and some more.
 fn place_of(alloc: Global, setting: &Setting) -> Result<MemPlace, AllocError> {
     let name = String::from_str(alloc, "app")?;
     let application = setting.application.as_slice().to_vec(alloc)?;
     let mut files = Vec::new(alloc);
     files.push((name, application))?;
     let fails = setting.place_fails.as_slice().to_vec(alloc)?;
-    Ok(MemPlace::new(alloc, files, 0, Vec::new(alloc), fails))
+    let Some(wire) = &setting.wire else {
+        return Ok(MemPlace::new(alloc, files, 0, Vec::new(alloc), fails));
+    };
+    let wanted = wire.bytes.len();
+    let room = room_for(wanted, wire.room);
+    let pieces = pieces_of(alloc, wire.takes as usize, wanted.saturating_add(1))?;
+    Ok(MemPlace::new(alloc, files, room, pieces, fails))
+}
+
+// The room for what is wanted and for some more, or less where it is bounded.
+fn room_for(wanted: usize, bound: Option<u64>) -> usize {
+    let most = wanted.saturating_add(SPARE);
+    bound.map_or(most, |bound| most.min(bound as usize))
 }
 
 // The output. Each write takes a byte or more, so no wanted transcript needs more pieces.
 fn output_of(alloc: Global, setting: &Setting) -> Result<MemSink, AllocError> {
     let wanted = setting.transcript.len();
-    let most = wanted.saturating_add(SPARE);
-    let room = setting.room.map_or(most, |room| most.min(room as usize));
+    let room = room_for(wanted, setting.room);
     let pieces = pieces_of(alloc, setting.takes as usize, wanted.saturating_add(1))?;
     let fails = setting.output_fails.as_slice().to_vec(alloc)?;
     MemSink::new(alloc, room, pieces, fails)

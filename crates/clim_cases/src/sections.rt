@@ -17,6 +17,9 @@ pub enum Kind {
     OutputFails,
     OutputTakes,
     OutputRoom,
+    Wire,
+    WireTakes,
+    WireRoom,
 }
 
 /// What may stand in a section.
@@ -35,7 +38,7 @@ pub enum Shape {
 }
 
 /// Each kind. One whose words begin with those of another stands before that.
-pub const KINDS: [Kind; 13] = [
+pub const KINDS: [Kind; 16] = [
     Kind::Words,
     Kind::Application,
     Kind::GesturesFail,
@@ -49,6 +52,9 @@ pub const KINDS: [Kind; 13] = [
     Kind::OutputFails,
     Kind::OutputTakes,
     Kind::OutputRoom,
+    Kind::WireTakes,
+    Kind::WireRoom,
+    Kind::Wire,
 ];
 
 impl Kind {
@@ -68,6 +74,9 @@ impl Kind {
             Kind::OutputFails => "output fails",
             Kind::OutputTakes => "output takes",
             Kind::OutputRoom => "output has room for",
+            Kind::Wire => "wire",
+            Kind::WireTakes => "wire takes",
+            Kind::WireRoom => "wire has room for",
         }
     }
 
@@ -75,9 +84,11 @@ impl Kind {
     pub fn shape(self) -> Shape {
         match self {
             Kind::Words | Kind::Steps | Kind::Form | Kind::Rows => Shape::Lines,
-            Kind::Application | Kind::Gestures | Kind::Transcript => Shape::LinesOrFile,
-            Kind::Status | Kind::OutputRoom => Shape::Number,
-            Kind::OutputTakes => Shape::Size,
+            Kind::Application | Kind::Gestures | Kind::Transcript | Kind::Wire => {
+                Shape::LinesOrFile
+            }
+            Kind::Status | Kind::OutputRoom | Kind::WireRoom => Shape::Number,
+            Kind::OutputTakes | Kind::WireTakes => Shape::Size,
             Kind::PlaceFails | Kind::GesturesFail | Kind::OutputFails => Shape::Calls,
         }
     }

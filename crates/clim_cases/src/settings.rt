@@ -22,6 +22,16 @@ pub struct Setting {
     pub place_fails: Vec<u64>,
     pub gestures_fail: Vec<u64>,
     pub output_fails: Vec<u64>,
+    /// The most bytes of a write of the output, and of all its writes.
+    pub takes: u64,
+    pub room: Option<u64>,
+    pub wire: Option<Wire>,
+}
+
+/// What is wanted of the wire, the file `wire` of the place.
+#[derive(Drop)]
+pub struct Wire {
+    pub bytes: Vec<u8>,
     /// The most bytes of a write, and of all writes.
     pub takes: u64,
     pub room: Option<u64>,
@@ -50,7 +60,24 @@ pub fn setting_of<'a, R: Files + AllocGlobal>(
         output_fails: case.numbers(Kind::OutputFails).to_vec(alloc)?,
         takes: case.number(Kind::OutputTakes).unwrap_or(4096),
         room: case.number(Kind::OutputRoom),
+        wire: wire_of(rt, names, case)?,
     })
+}
+
+// What is wanted of the wire, where it is compared.
+fn wire_of<'a, R: Files + AllocGlobal>(
+    rt: &R,
+    names: &Names<'a>,
+    case: &'a Case,
+) -> Result<Option<Wire>, Fault> {
+    if case.section(Kind::Wire).is_none() {
+        return Ok(None);
+    }
+    Ok(Some(Wire {
+        bytes: lines_in(rt, names, case, Kind::Wire)?,
+        takes: case.number(Kind::WireTakes).unwrap_or(4096),
+        room: case.number(Kind::WireRoom),
+    }))
 }
 
 // The lines of a section, or of the file that it names; none where the case has no such section.

@@ -19,7 +19,7 @@ jump
 ";
 
 /// What follows the head, and the report on the file `t`.
-const ROWS: [(&str, &str); 6] = [
+const ROWS: [(&str, &str); 7] = [
     ("! bad 1\n-- steps\n3\n0\n", "t: 1 cases agree\n"),
     (
         "! bad 2\n",
@@ -36,6 +36,10 @@ const ROWS: [(&str, &str); 6] = [
     (
         "! bad 1\n-- steps\n3\n1\n",
         "t: c: differs in the steps of line 1\nwanted: 1\ncame:   0\nt: 1 of 1 cases differ\n",
+    ),
+    (
+        "! bad 1\n-- wire\nclear 12 2\n",
+        "t: c: differs at line 1 of the wire\nwanted: clear 12 2\ncame:   (no line)\nt: 1 of 1 cases differ\n",
     ),
     ("! bad 1\n-- stats\n", "t:13: there is no such section\n"),
 ];
