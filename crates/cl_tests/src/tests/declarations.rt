@@ -1,8 +1,8 @@
 //! Display forms, statements and declarations as texts.
 use super::forms::said;
-use super::reading::{DECLARED, data_behind, data_of};
+use super::reading::{DECLARED, data_behind, data_of, last_of};
 use cl_declare::{act_in, declarations_in, shape_in};
-use cl_forms::{Scope, world_of};
+use cl_forms::{Datum, Scope, World, world_of};
 use std::alloc::Global;
 use std::test::Fail;
 
@@ -24,20 +24,36 @@ const STATEMENTS: [(&str, &str); 3] = [
 /// The answer to a display form without variables around it, in words.
 fn form(alloc: Global, text: &str) -> Result<String, Fail> {
     let data = data_behind(alloc, text)?;
-    let world = world_of(alloc, data.as_slice())?;
-    let last = data.as_slice().last().ok_or("no form")?;
+    form_in(alloc, data.as_slice())
+}
+
+fn form_in(alloc: Global, data: &[Datum]) -> Result<String, Fail> {
+    let last = last_of(data)?;
+    let world = world_of(alloc, data)?;
+    form_of(alloc, &world, last)
+}
+
+fn form_of(alloc: Global, world: &World, datum: &Datum) -> Result<String, Fail> {
     let mut unknown = None;
-    let refusal = shape_in(alloc, &world, last, &Scope::Empty, &mut unknown).err();
+    let refusal = shape_in(alloc, world, datum, &Scope::Empty, &mut unknown).err();
     said(alloc, refusal, unknown)
 }
 
 /// The answer to a statement without variables around it, in words.
 fn statement(alloc: Global, text: &str) -> Result<String, Fail> {
     let data = data_behind(alloc, text)?;
-    let world = world_of(alloc, data.as_slice())?;
-    let last = data.as_slice().last().ok_or("no form")?;
+    statement_in(alloc, data.as_slice())
+}
+
+fn statement_in(alloc: Global, data: &[Datum]) -> Result<String, Fail> {
+    let last = last_of(data)?;
+    let world = world_of(alloc, data)?;
+    statement_of(alloc, &world, last)
+}
+
+fn statement_of(alloc: Global, world: &World, datum: &Datum) -> Result<String, Fail> {
     let mut unknown = None;
-    let refusal = act_in(alloc, &world, last, &Scope::Empty, &mut unknown).err();
+    let refusal = act_in(alloc, world, datum, &Scope::Empty, &mut unknown).err();
     said(alloc, refusal, unknown)
 }
 
@@ -57,15 +73,27 @@ fn statements_are_read_or_refused(rt: HostRuntime) -> Result<(), Fail> {
     Ok(())
 }
 
+/// How many records, functions, displays, commands and frames the data declare.
+fn counts(alloc: Global, world: &World, data: &[Datum]) -> Result<[usize; 5], Fail> {
+    let mut unknown = None;
+    let declared = declarations_in(alloc, world, data, &mut unknown)?;
+    Ok([
+        declared.records.len(),
+        declared.functions.len(),
+        declared.displays.len(),
+        declared.commands.len(),
+        declared.frames.len(),
+    ])
+}
+
+fn counts_in(alloc: Global, data: &[Datum]) -> Result<[usize; 5], Fail> {
+    let world = world_of(alloc, data)?;
+    counts(alloc, &world, data)
+}
+
 #[test]
 fn declarations_are_read(rt: HostRuntime) -> Result<(), Fail> {
     let data = data_of(rt.alloc(), DECLARED.as_bytes())?;
-    let world = world_of(rt.alloc(), data.as_slice())?;
-    let mut unknown = None;
-    let declared = declarations_in(rt.alloc(), &world, data.as_slice(), &mut unknown)?;
-    assert_eq!(rt; unknown, None);
-    assert_eq!(rt; (declared.records.len(), declared.functions.len()), (1, 2));
-    assert_eq!(rt; (declared.displays.len(), declared.commands.len()), (2, 1));
-    assert_eq!(rt; declared.frames.len(), 1);
+    assert_eq!(rt; counts_in(rt.alloc(), data.as_slice())?, [1, 2, 2, 1, 1]);
     Ok(())
 }

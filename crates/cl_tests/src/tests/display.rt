@@ -2,8 +2,10 @@
 use super::reading::{display_forms, loaded, variables};
 use super::saying::put_bytes;
 use cl_display::{History, Shown, display};
-use cl_eval::Limits;
+use cl_eval::{Env, Limits};
+use cl_load::Loaded;
 use cl_outside::own_steps;
+use cl_syntax::Shapes;
 use std::alloc::Global;
 use std::test::Fail;
 
@@ -63,42 +65,62 @@ fn put_history(alloc: Global, said: &mut String, history: &History) -> Result<()
 }
 
 /// What a display shows, in words.
-fn words(alloc: Global, shown: Shown) -> Result<String, Fail> {
+fn words(alloc: Global, shown: &Shown) -> Result<String, Fail> {
     let mut said = String::new(alloc);
     match shown {
-        Shown::Built(history) => put_history(alloc, &mut said, &history)?,
+        Shown::Built(history) => put_history(alloc, &mut said, history)?,
         Shown::Trapped(history, kind) => {
             write!(said, "trap {kind}: ")?;
-            put_history(alloc, &mut said, &history)?;
+            put_history(alloc, &mut said, history)?;
         }
         Shown::Memory => said.push_str("memory")?,
     }
     Ok(said)
 }
 
-/// What display forms show, and how many steps that took, in words.
+fn words_and_cost(alloc: Global, shown: &Shown, cost: u64) -> Result<String, Fail> {
+    let mut said = words(alloc, shown)?;
+    write!(said, " cost {cost}")?;
+    Ok(said)
+}
+
+/// What display forms show in an application, and how many steps that took, in words.
+fn come_to_in(
+    alloc: Global,
+    limits: Limits,
+    forms: &Shapes,
+    loaded: &Loaded,
+    env: &Env,
+) -> Result<String, Fail> {
+    let (app, slots) = (&loaded.app, &loaded.slots);
+    let mut steps = own_steps();
+    let shown = display(alloc, app, forms.as_slice(), env, slots, limits, &mut steps);
+    words_and_cost(alloc, &shown, steps.ledger().seen())
+}
+
+fn come_to_loaded(
+    alloc: Global,
+    limits: Limits,
+    forms: &Shapes,
+    loaded: &Loaded,
+) -> Result<String, Fail> {
+    let env = variables(alloc)?;
+    come_to_in(alloc, limits, forms, loaded, &env)
+}
+
+fn forms_come_to(alloc: Global, limits: Limits, forms: &Shapes) -> Result<String, Fail> {
+    let loaded = loaded(alloc)?;
+    come_to_loaded(alloc, limits, forms, &loaded)
+}
+
+/// What the display forms of a text show within this budget and depth, in words.
 fn come_to(alloc: Global, budget: u64, depth: u32, text: &str) -> Result<String, Fail> {
     let limits = Limits {
         budget,
         depth: depth.min(512),
     };
     let forms = display_forms(alloc, text)?;
-    let loaded = loaded(alloc)?;
-    let env = variables(alloc)?;
-    let mut steps = own_steps();
-    let shown = display(
-        alloc,
-        &loaded.app,
-        forms.as_slice(),
-        &env,
-        &loaded.slots,
-        limits,
-        &mut steps,
-    );
-    let mut said = words(alloc, shown)?;
-    let cost = steps.ledger().seen();
-    write!(said, " cost {cost}")?;
-    Ok(said)
+    forms_come_to(alloc, limits, &forms)
 }
 
 #[test]

@@ -1,7 +1,8 @@
 //! Expressions as texts: what they come to, how many forms are entered, and how deep, worked out by hand.
 use super::reading::{expression, loaded, variables};
 use super::saying::put_bytes;
-use cl_eval::{Evaluated, Limits, eval};
+use cl_eval::{Env, Evaluated, Limits, eval};
+use cl_load::Loaded;
 use cl_outside::own_steps;
 use cl_syntax::{Expr, Operator, RecordOperator};
 use cl_value::{Text, Value};
@@ -64,11 +65,11 @@ fn put_value(said: &mut String, value: &Value) -> Result<(), Fail> {
 }
 
 /// What an evaluation answers, in words.
-fn words(alloc: Global, outcome: Evaluated) -> Result<String, Fail> {
+fn words(alloc: Global, outcome: &Evaluated) -> Result<String, Fail> {
     let mut said = String::new(alloc);
     match outcome {
         Evaluated::Value(value, cost, reach) => {
-            put_value(&mut said, &value)?;
+            put_value(&mut said, value)?;
             write!(said, "cost {cost} reach {reach}")?;
         }
         Evaluated::Trap(kind, cost) => write!(said, "trap {kind} cost {cost}")?,
@@ -77,31 +78,48 @@ fn words(alloc: Global, outcome: Evaluated) -> Result<String, Fail> {
     Ok(said)
 }
 
+/// What an expression comes to in an application, where its variables are these.
+fn come_to_in(
+    alloc: Global,
+    limits: Limits,
+    expr: &Expr,
+    loaded: &Loaded,
+    env: &Env,
+) -> Result<String, Fail> {
+    let (app, slots) = (&loaded.app, &loaded.slots);
+    let outcome = eval(alloc, app, expr, env, slots, limits, &mut own_steps());
+    words(alloc, &outcome)
+}
+
+fn come_to_loaded(
+    alloc: Global,
+    limits: Limits,
+    expr: &Expr,
+    loaded: &Loaded,
+) -> Result<String, Fail> {
+    let env = variables(alloc)?;
+    come_to_in(alloc, limits, expr, loaded, &env)
+}
+
+/// What an expression comes to within this budget and depth, in words.
 fn come_to(alloc: Global, budget: u64, depth: u32, expr: &Expr) -> Result<String, Fail> {
     let limits = Limits {
         budget,
         depth: depth.min(512),
     };
     let loaded = loaded(alloc)?;
-    let env = variables(alloc)?;
-    let mut steps = own_steps();
-    let outcome = eval(
-        alloc,
-        &loaded.app,
-        expr,
-        &env,
-        &loaded.slots,
-        limits,
-        &mut steps,
-    );
-    words(alloc, outcome)
+    come_to_loaded(alloc, limits, expr, &loaded)
+}
+
+fn text_comes_to(alloc: Global, budget: u64, depth: u32, text: &str) -> Result<String, Fail> {
+    let expr = expression(alloc, text)?;
+    come_to(alloc, budget, depth, &expr)
 }
 
 #[test]
 fn expressions_come_to(rt: HostRuntime) -> Result<(), Fail> {
     for (text, wanted) in EXPRESSIONS {
-        let expr = expression(rt.alloc(), text)?;
-        let said = come_to(rt.alloc(), 1000, 512, &expr)?;
+        let said = text_comes_to(rt.alloc(), 1000, 512, text)?;
         assert_eq!(rt; said.as_str(), wanted, "{text}");
     }
     Ok(())
@@ -110,26 +128,45 @@ fn expressions_come_to(rt: HostRuntime) -> Result<(), Fail> {
 #[test]
 fn limits_are_met(rt: HostRuntime) -> Result<(), Fail> {
     for (budget, depth, text, wanted) in LIMITS {
-        let expr = expression(rt.alloc(), text)?;
-        let said = come_to(rt.alloc(), budget, depth, &expr)?;
+        let said = text_comes_to(rt.alloc(), budget, depth, text)?;
         assert_eq!(rt; said.as_str(), wanted, "{text} within {budget} and {depth}");
     }
     Ok(())
 }
 
-/// The loader refuses a wrong count, so this tree is built by hand.
+fn numbers(alloc: Global, count: i64) -> Result<Vec<Expr>, Fail> {
+    let mut parts = Vec::new(alloc);
+    for number in 0..count {
+        parts.push(Expr::constant(Value::Int(number)))?;
+    }
+    Ok(parts)
+}
+
+/// A call of a function of one parameter with two parts.
+fn call_of_two(alloc: Global) -> Result<Expr, Fail> {
+    let name = Text::from_slice(alloc, b"twice")?;
+    Ok(Expr::call(name, numbers(alloc, 2)?))
+}
+
+/// A record of two fields with one part.
+fn record_of_one(alloc: Global) -> Result<Expr, Fail> {
+    let make = RecordOperator::Make(Text::from_slice(alloc, b"point")?);
+    Ok(Expr::operation(Operator::Record(make), numbers(alloc, 1)?))
+}
+
+/// The loader refuses a wrong count, so these trees are built by hand.
 #[test]
 fn a_wrong_count_traps(rt: HostRuntime) -> Result<(), Fail> {
-    let alloc = rt.alloc();
-    let parts = vec![in alloc;
-        Expr::constant(Value::Int(1)),
-        Expr::constant(Value::Int(2)),
-    ]?;
-    let call = Expr::call(Text::from_slice(alloc, b"twice")?, parts);
-    assert_eq!(rt; come_to(alloc, 1000, 512, &call)?.as_str(), "trap 1 cost 3");
-    let parts = vec![in alloc; Expr::constant(Value::Int(1))]?;
-    let make = RecordOperator::Make(Text::from_slice(alloc, b"point")?);
-    let made = Expr::operation(Operator::Record(make), parts);
-    assert_eq!(rt; come_to(alloc, 1000, 512, &made)?.as_str(), "trap 1 cost 2");
+    let call = call_of_two(rt.alloc())?;
+    let said = come_to(rt.alloc(), 1000, 512, &call)?;
+    assert_eq!(rt; said.as_str(), "trap 1 cost 3");
+    Ok(())
+}
+
+#[test]
+fn a_record_of_a_wrong_count_traps(rt: HostRuntime) -> Result<(), Fail> {
+    let record = record_of_one(rt.alloc())?;
+    let said = come_to(rt.alloc(), 1000, 512, &record)?;
+    assert_eq!(rt; said.as_str(), "trap 1 cost 2");
     Ok(())
 }

@@ -2,8 +2,9 @@
 use super::reading::{loaded, statements, variables};
 use super::saying::put_bytes;
 use cl_eval::{Executed, Limits, Lines, exec};
-use cl_load::SlotTypes;
+use cl_load::{Loaded, SlotTypes};
 use cl_outside::own_steps;
+use cl_syntax::Acts;
 use cl_value::Value;
 use std::alloc::Global;
 use std::test::Fail;
@@ -36,24 +37,30 @@ const BODIES: [(&str, &str); 10] = [
     ("((let ((v 1)) (setf (slot count) v)))", "1  cost 4"),
 ];
 
-fn run(alloc: Global, text: &str) -> Result<Executed, Fail> {
-    let limits = Limits {
-        budget: 1000,
-        depth: 512,
-    };
-    let body = statements(alloc, text)?;
-    let loaded = loaded(alloc)?;
+const LIMITS: Limits = Limits {
+    budget: 1000,
+    depth: 512,
+};
+
+/// What a body comes to in an application, in words.
+fn come_to_loaded(alloc: Global, body: &Acts, loaded: &Loaded) -> Result<String, Fail> {
     let env = variables(alloc)?;
-    Ok(exec(
-        alloc,
-        &loaded.app,
-        &body,
-        &env,
-        &loaded.slots,
-        &SlotTypes,
-        limits,
-        &mut own_steps(),
-    ))
+    let (app, slots) = (&loaded.app, &loaded.slots);
+    let mut steps = own_steps();
+    let outcome = exec(
+        alloc, app, body, &env, slots, &SlotTypes, LIMITS, &mut steps,
+    );
+    words(alloc, &outcome)
+}
+
+fn come_to(alloc: Global, body: &Acts) -> Result<String, Fail> {
+    let loaded = loaded(alloc)?;
+    come_to_loaded(alloc, body, &loaded)
+}
+
+fn text_comes_to(alloc: Global, text: &str) -> Result<String, Fail> {
+    let body = statements(alloc, text)?;
+    come_to(alloc, &body)
 }
 
 /// Each reply with a bar behind it.
@@ -66,14 +73,14 @@ fn put_replies(said: &mut String, lines: &Lines) -> Result<(), Fail> {
 }
 
 /// What a body answers, in words.
-fn words(alloc: Global, outcome: Executed) -> Result<String, Fail> {
+fn words(alloc: Global, outcome: &Executed) -> Result<String, Fail> {
     let mut said = String::new(alloc);
     match outcome {
         Executed::Done(slots, lines, cost) => {
             if let Some(Value::Int(number)) = slots.get(b"count") {
                 write!(said, "{number} ")?;
             }
-            put_replies(&mut said, &lines)?;
+            put_replies(&mut said, lines)?;
             write!(said, " cost {cost}")?;
         }
         Executed::Trap(kind, cost) => write!(said, "trap {kind} cost {cost}")?,
@@ -85,7 +92,7 @@ fn words(alloc: Global, outcome: Executed) -> Result<String, Fail> {
 #[test]
 fn bodies_come_to(rt: HostRuntime) -> Result<(), Fail> {
     for (text, wanted) in BODIES {
-        let said = words(rt.alloc(), run(rt.alloc(), text)?)?;
+        let said = text_comes_to(rt.alloc(), text)?;
         assert_eq!(rt; said.as_str(), wanted, "{text}");
     }
     Ok(())
@@ -95,10 +102,10 @@ fn bodies_come_to(rt: HostRuntime) -> Result<(), Fail> {
 #[test]
 fn the_longest_replies(rt: HostRuntime) -> Result<(), Fail> {
     let fits = "((reply (pad \"\" 65535)) (reply \"a\") (reply \"\"))";
-    let said = words(rt.alloc(), run(rt.alloc(), fits)?)?;
+    let said = text_comes_to(rt.alloc(), fits)?;
     assert_eq!(rt; said.len(), 65_535 + 1 + 3 + "5  cost 8".len());
     let too_long = "((reply (pad \"\" 65535)) (reply \"a\") (reply \"b\"))";
-    let said = words(rt.alloc(), run(rt.alloc(), too_long)?)?;
+    let said = text_comes_to(rt.alloc(), too_long)?;
     assert_eq!(rt; said.as_str(), "trap 7 cost 8");
     Ok(())
 }

@@ -1,6 +1,6 @@
 //! A text and its forms, and expressions as texts.
-use super::reading::{DECLARED, data_behind};
-use cl_forms::{Form, LoadRefusal, Scope, all_forms, expr_in, world_of};
+use super::reading::{DECLARED, data_behind, last_of};
+use cl_forms::{Datum, Form, LoadRefusal, Scope, World, all_forms, expr_in, world_of};
 use cl_sexp::read_forms;
 use std::alloc::Global;
 use std::test::Fail;
@@ -16,10 +16,18 @@ const EXPRESSIONS: [(&str, &str); 3] = [
 /// The answer to an expression without variables around it, in words.
 fn answer(alloc: Global, text: &str) -> Result<String, Fail> {
     let data = data_behind(alloc, text)?;
-    let world = world_of(alloc, data.as_slice())?;
-    let last = data.as_slice().last().ok_or("no form")?;
+    answer_in(alloc, data.as_slice())
+}
+
+fn answer_in(alloc: Global, data: &[Datum]) -> Result<String, Fail> {
+    let last = last_of(data)?;
+    let world = world_of(alloc, data)?;
+    answer_of(alloc, &world, last)
+}
+
+fn answer_of(alloc: Global, world: &World, datum: &Datum) -> Result<String, Fail> {
     let mut unknown = None;
-    let refusal = expr_in(alloc, &world, last, &Scope::Empty, &mut unknown).err();
+    let refusal = expr_in(alloc, world, datum, &Scope::Empty, &mut unknown).err();
     said(alloc, refusal, unknown)
 }
 

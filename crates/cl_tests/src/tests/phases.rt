@@ -1,7 +1,7 @@
 //! What is found in whole texts. Offsets are those of a separate reference.
 use super::reading::data_of;
-use cl_declare::declarations_in;
-use cl_forms::world_of;
+use cl_declare::{Declarations, declarations_in};
+use cl_forms::{Datum, world_of};
 use cl_phases::{any_reads_slot, first_past, first_twice};
 use std::alloc::Global;
 use std::test::Fail;
@@ -71,9 +71,17 @@ fn what_is_past_a_limit_is_found(rt: HostRuntime) -> Result<(), Fail> {
 /// Whether an opening value of the only frame reads a slot.
 fn reads(alloc: Global, text: &str) -> Result<bool, Fail> {
     let data = data_of(alloc, text.as_bytes())?;
-    let world = world_of(alloc, data.as_slice())?;
+    reads_in(alloc, data.as_slice())
+}
+
+fn reads_in(alloc: Global, data: &[Datum]) -> Result<bool, Fail> {
+    let world = world_of(alloc, data)?;
     let mut unknown = None;
-    let declared = declarations_in(alloc, &world, data.as_slice(), &mut unknown)?;
+    let declared = declarations_in(alloc, &world, data, &mut unknown)?;
+    reads_among(alloc, &declared)
+}
+
+fn reads_among(alloc: Global, declared: &Declarations) -> Result<bool, Fail> {
     let frame = declared.frames.as_slice().first().ok_or("no frame")?;
     Ok(any_reads_slot(alloc, &declared.functions, &frame.slots)?)
 }

@@ -1,7 +1,8 @@
-//! Trees from texts, over what the tests declare.
+//! Trees from texts, over what the tests declare. A function holds one tree at most: the proof of a path on which several are
+//! dropped is long.
 use cl_declare::{acts_in, shapes_in};
 use cl_eval::Env;
-use cl_forms::{Datums, Scope, all_forms, data_in, expr_in, world_of};
+use cl_forms::{Datum, Datums, Form, Scope, World, all_forms, data_in, expr_in, world_of};
 use cl_load::{Loaded, load};
 use cl_sexp::read_forms;
 use cl_syntax::{Acts, Expr, Shapes};
@@ -26,7 +27,11 @@ pub fn data_of(alloc: Global, text: &[u8]) -> Result<Datums, Fail> {
     }
     let tokens = read_forms(alloc, text)?;
     let forms = all_forms(alloc, text, tokens.as_slice())?;
-    Ok(data_in(alloc, forms.as_slice())?)
+    data_of_forms(alloc, forms.as_slice())
+}
+
+fn data_of_forms(alloc: Global, forms: &[Form]) -> Result<Datums, Fail> {
+    Ok(data_in(alloc, forms)?)
 }
 
 /// The data of what the tests declare, and those of a text behind it.
@@ -49,29 +54,55 @@ pub fn variables(alloc: Global) -> Result<Env, Fail> {
     Ok(env)
 }
 
+/// The last form, which is the one that a text has behind what the tests declare.
+pub fn last_of(data: &[Datum]) -> Result<&Datum, Fail> {
+    Ok(data.last().ok_or("no form")?)
+}
+
 /// The expression of this text; a variable may have any name.
 pub fn expression(alloc: Global, text: &str) -> Result<Expr, Fail> {
     let data = data_behind(alloc, text)?;
-    let world = world_of(alloc, data.as_slice())?;
-    let last = data.as_slice().last().ok_or("no form")?;
-    let mut unknown = None;
-    Ok(expr_in(alloc, &world, last, &Scope::Empty, &mut unknown)?)
+    expression_in(alloc, data.as_slice())
+}
+
+fn expression_in(alloc: Global, data: &[Datum]) -> Result<Expr, Fail> {
+    let last = last_of(data)?;
+    let world = world_of(alloc, data)?;
+    expression_of(alloc, &world, last)
+}
+
+fn expression_of(alloc: Global, world: &World, datum: &Datum) -> Result<Expr, Fail> {
+    Ok(expr_in(alloc, world, datum, &Scope::Empty, &mut None)?)
 }
 
 /// The statements in this form.
 pub fn statements(alloc: Global, text: &str) -> Result<Acts, Fail> {
     let data = data_behind(alloc, text)?;
-    let world = world_of(alloc, data.as_slice())?;
-    let last = data.as_slice().last().ok_or("no form")?;
-    let mut unknown = None;
-    Ok(acts_in(alloc, &world, last.parts(), &Scope::Empty, &mut unknown)?)
+    statements_in(alloc, data.as_slice())
+}
+
+fn statements_in(alloc: Global, data: &[Datum]) -> Result<Acts, Fail> {
+    let last = last_of(data)?;
+    let world = world_of(alloc, data)?;
+    statements_of(alloc, &world, last)
+}
+
+fn statements_of(alloc: Global, world: &World, datum: &Datum) -> Result<Acts, Fail> {
+    Ok(acts_in(alloc, world, datum.parts(), &Scope::Empty, &mut None)?)
 }
 
 /// The display forms in this form.
 pub fn display_forms(alloc: Global, text: &str) -> Result<Shapes, Fail> {
     let data = data_behind(alloc, text)?;
-    let world = world_of(alloc, data.as_slice())?;
-    let last = data.as_slice().last().ok_or("no form")?;
-    let mut unknown = None;
-    Ok(shapes_in(alloc, &world, last.parts(), &Scope::Empty, &mut unknown)?)
+    display_forms_in(alloc, data.as_slice())
+}
+
+fn display_forms_in(alloc: Global, data: &[Datum]) -> Result<Shapes, Fail> {
+    let last = last_of(data)?;
+    let world = world_of(alloc, data)?;
+    display_forms_of(alloc, &world, last)
+}
+
+fn display_forms_of(alloc: Global, world: &World, datum: &Datum) -> Result<Shapes, Fail> {
+    Ok(shapes_in(alloc, world, datum.parts(), &Scope::Empty, &mut None)?)
 }
