@@ -4,9 +4,9 @@ use crate::settings::Setting;
 use std::alloc::{AllocError, Global};
 use std::fmt;
 
-/// Where a run differs.
+// Where a run differs.
 #[derive(Clone, Copy)]
-pub enum Part {
+enum Part {
     /// At a line of the transcript, from 1.
     Line(usize),
     Status,
@@ -46,23 +46,50 @@ impl Lines {
     }
 }
 
-/// The first thing in which a run differs, as it is printed.
+// The first thing in which a run differs.
 #[derive(Drop)]
-pub struct Difference {
-    pub part: Part,
-    pub wanted: String,
-    pub came: String,
+struct Difference {
+    part: Part,
+    wanted: String,
+    came: String,
 }
 
-/// Runs a setting, and answers the first thing that is not as it is wanted: a line of the
-/// transcript, else the status, else a line of the wire, else the steps.
-pub fn difference_of(alloc: Global, setting: &Setting) -> Result<Option<Difference>, AllocError> {
+impl Difference {
+    // As it is printed.
+    fn said(&self, alloc: Global) -> Result<String, AllocError> {
+        let Difference { part, wanted, came } = self;
+        format!(in alloc; "differs {part}\nwanted: {wanted}\ncame:   {came}\n")
+    }
+}
+
+/// What is said of a run of a setting: nothing where all is as it is wanted, and else the first thing
+/// that is not: a line of the transcript, else the status, else a line of the wire, else the steps.
+pub fn said_of(alloc: Global, setting: &Setting) -> Result<String, AllocError> {
+    match difference_of(alloc, setting)? {
+        Some(difference) => difference.said(alloc),
+        None => Ok(String::new(alloc)),
+    }
+}
+
+fn difference_of(alloc: Global, setting: &Setting) -> Result<Option<Difference>, AllocError> {
     let ran = run(alloc, setting, setting.gestures.as_slice())?;
-    let transcript = setting.transcript.as_slice();
+    match difference_in(alloc, setting, &ran)? {
+        Some(difference) => Ok(Some(difference)),
+        None => in_steps(alloc, setting),
+    }
+}
+
+// The first difference but in the steps.
+fn difference_in(
+    alloc: Global,
+    setting: &Setting,
+    ran: &Ran,
+) -> Result<Option<Difference>, AllocError> {
+    let wanted = setting.transcript.as_slice();
     if let Some(difference) = in_lines(
         alloc,
         Lines::Transcript,
-        transcript,
+        wanted,
         ran.transcript.as_slice(),
     )? {
         return Ok(Some(difference));
@@ -74,13 +101,7 @@ pub fn difference_of(alloc: Global, setting: &Setting) -> Result<Option<Differen
             came: ran.status.to_string(alloc)?,
         }));
     }
-    if let Some(difference) = in_wire(alloc, setting, &ran)? {
-        return Ok(Some(difference));
-    }
-    match &setting.steps {
-        Some(wanted) => in_steps(alloc, setting, wanted.as_slice()),
-        None => Ok(None),
-    }
+    in_wire(alloc, setting, ran)
 }
 
 // Where no wire was made, it has no line.
@@ -142,13 +163,19 @@ fn shown(alloc: Global, bytes: &[u8], start: usize) -> Result<String, AllocError
     Ok(text)
 }
 
-fn in_steps(
-    alloc: Global,
-    setting: &Setting,
-    wanted: &[u64],
-) -> Result<Option<Difference>, AllocError> {
+fn in_steps(alloc: Global, setting: &Setting) -> Result<Option<Difference>, AllocError> {
+    let Some(wanted) = &setting.steps else {
+        return Ok(None);
+    };
     let came = steps_by_line(alloc, setting, wanted.len())?;
-    let came = came.as_slice();
+    in_numbers(alloc, wanted.as_slice(), came.as_slice())
+}
+
+fn in_numbers(
+    alloc: Global,
+    wanted: &[u64],
+    came: &[u64],
+) -> Result<Option<Difference>, AllocError> {
     let same = wanted.iter().zip(came).take_while(|(a, b)| a == b).count();
     if same == wanted.len() && same == came.len() {
         return Ok(None);

@@ -1,11 +1,11 @@
 //! Judges the cases of a file.
 use crate::cases::{Case, Sheet};
-use crate::comparing::{Difference, difference_of};
+use crate::comparing::said_of;
 use crate::faults::{Fault, Wrong, not_read};
 use crate::marks::Names;
 use crate::reading::read_sheet;
 use crate::sections::{Kind, Raw, Section};
-use crate::settings::setting_of;
+use crate::settings::{Setting, setting_of};
 use std::alloc::{AllocError, Global};
 use std::fs;
 use std::rt::Files;
@@ -141,22 +141,40 @@ fn judge_rows<'a, R: Files + AllocGlobal>(
 }
 
 // Judges a case, where the names in it stand for these.
-fn judge_once<'a, R: Files + AllocGlobal>(
+fn judge_once<R: Files + AllocGlobal>(
     rt: &R,
-    names: &Names<'a>,
-    case: &'a Case,
+    names: &Names<'_>,
+    case: &Case,
     label: &str,
     tally: &mut Tally,
     report: &mut String,
 ) -> Result<(), Fault> {
     let setting = setting_of(rt, names, case)?;
-    let found = difference_of(rt.alloc(), &setting)?;
-    tally.count(found.is_some());
-    if let Some(difference) = &found {
-        let Difference { part, wanted, came } = difference;
-        writeln!(report, "{label}: differs {part}")?;
-        writeln!(report, "wanted: {wanted}")?;
-        writeln!(report, "came:   {came}")?;
+    judge_setting(rt.alloc(), &setting, label, tally, report)
+}
+
+fn judge_setting(
+    alloc: Global,
+    setting: &Setting,
+    label: &str,
+    tally: &mut Tally,
+    report: &mut String,
+) -> Result<(), Fault> {
+    let said = said_of(alloc, setting)?;
+    let agrees = said.as_bytes() == setting.differs.as_slice();
+    tally.count(!agrees);
+    if agrees {
+        return Ok(());
+    }
+    tell(label, said.as_str(), report)
+}
+
+// Tells what is said of a case; nothing is said of one that was to differ and does not.
+fn tell(label: &str, said: &str, report: &mut String) -> Result<(), Fault> {
+    if said.is_empty() {
+        writeln!(report, "{label}: does not differ")?;
+    } else {
+        write!(report, "{label}: {said}")?;
     }
     Ok(())
 }

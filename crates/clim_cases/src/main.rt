@@ -83,6 +83,3 @@ fn arguments(rt: &(impl Env + AllocGlobal)) -> Result<Vec<String>, Fault> {
         Err(_) => Err(Fault::Unreadable),
     }
 }
-
-#[cfg(test)]
-mod tests;

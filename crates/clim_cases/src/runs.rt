@@ -22,26 +22,49 @@ pub struct Ran {
 
 /// Runs the program on a setting with these bytes as its gestures.
 pub fn run(alloc: Global, setting: &Setting, gestures: &[u8]) -> Result<Ran, AllocError> {
+    let mut outside = Outside::new(alloc, setting, gestures)?;
     let words = texts_of(alloc, setting.words.as_slice())?;
-    let mut place = place_of(alloc, setting)?;
-    let gestures_fail = setting.gestures_fail.as_slice().to_vec(alloc)?;
-    let mut source = MemSource::new(gestures.to_vec(alloc)?, gestures_fail);
-    let mut out = output_of(alloc, setting)?;
-    let mut steps = own_steps();
-    let Status(status) = clim_main(
-        alloc,
-        words.as_slice(),
-        &mut place,
-        &mut source,
-        &mut out,
-        &mut steps,
-    );
-    Ok(Ran {
-        transcript: out.taken().to_vec(alloc)?,
-        status: u64::from(status),
-        steps: steps.ledger().seen(),
-        wire: place.file("wire").unwrap_or(&[]).to_vec(alloc)?,
-    })
+    outside.run(alloc, words.as_slice())
+}
+
+// What the program is run over.
+#[derive(Drop)]
+struct Outside {
+    place: MemPlace,
+    source: MemSource,
+    out: MemSink,
+}
+
+impl Outside {
+    fn new(alloc: Global, setting: &Setting, gestures: &[u8]) -> Result<Outside, AllocError> {
+        let place = place_of(alloc, setting)?;
+        let source = source_of(alloc, setting, gestures)?;
+        let out = output_of(alloc, setting)?;
+        Ok(Outside { place, source, out })
+    }
+
+    fn run(&mut self, alloc: Global, words: &[&str]) -> Result<Ran, AllocError> {
+        let mut steps = own_steps();
+        let Status(status) = clim_main(
+            alloc,
+            words,
+            &mut self.place,
+            &mut self.source,
+            &mut self.out,
+            &mut steps,
+        );
+        Ok(Ran {
+            transcript: self.out.taken().to_vec(alloc)?,
+            status: u64::from(status),
+            steps: steps.ledger().seen(),
+            wire: self.place.file("wire").unwrap_or(&[]).to_vec(alloc)?,
+        })
+    }
+}
+
+fn source_of(alloc: Global, setting: &Setting, gestures: &[u8]) -> Result<MemSource, AllocError> {
+    let fails = setting.gestures_fail.as_slice().to_vec(alloc)?;
+    Ok(MemSource::new(gestures.to_vec(alloc)?, fails))
 }
 
 // The words as texts.

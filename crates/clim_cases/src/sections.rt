@@ -20,6 +20,7 @@ pub enum Kind {
     Wire,
     WireTakes,
     WireRoom,
+    Differs,
 }
 
 /// What may stand in a section.
@@ -38,7 +39,7 @@ pub enum Shape {
 }
 
 /// Each kind. One whose words begin with those of another stands before that.
-pub const KINDS: [Kind; 16] = [
+pub const KINDS: [Kind; 17] = [
     Kind::Words,
     Kind::Application,
     Kind::GesturesFail,
@@ -55,6 +56,7 @@ pub const KINDS: [Kind; 16] = [
     Kind::WireTakes,
     Kind::WireRoom,
     Kind::Wire,
+    Kind::Differs,
 ];
 
 impl Kind {
@@ -77,13 +79,14 @@ impl Kind {
             Kind::Wire => "wire",
             Kind::WireTakes => "wire takes",
             Kind::WireRoom => "wire has room for",
+            Kind::Differs => "differs",
         }
     }
 
     /// What may stand in a section of this kind.
     pub fn shape(self) -> Shape {
         match self {
-            Kind::Words | Kind::Steps | Kind::Form | Kind::Rows => Shape::Lines,
+            Kind::Words | Kind::Steps | Kind::Form | Kind::Rows | Kind::Differs => Shape::Lines,
             Kind::Application | Kind::Gestures | Kind::Transcript | Kind::Wire => {
                 Shape::LinesOrFile
             }

@@ -26,6 +26,8 @@ pub struct Setting {
     pub takes: u64,
     pub room: Option<u64>,
     pub wire: Option<Wire>,
+    /// What is to be said of the run: nothing where it is to be as it is wanted.
+    pub differs: Vec<u8>,
 }
 
 /// What is wanted of the wire, the file `wire` of the place.
@@ -37,31 +39,87 @@ pub struct Wire {
     pub room: Option<u64>,
 }
 
+impl Setting {
+    // An empty one.
+    fn new(alloc: Global) -> Setting {
+        Setting {
+            words: Vec::new(alloc),
+            application: Vec::new(alloc),
+            gestures: Vec::new(alloc),
+            transcript: Vec::new(alloc),
+            status: 0,
+            steps: None,
+            place_fails: Vec::new(alloc),
+            gestures_fail: Vec::new(alloc),
+            output_fails: Vec::new(alloc),
+            takes: 4096,
+            room: None,
+            wire: None,
+            differs: Vec::new(alloc),
+        }
+    }
+
+    // What the program is run on.
+    fn add_input<'a, R: Files + AllocGlobal>(
+        &mut self,
+        rt: &R,
+        names: &Names<'a>,
+        case: &'a Case,
+    ) -> Result<(), Fault> {
+        self.words = words_of(rt.alloc(), names, case)?;
+        self.application = application_of(rt, names, case)?;
+        self.gestures = lines_in(rt, names, case, Kind::Gestures)?;
+        Ok(())
+    }
+
+    // What is wanted of the run.
+    fn add_wanted<'a, R: Files + AllocGlobal>(
+        &mut self,
+        rt: &R,
+        names: &Names<'a>,
+        case: &'a Case,
+    ) -> Result<(), Fault> {
+        self.transcript = lines_in(rt, names, case, Kind::Transcript)?;
+        self.status = case.number(Kind::Status).unwrap_or(0);
+        self.steps = steps_of(rt.alloc(), names, case)?;
+        self.wire = wire_of(rt, names, case)?;
+        self.differs = lines_in(rt, names, case, Kind::Differs)?;
+        Ok(())
+    }
+
+    // What fails, and how much is taken.
+    fn add_faults(&mut self, alloc: Global, case: &Case) -> Result<(), Fault> {
+        self.place_fails = case.numbers(Kind::PlaceFails).to_vec(alloc)?;
+        self.gestures_fail = case.numbers(Kind::GesturesFail).to_vec(alloc)?;
+        self.output_fails = case.numbers(Kind::OutputFails).to_vec(alloc)?;
+        self.takes = case.number(Kind::OutputTakes).unwrap_or(4096);
+        self.room = case.number(Kind::OutputRoom);
+        Ok(())
+    }
+}
+
 /// The setting of a case, with what the names in it stand for.
 pub fn setting_of<'a, R: Files + AllocGlobal>(
     rt: &R,
     names: &Names<'a>,
     case: &'a Case,
 ) -> Result<Setting, Fault> {
-    let alloc = rt.alloc();
-    let application = match case.section(Kind::Application) {
-        Some(section) if section.file.is_none() => text_of(alloc, names, &section.block)?,
-        _ => lines_in(rt, names, case, Kind::Application)?,
-    };
-    Ok(Setting {
-        words: words_of(alloc, names, case)?,
-        application,
-        gestures: lines_in(rt, names, case, Kind::Gestures)?,
-        transcript: lines_in(rt, names, case, Kind::Transcript)?,
-        status: case.number(Kind::Status).unwrap_or(0),
-        steps: steps_of(alloc, names, case)?,
-        place_fails: case.numbers(Kind::PlaceFails).to_vec(alloc)?,
-        gestures_fail: case.numbers(Kind::GesturesFail).to_vec(alloc)?,
-        output_fails: case.numbers(Kind::OutputFails).to_vec(alloc)?,
-        takes: case.number(Kind::OutputTakes).unwrap_or(4096),
-        room: case.number(Kind::OutputRoom),
-        wire: wire_of(rt, names, case)?,
-    })
+    let mut setting = Setting::new(rt.alloc());
+    setting.add_input(rt, names, case)?;
+    setting.add_wanted(rt, names, case)?;
+    setting.add_faults(rt.alloc(), case)?;
+    Ok(setting)
+}
+
+fn application_of<'a, R: Files + AllocGlobal>(
+    rt: &R,
+    names: &Names<'a>,
+    case: &'a Case,
+) -> Result<Vec<u8>, Fault> {
+    match case.section(Kind::Application) {
+        Some(section) if section.file.is_none() => text_of(rt.alloc(), names, &section.block),
+        _ => lines_in(rt, names, case, Kind::Application),
+    }
 }
 
 // What is wanted of the wire, where it is compared.
