@@ -87,11 +87,16 @@ fn words_and_cost(alloc: Global, shown: &Shown, cost: u64) -> Result<String, Fai
 /// What display forms show in an application, and how many steps that took, in words.
 fn come_to_in(
     alloc: Global,
-    limits: Limits,
+    budget: u64,
+    depth: u32,
     forms: &Shapes,
     loaded: &Loaded,
     env: &Env,
 ) -> Result<String, Fail> {
+    let limits = Limits {
+        budget,
+        depth: depth.min(512),
+    };
     let (app, slots) = (&loaded.app, &loaded.slots);
     let mut steps = own_steps();
     let shown = display(alloc, app, forms.as_slice(), env, slots, limits, &mut steps);
@@ -100,27 +105,24 @@ fn come_to_in(
 
 fn come_to_loaded(
     alloc: Global,
-    limits: Limits,
+    budget: u64,
+    depth: u32,
     forms: &Shapes,
     loaded: &Loaded,
 ) -> Result<String, Fail> {
     let env = variables(alloc)?;
-    come_to_in(alloc, limits, forms, loaded, &env)
+    come_to_in(alloc, budget, depth, forms, loaded, &env)
 }
 
-fn forms_come_to(alloc: Global, limits: Limits, forms: &Shapes) -> Result<String, Fail> {
+fn forms_come_to(alloc: Global, budget: u64, depth: u32, forms: &Shapes) -> Result<String, Fail> {
     let loaded = loaded(alloc)?;
-    come_to_loaded(alloc, limits, forms, &loaded)
+    come_to_loaded(alloc, budget, depth, forms, &loaded)
 }
 
 /// What the display forms of a text show within this budget and depth, in words.
 fn come_to(alloc: Global, budget: u64, depth: u32, text: &str) -> Result<String, Fail> {
-    let limits = Limits {
-        budget,
-        depth: depth.min(512),
-    };
     let forms = display_forms(alloc, text)?;
-    forms_come_to(alloc, limits, &forms)
+    forms_come_to(alloc, budget, depth, &forms)
 }
 
 #[test]

@@ -81,11 +81,16 @@ fn words(alloc: Global, outcome: &Evaluated) -> Result<String, Fail> {
 /// What an expression comes to in an application, where its variables are these.
 fn come_to_in(
     alloc: Global,
-    limits: Limits,
+    budget: u64,
+    depth: u32,
     expr: &Expr,
     loaded: &Loaded,
     env: &Env,
 ) -> Result<String, Fail> {
+    let limits = Limits {
+        budget,
+        depth: depth.min(512),
+    };
     let (app, slots) = (&loaded.app, &loaded.slots);
     let outcome = eval(alloc, app, expr, env, slots, limits, &mut own_steps());
     words(alloc, &outcome)
@@ -93,22 +98,19 @@ fn come_to_in(
 
 fn come_to_loaded(
     alloc: Global,
-    limits: Limits,
+    budget: u64,
+    depth: u32,
     expr: &Expr,
     loaded: &Loaded,
 ) -> Result<String, Fail> {
     let env = variables(alloc)?;
-    come_to_in(alloc, limits, expr, loaded, &env)
+    come_to_in(alloc, budget, depth, expr, loaded, &env)
 }
 
 /// What an expression comes to within this budget and depth, in words.
 fn come_to(alloc: Global, budget: u64, depth: u32, expr: &Expr) -> Result<String, Fail> {
-    let limits = Limits {
-        budget,
-        depth: depth.min(512),
-    };
     let loaded = loaded(alloc)?;
-    come_to_loaded(alloc, limits, expr, &loaded)
+    come_to_loaded(alloc, budget, depth, expr, &loaded)
 }
 
 fn text_comes_to(alloc: Global, budget: u64, depth: u32, text: &str) -> Result<String, Fail> {
