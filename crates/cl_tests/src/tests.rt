@@ -1,6 +1,4 @@
 //! One part for each crate that is called, and what reads the texts of some.
-mod command;
-mod declarations;
 mod display;
 mod evaluation;
 mod execution;

@@ -1,4 +1,4 @@
-//! Displays as texts: their items, or the kind of their trap, and their cost, worked out by hand.
+//! Displays within budgets and depths that no application has: their items, or the kind of their trap, and their cost, worked out by hand.
 use super::reading::{display_forms, loaded, variables};
 use super::saying::put_bytes;
 use cl_display::{History, Shown, display};
@@ -8,51 +8,6 @@ use cl_outside::own_steps;
 use cl_syntax::Shapes;
 use std::alloc::Global;
 use std::test::Fail;
-
-const DISPLAYS: [(&str, &str); 10] = [
-    (
-        "((write-text \"ab\") (write-text \"\") (write-text (slot word)) (newline) (newline) (write-text w))",
-        "text 0 0 0 ab|text 2 0 0 so|text 0 2 0 vw| cost 10",
-    ),
-    (
-        "((write-text \"a\") (write-text 5) (newline))",
-        "trap 1: text 0 0 0 trap 1| cost 4",
-    ),
-    (
-        "((let ((w \"a\") (x w)) (write-text x)) (write-text w))",
-        "text 0 0 0 a|text 1 0 0 vw| cost 7",
-    ),
-    (
-        "((dolist (x (list \"a\" \"b\" \"c\")) (write-text x) (newline)))",
-        "text 0 0 0 a|text 0 1 0 b|text 0 2 0 c| cost 14",
-    ),
-    (
-        "((write-text \"x\") (pair \"a\" w) (write-text \"y\"))",
-        "text 0 0 0 x|text 1 0 0 a|text 0 1 0 vw|text 2 1 0 y| cost 12",
-    ),
-    (
-        "((write-text \"ab\") (with-room-for-graphics (draw-box 0 0 3 3)) (write-text \"c\"))",
-        "text 0 0 0 ab|box 2 0 3 3 0|text 0 3 0 c| cost 10",
-    ),
-    (
-        "((indenting-output 2 (newline) (write-text \"a\") (indenting-output -1 (newline) (write-text \"b\"))) (newline) (write-text \"c\"))",
-        "text 2 1 0 a|text 1 2 0 b|text 0 3 0 c| cost 13",
-    ),
-    (
-        "((with-ink 8 (write-text \"a\")))",
-        "trap 9: text 0 0 0 trap 9| cost 2",
-    ),
-    // a text in the row below the last one
-    (
-        "((dolist (x (range 1 999)) (dolist (x (range 1 1001)) (newline))) (newline) (write-text \"a\"))",
-        "trap 9: text 0 0 0 trap 9| cost 1004002",
-    ),
-    // a text past the greatest weight
-    (
-        "((dolist (x (range 1 15)) (write-text (pad \"\" 65535))) (write-text (pad \"\" 16960)))",
-        "trap 10: text 0 0 0 trap 10| cost 68",
-    ),
-];
 
 fn put_history(alloc: Global, said: &mut String, history: &History) -> Result<(), Fail> {
     let mut lines = Vec::new(alloc);
@@ -126,17 +81,10 @@ fn come_to(alloc: Global, budget: u64, depth: u32, text: &str) -> Result<String,
 }
 
 #[test]
-fn displays_come_to(rt: HostRuntime) -> Result<(), Fail> {
-    for (text, wanted) in DISPLAYS {
-        let said = come_to(rt.alloc(), 2_000_000, 512, text)?;
-        assert_eq!(rt; said.as_str(), wanted, "{text}");
-    }
-    Ok(())
-}
-
-#[test]
 fn limits_are_met(rt: HostRuntime) -> Result<(), Fail> {
     let alloc = rt.alloc();
+    let four = come_to(alloc, 4, 2, "((write-text \"a\") (write-text w))")?;
+    assert_eq!(rt; four.as_str(), "text 0 0 0 a|text 1 0 0 vw| cost 4");
     let two = come_to(alloc, 3, 2, "((write-text \"a\") (write-text \"b\"))")?;
     assert_eq!(rt; two.as_str(), "trap 5: text 0 0 0 trap 5| cost 3");
     let deep = come_to(alloc, 9, 2, "((progn (progn (newline))))")?;

@@ -1,4 +1,4 @@
-//! Statements as texts: the slot `count` that they leave, what they reply, and their cost, worked out by hand.
+//! Statements that no application has: the slot `count` that they leave, what they reply, and their cost, worked out by hand.
 use super::reading::{loaded, statements, variables};
 use super::saying::put_bytes;
 use cl_eval::{Executed, Limits, Lines, exec};
@@ -8,34 +8,6 @@ use cl_syntax::Acts;
 use cl_value::Value;
 use std::alloc::Global;
 use std::test::Fail;
-
-const BODIES: [(&str, &str); 10] = [
-    ("()", "5  cost 0"),
-    (
-        "((setf (slot count) (+ (slot count) v)) (setf (slot count) (+ (slot count) 1)) (reply (text (slot count))))",
-        "13 13| cost 11",
-    ),
-    ("((setf (slot other) 1))", "trap 1 cost 2"),
-    ("((setf (slot count) null))", "trap 1 cost 2"),
-    (
-        "((setf (slot count) 1) (reply \"a\") (reply z))",
-        "trap 1 cost 6",
-    ),
-    (
-        "((if (> v 5) (reply \"yes\") (reply \"no\")))",
-        "5 yes| cost 6",
-    ),
-    ("((when false (reply (text (div 1 0)))))", "5  cost 2"),
-    (
-        "((dolist (x (range 1 3)) (setf (slot count) (+ (slot count) x)) (reply (text (slot count)))))",
-        "11 6|8|11| cost 25",
-    ),
-    (
-        "((progn (dolist (x (list)) (reply \"a\")) (progn)))",
-        "5  cost 4",
-    ),
-    ("((let ((v 1)) (setf (slot count) v)))", "1  cost 4"),
-];
 
 const LIMITS: Limits = Limits {
     budget: 1000,
@@ -89,23 +61,12 @@ fn words(alloc: Global, outcome: &Executed) -> Result<String, Fail> {
     Ok(said)
 }
 
+/// The loader refuses the slot, and the variables of no command.
 #[test]
 fn bodies_come_to(rt: HostRuntime) -> Result<(), Fail> {
-    for (text, wanted) in BODIES {
-        let said = text_comes_to(rt.alloc(), text)?;
-        assert_eq!(rt; said.as_str(), wanted, "{text}");
-    }
-    Ok(())
-}
-
-/// The longest text that is a value has 65,535 bytes: one more fits, and then no other.
-#[test]
-fn the_longest_replies(rt: HostRuntime) -> Result<(), Fail> {
-    let fits = "((reply (pad \"\" 65535)) (reply \"a\") (reply \"\"))";
-    let said = text_comes_to(rt.alloc(), fits)?;
-    assert_eq!(rt; said.len(), 65_535 + 1 + 3 + "5  cost 8".len());
-    let too_long = "((reply (pad \"\" 65535)) (reply \"a\") (reply \"b\"))";
-    let said = text_comes_to(rt.alloc(), too_long)?;
-    assert_eq!(rt; said.as_str(), "trap 7 cost 8");
+    let undeclared = text_comes_to(rt.alloc(), "((setf (slot other) 1))")?;
+    assert_eq!(rt; undeclared.as_str(), "trap 1 cost 2");
+    let with_variable = text_comes_to(rt.alloc(), "((setf (slot count) v) (reply w))")?;
+    assert_eq!(rt; with_variable.as_str(), "7 vw| cost 4");
     Ok(())
 }

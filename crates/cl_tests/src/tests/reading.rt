@@ -35,7 +35,7 @@ fn data_of_forms(alloc: Global, forms: &[Form]) -> Result<Datums, Fail> {
 }
 
 /// The data of what the tests declare, and those of a text behind it.
-pub fn data_behind(alloc: Global, text: &str) -> Result<Datums, Fail> {
+fn data_behind(alloc: Global, text: &str) -> Result<Datums, Fail> {
     let text = format!(in alloc; "{DECLARED}{text}")?;
     data_of(alloc, text.as_bytes())
 }
@@ -55,7 +55,7 @@ pub fn variables(alloc: Global) -> Result<Env, Fail> {
 }
 
 /// The last form, which is the one that a text has behind what the tests declare.
-pub fn last_of(data: &[Datum]) -> Result<&Datum, Fail> {
+fn last_of(data: &[Datum]) -> Result<&Datum, Fail> {
     Ok(data.last().ok_or("no form")?)
 }
 
