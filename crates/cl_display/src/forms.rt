@@ -16,7 +16,7 @@ use cl_eval::{
     evaluate_test,
 };
 use cl_outside::{Ledger, Steps};
-use cl_syntax::{Binding, Shape, ShapeKind};
+use cl_syntax::{Binding, Shape, ShapeChoice, ShapeKind};
 use cl_value::{Text, Value};
 
 // One form.
@@ -121,28 +121,11 @@ fn draw_parts<L: Ledger>(
             steps,
         ),
         ShapeKind::If(choice) => {
-            if evaluate_test(context, &choice.test, scope, left, level, meter, steps)? {
-                draw(
-                    context,
-                    &choice.then,
-                    scope,
-                    left,
-                    level,
-                    drawing,
-                    meter,
-                    steps,
-                )
+            let ShapeChoice { test, then, other } = &**choice;
+            if evaluate_test(context, test, scope, left, level, meter, steps)? {
+                draw(context, then, scope, left, level, drawing, meter, steps)
             } else {
-                draw(
-                    context,
-                    &choice.other,
-                    scope,
-                    left,
-                    level,
-                    drawing,
-                    meter,
-                    steps,
-                )
+                draw(context, other, scope, left, level, drawing, meter, steps)
             }
         }
         ShapeKind::When(test, body) => {
