@@ -40,7 +40,7 @@ awk -v room="$((length - 1000))" 'BEGIN {
 pad "$files/lists"
 awk -v pairs="$(((length - 1000) / 2))" 'BEGIN { while (pairs-- > 0) printf "()" }' >"$files/brackets"
 pad "$files/brackets"
-cp examples/counter/counter.clim "$files/counter"
+cp crates/clim_cases/data/counter.clim "$files/counter"
 pad "$files/counter"
 
 awk 'BEGIN {

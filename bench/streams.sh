@@ -21,4 +21,4 @@ esac
 source "$(dirname "$0")/program.sh"
 { yes "$line" || true; } | head -n "$count" >"$files/stream"
 TIMEFORMAT="${1}: %U s user, %S s system ($bound)"
-time "$program" run examples/counter/counter.clim <"$files/stream" >/dev/null
+time "$program" run crates/clim_cases/data/counter.clim <"$files/stream" >/dev/null
