@@ -5,9 +5,53 @@ use cl_display::{History, Shown, display};
 use cl_eval::{Env, Limits};
 use cl_load::Loaded;
 use cl_outside::own_steps;
-use cl_syntax::Shapes;
+use cl_syntax::{Expr, Shape, Shapes};
+use cl_value::{Text, Value};
 use std::alloc::Global;
 use std::test::Fail;
+
+/// A budget and a depth, display forms, and what they come to.
+const LIMITS: [(u64, u32, &str, &str); 7] = [
+    // the budget is met before the depth
+    (
+        4,
+        2,
+        "((write-text \"a\") (write-text \"b\"))",
+        "text 0 0 0 a|text 1 0 0 b| cost 4",
+    ),
+    (
+        3,
+        2,
+        "((write-text \"a\") (write-text \"b\"))",
+        "trap 5: text 0 0 0 trap 5| cost 3",
+    ),
+    (0, 0, "((newline))", "trap 5: text 0 0 0 trap 5| cost 0"),
+    (
+        9,
+        2,
+        "((progn (progn (newline))))",
+        "trap 6: text 0 0 0 trap 6| cost 2",
+    ),
+    // 999,999 rows down: a text in the last row, a text below it, and a newline there
+    (
+        2_000_000,
+        512,
+        "((dolist (x (range 1 999)) (dolist (x (range 1 1001)) (newline))) (write-text \"a\") (newline) (write-text \"\"))",
+        "text 0 999999 0 a| cost 1004004",
+    ),
+    (
+        2_000_000,
+        512,
+        "((dolist (x (range 1 999)) (dolist (x (range 1 1001)) (newline))) (newline) (write-text \"a\"))",
+        "trap 9: text 0 0 0 trap 9| cost 1004002",
+    ),
+    (
+        2_000_000,
+        512,
+        "((dolist (x (range 1 999)) (dolist (x (range 1 1001)) (newline))) (newline) (newline))",
+        "trap 9: text 0 0 0 trap 9| cost 1004001",
+    ),
+];
 
 fn put_history(alloc: Global, said: &mut String, history: &History) -> Result<(), Fail> {
     let mut lines = Vec::new(alloc);
@@ -82,12 +126,28 @@ fn come_to(alloc: Global, budget: u64, depth: u32, text: &str) -> Result<String,
 
 #[test]
 fn limits_are_met(rt: HostRuntime) -> Result<(), Fail> {
-    let alloc = rt.alloc();
-    let four = come_to(alloc, 4, 2, "((write-text \"a\") (write-text w))")?;
-    assert_eq!(rt; four.as_str(), "text 0 0 0 a|text 1 0 0 vw| cost 4");
-    let two = come_to(alloc, 3, 2, "((write-text \"a\") (write-text \"b\"))")?;
-    assert_eq!(rt; two.as_str(), "trap 5: text 0 0 0 trap 5| cost 3");
-    let deep = come_to(alloc, 9, 2, "((progn (progn (newline))))")?;
-    assert_eq!(rt; deep.as_str(), "trap 6: text 0 0 0 trap 6| cost 2");
+    for (budget, depth, text, wanted) in LIMITS {
+        let said = come_to(rt.alloc(), budget, depth, text)?;
+        assert_eq!(rt; said.as_str(), wanted, "{text} within {budget} and {depth}");
+    }
+    Ok(())
+}
+
+/// A call of the display `pair` with one value.
+fn call_of_one(alloc: Global) -> Result<Shapes, Fail> {
+    let name = Text::from_slice(alloc, b"pair")?;
+    let value = Value::Text(Text::from_slice(alloc, b"a")?);
+    let parts = vec![in alloc; Expr::constant(value)]?;
+    let mut forms = Shapes::new(alloc);
+    forms.push(Shape::call(name, parts))?;
+    Ok(forms)
+}
+
+/// The loader refuses a wrong count, so this form is built by hand.
+#[test]
+fn a_wrong_count_traps(rt: HostRuntime) -> Result<(), Fail> {
+    let forms = call_of_one(rt.alloc())?;
+    let said = forms_come_to(rt.alloc(), 1000, 512, &forms)?;
+    assert_eq!(rt; said.as_str(), "trap 1: text 0 0 0 trap 1| cost 2");
     Ok(())
 }

@@ -9,10 +9,11 @@ use cl_value::{Text, Value};
 use std::alloc::Global;
 use std::test::Fail;
 
-const EXPRESSIONS: [(&str, &str); 14] = [
+const EXPRESSIONS: [(&str, &str); 15] = [
     ("v", "7 cost 1 reach 1"),
     ("z", "trap 1 cost 1"),
     ("(slot count)", "5 cost 1 reach 1"),
+    ("(slot v)", "trap 1 cost 1"),
     ("(if true 1 (div 1 0))", "1 cost 3 reach 2"),
     ("(let ((a 1) (b (+ a 1))) (* a b))", "2 cost 8 reach 3"),
     ("(or false 1)", "trap 1 cost 3"),
@@ -29,12 +30,14 @@ const EXPRESSIONS: [(&str, &str); 14] = [
 ];
 
 /// A budget and a depth, an expression, and what it comes to.
-const LIMITS: [(u64, u32, &str, &str); 5] = [
+const LIMITS: [(u64, u32, &str, &str); 7] = [
     (3, 512, "(+ 2 3)", "5 cost 3 reach 2"),
     (2, 512, "(+ 2 3)", "trap 5 cost 2"),
     (0, 0, "(+ 2 3)", "trap 5 cost 0"),
+    (1, 1, "(+ 2 3)", "trap 5 cost 1"),
     (5, 1, "(+ 2 3)", "trap 6 cost 1"),
     (1000, 8, "(forever 1)", "trap 6 cost 15"),
+    (10, 512, "(forever 1)", "trap 5 cost 10"),
 ];
 
 fn put_numbers(said: &mut String, values: &[Value]) -> Result<(), Fail> {
