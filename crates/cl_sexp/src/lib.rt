@@ -7,6 +7,7 @@ ghost use Rattle.cl_sexp.specs.Reads.{Gives};
 
 use begin::{Begins, what_begins};
 use std::alloc::{AllocFailed, Global};
+use thiserror::Error;
 
 mod begin;
 mod byte;
@@ -37,13 +38,15 @@ pub struct Token {
     pub end: u32,
 }
 
-#[derive(Clone, Copy, PartialEq, Eq, Debug)]
+/// Why a text has no tokens.
+#[derive(Clone, Copy, PartialEq, Eq, Debug, Error)]
 pub enum ReadRefusal {
     /// The number of the refusal, and its offset in bytes. 1: a byte that is not allowed where it stands.
     /// 2: the text ends inside a form or a text (the offset is its length), or a `)` closes nothing.
     /// 3: a `(` opens a 65th form. 4: a number does not fit in 64 bits.
+    #[error("refused {0} at {1}")]
     Refused(u8, u32),
-    /// Memory was wanting.
+    #[error("out of memory")]
     Memory,
 }
 

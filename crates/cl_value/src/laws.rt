@@ -24,11 +24,6 @@ pub fn order_is_total()
     ensures { IsTotalOrder order_of }
 {}
 
-/// The same values have the same size and depth.
-pub fn measures_agree()
-    ensures { (v w : Value) → v ≡ w → (size_of (data_of v) ≡ size_of (data_of w)) × (depth_of (data_of v) ≡ depth_of (data_of w)) }
-{}
-
 /// A depth is at least 1 and at most the size.
 #[tactic(auto, using(crate::proofs::Measures::depth_sized))]
 pub fn depth_within_size()

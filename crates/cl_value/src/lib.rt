@@ -21,9 +21,7 @@ mod measure;
 mod order;
 mod row;
 
-pub use laws::{
-    data_tells_values, depth_within_size, measures_agree, order_is_total, order_tells_values,
-};
+pub use laws::{data_tells_values, depth_within_size, order_is_total, order_tells_values};
 
 /// Bytes, seen as their list. A copy shares them.
 #[derive(Drop)]
