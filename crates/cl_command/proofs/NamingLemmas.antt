@@ -2,8 +2,8 @@
 use Rattle.std.proofs.Common.{◌≡◌, ℕ, suc, ◌+◌, ◌<◌, ◌≤◌, ◌==◌, Bool, true, false, List, [], ◌∷◌, length, drop, ◌∙◌, ap, arith, Some, None, drop-cons}
 use Rattle.std.specs.Prelude.{Option, slice_get, option_map, if◌then◌else◌}
 use Rattle.std.proofs.lemmas.Option.{slice_get-map, slice_get_within, get_or_from_slice_get}
-use Rattle.cl_syntax.specs.Names.{declared_at, declared_in}
-use Rattle.cl_syntax.specs.declared.declarations.CommandDecl.{CommandDecl}
+use Rattle.cl_table.specs.Names.{declared_at, declared_in}
+use Rattle.cl_application.specs.declared.declarations.CommandDecl.{CommandDecl}
 use Rattle.cl_command.specs.Naming.{after_name, line_names, lower}
 
 drop-here : {X : Type 0} (xs : List X) (i : ℕ) (x : X) → slice_get xs i ≡ Some x → drop i xs ≡ x ∷ drop (i + 1) xs

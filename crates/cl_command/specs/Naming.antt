@@ -1,7 +1,7 @@
 -- Which name a line has: among the names that begin it, the first of the longest.
 use Rattle.std.specs.Prelude.{ℕ, ◌+◌, Bool, true, false, ◌&&◌, ◌==◌, nat_le, max, if◌then◌else◌, List, [], ◌∷◌, length, map, filter, Option, Some, None}
 use Rattle.std.specs.List.{position_from}
-use Rattle.cl_syntax.specs.declared.declarations.CommandDecl.{CommandDecl}
+use Rattle.cl_application.specs.declared.declarations.CommandDecl.{CommandDecl}
 
 -- the command-line names of commands, in their order
 abbrev pub line_names : List (List ℕ × CommandDecl) → List (List ℕ)

@@ -3,7 +3,7 @@ ghost use Rattle.cl_command.specs.Line.{Pushes, finish_of, finish_words, without
 ghost use Rattle.cl_command.specs.Naming.{line_names};
 
 use crate::naming::{longest, place_of_length};
-use cl_syntax::Commands;
+use cl_application::Commands;
 use std::alloc::{AllocError, Global};
 use std::marker::Model;
 

@@ -3,7 +3,7 @@ ghost use Rattle.std.specs.Prelude.{◌≡◌, ◌≤◌, ◌<◌, ◌+◌, true
 ghost use Rattle.std.specs.List.{position_from};
 ghost use Rattle.cl_command.specs.Naming.{after_name, begins, begins_with, line_names, longest, lower};
 
-use cl_syntax::Commands;
+use cl_application::Commands;
 
 /// The length of the longest of the names that begin the line, 0 where none does.
 pub fn longest(commands: &Commands, line: &[u8]) -> usize

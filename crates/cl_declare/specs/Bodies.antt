@@ -1,7 +1,7 @@
 -- What display forms and statements share: forms that choose, repeat and bind, and bodies. Each row says first what makes the form itself
 -- wrong, and then its parts from left to right.
 use Rattle.std.specs.Prelude.{ℕ, if◌then◌else◌, List, [], ◌∷◌, drop, Option, Some, None}
-use Rattle.cl_syntax.specs.Term.{Term}
+use Rattle.cl_syntax.specs.ExprTree.{ExprTree}
 use Rattle.cl_syntax.specs.declared.expressions.Binding.{Binding}
 use Rattle.cl_forms.specs.Datum.{Datum, Datums, number, literal, word, quoted, stray, list, none, item}
 use Rattle.cl_forms.specs.Load.{Load, ◌>>=◌, give, refuse}
@@ -16,10 +16,10 @@ use Rattle.cl_declare.specs.declared.own.Own.TheVariants.{Whole, Before}
 
 -- a language of forms: F are its trees, and O is what stands before the body in a form of its own
 pub record Language (F O : Type 0) : Type 0 where
-  pub choice : Term → F → F → F
-  pub when : Term → List F → F
+  pub choice : ExprTree → F → F → F
+  pub when : ExprTree → List F → F
   pub bind : List Binding → List F → F
-  pub each : List ℕ → Term → List F → F
+  pub each : List ℕ → ExprTree → List F → F
   pub sequence : List F → F
   -- a form of its own, up to its body, by its head, the offsets of the head and of the form, and its parts
   pub own : World → List ℕ → ℕ → ℕ → List Sub → Names → Load (Own F O)
@@ -39,10 +39,10 @@ abbrev pub body_of : {F : Type 0} → List (Part F) → Names → Load (List F)
 body_of [] env = give []
 body_of (p ∷ ps) env = p.form env >>= λ f. body_of ps env >>= λ fs. give (f ∷ fs)
 
-abbrev pub choice_else : {F O : Type 0} → Language F O → Term → F → Load F → Load F
+abbrev pub choice_else : {F O : Type 0} → Language F O → ExprTree → F → Load F → Load F
 choice_else l t f other = other >>= λ g. give (l.choice t f g)
 
-abbrev pub choice_then : {F O : Type 0} → Language F O → Term → Load F → Load F → Load F
+abbrev pub choice_then : {F O : Type 0} → Language F O → ExprTree → Load F → Load F → Load F
 choice_then l t first other = first >>= λ f. choice_else l t f other
 
 -- `(if TEST THEN ELSE)`
@@ -64,7 +64,7 @@ let_row l at (a ∷ parts) env =
     else refuse 6 at
 
 -- the body of `dolist` sees its name
-abbrev pub dolist_body : {F O : Type 0} → Language F O → List ℕ → Term → List (Part F) → Names → Load F
+abbrev pub dolist_body : {F O : Type 0} → Language F O → List ℕ → ExprTree → List (Part F) → Names → Load F
 dolist_body l x t parts env = body_of parts (x ∷ env) >>= λ fs. give (l.each x t fs)
 
 -- `(dolist (NAME LIST) FORM ...)`

@@ -2,11 +2,11 @@
 -- order of the text.
 use Rattle.std.specs.Prelude.{ℕ, Bool, true, false, ◌&&◌, ◌||◌, is_some, if◌then◌else◌, List, [], ◌∷◌, ◌++◌, Option, Some, None, codes}
 use Rattle.std.specs.Str.{bytes_eq}
-use Rattle.cl_syntax.specs.Names.{named}
-use Rattle.cl_syntax.specs.declared.declarations.RecordDecl.{RecordDecl}
-use Rattle.cl_syntax.specs.declared.declarations.FunctionDecl.{FunctionDecl}
-use Rattle.cl_syntax.specs.declared.declarations.DisplayDecl.{DisplayDecl}
-use Rattle.cl_syntax.specs.declared.declarations.CommandDecl.{CommandDecl}
+use Rattle.cl_table.specs.Names.{named}
+use Rattle.cl_application.specs.declared.declarations.RecordDecl.{RecordDecl}
+use Rattle.cl_application.specs.declared.declarations.FunctionDecl.{FunctionDecl}
+use Rattle.cl_application.specs.declared.declarations.DisplayDecl.{DisplayDecl}
+use Rattle.cl_application.specs.declared.declarations.CommandDecl.{CommandDecl}
 use Rattle.cl_forms.specs.Datum.{Datum, number, literal, word, quoted, stray, list, in_order, parts_of, offset, datums_of}
 use Rattle.cl_forms.specs.LineNames.{line_name_of}
 use Rattle.cl_forms.specs.Load.{Load, ◌>>=◌, give, refuse}

@@ -1,8 +1,8 @@
 -- The frame that a text declares. Its sizes and the place of its pane are any numbers; one pane is built so far.
 use Rattle.std.specs.Prelude.{ℕ, ℤ, pos, Bool, true, false, not, ◌&&◌, ◌||◌, is_some, if◌then◌else◌, List, [], ◌∷◌, ◌++◌, Option, Some, None, codes}
 use Rattle.std.specs.Str.{bytes_eq}
-use Rattle.cl_syntax.specs.Names.{named}
-use Rattle.cl_syntax.specs.declared.declarations.SlotDecl.{SlotDecl}
+use Rattle.cl_table.specs.Names.{named}
+use Rattle.cl_application.specs.declared.declarations.SlotDecl.{SlotDecl}
 use Rattle.cl_forms.specs.Datum.{Datum, number, literal, word, quoted, stray, list, parts_of, offset}
 use Rattle.cl_forms.specs.Load.{Load, ◌>>=◌, give, refuse, noted}
 use Rattle.cl_forms.specs.World.{name_in, symbol_of, display_in}

@@ -10,9 +10,7 @@ use crate::frames::{FrameForm, frame_row};
 use crate::heads::{DeclarationKind, is_later_declaration, kind_named};
 use crate::rows::{command_row, display_row, function_row, record_row};
 use cl_forms::{Datum, LoadRefusal, World};
-use cl_syntax::{
-    CommandDecl, Commands, DisplayDecl, Displays, FunctionDecl, Functions, RecordDecl, Records,
-};
+use cl_application::{CommandDecl, Commands, DisplayDecl, Displays, FunctionDecl, Functions, RecordDecl, Records};
 use cl_value::Text;
 use std::alloc::{AllocError, Global};
 

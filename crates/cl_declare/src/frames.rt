@@ -8,7 +8,7 @@ ghost use Rattle.cl_declare.specs.Frames.{is_size, is_slot, are_slots, takes_non
 use crate::parts::{are_sections, is_number, number_of, section};
 use crate::slots::sections_read;
 use cl_forms::{Datum, LoadRefusal, World, fits, name_in, symbol_text};
-use cl_syntax::SlotDecls;
+use cl_application::SlotDecls;
 use cl_value::Text;
 use std::alloc::Global;
 

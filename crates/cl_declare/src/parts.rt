@@ -6,7 +6,7 @@ ghost use Rattle.cl_declare.specs.Frames.{first_symbol, key_of, behind_first, se
 
 use crate::heads::{is_command_key, is_section_key};
 use cl_forms::{Datum, are_names, name_in, symbol_of, symbol_text};
-use cl_syntax::Names;
+use cl_table::Names;
 use std::alloc::{AllocError, Global};
 
 /// The symbols of data, in their order.

@@ -13,7 +13,7 @@ use cl_forms::{
     Datum, LoadRefusal, Scope, World, are_names, expr_in, is_name, line_name_of, name_in,
     symbol_of, symbol_text,
 };
-use cl_syntax::{CommandDecl, DisplayDecl, FunctionDecl, RecordDecl};
+use cl_application::{CommandDecl, DisplayDecl, FunctionDecl, RecordDecl};
 use std::alloc::Global;
 
 /// `(define-record NAME FIELD FIELD ...)`

@@ -9,7 +9,7 @@ ghost use Rattle.cl_declare.specs.Leaves.{Leaves, Notes};
 
 use crate::slot_types::type_in;
 use cl_forms::{Datum, LoadRefusal, Scope, World, expr_in, name_in, note, symbol_of, symbol_text};
-use cl_syntax::{SlotDecl, SlotDecls};
+use cl_application::{SlotDecl, SlotDecls};
 use std::alloc::{AllocError, Global};
 
 /// The slots of a frame's sections. What is not declared is noted.

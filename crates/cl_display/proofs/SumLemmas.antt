@@ -5,12 +5,12 @@ use Rattle.std.proofs.lemmas.Int.{ints, clamps}
 use Rattle.std.specs.Int.{int_max}
 use Rattle.std.specs.Prelude.{negsuc, int_le, int_lt, ◌||◌}
 use Rattle.cl_value.specs.Data.{Data, int, text}
-use Rattle.cl_syntax.specs.Form as shape
-use Rattle.cl_syntax.specs.Form.{Form, Forms, none, form, forms_of}
-use Rattle.cl_syntax.specs.Term.{Bindings}
-use Rattle.cl_syntax.specs.App.{display_named}
-use Rattle.cl_syntax.specs.declared.applications.App.{App}
-use Rattle.cl_syntax.specs.declared.declarations.DisplayDecl.{DisplayDecl}
+use Rattle.cl_syntax.specs.ShapeTree as shape
+use Rattle.cl_syntax.specs.ShapeTree.{ShapeTree, ShapeTrees, none, form, shape_trees_of}
+use Rattle.cl_syntax.specs.ExprTree.{Bindings}
+use Rattle.cl_application.specs.App.{display_named}
+use Rattle.cl_application.specs.declared.applications.App.{App}
+use Rattle.cl_application.specs.declared.declarations.DisplayDecl.{DisplayDecl}
 use Rattle.cl_syntax.specs.declared.figures.Figure.{Figure}
 use Rattle.cl_syntax.specs.declared.figures.Figure.TheVariants as figure
 use Rattle.cl_eval.specs.declared.metering.Limits.{Limits}
@@ -244,25 +244,25 @@ adds-figured figure.Filled ds s = adds-filled ds s
 -- ---- forms
 
 abbrev AllAdd : Draws → Type 0
-AllAdd go = (level : ℕ) (env : Env) (f : Form) (s : DrawingAt) → AddsRun s (go level env f s)
+AllAdd go = (level : ℕ) (env : Env) (f : ShapeTree) (s : DrawingAt) → AddsRun s (go level env f s)
 
-pub adds-in_order : (go : Draws) → AllAdd go → (level : ℕ) (env : Env) (fs : Forms) (s : DrawingAt) → AddsRun s (in_order go level env fs s)
+pub adds-in_order : (go : Draws) → AllAdd go → (level : ℕ) (env : Env) (fs : ShapeTrees) (s : DrawingAt) → AddsRun s (in_order go level env fs s)
 adds-in_order go g level env none s = adds-give s
 adds-in_order go g level env (form f fs) s = adds-run s (go level env f s) (in_order go level env fs) (g level env f s) (adds-in_order go g level env fs)
 
-adds-for_each : (go : Draws) → AllAdd go → (level : ℕ) (env : Env) (x : List ℕ) (body : Forms) (ds : List Data) (s : DrawingAt) → AddsRun s (for_each go level env x body ds s)
+adds-for_each : (go : Draws) → AllAdd go → (level : ℕ) (env : Env) (x : List ℕ) (body : ShapeTrees) (ds : List Data) (s : DrawingAt) → AddsRun s (for_each go level env x body ds s)
 adds-for_each go g level env x body [] s = adds-give s
 adds-for_each go g level env x body (d ∷ ds) s =
     adds-run s (in_order go level ((x, d) ∷ env) body s) (for_each go level env x body ds) (adds-in_order go g level ((x, d) ∷ env) body s) (adds-for_each go g level env x body ds)
 
 -- a body from a state that has the same items, left so that the items stay
-adds-left : (go : Draws) → AllAdd go → (level : ℕ) (env : Env) (body : Forms) (s inner : DrawingAt) (leave : DrawingAt → DrawingAt) → Adds s inner → ((t : DrawingAt) → Adds t (leave t))
+adds-left : (go : Draws) → AllAdd go → (level : ℕ) (env : Env) (body : ShapeTrees) (s inner : DrawingAt) (leave : DrawingAt → DrawingAt) → Adds s inner → ((t : DrawingAt) → Adds t (leave t))
     → AddsRun s (in_order go level env body inner >>= λ end. give (leave end))
 adds-left go g level env body s inner leave p h c d =
     adds-further s inner p (after (in_order go level env body inner c d) (λ end. give (leave end)))
     (adds-run inner (in_order go level env body inner) (λ end. give (leave end)) (adds-in_order go g level env body inner) (λ t c d. h t) c d)
 
-adds-within : (go : Draws) → AllAdd go → (level : ℕ) (env : Env) (body : Forms) (s : DrawingAt) (r : Result DrawingAt ℕ) (leave : DrawingAt → DrawingAt) → AddsTo s r → ((t : DrawingAt) → Adds t (leave t))
+adds-within : (go : Draws) → AllAdd go → (level : ℕ) (env : Env) (body : ShapeTrees) (s : DrawingAt) (r : Result DrawingAt ℕ) (leave : DrawingAt → DrawingAt) → AddsTo s r → ((t : DrawingAt) → Adds t (leave t))
     → AddsRun s (within go level env body r leave)
 adds-within go g level env body s (Ok inner) leave p h c d = adds-left go g level env body s inner leave p h c d
 adds-within go g level env body s (Err k) leave p h c d = tt
@@ -300,40 +300,40 @@ adds-behind_room : (s : DrawingAt) (o : Outcome DrawingAt) → AddsOut (room_ent
 adds-behind_room s (Gives t c d) p = adds-room_left s t p
 adds-behind_room s (Traps kind c d) p = tt
 
-adds-room : (go : Draws) → AllAdd go → (level : ℕ) (env : Env) (body : Forms) (s : DrawingAt) → AddsRun s (within go level env body (Ok (room_entered s)) (room_left (outer_of s)))
+adds-room : (go : Draws) → AllAdd go → (level : ℕ) (env : Env) (body : ShapeTrees) (s : DrawingAt) → AddsRun s (within go level env body (Ok (room_entered s)) (room_left (outer_of s)))
 adds-room go g level env body s c d = adds-behind_room s (in_order go level env body (room_entered s) c d) (adds-in_order go g level env body (room_entered s) c d)
 
 -- ---- the rows
 
-adds-draws_in : (value : Go) (go : Draws) → AllAdd go → (level : ℕ) (bs : Bindings) (body : Forms) (env : Env) (s : DrawingAt) → AddsRun s (draws_in value go level bs body env s)
+adds-draws_in : (value : Go) (go : Draws) → AllAdd go → (level : ℕ) (bs : Bindings) (body : ShapeTrees) (env : Env) (s : DrawingAt) → AddsRun s (draws_in value go level bs body env s)
 adds-draws_in value go g level bs body env s = adds-given s (bound value level bs env) (λ inner. in_order go level inner body s) (λ inner. adds-in_order go g level inner body s)
 
 adds-called : (go : Draws) → AllAdd go → (level : ℕ) (f : Option DisplayDecl) (ds : List Data) (s : DrawingAt) → AddsRun s (called go level f ds s)
 adds-called go g level None ds s = λ c d. tt
 adds-called go g level (Some f) ds s =
-    adds-choice s (length ds == length f.parameters) (in_order go level (given f.parameters ds) (forms_of f.body) s) (trap 1) (adds-in_order go g level (given f.parameters ds) (forms_of f.body) s) (λ c d. tt)
+    adds-choice s (length ds == length f.parameters) (in_order go level (given f.parameters ds) (shape_trees_of f.body) s) (trap 1) (adds-in_order go g level (given f.parameters ds) (shape_trees_of f.body) s) (λ c d. tt)
 
-adds-shape_parts : (app : App) (value : Go) (go : Draws) → AllAdd go → (level : ℕ) (env : Env) (f : Form) (s : DrawingAt) → AddsRun s (shape_parts app value go level env f s)
-adds-shape_parts app value go g level env (shape.write_text t) s = adds-given s (value level env t) (λ d. lift (written s d)) (λ d. adds-lift s (written s d) (adds-written s d))
-adds-shape_parts app value go g level env shape.newline s = adds-lift s (lined s) (adds-lined s)
-adds-shape_parts app value go g level env (shape.draw figure ts) s =
+adds-shape_parts : (app : App) (value : Go) (go : Draws) → AllAdd go → (level : ℕ) (env : Env) (f : ShapeTree) (s : DrawingAt) → AddsRun s (shape_parts app value go level env f s)
+adds-shape_parts app value go g level env (shape.WriteText t) s = adds-given s (value level env t) (λ d. lift (written s d)) (λ d. adds-lift s (written s d) (adds-written s d))
+adds-shape_parts app value go g level env shape.Newline s = adds-lift s (lined s) (adds-lined s)
+adds-shape_parts app value go g level env (shape.Draw figure ts) s =
     adds-given s (each value level env ts []) (λ ds. lift (figured figure ds s)) (λ ds. adds-lift s (figured figure ds s) (adds-figured figure ds s))
-adds-shape_parts app value go g level env (shape.indent t body) s =
+adds-shape_parts app value go g level env (shape.Indent t body) s =
     adds-given s (value level env t) (λ d. within go level env body (indented d s) (margin_back s.ambient))
     (λ d. adds-within go g level env body s (indented d s) (margin_back s.ambient) (adds-indented d s) (λ end. adds-nothing end (margin_back s.ambient end) refl refl refl refl refl))
-adds-shape_parts app value go g level env (shape.ink t body) s =
+adds-shape_parts app value go g level env (shape.Ink t body) s =
     adds-given s (value level env t) (λ d. within go level env body (inked d s) (ink_back s.ambient))
     (λ d. adds-within go g level env body s (inked d s) (ink_back s.ambient) (adds-inked d s) (λ end. adds-nothing end (ink_back s.ambient end) refl refl refl refl refl))
-adds-shape_parts app value go g level env (shape.room body) s = adds-room go g level env body s
-adds-shape_parts app value go g level env (shape.choice t a b) s =
+adds-shape_parts app value go g level env (shape.Room body) s = adds-room go g level env body s
+adds-shape_parts app value go g level env (shape.If t a b) s =
     adds-given s (tested value level env t) (λ holds. if holds then go level env a s else go level env b s) (λ holds. adds-choice s holds (go level env a s) (go level env b s) (g level env a s) (g level env b s))
-adds-shape_parts app value go g level env (shape.when t body) s =
+adds-shape_parts app value go g level env (shape.When t body) s =
     adds-given s (tested value level env t) (λ holds. if holds then in_order go level env body s else give s) (λ holds. adds-choice s holds (in_order go level env body s) (give s) (adds-in_order go g level env body s) (adds-give s))
-adds-shape_parts app value go g level env (shape.bind bs body) s = adds-draws_in value go g level bs body env s
-adds-shape_parts app value go g level env (shape.each x t body) s =
+adds-shape_parts app value go g level env (shape.Let bs body) s = adds-draws_in value go g level bs body env s
+adds-shape_parts app value go g level env (shape.Dolist x t body) s =
     adds-given s (listed value level env t) (λ ds. for_each go level env x body ds s) (λ ds. adds-for_each go g level env x body ds s)
-adds-shape_parts app value go g level env (shape.sequence body) s = adds-in_order go g level env body s
-adds-shape_parts app value go g level env (shape.call f ts) s =
+adds-shape_parts app value go g level env (shape.Progn body) s = adds-in_order go g level env body s
+adds-shape_parts app value go g level env (shape.Call f ts) s =
     adds-given s (each value level env ts []) (λ ds. called go level (display_named f app) ds s) (λ ds. adds-called go g level (display_named f app) ds s)
 
 pub adds-draws : (left budget : ℕ) (app : App) (slots : Slots) → AllAdd (draws left budget app slots)
@@ -367,14 +367,14 @@ adds-blank s p = record {
 pub holds-blank : (s : DrawingAt) → Adds blank_drawing s → HoldsAll s.extent (items_in s.marks) × Holds s.extent (cursor_box s.ambient)
 holds-blank s p = (rw p.behind p.within, p.cursor (holds-itself (cursor_box ambient_start)))
 
-pub adds-fresh : (limits : Limits) (app : App) (fs : List Form) (env : Env) (slots : Slots) → AddsOut blank_drawing (fresh limits app fs env slots)
+pub adds-fresh : (limits : Limits) (app : App) (fs : List ShapeTree) (env : Env) (slots : Slots) → AddsOut blank_drawing (fresh limits app fs env slots)
 unfolding fresh
-adds-fresh limits app fs env slots = adds-in_order (draws limits.depth limits.budget app slots) (adds-draws limits.depth limits.budget app slots) 0 env (forms_of fs) blank_drawing 0 0
+adds-fresh limits app fs env slots = adds-in_order (draws limits.depth limits.budget app slots) (adds-draws limits.depth limits.budget app slots) 0 env (shape_trees_of fs) blank_drawing 0 0
 
-pub adds_up : (limits : Limits) (app : App) (fs : List Form) (env : Env) (slots : Slots) (s : DrawingAt) (cost reach : ℕ) → fresh limits app fs env slots ≡ Gives s cost reach → AddsUp s
+pub adds_up : (limits : Limits) (app : App) (fs : List ShapeTree) (env : Env) (slots : Slots) (s : DrawingAt) (cost reach : ℕ) → fresh limits app fs env slots ≡ Gives s cost reach → AddsUp s
 adds_up limits app fs env slots s cost reach p = adds-blank s (subst (AddsOut blank_drawing) p (adds-fresh limits app fs env slots))
 
-pub holds_drawn : (limits : Limits) (app : App) (fs : List Form) (env : Env) (slots : Slots) (s : DrawingAt) (cost reach : ℕ) → fresh limits app fs env slots ≡ Gives s cost reach
+pub holds_drawn : (limits : Limits) (app : App) (fs : List ShapeTree) (env : Env) (slots : Slots) (s : DrawingAt) (cost reach : ℕ) → fresh limits app fs env slots ≡ Gives s cost reach
     → HoldsAll s.extent (items_in s.marks) × Holds s.extent (cursor_box s.ambient)
 holds_drawn limits app fs env slots s cost reach p = holds-blank s (subst (AddsOut blank_drawing) p (adds-fresh limits app fs env slots))
 
@@ -382,7 +382,7 @@ behind-it : (xs ys : List AnyLeaf) → drop (length xs) (xs ++ ys) ≡ ys
 behind-it [] ys = refl
 behind-it (x ∷ xs) ys = behind-it xs ys
 
-pub room-ends : (left budget : ℕ) (app : App) (slots : Slots) (level : ℕ) (env : Env) (body : Forms) (s end : DrawingAt) (cost deepest c d : ℕ)
+pub room-ends : (left budget : ℕ) (app : App) (slots : Slots) (level : ℕ) (env : Env) (body : ShapeTrees) (s end : DrawingAt) (cost deepest c d : ℕ)
     → in_order (draws left budget app slots) level env body (room_entered s) cost deepest ≡ Gives end c d → end.bottom ≡ bottom_of (drop (length (items_in s.marks)) (items_in end.marks))
 room-ends left budget app slots level env body s end cost deepest c d p =
     let added : Adds (room_entered s) end = subst (AddsOut (room_entered s)) p (adds-in_order (draws left budget app slots) (adds-draws left budget app slots) level env body (room_entered s) cost deepest) in
@@ -390,7 +390,7 @@ room-ends left budget app slots level env body s end cost deepest c d p =
     let ends : end.bottom ≡ bottom_of added.items = omega (arith, ints, clamps, inside, below added.items) in
     ends ∙ ap bottom_of (sym (ap (λ (l : List AnyLeaf). drop (length (items_in s.marks)) l) added.behind ∙ behind-it (items_in s.marks) added.items))
 
-pub few-shown : (limits : Limits) (app : App) (fs : List Form) (env : Env) (slots : Slots) (d : Drawing) (cost reach : ℕ)
-    → in_order (draws limits.depth limits.budget app slots) 0 env (forms_of fs) blank_drawing 0 0 ≡ Gives (drawing_of d) cost reach → length (items_in (history_marks leaf_moved d.nodes)) ≤ 1000000
+pub few-shown : (limits : Limits) (app : App) (fs : List ShapeTree) (env : Env) (slots : Slots) (d : Drawing) (cost reach : ℕ)
+    → in_order (draws limits.depth limits.budget app slots) 0 env (shape_trees_of fs) blank_drawing 0 0 ≡ Gives (drawing_of d) cost reach → length (items_in (history_marks leaf_moved d.nodes)) ≤ 1000000
 few-shown limits app fs env slots d cost reach p =
-    (adds-blank (drawing_of d) (subst (AddsOut blank_drawing) p (adds-in_order (draws limits.depth limits.budget app slots) (adds-draws limits.depth limits.budget app slots) 0 env (forms_of fs) blank_drawing 0 0))).count
+    (adds-blank (drawing_of d) (subst (AddsOut blank_drawing) p (adds-in_order (draws limits.depth limits.budget app slots) (adds-draws limits.depth limits.budget app slots) 0 env (shape_trees_of fs) blank_drawing 0 0))).count

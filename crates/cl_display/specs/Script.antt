@@ -1,9 +1,9 @@
 -- The script of a pane: the marks of its history when its display is evaluated once, from nothing, on the present slots.
 use Rattle.std.specs.Prelude.{ℕ, List, [], ◌∷◌, ◌++◌, codes}
 use Rattle.std.specs.Fmt.{decimal}
-use Rattle.cl_syntax.specs.Form.{Form, forms_of}
-use Rattle.cl_syntax.specs.App.{pane_forms}
-use Rattle.cl_syntax.specs.declared.applications.App.{App}
+use Rattle.cl_syntax.specs.ShapeTree.{ShapeTree, shape_trees_of}
+use Rattle.cl_application.specs.App.{pane_forms}
+use Rattle.cl_application.specs.declared.applications.App.{App}
 use Rattle.cl_eval.specs.declared.metering.Limits.{Limits}
 use Rattle.cl_eval.specs.Outcome.{Outcome, Gives, Traps}
 use Rattle.cl_eval.specs.Slots.{Slots, Env}
@@ -15,8 +15,8 @@ use Rattle.cl_display.specs.Drawings.{DrawingAt, blank_drawing}
 use Rattle.cl_display.specs.Fresh.{draws, in_order}
 
 -- display forms with these variables, from a blank drawing
-unfoldable pub fresh : Limits → App → List Form → Env → Slots → Outcome DrawingAt
-fresh limits app forms env slots = in_order (draws limits.depth limits.budget app slots) 0 env (forms_of forms) blank_drawing 0 0
+unfoldable pub fresh : Limits → App → List ShapeTree → Env → Slots → Outcome DrawingAt
+fresh limits app forms env slots = in_order (draws limits.depth limits.budget app slots) 0 env (shape_trees_of forms) blank_drawing 0 0
 
 -- the one mark of a display that trapped
 abbrev pub trap_history : ℕ → List (Mark AnyLeaf)
@@ -26,7 +26,7 @@ abbrev pub history_of : Outcome DrawingAt → List (Mark AnyLeaf)
 history_of (Gives s cost deepest) = s.marks
 history_of (Traps kind cost deepest) = trap_history kind
 
-abbrev pub script : Limits → App → List Form → Env → Slots → List (Mark AnyLeaf)
+abbrev pub script : Limits → App → List ShapeTree → Env → Slots → List (Mark AnyLeaf)
 script limits app forms env slots = history_of (fresh limits app forms env slots)
 
 -- ---- the pane of a frame: the forms of its display, with no variables

@@ -13,7 +13,8 @@ use cl_eval::{Context, Env, Limits, Meter, Scope, Slots, Stop};
 use cl_medium::{Ambient, Drawn, draw_text};
 use cl_outside::{Ledger, Steps};
 use cl_record::Nodes;
-use cl_syntax::{App, Shape};
+use cl_application::App;
+use cl_syntax::Shape;
 use cl_value::Text;
 use std::alloc::{AllocError, Global};
 

@@ -1,9 +1,9 @@
 //! What display forms draw, once they are entered.
 ghost use Rattle.std.specs.Prelude.{◌≡◌, ◌+◌, ◌<◌, ◌^◌, map, Ok};
 ghost use Rattle.cl_value.specs.Value.{data_of};
-ghost use Rattle.cl_syntax.specs.Form.{forms_of};
+ghost use Rattle.cl_syntax.specs.ShapeTree.{shape_trees_of};
 ghost use Rattle.cl_syntax.specs.Expr.{bindings_of};
-ghost use Rattle.cl_syntax.specs.App.{display_named};
+ghost use Rattle.cl_application.specs.App.{display_named};
 ghost use Rattle.cl_eval.specs.Scope.{variables_of};
 ghost use Rattle.cl_eval.specs.Meaning.{means};
 ghost use Rattle.cl_eval.specs.Agrees.{Agrees, always};
@@ -211,7 +211,7 @@ pub(crate) fn draw_all<L: Ledger>(
     requires { level + left < 2 ^ 32 }
     ensures meaning { Agrees (always (drawing_of drawing.new)) result meter.new
         (in_order (draws left context.now.budget context.now.app.now context.now.slots.now) level
-        (variables_of scope.now) (forms_of forms.now) (drawing_of drawing.old) meter.old.cost
+        (variables_of scope.now) (shape_trees_of forms.now) (drawing_of drawing.old) meter.old.cost
         meter.old.deepest) }
     ensures ledger { steps.new + meter.old.cost ≡ steps.old + meter.new.cost }
 {
@@ -238,7 +238,7 @@ fn draw_in<L: Ledger>(
     ensures meaning { Agrees (always (drawing_of drawing.new)) result meter.new
         (draws_in (means left context.now.budget context.now.app.now context.now.slots.now)
         (draws left context.now.budget context.now.app.now context.now.slots.now) level
-        (bindings_of bindings.now) (forms_of body.now) (variables_of scope.now)
+        (bindings_of bindings.now) (shape_trees_of body.now) (variables_of scope.now)
         (drawing_of drawing.old) meter.old.cost meter.old.deepest) }
     ensures ledger { steps.new + meter.old.cost ≡ steps.old + meter.new.cost }
 {
@@ -264,7 +264,7 @@ fn draw_each<L: Ledger>(
     requires { level + left < 2 ^ 32 }
     ensures meaning { Agrees (always (drawing_of drawing.new)) result meter.new
         (for_each (draws left context.now.budget context.now.app.now context.now.slots.now) level
-        (variables_of scope.now) name.now (forms_of body.now) (map data_of list.now)
+        (variables_of scope.now) name.now (shape_trees_of body.now) (map data_of list.now)
         (drawing_of drawing.old) meter.old.cost meter.old.deepest) }
     ensures ledger { steps.new + meter.old.cost ≡ steps.old + meter.new.cost }
 {
@@ -328,7 +328,7 @@ fn draw_indented<L: Ledger>(
     requires { level + left < 2 ^ 32 }
     ensures meaning { Agrees (always (drawing_of drawing.new)) result meter.new
         (within (draws left context.now.budget context.now.app.now context.now.slots.now) level
-        (variables_of scope.now) (forms_of body.now)
+        (variables_of scope.now) (shape_trees_of body.now)
         (indented (data_of number.now) (drawing_of drawing.old))
         (margin_back (drawing_of drawing.old).ambient) meter.old.cost meter.old.deepest) }
     ensures ledger { steps.new + meter.old.cost ≡ steps.old + meter.new.cost }
@@ -356,7 +356,7 @@ fn draw_in_ink<L: Ledger>(
     requires { level + left < 2 ^ 32 }
     ensures meaning { Agrees (always (drawing_of drawing.new)) result meter.new
         (within (draws left context.now.budget context.now.app.now context.now.slots.now) level
-        (variables_of scope.now) (forms_of body.now)
+        (variables_of scope.now) (shape_trees_of body.now)
         (inked (data_of number.now) (drawing_of drawing.old))
         (ink_back (drawing_of drawing.old).ambient) meter.old.cost meter.old.deepest) }
     ensures ledger { steps.new + meter.old.cost ≡ steps.old + meter.new.cost }
@@ -383,7 +383,7 @@ fn draw_in_room<L: Ledger>(
     requires { level + left < 2 ^ 32 }
     ensures meaning { Agrees (always (drawing_of drawing.new)) result meter.new
         (within (draws left context.now.budget context.now.app.now context.now.slots.now) level
-        (variables_of scope.now) (forms_of body.now)
+        (variables_of scope.now) (shape_trees_of body.now)
         (Ok (room_entered (drawing_of drawing.old)))
         (room_left (outer_of (drawing_of drawing.old))) meter.old.cost meter.old.deepest) }
     ensures ledger { steps.new + meter.old.cost ≡ steps.old + meter.new.cost }

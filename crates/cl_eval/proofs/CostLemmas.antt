@@ -2,11 +2,11 @@
 use Rattle.std.proofs.Common.{ℕ, zero, suc, ◌+◌, ◌≤◌, ◌==◌, Bool, true, false, if◌then◌else◌, nat_le, List, [], ◌∷◌, ◌++◌, length, Option, Some, None, Result, Ok, Err, arith, refl}
 use Rattle.std.specs.Prelude.{max}
 use Rattle.cl_value.specs.Data.{Data, bool, list, items_of}
-use Rattle.cl_syntax.specs.Term as term
-use Rattle.cl_syntax.specs.Term.{Term, Terms, Bindings, none, part, unbound, binding}
-use Rattle.cl_syntax.specs.App.{function_named}
-use Rattle.cl_syntax.specs.declared.applications.App.{App}
-use Rattle.cl_syntax.specs.declared.declarations.FunctionDecl.{FunctionDecl}
+use Rattle.cl_syntax.specs.ExprTree as expr
+use Rattle.cl_syntax.specs.ExprTree.{ExprTree, ExprTrees, Bindings, none, part, unbound, binding}
+use Rattle.cl_application.specs.App.{function_named}
+use Rattle.cl_application.specs.declared.applications.App.{App}
+use Rattle.cl_application.specs.declared.declarations.FunctionDecl.{FunctionDecl}
 use Rattle.cl_eval.specs.declared.metering.Meter.{Meter}
 use Rattle.cl_eval.specs.declared.metering.Stop.{Stop}
 use Rattle.cl_eval.specs.declared.metering.Stop.TheVariants.{Trap, Memory}
@@ -49,26 +49,26 @@ grows-choice false r s g h = h
 -- ---- by the meaning of the parts
 
 abbrev pub GoGrows : Go → Type 0
-GoGrows go = (level : ℕ) (env : Env) (t : Term) → Grows (go level env t)
+GoGrows go = (level : ℕ) (env : Env) (t : ExprTree) → Grows (go level env t)
 
-pub grows-tested : (go : Go) → GoGrows go → (level : ℕ) (env : Env) (t : Term) → Grows (tested go level env t)
+pub grows-tested : (go : Go) → GoGrows go → (level : ℕ) (env : Env) (t : ExprTree) → Grows (tested go level env t)
 grows-tested go g level env t = grows-then (go level env t) (λ d. lift (truth d)) (g level env t) (λ d. grows-lift (truth d))
 
-pub grows-listed : (go : Go) → GoGrows go → (level : ℕ) (env : Env) (t : Term) → Grows (listed go level env t)
+pub grows-listed : (go : Go) → GoGrows go → (level : ℕ) (env : Env) (t : ExprTree) → Grows (listed go level env t)
 grows-listed go g level env t = grows-then (go level env t) (λ d. lift (elements d)) (g level env t) (λ d. grows-lift (elements d))
 
-pub grows-each : (go : Go) → GoGrows go → (level : ℕ) (env : Env) (ts : Terms) (ds : List Data) → Grows (each go level env ts ds)
+pub grows-each : (go : Go) → GoGrows go → (level : ℕ) (env : Env) (ts : ExprTrees) (ds : List Data) → Grows (each go level env ts ds)
 grows-each go g level env none ds = grows-give ds
 grows-each go g level env (part t ts) ds =
     grows-then (go level env t) (λ d. each go level env ts (ds ++ d ∷ [])) (g level env t) (λ d. grows-each go g level env ts (ds ++ d ∷ []))
 
-pub grows-every : (go : Go) → GoGrows go → (level : ℕ) (env : Env) (ts : Terms) → Grows (every go level env ts)
+pub grows-every : (go : Go) → GoGrows go → (level : ℕ) (env : Env) (ts : ExprTrees) → Grows (every go level env ts)
 grows-every go g level env none = grows-give (bool true)
 grows-every go g level env (part t ts) =
     grows-then (tested go level env t) (λ b. if b then every go level env ts else give (bool false)) (grows-tested go g level env t)
     (λ b. grows-choice b (every go level env ts) (give (bool false)) (grows-every go g level env ts) (grows-give (bool false)))
 
-pub grows-some : (go : Go) → GoGrows go → (level : ℕ) (env : Env) (ts : Terms) → Grows (some go level env ts)
+pub grows-some : (go : Go) → GoGrows go → (level : ℕ) (env : Env) (ts : ExprTrees) → Grows (some go level env ts)
 grows-some go g level env none = grows-give (bool false)
 grows-some go g level env (part t ts) =
     grows-then (tested go level env t) (λ b. if b then give (bool true) else some go level env ts) (grows-tested go g level env t)
@@ -79,22 +79,22 @@ grows-bound go g level unbound env = grows-give env
 grows-bound go g level (binding x t bs) env =
     grows-then (go level env t) (λ d. bound go level bs ((x, d) ∷ env)) (g level env t) (λ d. grows-bound go g level bs ((x, d) ∷ env))
 
-pub grows-let_in : (go : Go) → GoGrows go → (level : ℕ) (bs : Bindings) (t : Term) (env : Env) → Grows (let_in go level bs t env)
+pub grows-let_in : (go : Go) → GoGrows go → (level : ℕ) (bs : Bindings) (t : ExprTree) (env : Env) → Grows (let_in go level bs t env)
 grows-let_in go g level bs t env = grows-then (bound go level bs env) (λ inner. go level inner t) (grows-bound go g level bs env) (λ inner. g level inner t)
 
-pub grows-mapped : (go : Go) → GoGrows go → (level : ℕ) (env : Env) (x : List ℕ) (t : Term) (ds es : List Data) → Grows (mapped go level env x t ds es)
+pub grows-mapped : (go : Go) → GoGrows go → (level : ℕ) (env : Env) (x : List ℕ) (t : ExprTree) (ds es : List Data) → Grows (mapped go level env x t ds es)
 grows-mapped go g level env x t [] es = grows-give es
 grows-mapped go g level env x t (a ∷ ds) es =
     grows-then (go level ((x, a) ∷ env) t) (λ e. mapped go level env x t ds (es ++ e ∷ [])) (g level ((x, a) ∷ env) t)
     (λ e. grows-mapped go g level env x t ds (es ++ e ∷ []))
 
-pub grows-filtered : (go : Go) → GoGrows go → (level : ℕ) (env : Env) (x : List ℕ) (t : Term) (ds es : List Data) → Grows (filtered go level env x t ds es)
+pub grows-filtered : (go : Go) → GoGrows go → (level : ℕ) (env : Env) (x : List ℕ) (t : ExprTree) (ds es : List Data) → Grows (filtered go level env x t ds es)
 grows-filtered go g level env x t [] es = grows-give es
 grows-filtered go g level env x t (a ∷ ds) es =
     grows-then (tested go level ((x, a) ∷ env) t) (λ b. filtered go level env x t ds (if b then es ++ a ∷ [] else es)) (grows-tested go g level ((x, a) ∷ env) t)
     (λ b. grows-filtered go g level env x t ds (if b then es ++ a ∷ [] else es))
 
-pub grows-folded : (go : Go) → GoGrows go → (level : ℕ) (env : Env) (x y : List ℕ) (t : Term) (ds : List Data) (a : Data) → Grows (folded go level env x y t ds a)
+pub grows-folded : (go : Go) → GoGrows go → (level : ℕ) (env : Env) (x y : List ℕ) (t : ExprTree) (ds : List Data) (a : Data) → Grows (folded go level env x y t ds a)
 grows-folded go g level env x y t [] a = grows-give a
 grows-folded go g level env x y t (e ∷ ds) a =
     grows-then (go level ((y, a) ∷ (x, e) ∷ env) t) (λ b. folded go level env x y t ds b) (g level ((y, a) ∷ (x, e) ∷ env) t)
@@ -106,54 +106,54 @@ grows-called go g level (Some f) ds =
     grows-choice (length ds == length f.parameters) (go level (given f.parameters ds) f.body) (trap 1) (g level (given f.parameters ds) f.body) (λ c d. omega arith)
 
 -- what follows in each row
-pub grows-then_choice : (go : Go) → GoGrows go → (level : ℕ) (env : Env) (u v : Term) (b : Bool) → Grows (if b then go level env u else go level env v)
+pub grows-then_choice : (go : Go) → GoGrows go → (level : ℕ) (env : Env) (u v : ExprTree) (b : Bool) → Grows (if b then go level env u else go level env v)
 grows-then_choice go g level env u v b = grows-choice b (go level env u) (go level env v) (g level env u) (g level env v)
 
 pub grows-limited : (es : List Data) → Grows (lift (limited (list (items_of es))))
 grows-limited es = grows-lift (limited (list (items_of es)))
 
-pub grows-then_map : (go : Go) → GoGrows go → (level : ℕ) (env : Env) (x : List ℕ) (t : Term) (ds : List Data)
+pub grows-then_map : (go : Go) → GoGrows go → (level : ℕ) (env : Env) (x : List ℕ) (t : ExprTree) (ds : List Data)
     → Grows (mapped go level env x t ds [] >>= λ es. lift (limited (list (items_of es))))
 grows-then_map go g level env x t ds =
     grows-then (mapped go level env x t ds []) (λ es. lift (limited (list (items_of es)))) (grows-mapped go g level env x t ds []) grows-limited
 
-pub grows-then_filter : (go : Go) → GoGrows go → (level : ℕ) (env : Env) (x : List ℕ) (t : Term) (ds : List Data)
+pub grows-then_filter : (go : Go) → GoGrows go → (level : ℕ) (env : Env) (x : List ℕ) (t : ExprTree) (ds : List Data)
     → Grows (filtered go level env x t ds [] >>= λ es. lift (limited (list (items_of es))))
 grows-then_filter go g level env x t ds =
     grows-then (filtered go level env x t ds []) (λ es. lift (limited (list (items_of es)))) (grows-filtered go g level env x t ds []) grows-limited
 
-pub grows-then_fold : (go : Go) → GoGrows go → (level : ℕ) (env : Env) (x y : List ℕ) (t : Term) (d a : Data)
+pub grows-then_fold : (go : Go) → GoGrows go → (level : ℕ) (env : Env) (x y : List ℕ) (t : ExprTree) (d a : Data)
     → Grows (lift (elements d) >>= λ ds. folded go level env x y t ds a)
 grows-then_fold go g level env x y t d a =
     grows-then (lift (elements d)) (λ ds. folded go level env x y t ds a) (grows-lift (elements d)) (λ ds. grows-folded go g level env x y t ds a)
 
-pub grows-then_opening : (go : Go) → GoGrows go → (level : ℕ) (env : Env) (x y : List ℕ) (opening t : Term) (d : Data)
+pub grows-then_opening : (go : Go) → GoGrows go → (level : ℕ) (env : Env) (x y : List ℕ) (opening t : ExprTree) (d : Data)
     → Grows (go level env opening >>= λ a. lift (elements d) >>= λ ds. folded go level env x y t ds a)
 grows-then_opening go g level env x y opening t d =
     grows-then (go level env opening) (λ a. lift (elements d) >>= λ ds. folded go level env x y t ds a) (g level env opening)
     (λ a. grows-then_fold go g level env x y t d a)
 
-grows-parts : (app : App) (slots : Slots) (go : Go) → GoGrows go → (level : ℕ) (env : Env) (t : Term) → Grows (parts app slots go level env t)
-grows-parts app slots go g level env (term.constant x) = grows-give x
-grows-parts app slots go g level env (term.variable x) = grows-lift (or_trap 1 (found x env))
-grows-parts app slots go g level env (term.slot x) = grows-lift (or_trap 1 (found x slots))
-grows-parts app slots go g level env (term.choice t u v) =
+grows-parts : (app : App) (slots : Slots) (go : Go) → GoGrows go → (level : ℕ) (env : Env) (t : ExprTree) → Grows (parts app slots go level env t)
+grows-parts app slots go g level env (expr.Constant x) = grows-give x
+grows-parts app slots go g level env (expr.Variable x) = grows-lift (or_trap 1 (found x env))
+grows-parts app slots go g level env (expr.Slot x) = grows-lift (or_trap 1 (found x slots))
+grows-parts app slots go g level env (expr.If t u v) =
     grows-then (tested go level env t) (λ b. if b then go level env u else go level env v) (grows-tested go g level env t) (grows-then_choice go g level env u v)
-grows-parts app slots go g level env (term.bind bs t) = grows-let_in go g level bs t env
-grows-parts app slots go g level env (term.every ts) = grows-every go g level env ts
-grows-parts app slots go g level env (term.some ts) = grows-some go g level env ts
-grows-parts app slots go g level env (term.map x t body) =
+grows-parts app slots go g level env (expr.Let bs t) = grows-let_in go g level bs t env
+grows-parts app slots go g level env (expr.And ts) = grows-every go g level env ts
+grows-parts app slots go g level env (expr.Or ts) = grows-some go g level env ts
+grows-parts app slots go g level env (expr.Map x t body) =
     grows-then (listed go level env t) (λ ds. mapped go level env x body ds [] >>= λ es. lift (limited (list (items_of es)))) (grows-listed go g level env t)
     (grows-then_map go g level env x body)
-grows-parts app slots go g level env (term.filter x t body) =
+grows-parts app slots go g level env (expr.Filter x t body) =
     grows-then (listed go level env t) (λ ds. filtered go level env x body ds [] >>= λ es. lift (limited (list (items_of es)))) (grows-listed go g level env t)
     (grows-then_filter go g level env x body)
-grows-parts app slots go g level env (term.fold x t y opening body) =
+grows-parts app slots go g level env (expr.Fold x t y opening body) =
     grows-then (go level env t) (λ d. go level env opening >>= λ a. lift (elements d) >>= λ ds. folded go level env x y body ds a) (g level env t)
     (grows-then_opening go g level env x y opening body)
-grows-parts app slots go g level env (term.operation o ts) =
+grows-parts app slots go g level env (expr.Operation o ts) =
     grows-then (each go level env ts []) (λ ds. lift (operated app o ds)) (grows-each go g level env ts []) (λ ds. grows-lift (operated app o ds))
-grows-parts app slots go g level env (term.call f ts) =
+grows-parts app slots go g level env (expr.Call f ts) =
     grows-then (each go level env ts []) (λ ds. called go level (function_named f app) ds) (grows-each go g level env ts []) (grows-called go g level (function_named f app))
 
 pub grows-means : (left budget : ℕ) (app : App) (slots : Slots) → GoGrows (means left budget app slots)

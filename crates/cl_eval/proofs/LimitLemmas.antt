@@ -3,11 +3,11 @@ use Rattle.std.proofs.Common.{◌≡◌, ap, ℕ, zero, suc, ◌+◌, ◌≤◌,
 use Rattle.std.specs.Prelude.{max}
 use Rattle.std.proofs.lemmas.Bool.Decides.{nat_tests}
 use Rattle.cl_value.specs.Data.{Data, bool, list, items_of}
-use Rattle.cl_syntax.specs.Term as term
-use Rattle.cl_syntax.specs.Term.{Term, Terms, Bindings, none, part, unbound, binding}
-use Rattle.cl_syntax.specs.App.{function_named}
-use Rattle.cl_syntax.specs.declared.applications.App.{App}
-use Rattle.cl_syntax.specs.declared.declarations.FunctionDecl.{FunctionDecl}
+use Rattle.cl_syntax.specs.ExprTree as expr
+use Rattle.cl_syntax.specs.ExprTree.{ExprTree, ExprTrees, Bindings, none, part, unbound, binding}
+use Rattle.cl_application.specs.App.{function_named}
+use Rattle.cl_application.specs.declared.applications.App.{App}
+use Rattle.cl_application.specs.declared.declarations.FunctionDecl.{FunctionDecl}
 use Rattle.cl_eval.specs.Outcome.{Outcome, Gives, Traps, Run, give, trap, lift, after, ◌>>=◌, cost_of}
 use Rattle.cl_eval.specs.Slots.{Slots, Env, found, given}
 use Rattle.cl_eval.specs.Operators.{limited, or_trap, truth, elements, operated}
@@ -96,29 +96,29 @@ goes-entering left budget left' budget' level c d v n l p =
 -- ---- by the meaning of the parts at a level
 
 abbrev pub GoGoes : ℕ → ℕ → ℕ → Go → Go → Type 0
-GoGoes budget depth level go go' = (env : Env) (t : Term) → Goes budget depth (go level env t) (go' level env t)
+GoGoes budget depth level go go' = (env : Env) (t : ExprTree) → Goes budget depth (go level env t) (go' level env t)
 
-pub goes-tested : (budget depth : ℕ) (go go' : Go) → (level : ℕ) → GoGoes budget depth level go go' → (env : Env) (t : Term) → Goes budget depth (tested go level env t) (tested go' level env t)
+pub goes-tested : (budget depth : ℕ) (go go' : Go) → (level : ℕ) → GoGoes budget depth level go go' → (env : Env) (t : ExprTree) → Goes budget depth (tested go level env t) (tested go' level env t)
 goes-tested budget depth go go' level g env t =
     goes-then budget depth (go level env t) (go' level env t) (λ d. lift (truth d)) (λ d. lift (truth d)) (g env t) (λ d. goes-lift budget depth (truth d))
 
-pub goes-listed : (budget depth : ℕ) (go go' : Go) → (level : ℕ) → GoGoes budget depth level go go' → (env : Env) (t : Term) → Goes budget depth (listed go level env t) (listed go' level env t)
+pub goes-listed : (budget depth : ℕ) (go go' : Go) → (level : ℕ) → GoGoes budget depth level go go' → (env : Env) (t : ExprTree) → Goes budget depth (listed go level env t) (listed go' level env t)
 goes-listed budget depth go go' level g env t =
     goes-then budget depth (go level env t) (go' level env t) (λ d. lift (elements d)) (λ d. lift (elements d)) (g env t) (λ d. goes-lift budget depth (elements d))
 
-pub goes-each : (budget depth : ℕ) (go go' : Go) → (level : ℕ) → GoGoes budget depth level go go' → (env : Env) (ts : Terms) (ds : List Data) → Goes budget depth (each go level env ts ds) (each go' level env ts ds)
+pub goes-each : (budget depth : ℕ) (go go' : Go) → (level : ℕ) → GoGoes budget depth level go go' → (env : Env) (ts : ExprTrees) (ds : List Data) → Goes budget depth (each go level env ts ds) (each go' level env ts ds)
 goes-each budget depth go go' level g env none ds =
     goes-give budget depth ds
 goes-each budget depth go go' level g env (part t ts) ds =
     goes-then budget depth (go level env t) (go' level env t) (λ d. each go level env ts (ds ++ d ∷ [])) (λ d. each go' level env ts (ds ++ d ∷ [])) (g env t) (λ d. goes-each budget depth go go' level g env ts (ds ++ d ∷ []))
 
-pub goes-every : (budget depth : ℕ) (go go' : Go) → (level : ℕ) → GoGoes budget depth level go go' → (env : Env) (ts : Terms) → Goes budget depth (every go level env ts) (every go' level env ts)
+pub goes-every : (budget depth : ℕ) (go go' : Go) → (level : ℕ) → GoGoes budget depth level go go' → (env : Env) (ts : ExprTrees) → Goes budget depth (every go level env ts) (every go' level env ts)
 goes-every budget depth go go' level g env none =
     goes-give budget depth (bool true)
 goes-every budget depth go go' level g env (part t ts) =
     goes-then budget depth (tested go level env t) (tested go' level env t) (λ b. if b then every go level env ts else give (bool false)) (λ b. if b then every go' level env ts else give (bool false)) (goes-tested budget depth go go' level g env t) (λ b. goes-choice budget depth b (every go level env ts) (every go' level env ts) (give (bool false)) (give (bool false)) (goes-every budget depth go go' level g env ts) (goes-give budget depth (bool false)))
 
-pub goes-some : (budget depth : ℕ) (go go' : Go) → (level : ℕ) → GoGoes budget depth level go go' → (env : Env) (ts : Terms) → Goes budget depth (some go level env ts) (some go' level env ts)
+pub goes-some : (budget depth : ℕ) (go go' : Go) → (level : ℕ) → GoGoes budget depth level go go' → (env : Env) (ts : ExprTrees) → Goes budget depth (some go level env ts) (some go' level env ts)
 goes-some budget depth go go' level g env none =
     goes-give budget depth (bool false)
 goes-some budget depth go go' level g env (part t ts) =
@@ -130,23 +130,23 @@ goes-bound budget depth go go' level g unbound env =
 goes-bound budget depth go go' level g (binding x t bs) env =
     goes-then budget depth (go level env t) (go' level env t) (λ d. bound go level bs ((x, d) ∷ env)) (λ d. bound go' level bs ((x, d) ∷ env)) (g env t) (λ d. goes-bound budget depth go go' level g bs ((x, d) ∷ env))
 
-pub goes-let_in : (budget depth : ℕ) (go go' : Go) → (level : ℕ) → GoGoes budget depth level go go' → (bs : Bindings) (t : Term) (env : Env) → Goes budget depth (let_in go level bs t env) (let_in go' level bs t env)
+pub goes-let_in : (budget depth : ℕ) (go go' : Go) → (level : ℕ) → GoGoes budget depth level go go' → (bs : Bindings) (t : ExprTree) (env : Env) → Goes budget depth (let_in go level bs t env) (let_in go' level bs t env)
 goes-let_in budget depth go go' level g bs t env =
     goes-then budget depth (bound go level bs env) (bound go' level bs env) (λ inner. go level inner t) (λ inner. go' level inner t) (goes-bound budget depth go go' level g bs env) (λ inner. g inner t)
 
-pub goes-mapped : (budget depth : ℕ) (go go' : Go) → (level : ℕ) → GoGoes budget depth level go go' → (env : Env) (x : List ℕ) (t : Term) (ds es : List Data) → Goes budget depth (mapped go level env x t ds es) (mapped go' level env x t ds es)
+pub goes-mapped : (budget depth : ℕ) (go go' : Go) → (level : ℕ) → GoGoes budget depth level go go' → (env : Env) (x : List ℕ) (t : ExprTree) (ds es : List Data) → Goes budget depth (mapped go level env x t ds es) (mapped go' level env x t ds es)
 goes-mapped budget depth go go' level g env x t [] es =
     goes-give budget depth es
 goes-mapped budget depth go go' level g env x t (a ∷ ds) es =
     goes-then budget depth (go level ((x, a) ∷ env) t) (go' level ((x, a) ∷ env) t) (λ e. mapped go level env x t ds (es ++ e ∷ [])) (λ e. mapped go' level env x t ds (es ++ e ∷ [])) (g ((x, a) ∷ env) t) (λ e. goes-mapped budget depth go go' level g env x t ds (es ++ e ∷ []))
 
-pub goes-filtered : (budget depth : ℕ) (go go' : Go) → (level : ℕ) → GoGoes budget depth level go go' → (env : Env) (x : List ℕ) (t : Term) (ds es : List Data) → Goes budget depth (filtered go level env x t ds es) (filtered go' level env x t ds es)
+pub goes-filtered : (budget depth : ℕ) (go go' : Go) → (level : ℕ) → GoGoes budget depth level go go' → (env : Env) (x : List ℕ) (t : ExprTree) (ds es : List Data) → Goes budget depth (filtered go level env x t ds es) (filtered go' level env x t ds es)
 goes-filtered budget depth go go' level g env x t [] es =
     goes-give budget depth es
 goes-filtered budget depth go go' level g env x t (a ∷ ds) es =
     goes-then budget depth (tested go level ((x, a) ∷ env) t) (tested go' level ((x, a) ∷ env) t) (λ b. filtered go level env x t ds (if b then es ++ a ∷ [] else es)) (λ b. filtered go' level env x t ds (if b then es ++ a ∷ [] else es)) (goes-tested budget depth go go' level g ((x, a) ∷ env) t) (λ b. goes-filtered budget depth go go' level g env x t ds (if b then es ++ a ∷ [] else es))
 
-pub goes-folded : (budget depth : ℕ) (go go' : Go) → (level : ℕ) → GoGoes budget depth level go go' → (env : Env) (x y : List ℕ) (t : Term) (ds : List Data) (a : Data) → Goes budget depth (folded go level env x y t ds a) (folded go' level env x y t ds a)
+pub goes-folded : (budget depth : ℕ) (go go' : Go) → (level : ℕ) → GoGoes budget depth level go go' → (env : Env) (x y : List ℕ) (t : ExprTree) (ds : List Data) (a : Data) → Goes budget depth (folded go level env x y t ds a) (folded go' level env x y t ds a)
 goes-folded budget depth go go' level g env x y t [] a =
     goes-give budget depth a
 goes-folded budget depth go go' level g env x y t (e ∷ ds) a =
@@ -160,7 +160,7 @@ goes-called budget depth go go' level g (Some f) ds =
 
 -- what follows in each row
 
-pub goes-then_choice : (budget depth : ℕ) (go go' : Go) → (level : ℕ) → GoGoes budget depth level go go' → (env : Env) (u v : Term) (b : Bool) → Goes budget depth (if b then go level env u else go level env v) (if b then go' level env u else go' level env v)
+pub goes-then_choice : (budget depth : ℕ) (go go' : Go) → (level : ℕ) → GoGoes budget depth level go go' → (env : Env) (u v : ExprTree) (b : Bool) → Goes budget depth (if b then go level env u else go level env v) (if b then go' level env u else go' level env v)
 goes-then_choice budget depth go go' level g env u v b =
     goes-choice budget depth b (go level env u) (go' level env u) (go level env v) (go' level env v) (g env u) (g env v)
 
@@ -168,46 +168,46 @@ pub goes-limited : (budget depth : ℕ) (es : List Data) → Goes budget depth (
 goes-limited budget depth es =
     goes-lift budget depth (limited (list (items_of es)))
 
-pub goes-then_map : (budget depth : ℕ) (go go' : Go) → (level : ℕ) → GoGoes budget depth level go go' → (env : Env) (x : List ℕ) (t : Term) (ds : List Data) → Goes budget depth (mapped go level env x t ds [] >>= λ es. lift (limited (list (items_of es)))) (mapped go' level env x t ds [] >>= λ es. lift (limited (list (items_of es))))
+pub goes-then_map : (budget depth : ℕ) (go go' : Go) → (level : ℕ) → GoGoes budget depth level go go' → (env : Env) (x : List ℕ) (t : ExprTree) (ds : List Data) → Goes budget depth (mapped go level env x t ds [] >>= λ es. lift (limited (list (items_of es)))) (mapped go' level env x t ds [] >>= λ es. lift (limited (list (items_of es))))
 goes-then_map budget depth go go' level g env x t ds =
     goes-then budget depth (mapped go level env x t ds []) (mapped go' level env x t ds []) (λ es. lift (limited (list (items_of es)))) (λ es. lift (limited (list (items_of es)))) (goes-mapped budget depth go go' level g env x t ds []) (goes-limited budget depth)
 
-pub goes-then_filter : (budget depth : ℕ) (go go' : Go) → (level : ℕ) → GoGoes budget depth level go go' → (env : Env) (x : List ℕ) (t : Term) (ds : List Data) → Goes budget depth (filtered go level env x t ds [] >>= λ es. lift (limited (list (items_of es)))) (filtered go' level env x t ds [] >>= λ es. lift (limited (list (items_of es))))
+pub goes-then_filter : (budget depth : ℕ) (go go' : Go) → (level : ℕ) → GoGoes budget depth level go go' → (env : Env) (x : List ℕ) (t : ExprTree) (ds : List Data) → Goes budget depth (filtered go level env x t ds [] >>= λ es. lift (limited (list (items_of es)))) (filtered go' level env x t ds [] >>= λ es. lift (limited (list (items_of es))))
 goes-then_filter budget depth go go' level g env x t ds =
     goes-then budget depth (filtered go level env x t ds []) (filtered go' level env x t ds []) (λ es. lift (limited (list (items_of es)))) (λ es. lift (limited (list (items_of es)))) (goes-filtered budget depth go go' level g env x t ds []) (goes-limited budget depth)
 
-pub goes-then_fold : (budget depth : ℕ) (go go' : Go) → (level : ℕ) → GoGoes budget depth level go go' → (env : Env) (x y : List ℕ) (t : Term) (d a : Data) → Goes budget depth (lift (elements d) >>= λ ds. folded go level env x y t ds a) (lift (elements d) >>= λ ds. folded go' level env x y t ds a)
+pub goes-then_fold : (budget depth : ℕ) (go go' : Go) → (level : ℕ) → GoGoes budget depth level go go' → (env : Env) (x y : List ℕ) (t : ExprTree) (d a : Data) → Goes budget depth (lift (elements d) >>= λ ds. folded go level env x y t ds a) (lift (elements d) >>= λ ds. folded go' level env x y t ds a)
 goes-then_fold budget depth go go' level g env x y t d a =
     goes-then budget depth (lift (elements d)) (lift (elements d)) (λ ds. folded go level env x y t ds a) (λ ds. folded go' level env x y t ds a) (goes-lift budget depth (elements d)) (λ ds. goes-folded budget depth go go' level g env x y t ds a)
 
-pub goes-then_opening : (budget depth : ℕ) (go go' : Go) → (level : ℕ) → GoGoes budget depth level go go' → (env : Env) (x y : List ℕ) (opening t : Term) (d : Data) → Goes budget depth (go level env opening >>= λ a. lift (elements d) >>= λ ds. folded go level env x y t ds a) (go' level env opening >>= λ a. lift (elements d) >>= λ ds. folded go' level env x y t ds a)
+pub goes-then_opening : (budget depth : ℕ) (go go' : Go) → (level : ℕ) → GoGoes budget depth level go go' → (env : Env) (x y : List ℕ) (opening t : ExprTree) (d : Data) → Goes budget depth (go level env opening >>= λ a. lift (elements d) >>= λ ds. folded go level env x y t ds a) (go' level env opening >>= λ a. lift (elements d) >>= λ ds. folded go' level env x y t ds a)
 goes-then_opening budget depth go go' level g env x y opening t d =
     goes-then budget depth (go level env opening) (go' level env opening) (λ a. lift (elements d) >>= λ ds. folded go level env x y t ds a) (λ a. lift (elements d) >>= λ ds. folded go' level env x y t ds a) (g env opening) (λ a. goes-then_fold budget depth go go' level g env x y t d a)
 
-goes-parts : (budget depth : ℕ) (app : App) (slots : Slots) (go go' : Go) → (level : ℕ) → GoGoes budget depth level go go' → (env : Env) (t : Term) → Goes budget depth (parts app slots go level env t) (parts app slots go' level env t)
-goes-parts budget depth app slots go go' level g env (term.constant x) =
+goes-parts : (budget depth : ℕ) (app : App) (slots : Slots) (go go' : Go) → (level : ℕ) → GoGoes budget depth level go go' → (env : Env) (t : ExprTree) → Goes budget depth (parts app slots go level env t) (parts app slots go' level env t)
+goes-parts budget depth app slots go go' level g env (expr.Constant x) =
     goes-give budget depth x
-goes-parts budget depth app slots go go' level g env (term.variable x) =
+goes-parts budget depth app slots go go' level g env (expr.Variable x) =
     goes-lift budget depth (or_trap 1 (found x env))
-goes-parts budget depth app slots go go' level g env (term.slot x) =
+goes-parts budget depth app slots go go' level g env (expr.Slot x) =
     goes-lift budget depth (or_trap 1 (found x slots))
-goes-parts budget depth app slots go go' level g env (term.choice t u v) =
+goes-parts budget depth app slots go go' level g env (expr.If t u v) =
     goes-then budget depth (tested go level env t) (tested go' level env t) (λ b. if b then go level env u else go level env v) (λ b. if b then go' level env u else go' level env v) (goes-tested budget depth go go' level g env t) (goes-then_choice budget depth go go' level g env u v)
-goes-parts budget depth app slots go go' level g env (term.bind bs t) =
+goes-parts budget depth app slots go go' level g env (expr.Let bs t) =
     goes-let_in budget depth go go' level g bs t env
-goes-parts budget depth app slots go go' level g env (term.every ts) =
+goes-parts budget depth app slots go go' level g env (expr.And ts) =
     goes-every budget depth go go' level g env ts
-goes-parts budget depth app slots go go' level g env (term.some ts) =
+goes-parts budget depth app slots go go' level g env (expr.Or ts) =
     goes-some budget depth go go' level g env ts
-goes-parts budget depth app slots go go' level g env (term.map x t body) =
+goes-parts budget depth app slots go go' level g env (expr.Map x t body) =
     goes-then budget depth (listed go level env t) (listed go' level env t) (λ ds. mapped go level env x body ds [] >>= λ es. lift (limited (list (items_of es)))) (λ ds. mapped go' level env x body ds [] >>= λ es. lift (limited (list (items_of es)))) (goes-listed budget depth go go' level g env t) (goes-then_map budget depth go go' level g env x body)
-goes-parts budget depth app slots go go' level g env (term.filter x t body) =
+goes-parts budget depth app slots go go' level g env (expr.Filter x t body) =
     goes-then budget depth (listed go level env t) (listed go' level env t) (λ ds. filtered go level env x body ds [] >>= λ es. lift (limited (list (items_of es)))) (λ ds. filtered go' level env x body ds [] >>= λ es. lift (limited (list (items_of es)))) (goes-listed budget depth go go' level g env t) (goes-then_filter budget depth go go' level g env x body)
-goes-parts budget depth app slots go go' level g env (term.fold x t y opening body) =
+goes-parts budget depth app slots go go' level g env (expr.Fold x t y opening body) =
     goes-then budget depth (go level env t) (go' level env t) (λ d. go level env opening >>= λ a. lift (elements d) >>= λ ds. folded go level env x y body ds a) (λ d. go' level env opening >>= λ a. lift (elements d) >>= λ ds. folded go' level env x y body ds a) (g env t) (goes-then_opening budget depth go go' level g env x y opening body)
-goes-parts budget depth app slots go go' level g env (term.operation o ts) =
+goes-parts budget depth app slots go go' level g env (expr.Operation o ts) =
     goes-then budget depth (each go level env ts []) (each go' level env ts []) (λ ds. lift (operated app o ds)) (λ ds. lift (operated app o ds)) (goes-each budget depth go go' level g env ts []) (λ ds. goes-lift budget depth (operated app o ds))
-goes-parts budget depth app slots go go' level g env (term.call f ts) =
+goes-parts budget depth app slots go go' level g env (expr.Call f ts) =
     goes-then budget depth (each go level env ts []) (each go' level env ts []) (λ ds. called go level (function_named f app) ds) (λ ds. called go' level (function_named f app) ds) (goes-each budget depth go go' level g env ts []) (goes-called budget depth go go' level g (function_named f app))
 
 -- ---- expressions
@@ -240,7 +240,7 @@ entered-above b e level c d i j p =
     let deepest : max d (level + 1) ≡ j = ap deepest_of gives in
     (omega (arith, cost), omega (arith, deepest), omega (arith, deepest))
 
-pub goes-means : (left budget left' budget' : ℕ) (app : App) (slots : Slots) (level : ℕ) (env : Env) (t : Term)
+pub goes-means : (left budget left' budget' : ℕ) (app : App) (slots : Slots) (level : ℕ) (env : Env) (t : ExprTree)
     → Goes budget' (level + left') (means left budget app slots level env t) (means left' budget' app slots level env t)
 goes-means zero budget left' budget' app slots level env t c d v n l p = absurd (never (entering 0 budget level c d) v n l p)
 goes-means (suc left) budget zero budget' app slots level env t c d v n l p =

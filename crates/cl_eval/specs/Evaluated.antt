@@ -2,8 +2,8 @@
 use Rattle.std.specs.Prelude.{◌≡◌, Bool, true, false}
 use Rattle.cl_value.specs.Data.{Data}
 use Rattle.cl_value.specs.Value.{data_of}
-use Rattle.cl_syntax.specs.Term.{Term}
-use Rattle.cl_syntax.specs.declared.applications.App.{App}
+use Rattle.cl_syntax.specs.ExprTree.{ExprTree}
+use Rattle.cl_application.specs.declared.applications.App.{App}
 use Rattle.cl_eval.specs.declared.metering.Limits.{Limits}
 use Rattle.cl_eval.specs.declared.evaluating.Evaluated.{Evaluated}
 use Rattle.cl_eval.specs.declared.evaluating.Evaluated.TheVariants as evaluated
@@ -12,7 +12,7 @@ use Rattle.cl_eval.specs.Outcome.{Outcome, Gives, Traps}
 use Rattle.cl_eval.specs.Meaning.{means}
 
 -- an expression by itself, from no cost
-unfoldable pub meant : Limits → App → Slots → Env → Term → Outcome Data
+unfoldable pub meant : Limits → App → Slots → Env → ExprTree → Outcome Data
 meant limits app slots env t = means limits.depth limits.budget app slots 0 env t 0 0
 
 -- the value with its cost and its reach, or the trap's kind with the cost up to it

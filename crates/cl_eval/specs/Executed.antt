@@ -2,8 +2,8 @@
 use Rattle.std.specs.Prelude.{◌≡◌, List, [], Bool, true, false}
 use Rattle.cl_value.specs.declared.Held.{Held}
 use Rattle.cl_value.specs.declared.Held.TheVariants as held
-use Rattle.cl_syntax.specs.Statement.{Statement, statements_of}
-use Rattle.cl_syntax.specs.declared.applications.App.{App}
+use Rattle.cl_syntax.specs.ActTree.{ActTree, act_trees_of}
+use Rattle.cl_application.specs.declared.applications.App.{App}
 use Rattle.cl_eval.specs.declared.effects.Effects.{Effects}
 use Rattle.cl_eval.specs.declared.execution.Executed.{Executed}
 use Rattle.cl_eval.specs.declared.execution.Executed.TheVariants as executed
@@ -23,9 +23,9 @@ abbrev pub no_effects : Slots → Effects
 no_effects slots = record { slots = slots; replies = []; reply_bytes = 0 }
 
 -- a body of statements, from no cost
-unfoldable pub ran : Limits → App → Member → List Statement → Env → Slots → Outcome Effects
+unfoldable pub ran : Limits → App → Member → List ActTree → Env → Slots → Outcome Effects
 ran limits app member body env slots =
-    in_turn (does limits.depth limits.budget app member) 0 env (statements_of body) (no_effects slots) 0 0
+    in_turn (does limits.depth limits.budget app member) 0 env (act_trees_of body) (no_effects slots) 0 0
 
 -- the slots and the replies of an end without a trap, or the trap's kind; each with the cost
 abbrev pub Executes : Executed → Outcome Effects → Type 0

@@ -6,9 +6,9 @@ use Rattle.std.specs.Int.{int_min, int_max, int_div_euclid}
 use Rattle.std.specs.declared.cmp.Ordering.{Ordering}
 use Rattle.std.specs.declared.cmp.Ordering.TheVariants.{Less, Equal, Greater}
 use Rattle.cl_value.specs.Data.{Data, int, bool, text, symbol, null, list, rec, Items, none, item, items_of, size_of, depth_of, order_of}
-use Rattle.cl_syntax.specs.App.{record_named}
-use Rattle.cl_syntax.specs.declared.applications.App.{App}
-use Rattle.cl_syntax.specs.declared.declarations.RecordDecl.{RecordDecl}
+use Rattle.cl_application.specs.App.{record_named}
+use Rattle.cl_application.specs.declared.applications.App.{App}
+use Rattle.cl_application.specs.declared.declarations.RecordDecl.{RecordDecl}
 use Rattle.cl_syntax.specs.declared.operators.Arithmetic.{Arithmetic}
 use Rattle.cl_syntax.specs.declared.operators.Arithmetic.TheVariants as arithmetic
 use Rattle.cl_syntax.specs.declared.operators.Comparison.{Comparison}

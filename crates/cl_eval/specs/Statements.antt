@@ -2,11 +2,11 @@
 -- Traps, beside those of expressions: 1 a slot that is given what is no member of its type; 7 replies of more than 65,536 bytes.
 use Rattle.std.specs.Prelude.{ℕ, zero, suc, ◌+◌, Bool, nat_le, if◌then◌else◌, List, [], ◌∷◌, ◌++◌, length, Option, Some, None, Result, Ok, Err}
 use Rattle.cl_value.specs.Data.{Data, text}
-use Rattle.cl_syntax.specs.Statement as act
-use Rattle.cl_syntax.specs.Statement.{Statement, Statements, none, statement}
-use Rattle.cl_syntax.specs.Term.{Bindings}
-use Rattle.cl_syntax.specs.App.{slot_type}
-use Rattle.cl_syntax.specs.declared.applications.App.{App}
+use Rattle.cl_syntax.specs.ActTree as act
+use Rattle.cl_syntax.specs.ActTree.{ActTree, ActTrees, none, statement}
+use Rattle.cl_syntax.specs.ExprTree.{Bindings}
+use Rattle.cl_application.specs.App.{slot_type}
+use Rattle.cl_application.specs.declared.applications.App.{App}
 use Rattle.cl_syntax.specs.declared.type_specs.TypeSpec.{TypeSpec}
 use Rattle.cl_eval.specs.declared.effects.Effects.{Effects}
 use Rattle.cl_eval.specs.Outcome.{Run, give, trap, lift, ◌>>=◌}
@@ -19,7 +19,7 @@ Member = Data → TypeSpec → Bool
 
 -- the meaning of the statements inside, at a level
 abbrev pub Does : Type 0
-Does = ℕ → Env → Statement → Effects → Run Effects
+Does = ℕ → Env → ActTree → Effects → Run Effects
 
 -- a slot takes members of its type alone
 abbrev pub assigned : Member → List ℕ → Option TypeSpec → Effects → Data → Result Effects ℕ
@@ -35,31 +35,31 @@ abbrev pub replied : Effects → Data → Result Effects ℕ
 replied s (text t) = if nat_le (s.reply_bytes + length t) 65536 then Ok (said t s) else Err 7
 replied s d = Err 1
 
-abbrev pub in_turn : Does → ℕ → Env → Statements → Effects → Run Effects
+abbrev pub in_turn : Does → ℕ → Env → ActTrees → Effects → Run Effects
 in_turn go level env none s = give s
 in_turn go level env (statement a rest) s = go level env a s >>= in_turn go level env rest
 
 -- the statements for each of these values
-abbrev pub for_each : Does → ℕ → Env → List ℕ → Statements → List Data → Effects → Run Effects
+abbrev pub for_each : Does → ℕ → Env → List ℕ → ActTrees → List Data → Effects → Run Effects
 for_each go level env x body [] s = give s
 for_each go level env x body (d ∷ ds) s = in_turn go level ((x, d) ∷ env) body s >>= for_each go level env x body ds
 
 -- the statements behind bindings
-abbrev pub acts_in : Go → Does → ℕ → Bindings → Statements → Env → Effects → Run Effects
+abbrev pub acts_in : Go → Does → ℕ → Bindings → ActTrees → Env → Effects → Run Effects
 acts_in value go level bs body env s = bound value level bs env >>= λ inner. in_turn go level inner body s
 
 -- a statement that was entered, by the meaning of its expressions on the slots so far and of the statements inside
-abbrev pub act_parts : App → Member → (Slots → Go) → Does → ℕ → Env → Statement → Effects → Run Effects
-act_parts app member value go level env (act.setf x t) s = value s.slots level env t >>= λ d. lift (assigned member x (slot_type x app) s d)
-act_parts app member value go level env (act.reply t) s = value s.slots level env t >>= λ d. lift (replied s d)
-act_parts app member value go level env (act.choice t a b) s =
+abbrev pub act_parts : App → Member → (Slots → Go) → Does → ℕ → Env → ActTree → Effects → Run Effects
+act_parts app member value go level env (act.Setf x t) s = value s.slots level env t >>= λ d. lift (assigned member x (slot_type x app) s d)
+act_parts app member value go level env (act.Reply t) s = value s.slots level env t >>= λ d. lift (replied s d)
+act_parts app member value go level env (act.If t a b) s =
     tested (value s.slots) level env t >>= λ yes. if yes then go level env a s else go level env b s
-act_parts app member value go level env (act.when t body) s =
+act_parts app member value go level env (act.When t body) s =
     tested (value s.slots) level env t >>= λ yes. if yes then in_turn go level env body s else give s
-act_parts app member value go level env (act.bind bs body) s = acts_in (value s.slots) go level bs body env s
-act_parts app member value go level env (act.each x t body) s =
+act_parts app member value go level env (act.Let bs body) s = acts_in (value s.slots) go level bs body env s
+act_parts app member value go level env (act.Dolist x t body) s =
     listed (value s.slots) level env t >>= λ ds. for_each go level env x body ds s
-act_parts app member value go level env (act.sequence body) s = in_turn go level env body s
+act_parts app member value go level env (act.Progn body) s = in_turn go level env body s
 
 -- a statement, where so many levels are left, below this level
 abbrev pub does : ℕ → ℕ → App → Member → Does

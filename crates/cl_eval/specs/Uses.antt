@@ -2,11 +2,11 @@
 -- called names slots alone, since its parameters are all the variables that its body sees.
 use Rattle.std.specs.Prelude.{◌≡◌, ℕ, zero, suc, false, ◌⊎◌, List, Option, Some, None}
 use Rattle.cl_value.specs.Data.{Data}
-use Rattle.cl_syntax.specs.Term as term
-use Rattle.cl_syntax.specs.Term.{Term, Terms, Bindings, none, part, unbound, binding}
-use Rattle.cl_syntax.specs.App.{function_named}
-use Rattle.cl_syntax.specs.declared.applications.App.{App}
-use Rattle.cl_syntax.specs.declared.declarations.FunctionDecl.{FunctionDecl}
+use Rattle.cl_syntax.specs.ExprTree as expr
+use Rattle.cl_syntax.specs.ExprTree.{ExprTree, ExprTrees, Bindings, none, part, unbound, binding}
+use Rattle.cl_application.specs.App.{function_named}
+use Rattle.cl_application.specs.declared.applications.App.{App}
+use Rattle.cl_application.specs.declared.declarations.FunctionDecl.{FunctionDecl}
 use Rattle.cl_eval.specs.Slots.{Slots, Env, is_name, found}
 
 -- where an expression reads a value
@@ -21,22 +21,22 @@ Apart x (slot y) = Unit {0}
 
 -- by what the functions that are called name
 abbrev mutual
-  pub Names : (List ℕ → Type 0) → Root → Term → Type 0
-  Names calls r (term.constant d) = ⊥
-  Names calls r (term.variable x) = r ≡ variable x
-  Names calls r (term.slot x) = r ≡ slot x
-  Names calls r (term.choice t u v) = Names calls r t ⊎ (Names calls r u ⊎ Names calls r v)
-  Names calls r (term.bind bs t) = NamesBound calls r bs (Names calls r t)
-  Names calls r (term.every ts) = NamesAmong calls r ts
-  Names calls r (term.some ts) = NamesAmong calls r ts
-  Names calls r (term.map x t body) = Names calls r t ⊎ (Apart x r × Names calls r body)
-  Names calls r (term.filter x t body) = Names calls r t ⊎ (Apart x r × Names calls r body)
-  Names calls r (term.fold x t accumulator opening body) =
+  pub Names : (List ℕ → Type 0) → Root → ExprTree → Type 0
+  Names calls r (expr.Constant d) = ⊥
+  Names calls r (expr.Variable x) = r ≡ variable x
+  Names calls r (expr.Slot x) = r ≡ slot x
+  Names calls r (expr.If t u v) = Names calls r t ⊎ (Names calls r u ⊎ Names calls r v)
+  Names calls r (expr.Let bs t) = NamesBound calls r bs (Names calls r t)
+  Names calls r (expr.And ts) = NamesAmong calls r ts
+  Names calls r (expr.Or ts) = NamesAmong calls r ts
+  Names calls r (expr.Map x t body) = Names calls r t ⊎ (Apart x r × Names calls r body)
+  Names calls r (expr.Filter x t body) = Names calls r t ⊎ (Apart x r × Names calls r body)
+  Names calls r (expr.Fold x t accumulator opening body) =
       Names calls r t ⊎ (Names calls r opening ⊎ (Apart x r × Apart accumulator r × Names calls r body))
-  Names calls r (term.operation o ts) = NamesAmong calls r ts
-  Names calls r (term.call f ts) = NamesAmong calls r ts ⊎ calls f
+  Names calls r (expr.Operation o ts) = NamesAmong calls r ts
+  Names calls r (expr.Call f ts) = NamesAmong calls r ts ⊎ calls f
 
-  pub NamesAmong : (List ℕ → Type 0) → Root → Terms → Type 0
+  pub NamesAmong : (List ℕ → Type 0) → Root → ExprTrees → Type 0
   NamesAmong calls r none = ⊥
   NamesAmong calls r (part t ts) = Names calls r t ⊎ NamesAmong calls r ts
 
@@ -56,7 +56,7 @@ Within zero app r f = ⊥
 Within (suc n) app r f = InBody (Within n app r) r (function_named f app)
 
 -- an expression names it itself, or through calls
-pub record Uses (app : App) (r : Root) (t : Term) : Type 0 where
+pub record Uses (app : App) (r : Root) (t : ExprTree) : Type 0 where
   pub calls : ℕ
   pub named : Names (Within calls app r) r t
 
@@ -65,5 +65,5 @@ value_at (variable x) slots env = found x env
 value_at (slot x) slots env = found x slots
 
 -- the same value, or none in both, wherever the expression reads one
-abbrev pub AgreeOn : App → Term → Slots → Env → Slots → Env → Type 0
+abbrev pub AgreeOn : App → ExprTree → Slots → Env → Slots → Env → Type 0
 AgreeOn app t slots env slots' env' = (r : Root) → Uses app r t → value_at r slots env ≡ value_at r slots' env'

@@ -1,8 +1,8 @@
 //! Operators over the values of their parts, and the bodies of functions.
 ghost use Rattle.std.specs.Prelude.{◌≡◌, ◌+◌, ◌<◌, ◌^◌, map};
 ghost use Rattle.cl_value.specs.Value.{data_of};
-ghost use Rattle.cl_syntax.specs.App.{function_named};
-ghost use Rattle.cl_syntax.specs.Term.{terms_of};
+ghost use Rattle.cl_application.specs.App.{function_named};
+ghost use Rattle.cl_syntax.specs.ExprTree.{expr_trees_of};
 ghost use Rattle.cl_eval.specs.Scope.{variables_of};
 ghost use Rattle.cl_eval.specs.Meaning.{called, means, operation_on};
 ghost use Rattle.cl_eval.specs.Agrees.{Agrees};
@@ -31,7 +31,7 @@ pub fn evaluate_operation<L: Ledger>(
     ensures meaning { Agrees data_of result meter.new
         (operation_on context.now.app.now
         (means left context.now.budget context.now.app.now context.now.slots.now) level
-        (variables_of scope.now) operator.now (terms_of parts.now) meter.old.cost
+        (variables_of scope.now) operator.now (expr_trees_of parts.now) meter.old.cost
         meter.old.deepest) }
     ensures ledger { steps.new + meter.old.cost ≡ steps.old + meter.new.cost }
 {

@@ -8,7 +8,8 @@ use crate::metering::{Limits, Meter, Stop};
 use crate::slot_table::Slots;
 use crate::variables::{Env, Scope};
 use cl_outside::{Ledger, Steps};
-use cl_syntax::{App, Expr};
+use cl_application::App;
+use cl_syntax::Expr;
 use cl_value::Value;
 use std::alloc::Global;
 

@@ -1,7 +1,7 @@
 //! Evaluation of expressions, form by form.
 ghost use Rattle.std.specs.Prelude.{◌≡◌, ◌+◌, ◌<◌, ◌^◌, []};
 ghost use Rattle.cl_value.specs.Value.{data_of};
-ghost use Rattle.cl_syntax.specs.Term.{terms_of};
+ghost use Rattle.cl_syntax.specs.ExprTree.{expr_trees_of};
 ghost use Rattle.cl_eval.specs.Scope.{variables_of};
 ghost use Rattle.cl_eval.specs.Meaning.{each, every, listed, means, parts, some, tested};
 ghost use Rattle.cl_eval.specs.Agrees.{Agrees, itself, items_are};
@@ -14,7 +14,8 @@ use crate::slot_table::Slots;
 use crate::traversal::{filter_over, fold_over, map_over};
 use crate::variables::Scope;
 use cl_outside::{Ledger, Steps};
-use cl_syntax::{App, Expr, ExprKind};
+use cl_application::App;
+use cl_syntax::{Expr, ExprKind};
 use cl_value::{Value, Values};
 use std::alloc::Global;
 
@@ -196,7 +197,7 @@ pub fn evaluate_each<L: Ledger>(
     requires { level + left < 2 ^ 32 }
     ensures meaning { Agrees items_are result meter.new
         (each (means left context.now.budget context.now.app.now context.now.slots.now) level
-        (variables_of scope.now) (terms_of parts.now) [] meter.old.cost meter.old.deepest) }
+        (variables_of scope.now) (expr_trees_of parts.now) [] meter.old.cost meter.old.deepest) }
     ensures ledger { steps.new + meter.old.cost ≡ steps.old + meter.new.cost }
 {
     let mut values = Vec::new(context.alloc);
@@ -221,7 +222,7 @@ fn evaluate_every<L: Ledger>(
     requires { level + left < 2 ^ 32 }
     ensures meaning { Agrees data_of result meter.new
         (every (means left context.now.budget context.now.app.now context.now.slots.now) level
-        (variables_of scope.now) (terms_of parts.now) meter.old.cost meter.old.deepest) }
+        (variables_of scope.now) (expr_trees_of parts.now) meter.old.cost meter.old.deepest) }
     ensures ledger { steps.new + meter.old.cost ≡ steps.old + meter.new.cost }
 {
     for part in parts {
@@ -247,7 +248,7 @@ fn evaluate_some<L: Ledger>(
     requires { level + left < 2 ^ 32 }
     ensures meaning { Agrees data_of result meter.new
         (some (means left context.now.budget context.now.app.now context.now.slots.now) level
-        (variables_of scope.now) (terms_of parts.now) meter.old.cost meter.old.deepest) }
+        (variables_of scope.now) (expr_trees_of parts.now) meter.old.cost meter.old.deepest) }
     ensures ledger { steps.new + meter.old.cost ≡ steps.old + meter.new.cost }
 {
     for part in parts {

@@ -2,9 +2,9 @@
 ghost use Rattle.std.specs.Prelude.{◌≡◌, ◌+◌, ◌<◌, ◌≤◌, ◌^◌, Bool, map};
 ghost use Rattle.cl_value.specs.Data.{Data};
 ghost use Rattle.cl_value.specs.Value.{data_of};
-ghost use Rattle.cl_syntax.specs.Statement.{statements_of};
+ghost use Rattle.cl_syntax.specs.ActTree.{act_trees_of};
 ghost use Rattle.cl_syntax.specs.Expr.{bindings_of};
-ghost use Rattle.cl_syntax.specs.App.{slot_type};
+ghost use Rattle.cl_application.specs.App.{slot_type};
 ghost use Rattle.cl_syntax.specs.declared.type_specs.TypeSpec.{TypeSpec};
 ghost use Rattle.cl_eval.specs.Outcome.{RisesBy, cost_of};
 ghost use Rattle.cl_eval.specs.Scope.{variables_of};
@@ -19,7 +19,8 @@ use crate::programs::{Program, assign, frame_of, is_true, list_of, value_of};
 use crate::slot_table::Slots;
 use crate::variables::{Env, Scope};
 use cl_outside::{Ledger, Steps};
-use cl_syntax::{Act, ActKind, Acts, App, Binding, TypeSpec};
+use cl_application::App;
+use cl_syntax::{Act, ActKind, Acts, Binding, TypeSpec};
 use cl_value::{Held, Text, Value};
 use std::alloc::Global;
 
@@ -290,7 +291,7 @@ fn act_all<T: Types, L: Ledger>(
     requires { level + left < 2 ^ 32 }
     ensures meaning { Agrees (always effects.new) result meter.new
         (in_turn (does left program.now.budget program.now.app.now (T.holds program.now.types.now))
-        level (variables_of scope.now) (statements_of statements.now) effects.old meter.old.cost
+        level (variables_of scope.now) (act_trees_of statements.now) effects.old meter.old.cost
         meter.old.deepest) }
     ensures ledger { steps.new + meter.old.cost ≡ steps.old + meter.new.cost }
 {
@@ -319,7 +320,7 @@ fn act_in<T: Types, L: Ledger>(
     ensures meaning { Agrees (always effects.new) result meter.new
         (acts_in ((means left program.now.budget program.now.app.now) effects.old.slots)
         (does left program.now.budget program.now.app.now (T.holds program.now.types.now)) level
-        (bindings_of bindings.now) (statements_of body.now) (variables_of scope.now) effects.old
+        (bindings_of bindings.now) (act_trees_of body.now) (variables_of scope.now) effects.old
         meter.old.cost meter.old.deepest) }
     ensures ledger { steps.new + meter.old.cost ≡ steps.old + meter.new.cost }
 {
@@ -354,7 +355,7 @@ fn act_each<T: Types, L: Ledger>(
     requires { level + left < 2 ^ 32 }
     ensures meaning { Agrees (always effects.new) result meter.new
         (for_each (does left program.now.budget program.now.app.now (T.holds program.now.types.now))
-        level (variables_of scope.now) name.now (statements_of body.now) (map data_of list.now)
+        level (variables_of scope.now) name.now (act_trees_of body.now) (map data_of list.now)
         effects.old meter.old.cost meter.old.deepest) }
     ensures ledger { steps.new + meter.old.cost ≡ steps.old + meter.new.cost }
 {

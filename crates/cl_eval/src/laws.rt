@@ -1,8 +1,8 @@
 //! What the definitions of this crate say. The contracts are the laws.
 ghost use Rattle.std.specs.Prelude.{◌≡◌, ◌≤◌, ℕ, ℤ, pos, ◌+ℤ◌, ◌*ℤ◌, ◌<ℤ◌, ◌≤ℤ◌};
 ghost use Rattle.cl_value.specs.Data.{Data};
-ghost use Rattle.cl_syntax.specs.Term.{Term};
-ghost use Rattle.cl_syntax.specs.declared.applications.App.{App};
+ghost use Rattle.cl_syntax.specs.ExprTree.{ExprTree};
+ghost use Rattle.cl_application.specs.declared.applications.App.{App};
 ghost use Rattle.cl_eval.specs.Outcome.{Gives};
 ghost use Rattle.cl_eval.specs.Slots.{Env, Slots};
 ghost use Rattle.cl_eval.specs.Meaning.{means};
@@ -20,7 +20,7 @@ pub fn quotient_is_rounded_down()
 /// What ends with a value under some limits, ends so under all limits that its cost and its reach do not pass, with the
 /// same value, cost and reach.
 pub fn limits_can_be_wider()
-    ensures { (depth budget wider_depth wider_budget : ℕ) (app : App) (slots : Slots) (env : Env) (t : Term) (d : Data) (cost reach : ℕ)
+    ensures { (depth budget wider_depth wider_budget : ℕ) (app : App) (slots : Slots) (env : Env) (t : ExprTree) (d : Data) (cost reach : ℕ)
         → means depth budget app slots 0 env t 0 0 ≡ Gives d cost reach → cost ≤ wider_budget → reach ≤ wider_depth
         → means wider_depth wider_budget app slots 0 env t 0 0 ≡ Gives d cost reach }
 {}
@@ -29,7 +29,7 @@ pub fn limits_can_be_wider()
 /// have none, it ends with the same value or trap, cost and reach, whatever the limits. What it names counts whether or not a
 /// branch is taken, and through calls the slots that functions name.
 pub fn names_alone_matter()
-    ensures { (depth budget level : ℕ) (app : App) (t : Term) (slots : Slots) (env : Env) (other_slots : Slots) (other_env : Env)
+    ensures { (depth budget level : ℕ) (app : App) (t : ExprTree) (slots : Slots) (env : Env) (other_slots : Slots) (other_env : Env)
         → AgreeOn app t slots env other_slots other_env → (cost reach : ℕ)
         → means depth budget app slots level env t cost reach ≡ means depth budget app other_slots level other_env t cost reach }
 {}

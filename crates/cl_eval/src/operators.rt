@@ -9,7 +9,8 @@ use crate::metering::Stop;
 use crate::numbers::{arithmetic, comparison};
 use crate::records::record_operation;
 use crate::texts::text_operation;
-use cl_syntax::{App, Operator};
+use cl_application::App;
+use cl_syntax::Operator;
 use cl_value::{Value, Values};
 use std::alloc::Global;
 

@@ -1,7 +1,7 @@
 //! What statements ask for: values of expressions on the slots as they are, and slots with new values.
 ghost use Rattle.std.specs.Prelude.{◌≡◌, ◌+◌, ◌<◌, ◌^◌, ◌++◌};
 ghost use Rattle.cl_value.specs.Value.{data_of};
-ghost use Rattle.cl_syntax.specs.App.{slot_type};
+ghost use Rattle.cl_application.specs.App.{slot_type};
 ghost use Rattle.cl_syntax.specs.Expr.{bindings_of};
 ghost use Rattle.cl_eval.specs.Scope.{variables_of};
 ghost use Rattle.cl_eval.specs.Meaning.{bound, listed, means, tested};
@@ -16,7 +16,8 @@ use crate::metering::{Meter, Stop};
 use crate::slot_table::Slots;
 use crate::variables::{Env, Scope};
 use cl_outside::{Ledger, Steps};
-use cl_syntax::{App, Binding, Expr};
+use cl_application::App;
+use cl_syntax::{Binding, Expr};
 use cl_value::{Held, Text, Value, Values};
 use std::alloc::Global;
 

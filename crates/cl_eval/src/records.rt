@@ -1,14 +1,15 @@
 //! Operators on records.
 ghost use Rattle.std.specs.Prelude.{◌≡◌, ◌<◌, length, map, option_map, IfOk};
 ghost use Rattle.cl_value.specs.Value.{data_of};
-ghost use Rattle.cl_syntax.specs.App.{record_named};
+ghost use Rattle.cl_application.specs.App.{record_named};
 ghost use Rattle.cl_eval.specs.Operators.{changed_at, field_place, made, place_of, record_made, value_at, with_part};
 ghost use Rattle.cl_eval.specs.Agrees.{Comes};
 
 use crate::lists::{add_all, add_part, copy_all};
 use crate::metering::Stop;
 use crate::operators::limit;
-use cl_syntax::{App, RecordOperator};
+use cl_application::App;
+use cl_syntax::RecordOperator;
 use cl_value::{Text, Value, Values};
 use std::alloc::{AllocError, Global};
 

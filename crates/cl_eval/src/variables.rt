@@ -4,7 +4,7 @@ ghost use Rattle.cl_value.specs.Value.{data_of};
 ghost use Rattle.cl_eval.specs.Slots.{entry_of, found, given};
 ghost use Rattle.cl_eval.specs.Scope.{variables_of};
 
-use cl_syntax::Names;
+use cl_table::Names;
 use cl_value::{Text, Value};
 use std::alloc::{AllocError, Global};
 use std::marker::Model;

@@ -3,8 +3,8 @@ use Rattle.std.specs.Prelude.{ℕ, Bool, true, false, ◌==◌, ◌&&◌, is_som
 use Rattle.std.specs.Str.{bytes_eq}
 use Rattle.cl_value.specs.Data as value
 use Rattle.cl_syntax.specs.Expr.{bindings_of}
-use Rattle.cl_syntax.specs.Term.{Term, terms_of}
-use Rattle.cl_syntax.specs.Term as term
+use Rattle.cl_syntax.specs.ExprTree.{ExprTree, expr_trees_of}
+use Rattle.cl_syntax.specs.ExprTree as expr
 use Rattle.cl_syntax.specs.declared.expressions.Binding.{Binding}
 use Rattle.cl_syntax.specs.declared.operators.Operator.{Operator}
 use Rattle.cl_syntax.specs.declared.operators.Operator.TheVariants as operator
@@ -25,7 +25,7 @@ Bound = List Binding × Names
 -- a part of a form: as it stands, the expression that it is, and the bindings that it is in a form at some offset
 pub record Sub : Type 0 where
   pub shape : Datum
-  pub expr : Names → Load Term
+  pub expr : Names → Load ExprTree
   pub bound : ℕ → Names → Load Bound
 
 -- a name, where the form at this offset asks for one
@@ -38,101 +38,101 @@ fits None n = true
 fits (Some count) n = count == n
 
 -- all parts are expressions
-abbrev pub each : List Sub → Names → Load (List Term)
+abbrev pub each : List Sub → Names → Load (List ExprTree)
 each [] env = give []
 each (p ∷ ps) env = p.expr env >>= λ t. each ps env >>= λ ts. give (t ∷ ts)
 
 -- ---- atoms
 
-abbrev pub name_row : List ℕ → ℕ → Names → Load Term
-name_row x at env = if is_name x then (noted (among x env) at >>= λ u. give (term.variable x)) else refuse 6 at
+abbrev pub name_row : List ℕ → ℕ → Names → Load ExprTree
+name_row x at env = if is_name x then (noted (among x env) at >>= λ u. give (expr.Variable x)) else refuse 6 at
 
-abbrev pub word_row : List ℕ → ℕ → Names → Load Term
+abbrev pub word_row : List ℕ → ℕ → Names → Load ExprTree
 word_row x at env =
-    if bytes_eq x (codes "true") then give (term.constant (value.bool true))
-    else (if bytes_eq x (codes "false") then give (term.constant (value.bool false))
-    else (if bytes_eq x (codes "null") then give (term.constant value.null) else name_row x at env))
+    if bytes_eq x (codes "true") then give (expr.Constant (value.bool true))
+    else (if bytes_eq x (codes "false") then give (expr.Constant (value.bool false))
+    else (if bytes_eq x (codes "null") then give (expr.Constant value.null) else name_row x at env))
 
 -- ---- names in forms
 
 -- `(slot NAME)`: the name is noted where no such slot is declared
-abbrev pub slot_part : World → ℕ → Datum → Load Term
-slot_part w at d = named_part at d >>= λ x. noted (slot_in w x) (offset d) >>= λ u. give (term.slot x)
+abbrev pub slot_part : World → ℕ → Datum → Load ExprTree
+slot_part w at d = named_part at d >>= λ x. noted (slot_in w x) (offset d) >>= λ u. give (expr.Slot x)
 
-abbrev pub slot_row : World → ℕ → List Sub → Load Term
+abbrev pub slot_row : World → ℕ → List Sub → Load ExprTree
 slot_row w at (a ∷ []) = slot_part w at a.shape
 slot_row w at parts = refuse 6 at
 
 -- the parts of `(make RECORD E ...)`, one for each field
-abbrev pub made : List ℕ → List Sub → Names → Load Term
-made x parts env = each parts env >>= λ ts. give (term.operation (operator.Record (Make x)) (terms_of ts))
+abbrev pub made : List ℕ → List Sub → Names → Load ExprTree
+made x parts env = each parts env >>= λ ts. give (expr.Operation (operator.Record (Make x)) (expr_trees_of ts))
 
-abbrev pub make_counted : Option (Option ℕ) → List ℕ → ℕ → ℕ → List Sub → Names → Load Term
+abbrev pub make_counted : Option (Option ℕ) → List ℕ → ℕ → ℕ → List Sub → Names → Load ExprTree
 make_counted None x name_at at parts env = noted false name_at >>= λ u. made x parts env
 make_counted (Some count) x name_at at parts env = if fits count (length parts) then made x parts env else refuse 6 at
 
-abbrev pub make_row : World → ℕ → List Sub → Names → Load Term
+abbrev pub make_row : World → ℕ → List Sub → Names → Load ExprTree
 make_row w at [] env = refuse 6 at
 make_row w at (n ∷ parts) env = named_part at n.shape >>= λ x. make_counted (record_in w x) x (offset n.shape) at parts env
 
 -- `(get E FIELD)`
-abbrev pub get_row : ℕ → List Sub → Names → Load Term
+abbrev pub get_row : ℕ → List Sub → Names → Load ExprTree
 get_row at (e ∷ f ∷ []) env =
-    named_part at f.shape >>= λ x. e.expr env >>= λ t. give (term.operation (operator.Record (Get x)) (terms_of (t ∷ [])))
+    named_part at f.shape >>= λ x. e.expr env >>= λ t. give (expr.Operation (operator.Record (Get x)) (expr_trees_of (t ∷ [])))
 get_row at parts env = refuse 6 at
 
 -- `(with E FIELD E)`
-abbrev pub with_row : ℕ → List Sub → Names → Load Term
+abbrev pub with_row : ℕ → List Sub → Names → Load ExprTree
 with_row at (e ∷ f ∷ g ∷ []) env =
     named_part at f.shape >>= λ x. e.expr env >>= λ t. g.expr env >>= λ u.
-    give (term.operation (operator.Record (With x)) (terms_of (t ∷ u ∷ [])))
+    give (expr.Operation (operator.Record (With x)) (expr_trees_of (t ∷ u ∷ [])))
 with_row at parts env = refuse 6 at
 
 -- ---- rows of expressions alone
 
 -- `(if TEST THEN ELSE)`
-abbrev pub if_row : ℕ → List Sub → Names → Load Term
-if_row at (a ∷ b ∷ c ∷ []) env = a.expr env >>= λ t. b.expr env >>= λ u. c.expr env >>= λ v. give (term.choice t u v)
+abbrev pub if_row : ℕ → List Sub → Names → Load ExprTree
+if_row at (a ∷ b ∷ c ∷ []) env = a.expr env >>= λ t. b.expr env >>= λ u. c.expr env >>= λ v. give (expr.If t u v)
 if_row at parts env = refuse 6 at
 
-abbrev pub every_row : List Sub → Names → Load Term
-every_row parts env = each parts env >>= λ ts. give (term.every (terms_of ts))
+abbrev pub every_row : List Sub → Names → Load ExprTree
+every_row parts env = each parts env >>= λ ts. give (expr.And (expr_trees_of ts))
 
-abbrev pub some_row : List Sub → Names → Load Term
-some_row parts env = each parts env >>= λ ts. give (term.some (terms_of ts))
+abbrev pub some_row : List Sub → Names → Load ExprTree
+some_row parts env = each parts env >>= λ ts. give (expr.Or (expr_trees_of ts))
 
-abbrev pub operation_row : Operator → ℕ → List Sub → Names → Load Term
+abbrev pub operation_row : Operator → ℕ → List Sub → Names → Load ExprTree
 operation_row o at parts env =
-    if fits (count_of o) (length parts) then (each parts env >>= λ ts. give (term.operation o (terms_of ts))) else refuse 6 at
+    if fits (count_of o) (length parts) then (each parts env >>= λ ts. give (expr.Operation o (expr_trees_of ts))) else refuse 6 at
 
-abbrev pub call_counted : Option (Option ℕ) → List ℕ → ℕ → ℕ → List Sub → Names → Load Term
+abbrev pub call_counted : Option (Option ℕ) → List ℕ → ℕ → ℕ → List Sub → Names → Load ExprTree
 call_counted None x head_at at parts env = refuse 5 head_at
 call_counted (Some count) x head_at at parts env =
-    if fits count (length parts) then (each parts env >>= λ ts. give (term.call x (terms_of ts))) else refuse 6 at
+    if fits count (length parts) then (each parts env >>= λ ts. give (expr.Call x (expr_trees_of ts))) else refuse 6 at
 
 -- `(FUNCTION E ...)`
-abbrev pub call_row : World → List ℕ → ℕ → ℕ → List Sub → Names → Load Term
+abbrev pub call_row : World → List ℕ → ℕ → ℕ → List Sub → Names → Load ExprTree
 call_row w x head_at at parts env = call_counted (function_in w x) x head_at at parts env
 
 -- ---- forms that bind
 
 -- `(map NAME LIST BODY)`
-abbrev pub map_row : ℕ → List Sub → Names → Load Term
+abbrev pub map_row : ℕ → List Sub → Names → Load ExprTree
 map_row at (n ∷ e ∷ b ∷ []) env =
-    named_part at n.shape >>= λ x. e.expr env >>= λ t. b.expr (x ∷ env) >>= λ u. give (term.map x t u)
+    named_part at n.shape >>= λ x. e.expr env >>= λ t. b.expr (x ∷ env) >>= λ u. give (expr.Map x t u)
 map_row at parts env = refuse 6 at
 
 -- `(filter NAME LIST BODY)`
-abbrev pub filter_row : ℕ → List Sub → Names → Load Term
+abbrev pub filter_row : ℕ → List Sub → Names → Load ExprTree
 filter_row at (n ∷ e ∷ b ∷ []) env =
-    named_part at n.shape >>= λ x. e.expr env >>= λ t. b.expr (x ∷ env) >>= λ u. give (term.filter x t u)
+    named_part at n.shape >>= λ x. e.expr env >>= λ t. b.expr (x ∷ env) >>= λ u. give (expr.Filter x t u)
 filter_row at parts env = refuse 6 at
 
 -- `(fold NAME LIST ACCUMULATOR OPENING BODY)`
-abbrev pub fold_row : ℕ → List Sub → Names → Load Term
+abbrev pub fold_row : ℕ → List Sub → Names → Load ExprTree
 fold_row at (n ∷ e ∷ a ∷ o ∷ b ∷ []) env =
     named_part at n.shape >>= λ x. named_part at a.shape >>= λ y. e.expr env >>= λ t. o.expr env >>= λ u. b.expr (y ∷ x ∷ env) >>= λ v.
-    give (term.fold x t y u v)
+    give (expr.Fold x t y u v)
 fold_row at parts env = refuse 6 at
 
 -- `(NAME E)`
@@ -157,16 +157,16 @@ binding_row at (n ∷ e ∷ []) env = named_part at n.shape >>= λ x. e.expr env
 binding_row at parts env = refuse 6 at
 
 -- `(let ((NAME E) ...) BODY)`: each binding sees the earlier ones
-abbrev pub let_row : ℕ → List Sub → Names → Load Term
+abbrev pub let_row : ℕ → List Sub → Names → Load ExprTree
 let_row at (bs ∷ b ∷ []) env =
     if is_binding_list bs.shape
-    then (bs.bound at env >>= λ r. b.expr r.1 >>= λ t. give (term.bind (bindings_of r.0) t))
+    then (bs.bound at env >>= λ r. b.expr r.1 >>= λ t. give (expr.Let (bindings_of r.0) t))
     else refuse 6 at
 let_row at parts env = refuse 6 at
 
 -- ---- forms by their heads
 
-abbrev pub special_row : World → Special → ℕ → List Sub → Names → Load Term
+abbrev pub special_row : World → Special → ℕ → List Sub → Names → Load ExprTree
 special_row w special.Slot at parts env = slot_row w at parts
 special_row w special.If at parts env = if_row at parts env
 special_row w special.Let at parts env = let_row at parts env
@@ -179,16 +179,16 @@ special_row w special.Map at parts env = map_row at parts env
 special_row w special.Filter at parts env = filter_row at parts env
 special_row w special.Fold at parts env = fold_row at parts env
 
-abbrev pub operator_row : World → Option Operator → List ℕ → ℕ → ℕ → List Sub → Names → Load Term
+abbrev pub operator_row : World → Option Operator → List ℕ → ℕ → ℕ → List Sub → Names → Load ExprTree
 operator_row w (Some o) x head_at at parts env = operation_row o at parts env
 operator_row w None x head_at at parts env = call_row w x head_at at parts env
 
-abbrev pub head_row : World → Option Special → List ℕ → ℕ → ℕ → List Sub → Names → Load Term
+abbrev pub head_row : World → Option Special → List ℕ → ℕ → ℕ → List Sub → Names → Load ExprTree
 head_row w (Some s) x head_at at parts env = special_row w s at parts env
 head_row w None x head_at at parts env = operator_row w (operator_named x) x head_at at parts env
 
 -- a form begins with a symbol
-abbrev pub headed_row : World → Datum → ℕ → List Sub → Names → Load Term
+abbrev pub headed_row : World → Datum → ℕ → List Sub → Names → Load ExprTree
 headed_row w (word x head_at) at parts env = head_row w (special_named x) x head_at at parts env
 headed_row w (number z head_at) at parts env = refuse 6 at
 headed_row w (literal s head_at) at parts env = refuse 6 at
@@ -196,16 +196,16 @@ headed_row w (quoted s head_at name_at) at parts env = refuse 6 at
 headed_row w (stray head_at) at parts env = refuse 6 at
 headed_row w (list ds head_at) at parts env = refuse 6 at
 
-abbrev pub form_row : World → ℕ → List Sub → Names → Load Term
+abbrev pub form_row : World → ℕ → List Sub → Names → Load ExprTree
 form_row w at [] env = refuse 6 at
 form_row w at (h ∷ parts) env = headed_row w h.shape at parts env
 
 abbrev mutual
   -- the expression that a datum is
-  pub expr_of : World → Datum → Names → Load Term
-  expr_of w (number z at) env = give (term.constant (value.int z))
-  expr_of w (literal s at) env = give (term.constant (value.text s))
-  expr_of w (quoted x at name_at) env = give (term.constant (value.symbol x))
+  pub expr_of : World → Datum → Names → Load ExprTree
+  expr_of w (number z at) env = give (expr.Constant (value.int z))
+  expr_of w (literal s at) env = give (expr.Constant (value.text s))
+  expr_of w (quoted x at name_at) env = give (expr.Constant (value.symbol x))
   expr_of w (word x at) env = word_row x at env
   expr_of w (stray at) env = refuse 6 at
   expr_of w (list ds at) env = form_row w at (subs w ds) env

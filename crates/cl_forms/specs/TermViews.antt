@@ -1,12 +1,12 @@
 -- Expressions and bindings as the program holds them.
 use Rattle.std.specs.Prelude.{List, Vec}
 use Rattle.std.specs.declared.alloc.Global.{Global}
-use Rattle.cl_syntax.specs.Term.{Term}
+use Rattle.cl_syntax.specs.ExprTree.{ExprTree}
 use Rattle.cl_forms.specs.Expressions.{Bound}
 use Rattle.cl_forms.specs.Scopes.{Names, in_sight}
 use Rattle.cl_forms.specs.declared.bindings.Bindings.{Bindings}
 
-abbrev pub terms_in : Vec Term Global → List Term
+abbrev pub terms_in : Vec ExprTree Global → List ExprTree
 terms_in v = v.items
 
 -- the bindings, and the variables that are seen behind them and others

@@ -2,7 +2,7 @@
 -- not. Of two of one name in one space the first counts.
 use Rattle.std.specs.Prelude.{ℕ, Bool, true, false, ◌&&◌, is_some, if◌then◌else◌, List, [], ◌∷◌, ◌++◌, length, Option, Some, None, codes}
 use Rattle.std.specs.Str.{bytes_eq}
-use Rattle.cl_syntax.specs.Names.{named}
+use Rattle.cl_table.specs.Names.{named}
 use Rattle.cl_forms.specs.Datum.{Datum, word, list, number, literal, quoted, stray, in_order, parts_of}
 use Rattle.cl_forms.specs.Words.{is_name, is_operator}
 use Rattle.cl_forms.specs.TypeNames.{is_standard_type}

@@ -1,6 +1,6 @@
 //! The expressions that make, read and change records.
 ghost use Rattle.std.specs.Prelude.{◌≡◌, ◌∷◌, [], IfOk, map};
-ghost use Rattle.cl_syntax.specs.Term.{operation, terms_of};
+ghost use Rattle.cl_syntax.specs.ExprTree.{Operation, expr_trees_of};
 ghost use Rattle.cl_syntax.specs.declared.operators.Operator.TheVariants as operator;
 ghost use Rattle.cl_syntax.specs.declared.operators.RecordOperator.TheVariants.{Get, With};
 ghost use Rattle.cl_forms.specs.World.{record_in};
@@ -92,7 +92,7 @@ fn made(
         unknown.old) }
 {
     let exprs = each(alloc, world, parts, scope, unknown)?;
-    Ok(Expr::operation(Operator::Record(RecordOperator::Make(name)), exprs))
+    Ok(Expr::Operation(Operator::Record(RecordOperator::Make(name)), exprs))
 }
 
 /// `(get E FIELD)`
@@ -153,16 +153,16 @@ pub fn with_row(
 
 fn get_of(alloc: Global, field: Text, from: Expr) -> Result<Expr, AllocError>
     ensures { IfOk result
-        (λ e. e ≡ operation (operator.Record (Get field)) (terms_of (from ∷ []))) }
+        (λ e. e ≡ Operation (operator.Record (Get field)) (expr_trees_of (from ∷ []))) }
 {
     let parts = vec![in alloc; from]?;
-    Ok(Expr::operation(Operator::Record(RecordOperator::Get(field)), parts))
+    Ok(Expr::Operation(Operator::Record(RecordOperator::Get(field)), parts))
 }
 
 fn with_of(alloc: Global, field: Text, from: Expr, value: Expr) -> Result<Expr, AllocError>
     ensures { IfOk result
-        (λ e. e ≡ operation (operator.Record (With field)) (terms_of (from ∷ value ∷ []))) }
+        (λ e. e ≡ Operation (operator.Record (With field)) (expr_trees_of (from ∷ value ∷ []))) }
 {
     let parts = vec![in alloc; from, value]?;
-    Ok(Expr::operation(Operator::Record(RecordOperator::With(field)), parts))
+    Ok(Expr::Operation(Operator::Record(RecordOperator::With(field)), parts))
 }

@@ -7,7 +7,7 @@ use crate::datum::Datum;
 use crate::naming::{are_names, name_in, symbol_of};
 use crate::type_names::is_standard_type;
 use crate::words::is_operator;
-use cl_syntax::{Declared, Table};
+use cl_table::{Declared, Table};
 use cl_value::Text;
 use std::alloc::{AllocError, Global};
 

@@ -2,7 +2,7 @@
 use Rattle.std.proofs.Common.{ℕ, ◌==◌, List, [], ◌∷◌, length}
 use Rattle.std.specs.Prelude.{Option, Some, None, codes}
 use Rattle.std.specs.Str.{bytes_eq}
-use Rattle.cl_syntax.specs.Form.{Form}
+use Rattle.cl_syntax.specs.ShapeTree.{ShapeTree}
 use Rattle.cl_syntax.specs.declared.figures.Figure.{Figure}
 use Rattle.cl_forms.specs.Datum.{Datums}
 use Rattle.cl_forms.specs.Load.{◌>>=◌, give}
@@ -48,7 +48,7 @@ module _ {P : ℕ → Type 0} where
 
   figure_faults : (f : Option Figure) (w : World) (x : List ℕ) (head_at at : ℕ) (ps : List Sub) (env : Names) → P head_at → P at
       → CoversParts P ps
-      → FaultsAt {A = Form} P (elim f [ None ↦ written_row w x head_at at ps env | Some figure ↦ draw_row figure at ps env ])
+      → FaultsAt {A = ShapeTree} P (elim f [ None ↦ written_row w x head_at at ps env | Some figure ↦ draw_row figure at ps env ])
   figure_faults None w x head_at at ps env g h k = written_faults w x head_at at ps env g h k
   figure_faults (Some figure) w x head_at at ps env g h k = draw_faults figure at ps env h k
 
@@ -65,7 +65,7 @@ module _ {P : ℕ → Type 0} where
 
   set_faults : (s : Option Setting) (w : World) (x : List ℕ) (head_at at : ℕ) (ps : List Sub) (env : Names) → P head_at → P at
       → CoversParts P ps
-      → FaultsAt {A = Own Form Opening} P (elim s [
+      → FaultsAt {A = Own ShapeTree Opening} P (elim s [
         | Some s ↦ setting_row s at ps env
         | None ↦ plain_row w x head_at at ps env >>= λ f. give (Whole f)
       ])

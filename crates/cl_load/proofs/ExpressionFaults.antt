@@ -2,7 +2,7 @@
 use Rattle.std.proofs.Common.{inl, inr, ℕ, false, List, [], ◌∷◌, length, refl}
 use Rattle.std.specs.Prelude.{Option, Some, None, codes}
 use Rattle.std.specs.Str.{bytes_eq}
-use Rattle.cl_syntax.specs.Term as term
+use Rattle.cl_syntax.specs.ExprTree as expr
 use Rattle.cl_syntax.specs.declared.operators.Operator.{Operator}
 use Rattle.cl_forms.specs.Datum.{Datum, Datums, number, literal, word, quoted, stray, list, none, item, offset}
 use Rattle.cl_forms.specs.Scopes.{Names, among}
@@ -49,7 +49,7 @@ module _ {P : ℕ → Type 0} where
   each_faults (p ∷ ps) env h = binds (h.0.expr env) λ t. binds (each_faults ps env h.1) λ ts. gives
 
   name_faults : (x : List ℕ) (at : ℕ) (env : Names) → P at → FaultsAt P (name_row x at env)
-  name_faults x at env h = chooses (is_name x) (notes_then (among x env) at (term.variable x)) (refuses h)
+  name_faults x at env h = chooses (is_name x) (notes_then (among x env) at (expr.Variable x)) (refuses h)
 
   word_faults : (x : List ℕ) (at : ℕ) (env : Names) → P at → FaultsAt P (word_row x at env)
   word_faults x at env h =
@@ -57,7 +57,7 @@ module _ {P : ℕ → Type 0} where
       (chooses (bytes_eq x (codes "false")) gives (chooses (bytes_eq x (codes "null")) gives (name_faults x at env h)))
 
   slot_part_faults : (w : World) (at : ℕ) (d : Datum) → P at → FaultsAt P (slot_part w at d)
-  slot_part_faults w at d h = binds (asks_name at d h) λ x. notes_then (slot_in w x) (offset d) (term.slot x)
+  slot_part_faults w at d h = binds (asks_name at d h) λ x. notes_then (slot_in w x) (offset d) (expr.Slot x)
 
   slot_faults : (w : World) (at : ℕ) (ps : List Sub) → P at → FaultsAt P (slot_row w at ps)
   slot_faults w at (a ∷ []) h = slot_part_faults w at a.shape h

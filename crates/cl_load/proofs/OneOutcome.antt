@@ -3,8 +3,8 @@ use Rattle.std.proofs.Common.{◌≡◌, ◌⊎◌, inl, inr, List, ℕ, [], ◌
 use Rattle.std.specs.Prelude.{Result, Ok, Err}
 use Rattle.cl_sexp.specs.declared.Token.{Token}
 use Rattle.cl_sexp.specs.Tokens.{tokens_of}
-use Rattle.cl_syntax.specs.declared.applications.App.{App}
-use Rattle.cl_syntax.specs.declared.declarations.SlotDecl.{SlotDecl}
+use Rattle.cl_application.specs.declared.applications.App.{App}
+use Rattle.cl_application.specs.declared.declarations.SlotDecl.{SlotDecl}
 use Rattle.cl_forms.specs.Tree.{Tree, Trees, none, item, trees_of, spelled_all}
 use Rattle.cl_forms.specs.Spelled.{lexemes}
 use Rattle.cl_forms.proofs.OneTree.{one_forest}

@@ -1,9 +1,9 @@
 -- The slots that are left at a place of their table.
 use Rattle.std.proofs.Common.{◌≡◌, ◌+◌, ℕ, zero, suc, if◌then◌else◌, drop, List, [], ◌∷◌, refl, sym, ◌∙◌, true, arith}
 use Rattle.std.specs.Prelude.{Some, Err}
-use Rattle.cl_syntax.specs.Names.{declared_at}
-use Rattle.cl_syntax.specs.declared.applications.App.{App}
-use Rattle.cl_syntax.specs.declared.declarations.SlotDecl.{SlotDecl}
+use Rattle.cl_table.specs.Names.{declared_at}
+use Rattle.cl_application.specs.declared.applications.App.{App}
+use Rattle.cl_application.specs.declared.declarations.SlotDecl.{SlotDecl}
 use Rattle.cl_value.specs.Data.{Data}
 use Rattle.cl_eval.specs.Slots.{Slots, put}
 use Rattle.cl_load.specs.Settling.{Opens}

@@ -1,8 +1,8 @@
 -- What the last steps come to, by their answers.
 use Rattle.std.proofs.Common.{◌≡◌, ◌++◌, ◌⊎◌, inl, inr, ℕ, List, [], ◌∷◌, refl, sym, ap, ◌∙◌, arith}
 use Rattle.std.specs.Prelude.{Option, Some, None, Result, Ok, Err, option_to_list}
-use Rattle.cl_syntax.specs.declared.applications.App.{App}
-use Rattle.cl_syntax.specs.declared.declarations.FrameDecl.{FrameDecl}
+use Rattle.cl_application.specs.declared.applications.App.{App}
+use Rattle.cl_application.specs.declared.declarations.FrameDecl.{FrameDecl}
 use Rattle.cl_forms.specs.Load.{Fault, itself}
 use Rattle.cl_forms.specs.declared.refusals.LoadRefusal.{LoadRefusal}
 use Rattle.cl_forms.specs.declared.refusals.LoadRefusal.TheVariants.{Refused, Memory}

@@ -2,7 +2,7 @@
 use Rattle.std.specs.Prelude.{◌≡◌, ◌≤◌, ◌<◌, ◌⊎◌, ℕ, List, length, Result, Ok, Err}
 use Rattle.cl_sexp.specs.declared.Token.{Token}
 use Rattle.cl_sexp.specs.Tokens.{tokens_of}
-use Rattle.cl_syntax.specs.declared.applications.App.{App}
+use Rattle.cl_application.specs.declared.applications.App.{App}
 use Rattle.cl_forms.specs.Datum.{Datum}
 use Rattle.cl_forms.specs.Grouped.{grouped}
 use Rattle.cl_forms.specs.Tree.{Tree, trees_of, spelled_all}

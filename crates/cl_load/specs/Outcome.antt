@@ -2,8 +2,8 @@
 use Rattle.std.specs.Prelude.{◌≡◌, ◌⊎◌, ℕ, List, [], ◌∷◌, Result, Ok, Err}
 use Rattle.cl_forms.specs.Datum.{Datum}
 use Rattle.cl_forms.specs.Load.{Fault}
-use Rattle.cl_syntax.specs.declared.applications.App.{App}
-use Rattle.cl_syntax.specs.declared.declarations.FrameDecl.{FrameDecl}
+use Rattle.cl_application.specs.declared.applications.App.{App}
+use Rattle.cl_application.specs.declared.declarations.FrameDecl.{FrameDecl}
 use Rattle.cl_declare.specs.Declarations.{Declared}
 use Rattle.cl_declare.specs.declared.frames.FrameForm.{FrameForm}
 use Rattle.cl_load.specs.Opening.{with_openings}

@@ -2,8 +2,8 @@
 use Rattle.std.specs.Prelude.{ℕ, ◌+◌, ◌≤◌, ℤ, pos, negsuc, ◌&&◌, nat_le, Option, Some, None, Result, Ok, Err}
 use Rattle.cl_forms.specs.Load.{Fault}
 use Rattle.cl_forms.specs.World.{some_if}
-use Rattle.cl_syntax.specs.declared.declarations.FrameDecl.{FrameDecl}
-use Rattle.cl_syntax.specs.declared.declarations.PaneDecl.{PaneDecl}
+use Rattle.cl_application.specs.declared.declarations.FrameDecl.{FrameDecl}
+use Rattle.cl_application.specs.declared.declarations.PaneDecl.{PaneDecl}
 use Rattle.cl_declare.specs.declared.frames.FrameForm.{FrameForm}
 use Rattle.cl_declare.specs.declared.frames.PaneForm.{PaneForm}
 use Rattle.cl_load.specs.declared.placing.Span.{Span}

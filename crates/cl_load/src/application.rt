@@ -3,7 +3,7 @@ ghost use Rattle.cl_phases.specs.SlotReads.{AnyReads};
 ghost use Rattle.cl_load.specs.Opening.{first_unfit, opening_slots};
 
 use cl_eval::Slots;
-use cl_syntax::App;
+use cl_application::App;
 
 /// An application that loads, with its opening slots. Its frame is at most 512 cells wide and 256
 /// cells high, and its pane lies in it; no opening value reads a slot, and each ends without a trap in

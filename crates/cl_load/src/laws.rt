@@ -1,6 +1,6 @@
 //! What the definitions of this crate say. The contract is the law.
 ghost use Rattle.std.specs.Prelude.{◌≡◌, ℕ, List, Result, Err};
-ghost use Rattle.cl_syntax.specs.declared.applications.App.{App};
+ghost use Rattle.cl_application.specs.declared.applications.App.{App};
 ghost use Rattle.cl_forms.specs.Datum.{Datum};
 ghost use Rattle.cl_forms.specs.Load.{Unknown};
 ghost use Rattle.cl_forms.specs.Tree.{Tree};

@@ -7,7 +7,7 @@ use crate::slot_types::SlotTypes;
 use cl_eval::{Env, Evaluated, Limits, Slots, Types, eval};
 use cl_forms::LoadRefusal;
 use cl_outside::own_steps;
-use cl_syntax::{App, SlotDecl};
+use cl_application::{App, SlotDecl};
 use cl_value::{Held, Value};
 use std::alloc::Global;
 

@@ -6,7 +6,7 @@ ghost use Rattle.cl_load.specs.Answers.{Makes};
 
 use cl_declare::FrameForm;
 use cl_forms::LoadRefusal;
-use cl_syntax::{FrameDecl, PaneDecl};
+use cl_application::{FrameDecl, PaneDecl};
 
 /// Cells along a side of the frame.
 #[derive(Clone, Copy)]

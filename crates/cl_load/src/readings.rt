@@ -4,7 +4,7 @@ ghost use Rattle.cl_load.specs.Readings.{Finds};
 
 use cl_declare::FrameForm;
 use cl_phases::any_reads_slot;
-use cl_syntax::Functions;
+use cl_application::Functions;
 use std::alloc::{AllocError, Global};
 
 /// The offset of the first frame with an opening value that reads a slot, through calls too.

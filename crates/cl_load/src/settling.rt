@@ -15,7 +15,7 @@ use crate::placing::placed;
 use crate::readings::first_reading;
 use cl_declare::{Declarations, FrameForm};
 use cl_forms::LoadRefusal;
-use cl_syntax::{App, FrameDecl};
+use cl_application::{App, FrameDecl};
 use std::alloc::Global;
 
 /// The application of declarations in a text of this length, with its opening slots; or the first of

@@ -3,7 +3,7 @@ use Rattle.std.proofs.Common.{◌≡◌, ◌≤◌, ◌+◌, ◌++◌, ◌==◌,
 use Rattle.std.specs.Prelude.{is_some}
 use Rattle.std.specs.Cmp.Lexicographic.{pointwise}
 use Rattle.std.proofs.lemmas.Slice.Eq.{bytes_eq-Decides}
-use Rattle.cl_syntax.specs.Names.{named}
+use Rattle.cl_table.specs.Names.{named}
 use Rattle.cl_phases.specs.SlotReads.{has}
 
 pub same_name : (x y : List ℕ) → pointwise ◌==◌ x y ≡ true → x ≡ y

@@ -7,7 +7,7 @@ use Rattle.std.specs.Str.{bytes_eq}
 use Rattle.std.specs.Cmp.Lexicographic.{pointwise}
 use Rattle.std.proofs.lemmas.List.{drop_more, map_push}
 use Rattle.std.proofs.lemmas.Map.Made.{is_some-lookup}
-use Rattle.cl_syntax.specs.Names.{named}
+use Rattle.cl_table.specs.Names.{named}
 use Rattle.cl_phases.specs.Repeats.{repeated}
 use Rattle.cl_phases.specs.declared.repeats.Met.{Met}
 use Rattle.cl_phases.specs.declared.repeats.NameAt.{NameAt}

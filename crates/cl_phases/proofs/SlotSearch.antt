@@ -6,16 +6,16 @@ use Rattle.std.specs.Cmp.Lexicographic.{pointwise}
 use Rattle.std.proofs.lemmas.List.{append-nil, append_assoc, length-append, length_push, take_more, take_all, take-append-le, get_or_append_left, get_or-append_right}
 use Rattle.std.proofs.lemmas.List.Elements.{All-nil, All-cons, All-head, All-tail, All-get_or, All-push, All-append, All-contains, All-weaker, Contains-get_or}
 use Rattle.std.proofs.lemmas.Option.{slice_get-get_or}
-use Rattle.cl_syntax.specs.Term.{Term}
-use Rattle.cl_syntax.specs.Names.{named, declared_at, declared_in}
-use Rattle.cl_syntax.specs.declared.declarations.FunctionDecl.{FunctionDecl}
-use Rattle.cl_syntax.specs.declared.declarations.SlotDecl.{SlotDecl}
+use Rattle.cl_syntax.specs.ExprTree.{ExprTree}
+use Rattle.cl_table.specs.Names.{named, declared_at, declared_in}
+use Rattle.cl_application.specs.declared.declarations.FunctionDecl.{FunctionDecl}
+use Rattle.cl_application.specs.declared.declarations.SlotDecl.{SlotDecl}
 use Rattle.cl_phases.specs.declared.slot_reads.Reached.{Reached}
 use Rattle.cl_phases.specs.SlotReads.{Functions, Found, Reaches, itself, calling, ReadsSlot, names_slot, calls, with_call, with_calls, body_of, body_named, body_at, has, IsClosed, IsLookedInto, AreClear, AnyReads}
 use Rattle.cl_phases.proofs.Entries.{same_name, has_more, has_last, missing, missing_less}
 
 -- a function that is found is declared, and reached
-pub record IsReached (fs : Functions) (t : Term) (e : List ℕ × Reached) : Type 0 where
+pub record IsReached (fs : Functions) (t : ExprTree) (e : List ℕ × Reached) : Type 0 where
   pub function : FunctionDecl
   pub same : e.1.name ≡ e.0
   pub declared : named e.0 fs ≡ Some function
@@ -26,28 +26,28 @@ some_of (Some a) h = (a, refl)
 some_of None h = cc
 
 -- through one call more
-reaches_on : (fs : Functions) (t u : Term) (x : List ℕ) (f : FunctionDecl) → Reaches fs t u → Contains (calls u) x → named x fs ≡ Some f → Reaches fs t f.body
+reaches_on : (fs : Functions) (t u : ExprTree) (x : List ℕ) (f : FunctionDecl) → Reaches fs t u → Contains (calls u) x → named x fs ≡ Some f → Reaches fs t f.body
 reaches_on _ _ _ x f (itself fs t) c d = calling fs t f.body x f c d (itself fs f.body)
 reaches_on _ _ _ x f (calling fs t u y g k e r) c d = calling fs t f.body y g k e (reaches_on fs g.body u x f r c d)
 
 -- ---- what is found grows
 
-abbrev pub AllReached : Functions → Term → List (List ℕ) → Type 0
+abbrev pub AllReached : Functions → ExprTree → List (List ℕ) → Type 0
 AllReached fs t xs = All (λ x. (f : FunctionDecl) → named x fs ≡ Some f → Reaches fs t f.body) xs
 
-pub record Adds (fs : Functions) (t : Term) (x : List ℕ) (found new : Found) : Type 0 where
+pub record Adds (fs : Functions) (t : ExprTree) (x : List ℕ) (found new : Found) : Type 0 where
   pub more : Found
   pub is : new ≡ found ++ more
   pub finds : has x fs ≡ true → has x new ≡ true
   pub fewer : missing fs new + length new ≤ missing fs found + length found
   pub sound : ((f : FunctionDecl) → named x fs ≡ Some f → Reaches fs t f.body) → All (IsReached fs t) more
 
-is_reached : (fs : Functions) (t : Term) (x : List ℕ) → has x fs ≡ true → ((f : FunctionDecl) → named x fs ≡ Some f → Reaches fs t f.body) → IsReached fs t (x, record { name = x })
+is_reached : (fs : Functions) (t : ExprTree) (x : List ℕ) → has x fs ≡ true → ((f : FunctionDecl) → named x fs ≡ Some f → Reaches fs t f.body) → IsReached fs t (x, record { name = x })
 is_reached fs t x h r =
     let one = some_of (named x fs) h in
     record { function = one.0; same = refl; declared = one.1; reaches = r one.0 one.1 }
 
-adds_by : (b c : Bool) (fs : Functions) (t : Term) (x : List ℕ) (found : Found) → has x fs ≡ b → has x found ≡ c
+adds_by : (b c : Bool) (fs : Functions) (t : ExprTree) (x : List ℕ) (found : Found) → has x fs ≡ b → has x found ≡ c
     → Adds fs t x found (if b then (if c then found else found ++ (x, record { name = x }) ∷ []) else found)
 adds_by false c fs t x found h k =
     record { more = []; is = sym (append-nil found); finds = λ there. cc; fewer = omega arith; sound = λ r. All-nil (IsReached fs t) }
@@ -62,14 +62,14 @@ adds_by true false fs t x found h k =
       sound = λ r. All-cons (IsReached fs t) (x, record { name = x }) [] (is_reached fs t x h r) (All-nil (IsReached fs t));
     }
 
-pub record AddsAll (fs : Functions) (t : Term) (xs : List (List ℕ)) (found new : Found) : Type 0 where
+pub record AddsAll (fs : Functions) (t : ExprTree) (xs : List (List ℕ)) (found new : Found) : Type 0 where
   pub more : Found
   pub is : new ≡ found ++ more
   pub finds : All (λ x. has x fs ≡ true → has x new ≡ true) xs
   pub fewer : missing fs new + length new ≤ missing fs found + length found
   pub sound : AllReached fs t xs → All (IsReached fs t) more
 
-pub adds_all : (fs : Functions) (t : Term) (xs : List (List ℕ)) (found : Found) → AddsAll fs t xs found (with_calls fs xs found)
+pub adds_all : (fs : Functions) (t : ExprTree) (xs : List (List ℕ)) (found : Found) → AddsAll fs t xs found (with_calls fs xs found)
 adds_all fs t [] found =
     record { more = []; is = sym (append-nil found); finds = All-nil (λ x. has x fs ≡ true → has x found ≡ true); fewer = omega arith; sound = λ r. All-nil (IsReached fs t) }
 adds_all fs t (x ∷ xs) found =
@@ -86,7 +86,7 @@ adds_all fs t (x ∷ xs) found =
           (rest.sound (All-tail (λ y. (f : FunctionDecl) → named y fs ≡ Some f → Reaches fs t f.body) x xs r));
     }
 
-closed_more : (fs : Functions) (found more new : Found) (t : Term) → new ≡ found ++ more → IsClosed fs found t → IsClosed fs new t
+closed_more : (fs : Functions) (found more new : Found) (t : ExprTree) → new ≡ found ++ more → IsClosed fs found t → IsClosed fs new t
 closed_more fs found more new t is c = record {
   no_slot = c.no_slot;
   finds = All-weaker (λ x. has x fs ≡ true → has x found ≡ true) (λ x. has x fs ≡ true → has x new ≡ true)
@@ -101,7 +101,7 @@ looked_more fs found more new es is a =
 -- ---- the search
 
 -- from what was found before, which was looked into
-pub record Search (fs : Functions) (t : Term) (old found : Found) (place : ℕ) : Type 0 where
+pub record Search (fs : Functions) (t : ExprTree) (old found : Found) (place : ℕ) : Type 0 where
   pub since : Found
   pub is : found ≡ old ++ since
   pub behind : length old ≤ place
@@ -110,7 +110,7 @@ pub record Search (fs : Functions) (t : Term) (old found : Found) (place : ℕ) 
   pub root : IsClosed fs found t
   pub looked : All (IsLookedInto fs found) (take place found)
 
-pub search_begins : (fs : Functions) (t : Term) (old : Found) → AreClear fs old → names_slot t ≡ false → Search fs t old (with_calls fs (calls t) old) (length old)
+pub search_begins : (fs : Functions) (t : ExprTree) (old : Found) → AreClear fs old → names_slot t ≡ false → Search fs t old (with_calls fs (calls t) old) (length old)
 search_begins fs t old a h =
     let new : Found = with_calls fs (calls t) old in
     let adds : AddsAll fs t (calls t) old new = adds_all fs t (calls t) old in
@@ -130,17 +130,17 @@ pub nobody : List ℕ × Reached
 nobody = ([], record { name = [] })
 
 -- the function that was found at a place
-pub at_place : (fs : Functions) (t : Term) (old found : Found) (place : ℕ) → Search fs t old found place → place < length found → IsReached fs t (get_or found place nobody)
+pub at_place : (fs : Functions) (t : ExprTree) (old found : Found) (place : ℕ) → Search fs t old found place → place < length found → IsReached fs t (get_or found place nobody)
 at_place fs t old found place s l =
     let longer : length found ≡ length old + length s.since = ap length s.is ∙ length-append old s.since in
     let here : get_or found place nobody ≡ get_or s.since (place - length old) nobody =
     ap (λ (es : Found). get_or es place nobody) s.is ∙ get_or-append_right old s.since (length old) place nobody refl s.behind in
     subst (IsReached fs t) (sym here) (All-get_or (IsReached fs t) s.since (place - length old) nobody (omega (arith, longer, s.behind)) s.sound)
 
-body_declared : (fs : Functions) (t : Term) (e : List ℕ × Reached) (r : IsReached fs t e) → body_named fs (Some e.1) ≡ Some r.function.body
+body_declared : (fs : Functions) (t : ExprTree) (e : List ℕ × Reached) (r : IsReached fs t e) → body_named fs (Some e.1) ≡ Some r.function.body
 body_declared fs t e r = ap (λ x. body_of (named x fs)) r.same ∙ ap body_of r.declared
 
-pub body_found : (fs : Functions) (t : Term) (old found : Found) (place : ℕ) (s : Search fs t old found place) (l : place < length found)
+pub body_found : (fs : Functions) (t : ExprTree) (old found : Found) (place : ℕ) (s : Search fs t old found place) (l : place < length found)
     → body_at fs found place ≡ Some (at_place fs t old found place s l).function.body
 body_found fs t old found place s l =
     ap (λ o. body_named fs (declared_in o)) (slice_get-get_or found place nobody l) ∙ body_declared fs t (get_or found place nobody) (at_place fs t old found place s l)
@@ -149,22 +149,22 @@ some-inj : {A : Type 0} (a b : A) → Some a ≡ Some b → a ≡ b
 some-inj a b e = cc
 
 -- a slot in the body of a function that was found is read
-pub found_reads : (fs : Functions) (t : Term) (old found : Found) (place : ℕ) (b : Term) → Search fs t old found place → place < length found
+pub found_reads : (fs : Functions) (t : ExprTree) (old found : Found) (place : ℕ) (b : ExprTree) → Search fs t old found place → place < length found
     → body_at fs found place ≡ Some b → names_slot b ≡ true → ReadsSlot fs t
 found_reads fs t old found place b s l e h =
     let r : IsReached fs t (get_or found place nobody) = at_place fs t old found place s l in
     let same : b ≡ r.function.body = some-inj b r.function.body (sym e ∙ body_found fs t old found place s l) in
     record { reached = r.function.body; reaches = r.reaches; names = ap names_slot (sym same) ∙ h }
 
-pub body_is_there : (fs : Functions) (t : Term) (old found : Found) (place : ℕ) → Search fs t old found place → place < length found → body_at fs found place ≡ None → ⊥
+pub body_is_there : (fs : Functions) (t : ExprTree) (old found : Found) (place : ℕ) → Search fs t old found place → place < length found → body_at fs found place ≡ None → ⊥
 body_is_there fs t old found place s l e = let no : Some (at_place fs t old found place s l).function.body ≡ None = sym (body_found fs t old found place s l) ∙ e in cc
 
-looked_into : (fs : Functions) (t : Term) (new : Found) (e : List ℕ × Reached) (r : IsReached fs t e) (b : Term) → b ≡ r.function.body → IsClosed fs new b → IsLookedInto fs new e
+looked_into : (fs : Functions) (t : ExprTree) (new : Found) (e : List ℕ × Reached) (r : IsReached fs t e) (b : ExprTree) → b ≡ r.function.body → IsClosed fs new b → IsLookedInto fs new e
 looked_into fs t new e r b same c f d =
     let one : r.function ≡ f = some-inj r.function f (sym r.declared ∙ d) in
     subst (IsClosed fs new) (same ∙ ap (λ (g : FunctionDecl). g.body) one) c
 
-pub search_goes_on : (fs : Functions) (t : Term) (old found : Found) (place : ℕ) (b : Term) → Search fs t old found place → place < length found
+pub search_goes_on : (fs : Functions) (t : ExprTree) (old found : Found) (place : ℕ) (b : ExprTree) → Search fs t old found place → place < length found
     → body_at fs found place ≡ Some b → names_slot b ≡ false → Search fs t old (with_calls fs (calls b) found) (place + 1)
 search_goes_on fs t old found place b s l e h =
     let new : Found = with_calls fs (calls b) found in
@@ -203,7 +203,7 @@ at_name : (x : List ℕ) (es : Found) (P : List ℕ × Reached → Type 0) → h
 at_name x [] P h all = cc
 at_name x (e ∷ es) P h all = found_at (pointwise ◌==◌ x e.0) x e es refl h P (λ there rest. at_name x es P there rest) all
 
-closed_through : (fs : Functions) (t u : Term) (found : Found) → Reaches fs t u → IsClosed fs found t → AreClear fs found → IsClosed fs found u
+closed_through : (fs : Functions) (t u : ExprTree) (found : Found) → Reaches fs t u → IsClosed fs found t → AreClear fs found → IsClosed fs found u
 closed_through _ _ _ found (itself fs t) c all = c
 closed_through _ _ _ found (calling fs t u x f k d r) c all =
     let there : has x found ≡ true = All-contains (λ y. has y fs ≡ true → has y found ≡ true) (calls t) x c.finds k (ap is_some d) in
@@ -211,15 +211,15 @@ closed_through _ _ _ found (calling fs t u x f k d r) c all =
     closed_through fs f.body u found r (one.1.1 f (ap (λ (y : List ℕ). named y fs) one.1.0 ∙ d)) all
 
 -- all that is found was looked into
-pub all_clear : (fs : Functions) (t : Term) (old found : Found) (place : ℕ) → Search fs t old found place → length found ≤ place → AreClear fs found
+pub all_clear : (fs : Functions) (t : ExprTree) (old found : Found) (place : ℕ) → Search fs t old found place → length found ≤ place → AreClear fs found
 all_clear fs t old found place s l = subst (All (IsLookedInto fs found)) (take_all place found l) s.looked
 
-pub search_ends : (fs : Functions) (t : Term) (old found : Found) (place : ℕ) → Search fs t old found place → length found ≤ place → ReadsSlot fs t → ⊥
+pub search_ends : (fs : Functions) (t : ExprTree) (old found : Found) (place : ℕ) → Search fs t old found place → length found ≤ place → ReadsSlot fs t → ⊥
 search_ends fs t old found place s l r =
     let c : IsClosed fs found r.reached = closed_through fs t r.reached found r.reaches s.root (all_clear fs t old found place s l) in
     let no : true ≡ false = sym r.names ∙ c.no_slot in cc
 
-pub reads_itself : (fs : Functions) (t : Term) → names_slot t ≡ true → ReadsSlot fs t
+pub reads_itself : (fs : Functions) (t : ExprTree) → names_slot t ≡ true → ReadsSlot fs t
 reads_itself fs t h = record { reached = t; reaches = itself fs t; names = h }
 
 -- ---- one opening value behind the other

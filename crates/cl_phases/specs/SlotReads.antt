@@ -1,11 +1,11 @@
 -- Whether an expression reads a slot: one stands in it, or in the body of a function that it calls, through calls in turn. What a
 -- branch names counts whether or not it is taken.
 use Rattle.std.specs.Prelude.{◌≡◌, ◌⊎◌, ℕ, Bool, true, false, ◌||◌, is_some, if◌then◌else◌, List, [], ◌∷◌, ◌++◌, All, Contains, Option, Some, None}
-use Rattle.cl_syntax.specs.Names.{named, declared_at}
-use Rattle.cl_syntax.specs.Term as term
-use Rattle.cl_syntax.specs.Term.{Term, Terms, Bindings, none, part, unbound, binding}
-use Rattle.cl_syntax.specs.declared.declarations.FunctionDecl.{FunctionDecl}
-use Rattle.cl_syntax.specs.declared.declarations.SlotDecl.{SlotDecl}
+use Rattle.cl_table.specs.Names.{named, declared_at}
+use Rattle.cl_syntax.specs.ExprTree as expr
+use Rattle.cl_syntax.specs.ExprTree.{ExprTree, ExprTrees, Bindings, none, part, unbound, binding}
+use Rattle.cl_application.specs.declared.declarations.FunctionDecl.{FunctionDecl}
+use Rattle.cl_application.specs.declared.declarations.SlotDecl.{SlotDecl}
 use Rattle.cl_phases.specs.declared.slot_reads.Reached.{Reached}
 
 abbrev pub Functions : Type 0
@@ -13,21 +13,21 @@ Functions = List (List ℕ × FunctionDecl)
 
 -- a slot stands in an expression
 abbrev mutual
-  pub names_slot : Term → Bool
-  names_slot (term.constant d) = false
-  names_slot (term.variable x) = false
-  names_slot (term.slot x) = true
-  names_slot (term.choice t u v) = names_slot t || names_slot u || names_slot v
-  names_slot (term.bind bs t) = names_slot_bound bs || names_slot t
-  names_slot (term.every ts) = names_slot_among ts
-  names_slot (term.some ts) = names_slot_among ts
-  names_slot (term.map x t body) = names_slot t || names_slot body
-  names_slot (term.filter x t body) = names_slot t || names_slot body
-  names_slot (term.fold x t accumulator opening body) = names_slot t || names_slot opening || names_slot body
-  names_slot (term.operation o ts) = names_slot_among ts
-  names_slot (term.call f ts) = names_slot_among ts
+  pub names_slot : ExprTree → Bool
+  names_slot (expr.Constant d) = false
+  names_slot (expr.Variable x) = false
+  names_slot (expr.Slot x) = true
+  names_slot (expr.If t u v) = names_slot t || names_slot u || names_slot v
+  names_slot (expr.Let bs t) = names_slot_bound bs || names_slot t
+  names_slot (expr.And ts) = names_slot_among ts
+  names_slot (expr.Or ts) = names_slot_among ts
+  names_slot (expr.Map x t body) = names_slot t || names_slot body
+  names_slot (expr.Filter x t body) = names_slot t || names_slot body
+  names_slot (expr.Fold x t accumulator opening body) = names_slot t || names_slot opening || names_slot body
+  names_slot (expr.Operation o ts) = names_slot_among ts
+  names_slot (expr.Call f ts) = names_slot_among ts
 
-  pub names_slot_among : Terms → Bool
+  pub names_slot_among : ExprTrees → Bool
   names_slot_among none = false
   names_slot_among (part t ts) = names_slot t || names_slot_among ts
 
@@ -37,21 +37,21 @@ abbrev mutual
 
 -- the functions that an expression calls
 abbrev mutual
-  pub calls : Term → List (List ℕ)
-  calls (term.constant d) = []
-  calls (term.variable x) = []
-  calls (term.slot x) = []
-  calls (term.choice t u v) = calls t ++ calls u ++ calls v
-  calls (term.bind bs t) = calls_bound bs ++ calls t
-  calls (term.every ts) = calls_among ts
-  calls (term.some ts) = calls_among ts
-  calls (term.map x t body) = calls t ++ calls body
-  calls (term.filter x t body) = calls t ++ calls body
-  calls (term.fold x t accumulator opening body) = calls t ++ calls opening ++ calls body
-  calls (term.operation o ts) = calls_among ts
-  calls (term.call f ts) = f ∷ calls_among ts
+  pub calls : ExprTree → List (List ℕ)
+  calls (expr.Constant d) = []
+  calls (expr.Variable x) = []
+  calls (expr.Slot x) = []
+  calls (expr.If t u v) = calls t ++ calls u ++ calls v
+  calls (expr.Let bs t) = calls_bound bs ++ calls t
+  calls (expr.And ts) = calls_among ts
+  calls (expr.Or ts) = calls_among ts
+  calls (expr.Map x t body) = calls t ++ calls body
+  calls (expr.Filter x t body) = calls t ++ calls body
+  calls (expr.Fold x t accumulator opening body) = calls t ++ calls opening ++ calls body
+  calls (expr.Operation o ts) = calls_among ts
+  calls (expr.Call f ts) = f ∷ calls_among ts
 
-  pub calls_among : Terms → List (List ℕ)
+  pub calls_among : ExprTrees → List (List ℕ)
   calls_among none = []
   calls_among (part t ts) = calls t ++ calls_among ts
 
@@ -60,12 +60,12 @@ abbrev mutual
   calls_bound (binding x t bs) = calls t ++ calls_bound bs
 
 -- an expression itself, and the body of each function that what is reached calls
-pub data Reaches : Functions → Term → Term → Type 0 where
-  itself : (fs : Functions) (t : Term) → Reaches fs t t
-  calling : (fs : Functions) (t u : Term) (x : List ℕ) (f : FunctionDecl) → Contains (calls t) x → named x fs ≡ Some f → Reaches fs f.body u → Reaches fs t u
+pub data Reaches : Functions → ExprTree → ExprTree → Type 0 where
+  itself : (fs : Functions) (t : ExprTree) → Reaches fs t t
+  calling : (fs : Functions) (t u : ExprTree) (x : List ℕ) (f : FunctionDecl) → Contains (calls t) x → named x fs ≡ Some f → Reaches fs f.body u → Reaches fs t u
 
-pub record ReadsSlot (fs : Functions) (t : Term) : Type 0 where
-  pub reached : Term
+pub record ReadsSlot (fs : Functions) (t : ExprTree) : Type 0 where
+  pub reached : ExprTree
   pub reaches : Reaches fs t reached
   pub names : names_slot reached ≡ true
 
@@ -95,16 +95,16 @@ abbrev pub with_calls : Functions → List (List ℕ) → Found → Found
 with_calls fs [] found = found
 with_calls fs (x ∷ xs) found = with_calls fs xs (with_call fs x found)
 
-abbrev pub body_of : Option FunctionDecl → Option Term
+abbrev pub body_of : Option FunctionDecl → Option ExprTree
 body_of None = None
 body_of (Some f) = Some f.body
 
-abbrev pub body_named : Functions → Option Reached → Option Term
+abbrev pub body_named : Functions → Option Reached → Option ExprTree
 body_named fs None = None
 body_named fs (Some r) = body_of (named r.name fs)
 
 -- the body of the function that was found at a place
-abbrev pub body_at : Functions → Found → ℕ → Option Term
+abbrev pub body_at : Functions → Found → ℕ → Option ExprTree
 body_at fs found place = body_named fs (declared_at place found)
 
 -- something stands under a name in a table
@@ -112,7 +112,7 @@ abbrev pub has : {D : Type 0} → List ℕ → List (List ℕ × D) → Bool
 has x table = is_some (named x table)
 
 -- an expression names no slot, and the functions that it calls are found
-pub record IsClosed (fs : Functions) (found : Found) (t : Term) : Type 0 where
+pub record IsClosed (fs : Functions) (found : Found) (t : ExprTree) : Type 0 where
   pub no_slot : names_slot t ≡ false
   pub finds : All (λ x. has x fs ≡ true → has x found ≡ true) (calls t)
 

@@ -1,9 +1,9 @@
 //! Names that stand twice among names.
 ghost use Rattle.std.specs.Prelude.{◌≡◌, ◌∷◌, ◌++◌, [], None, IfOk, OnOk, is_some};
-ghost use Rattle.cl_syntax.specs.Names.{named};
+ghost use Rattle.cl_table.specs.Names.{named};
 ghost use Rattle.cl_phases.specs.Repeats.{first_repeated};
 
-use cl_syntax::{Declared, Table};
+use cl_table::{Declared, Table};
 use cl_value::Text;
 use std::alloc::{AllocError, Global};
 

@@ -1,10 +1,12 @@
 //! Whether an opening value reads a slot, through calls too.
 ghost use Rattle.std.specs.Prelude.{◌≡◌, ◌↔◌, ◌++◌, IfOk, IsTrue, OnOk, option_map};
-ghost use Rattle.cl_syntax.specs.Term.{terms_of};
+ghost use Rattle.cl_syntax.specs.ExprTree.{expr_trees_of};
 ghost use Rattle.cl_syntax.specs.Expr.{bindings_of};
 ghost use Rattle.cl_phases.specs.SlotReads.{AreClear, ReadsSlot, StaysClear, Tells, body_at, calls, calls_among, calls_bound, names_slot, names_slot_among, names_slot_bound, with_call, with_calls};
 
-use cl_syntax::{Binding, Declared, Expr, ExprKind, Functions, Names, SlotDecls, Table};
+use cl_application::{Functions, SlotDecls};
+use cl_syntax::{Binding, Expr, ExprKind};
+use cl_table::{Declared, Names, Table};
 use cl_value::Text;
 use std::alloc::{AllocError, Global};
 
@@ -147,7 +149,7 @@ fn names_slot(expr: &Expr) -> bool
 #[cycle(names_slot)]
 #[tactic(auto, using(crate::proofs::Parts::part_nodes))]
 fn names_slot_among(parts: &[Expr]) -> bool
-    ensures { result ≡ names_slot_among (terms_of parts.now) }
+    ensures { result ≡ names_slot_among (expr_trees_of parts.now) }
 {
     for part in parts {
         if names_slot(part) {
@@ -214,7 +216,7 @@ fn add_calls(expr: &Expr, names: &mut Names) -> Result<(), AllocError>
 #[cycle(add_calls)]
 #[tactic(auto, using(crate::proofs::Parts::part_nodes))]
 fn add_calls_among(parts: &[Expr], names: &mut Names) -> Result<(), AllocError>
-    ensures { OnOk result (names.new ≡ names.old ++ calls_among (terms_of parts.now)) }
+    ensures { OnOk result (names.new ≡ names.old ++ calls_among (expr_trees_of parts.now)) }
 {
     for part in parts {
         add_calls(part, names)?;

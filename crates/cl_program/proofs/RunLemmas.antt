@@ -2,7 +2,7 @@
 use Rattle.std.proofs.Common.{◌≡◌, ◌<◌, ◌≤◌, ℕ, ◌+◌, List, [], ◌++◌, length, sym, ◌∙◌, ap, arith, append-nil, Option, Bool, true, false, inl, inr, subst, ◌∷◌}
 use Rattle.std.specs.Io.KnownBytes.{Consumes}
 use Rattle.cl_outside.specs.Causes.{Rose}
-use Rattle.cl_syntax.specs.declared.applications.App.{App}
+use Rattle.cl_application.specs.declared.applications.App.{App}
 use Rattle.cl_display.specs.Script.{pane_fresh}
 use Rattle.cl_eval.specs.declared.metering.Limits.{Limits}
 use Rattle.cl_eval.specs.Outcome.{cost_of}

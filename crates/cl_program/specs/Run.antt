@@ -2,7 +2,7 @@
 use Rattle.std.specs.Prelude.{◌≡◌, ◌<◌, ◌≤◌, ◌⊎◌, ◌+◌, ℕ, List, [], ◌∷◌, ◌++◌, length, Option, true, false}
 use Rattle.std.specs.Io.KnownBytes.{Appends, Consumes, IsAtEnd}
 use Rattle.cl_outside.specs.Causes.{Rose}
-use Rattle.cl_syntax.specs.declared.applications.App.{App}
+use Rattle.cl_application.specs.declared.applications.App.{App}
 use Rattle.cl_display.specs.Script.{pane_fresh}
 use Rattle.cl_eval.specs.declared.metering.Limits.{Limits}
 use Rattle.cl_eval.specs.Outcome.{cost_of}

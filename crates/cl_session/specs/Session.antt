@@ -1,6 +1,6 @@
 -- What a session is as a world, and when it fits an application and slots.
 use Rattle.std.specs.Prelude.{◌≡◌, ◌⊎◌, ◌≤◌, Bool, true, ◌||◌, is_none, Option, Some, None, List, []}
-use Rattle.cl_syntax.specs.declared.applications.App.{App}
+use Rattle.cl_application.specs.declared.applications.App.{App}
 use Rattle.cl_eval.specs.Slots.{Slots}
 use Rattle.cl_eval.specs.declared.metering.Limits.{Limits}
 use Rattle.cl_medium.specs.declared.any_leaf.AnyLeaf.{AnyLeaf}

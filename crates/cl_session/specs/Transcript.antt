@@ -1,7 +1,7 @@
 -- The transcript: what is said of the pieces of a stream, one after another.
 use Rattle.std.specs.Prelude.{◌≡◌, ℕ, ◌+◌, List, [], ◌∷◌, ◌++◌, codes, map}
 use Rattle.std.specs.Fmt.{decimal}
-use Rattle.cl_syntax.specs.declared.applications.App.{App}
+use Rattle.cl_application.specs.declared.applications.App.{App}
 use Rattle.cl_eval.specs.declared.metering.Limits.{Limits}
 use Rattle.cl_gesture.specs.Lines.{Piece}
 use Rattle.cl_gesture.specs.Gesture.{LineKind, idle, bad, does, kind_of}

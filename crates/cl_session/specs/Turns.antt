@@ -1,6 +1,6 @@
 -- One turn of serving.
 use Rattle.std.specs.Prelude.{◌≡◌, ◌<◌, ℕ, Bool, true, false, Option, Some, None, List}
-use Rattle.cl_syntax.specs.declared.applications.App.{App}
+use Rattle.cl_application.specs.declared.applications.App.{App}
 use Rattle.cl_eval.specs.declared.metering.Limits.{Limits}
 use Rattle.cl_gesture.specs.declared.answers.Stop.{Stop}
 use Rattle.cl_gesture.specs.declared.answers.Stop.TheVariants as stop

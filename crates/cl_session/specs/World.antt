@@ -6,7 +6,7 @@ use Rattle.cl_medium.specs.declared.any_leaf.AnyLeaf.{AnyLeaf}
 use Rattle.cl_record.specs.Marks.{Mark, history_marks}
 use Rattle.cl_record.specs.Trees.{Tree}
 use Rattle.cl_redisplay.specs.declared.areas.Area.{Area}
-use Rattle.cl_syntax.specs.declared.declarations.PaneDecl.{PaneDecl}
+use Rattle.cl_application.specs.declared.declarations.PaneDecl.{PaneDecl}
 
 pub record World : Type 0 where
   pub slots : Slots

@@ -15,7 +15,7 @@ use cl_eval::{Env, Executed, Limits, Lines, Slots, exec};
 use cl_gesture::Gesture;
 use cl_load::SlotTypes;
 use cl_outside::{Ledger, Steps};
-use cl_syntax::{App, CommandDecl};
+use cl_application::{App, CommandDecl};
 use cl_value::Text;
 use std::alloc::{AllocError, Global};
 

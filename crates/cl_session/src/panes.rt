@@ -16,7 +16,7 @@ use cl_eval::{Env, Limits, Slots};
 use cl_outside::{Ledger, Steps};
 use cl_raster::Raster;
 use cl_redisplay::{Area, blank, paint};
-use cl_syntax::{App, PaneDecl};
+use cl_application::{App, PaneDecl};
 use std::alloc::{AllocError, Global};
 
 /// A pane, the only one of its screen: its history, None where it is blank for want of memory, how

@@ -17,7 +17,7 @@ use cl_eval::{Limits, Lines, Slots};
 use cl_gesture::Gesture;
 use cl_load::Loaded;
 use cl_outside::{Ledger, Steps};
-use cl_syntax::App;
+use cl_application::App;
 use std::alloc::{AllocError, Global};
 
 /// How many forms may be entered and not left.

@@ -1,15 +1,15 @@
 -- An expression's parts have fewer forms than it has, by which a recursion over expressions ends.
 use Rattle.std.specs.Prelude.{◌≤◌, ◌+◌, List, [], ◌∷◌}
 use Rattle.std.proofs.Common.{arith}
-use Rattle.cl_syntax.specs.Term.{Term, terms_of, nodes, nodes_all, nodes_bound}
-use Rattle.cl_syntax.specs.Expr.{term_of, bindings_of}
+use Rattle.cl_syntax.specs.ExprTree.{ExprTree, expr_trees_of, nodes, nodes_all, nodes_bound}
+use Rattle.cl_syntax.specs.Expr.{expr_tree_of, bindings_of}
 use Rattle.cl_syntax.specs.declared.expressions.Binding.{Binding}
 use Rattle.cl_syntax.specs.declared.expressions.ExprKind.{ExprKind}
 use Rattle.cl_syntax.specs.declared.expressions.ExprKind.TheVariants as kind
 use Rattle.cl_syntax.specs.declared.expressions.Expr.TheDeep.{deep-Binding, deep-ExprKind}
 use denote.Param.Weighed.{most}
 
-pub most-nodes : (ts : List Term) → most (λ t. nodes t + 1) ts ≤ nodes_all (terms_of ts) + 1
+pub most-nodes : (ts : List ExprTree) → most (λ t. nodes t + 1) ts ≤ nodes_all (expr_trees_of ts) + 1
 most-nodes [] = omega arith
 most-nodes (t ∷ ts) = omega (arith, most-nodes ts)
 
@@ -17,7 +17,7 @@ pub most-bound : (bs : List Binding) → most deep-Binding bs ≤ nodes_bound (b
 most-bound [] = omega arith
 most-bound (b ∷ bs) = omega (arith, most-bound bs)
 
-pub kind-nodes : (k : ExprKind) → deep-ExprKind k ≤ nodes (term_of k)
+pub kind-nodes : (k : ExprKind) → deep-ExprKind k ≤ nodes (expr_tree_of k)
 kind-nodes (kind.Constant v) = omega arith
 kind-nodes (kind.Variable x) = omega arith
 kind-nodes (kind.Slot x) = omega arith

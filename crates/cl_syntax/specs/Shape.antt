@@ -1,21 +1,21 @@
 -- The tree that a display form of the program stands for.
-use Rattle.cl_syntax.specs.Form as form
-use Rattle.cl_syntax.specs.Form.{Form, forms_of}
-use Rattle.cl_syntax.specs.Term.{terms_of}
+use Rattle.cl_syntax.specs.ShapeTree as shape
+use Rattle.cl_syntax.specs.ShapeTree.{ShapeTree, shape_trees_of}
+use Rattle.cl_syntax.specs.ExprTree.{expr_trees_of}
 use Rattle.cl_syntax.specs.Expr.{bindings_of}
 use Rattle.cl_syntax.specs.declared.display_forms.ShapeKind.{ShapeKind}
 use Rattle.cl_syntax.specs.declared.display_forms.ShapeKind.TheVariants as kind
 
-abbrev pub form_of : ShapeKind → Form
-form_of (kind.WriteText t) = form.write_text t
-form_of kind.Newline = form.newline
-form_of (kind.Draw figure ts) = form.draw figure (terms_of ts.items)
-form_of (kind.Indent t fs) = form.indent t (forms_of fs)
-form_of (kind.Ink t fs) = form.ink t (forms_of fs)
-form_of (kind.Room fs) = form.room (forms_of fs)
-form_of (kind.If c) = form.choice c.value.test c.value.then c.value.other
-form_of (kind.When t fs) = form.when t (forms_of fs)
-form_of (kind.Let bs fs) = form.bind (bindings_of bs.items) (forms_of fs)
-form_of (kind.Dolist x t fs) = form.each x t (forms_of fs)
-form_of (kind.Progn fs) = form.sequence (forms_of fs)
-form_of (kind.Call d ts) = form.call d (terms_of ts.items)
+abbrev pub shape_tree_of : ShapeKind → ShapeTree
+shape_tree_of (kind.WriteText t) = shape.WriteText t
+shape_tree_of kind.Newline = shape.Newline
+shape_tree_of (kind.Draw figure ts) = shape.Draw figure (expr_trees_of ts.items)
+shape_tree_of (kind.Indent t fs) = shape.Indent t (shape_trees_of fs)
+shape_tree_of (kind.Ink t fs) = shape.Ink t (shape_trees_of fs)
+shape_tree_of (kind.Room fs) = shape.Room (shape_trees_of fs)
+shape_tree_of (kind.If c) = shape.If c.value.test c.value.then c.value.other
+shape_tree_of (kind.When t fs) = shape.When t (shape_trees_of fs)
+shape_tree_of (kind.Let bs fs) = shape.Let (bindings_of bs.items) (shape_trees_of fs)
+shape_tree_of (kind.Dolist x t fs) = shape.Dolist x t (shape_trees_of fs)
+shape_tree_of (kind.Progn fs) = shape.Progn (shape_trees_of fs)
+shape_tree_of (kind.Call d ts) = shape.Call d (expr_trees_of ts.items)

@@ -1,18 +1,18 @@
 -- A display form's parts have fewer forms than it has, by which a recursion over display forms ends.
 use Rattle.std.specs.Prelude.{◌≤◌, ◌+◌, List, [], ◌∷◌}
 use Rattle.std.proofs.Common.{arith}
-use Rattle.cl_syntax.specs.Form.{Form, forms_of, nodes, nodes_all}
-use Rattle.cl_syntax.specs.Shape.{form_of}
+use Rattle.cl_syntax.specs.ShapeTree.{ShapeTree, shape_trees_of, nodes, nodes_all}
+use Rattle.cl_syntax.specs.Shape.{shape_tree_of}
 use Rattle.cl_syntax.specs.declared.display_forms.ShapeKind.{ShapeKind}
 use Rattle.cl_syntax.specs.declared.display_forms.ShapeKind.TheVariants as kind
 use Rattle.cl_syntax.specs.declared.display_forms.Shape.TheDeep.{deep-ShapeKind}
 use denote.Param.Weighed.{most}
 
-pub most-nodes : (fs : List Form) → most (λ f. nodes f + 1) fs ≤ nodes_all (forms_of fs)
+pub most-nodes : (fs : List ShapeTree) → most (λ f. nodes f + 1) fs ≤ nodes_all (shape_trees_of fs)
 most-nodes [] = omega arith
 most-nodes (f ∷ fs) = omega (arith, most-nodes fs)
 
-pub kind-nodes : (k : ShapeKind) → deep-ShapeKind k ≤ nodes (form_of k)
+pub kind-nodes : (k : ShapeKind) → deep-ShapeKind k ≤ nodes (shape_tree_of k)
 kind-nodes (kind.WriteText t) = omega arith
 kind-nodes kind.Newline = omega arith
 kind-nodes (kind.Draw figure ts) = omega arith

@@ -1,8 +1,8 @@
 //! Display forms of the application language, which is our own profile's.
 ghost use Rattle.std.specs.Prelude.{◌≡◌, [], ◌∷◌, ◌++◌, IfOk, OnOk, OnErr};
 ghost use Rattle.cl_syntax.specs.Expr.{bindings_of};
-ghost use Rattle.cl_syntax.specs.Form as form;
-ghost use Rattle.cl_syntax.specs.Term.{terms_of};
+ghost use Rattle.cl_syntax.specs.ShapeTree as shape;
+ghost use Rattle.cl_syntax.specs.ExprTree.{expr_trees_of};
 
 use crate::expressions::{Binding, Expr};
 use crate::figures::Figure;
@@ -10,7 +10,7 @@ use cl_value::Text;
 use std::alloc::{AllocError, Global};
 use std::marker::Model;
 
-/// A display form, which contracts see as its tree, a `Form`.
+/// A display form, which contracts see as its tree, a `ShapeTree`.
 #[cycle(shape)]
 #[derive(Drop)]
 pub struct Shape {
@@ -64,17 +64,17 @@ pub struct ShapeChoice {
 }
 
 impl Model for Shape {
-    ghost use Rattle.cl_syntax.specs.Form.{Form};
-    ghost use Rattle.cl_syntax.specs.FormCode.{coded_form};
+    ghost use Rattle.cl_syntax.specs.ShapeTree.{ShapeTree};
+    ghost use Rattle.cl_syntax.specs.ShapeTreeCode.{coded_shape_tree};
 
-    ghost Value = { Form };
+    ghost Value = { ShapeTree };
 
-    ghost coded = { coded_form };
+    ghost coded = { coded_shape_tree };
 
-    ghost use Rattle.cl_syntax.specs.Form.{nodes};
-    ghost use Rattle.cl_syntax.specs.Shape.{form_of};
+    ghost use Rattle.cl_syntax.specs.ShapeTree.{nodes};
+    ghost use Rattle.cl_syntax.specs.Shape.{shape_tree_of};
 
-    ghost view = { λ s. form_of s.kind };
+    ghost view = { λ s. shape_tree_of s.kind };
 
     ghost size = { nodes };
 
@@ -87,16 +87,16 @@ impl Model for Shape {
 impl Model for Shapes {
     ghost use Rattle.std.specs.Prelude.{List};
     ghost use Rattle.std.specs.Coded.{coded_list};
-    ghost use Rattle.cl_syntax.specs.Form.{Form, forms_of, nodes_all};
-    ghost use Rattle.cl_syntax.specs.FormCode.{coded_form};
+    ghost use Rattle.cl_syntax.specs.ShapeTree.{ShapeTree, shape_trees_of, nodes_all};
+    ghost use Rattle.cl_syntax.specs.ShapeTreeCode.{coded_shape_tree};
 
-    ghost Value = { List Form };
+    ghost Value = { List ShapeTree };
 
-    ghost coded = { coded_list coded_form };
+    ghost coded = { coded_list coded_shape_tree };
 
     ghost view = { λ s. s.items.items };
 
-    ghost size = { λ fs. nodes_all (forms_of fs) };
+    ghost size = { λ fs. nodes_all (shape_trees_of fs) };
 
     ghost use Rattle.std.proofs.Common.{arith};
     ghost use Rattle.cl_syntax.specs.ShapeFalls.{most-nodes};
@@ -107,7 +107,7 @@ impl Model for Shapes {
 impl Shape {
     /// `(write-text E)`
     pub fn write_text(part: Expr) -> Shape
-        ensures { result ≡ form.write_text part }
+        ensures { result ≡ shape.WriteText part }
     {
         Shape {
             kind: ShapeKind::WriteText(part),
@@ -116,7 +116,7 @@ impl Shape {
 
     /// `(newline)`
     pub fn newline() -> Shape
-        ensures { result ≡ form.newline }
+        ensures { result ≡ shape.Newline }
     {
         Shape {
             kind: ShapeKind::Newline,
@@ -125,7 +125,7 @@ impl Shape {
 
     /// A drawing form, with the expressions of its places, sizes and byte.
     pub fn draw(figure: Figure, parts: Vec<Expr>) -> Shape
-        ensures { result ≡ form.draw figure (terms_of parts.items) }
+        ensures { result ≡ shape.Draw figure (expr_trees_of parts.items) }
     {
         Shape {
             kind: ShapeKind::Draw(figure, parts),
@@ -134,7 +134,7 @@ impl Shape {
 
     /// `(indenting-output E FORM ...)`
     pub fn indent(number: Expr, body: Shapes) -> Shape
-        ensures { result ≡ form.indent number (form.forms_of body) }
+        ensures { result ≡ shape.Indent number (shape.shape_trees_of body) }
     {
         Shape {
             kind: ShapeKind::Indent(number, body),
@@ -143,7 +143,7 @@ impl Shape {
 
     /// `(with-ink E FORM ...)`
     pub fn ink(number: Expr, body: Shapes) -> Shape
-        ensures { result ≡ form.ink number (form.forms_of body) }
+        ensures { result ≡ shape.Ink number (shape.shape_trees_of body) }
     {
         Shape {
             kind: ShapeKind::Ink(number, body),
@@ -152,7 +152,7 @@ impl Shape {
 
     /// `(with-room-for-graphics FORM ...)`
     pub fn room(body: Shapes) -> Shape
-        ensures { result ≡ form.room (form.forms_of body) }
+        ensures { result ≡ shape.Room (shape.shape_trees_of body) }
     {
         Shape {
             kind: ShapeKind::Room(body),
@@ -161,7 +161,7 @@ impl Shape {
 
     /// `(if TEST THEN ELSE)`
     pub fn choice(alloc: Global, test: Expr, then: Shape, other: Shape) -> Result<Shape, AllocError>
-        ensures { IfOk result (λ s. s ≡ form.choice test then other) }
+        ensures { IfOk result (λ s. s ≡ shape.If test then other) }
     {
         let choice = ShapeChoice { test, then, other };
         Ok(Shape {
@@ -171,7 +171,7 @@ impl Shape {
 
     /// `(when TEST FORM ...)`
     pub fn when(test: Expr, body: Shapes) -> Shape
-        ensures { result ≡ form.when test (form.forms_of body) }
+        ensures { result ≡ shape.When test (shape.shape_trees_of body) }
     {
         Shape {
             kind: ShapeKind::When(test, body),
@@ -180,7 +180,7 @@ impl Shape {
 
     /// `(let ((NAME E) ...) FORM ...)`: each binding sees the earlier ones.
     pub fn bind(bindings: Vec<Binding>, body: Shapes) -> Shape
-        ensures { result ≡ form.bind (bindings_of bindings.items) (form.forms_of body) }
+        ensures { result ≡ shape.Let (bindings_of bindings.items) (shape.shape_trees_of body) }
     {
         Shape {
             kind: ShapeKind::Let(bindings, body),
@@ -189,7 +189,7 @@ impl Shape {
 
     /// `(dolist (NAME LIST) FORM ...)`
     pub fn each(name: Text, list: Expr, body: Shapes) -> Shape
-        ensures { result ≡ form.each name list (form.forms_of body) }
+        ensures { result ≡ shape.Dolist name list (shape.shape_trees_of body) }
     {
         Shape {
             kind: ShapeKind::Dolist(name, list, body),
@@ -198,7 +198,7 @@ impl Shape {
 
     /// `(progn FORM ...)`
     pub fn sequence(body: Shapes) -> Shape
-        ensures { result ≡ form.sequence (form.forms_of body) }
+        ensures { result ≡ shape.Progn (shape.shape_trees_of body) }
     {
         Shape {
             kind: ShapeKind::Progn(body),
@@ -207,7 +207,7 @@ impl Shape {
 
     /// `(DISPLAY E ...)`
     pub fn call(name: Text, parts: Vec<Expr>) -> Shape
-        ensures { result ≡ form.call name (terms_of parts.items) }
+        ensures { result ≡ shape.Call name (expr_trees_of parts.items) }
     {
         Shape {
             kind: ShapeKind::Call(name, parts),

@@ -1,7 +1,7 @@
 //! Expressions of the application language, which is our own profile's.
 ghost use Rattle.std.specs.Prelude.{◌≡◌, IfOk};
 ghost use Rattle.cl_value.specs.Value.{data_of};
-ghost use Rattle.cl_syntax.specs.Term as term;
+ghost use Rattle.cl_syntax.specs.ExprTree as expr;
 ghost use Rattle.cl_syntax.specs.Expr.{bindings_of};
 
 use crate::operators::Operator;
@@ -9,7 +9,7 @@ use cl_value::{Text, Value};
 use std::alloc::{AllocError, Global};
 use std::marker::Model;
 
-/// An expression, which contracts see as its tree, a `Term`.
+/// An expression, which contracts see as its tree, a `ExprTree`.
 #[cycle(expr)]
 #[derive(Drop)]
 pub struct Expr {
@@ -84,17 +84,17 @@ pub struct Folding {
 }
 
 impl Model for Expr {
-    ghost use Rattle.cl_syntax.specs.Term.{Term};
-    ghost use Rattle.cl_syntax.specs.TermCode.{coded_term};
+    ghost use Rattle.cl_syntax.specs.ExprTree.{ExprTree};
+    ghost use Rattle.cl_syntax.specs.ExprTreeCode.{coded_expr_tree};
 
-    ghost Value = { Term };
+    ghost Value = { ExprTree };
 
-    ghost coded = { coded_term };
+    ghost coded = { coded_expr_tree };
 
-    ghost use Rattle.cl_syntax.specs.Term.{nodes};
-    ghost use Rattle.cl_syntax.specs.Expr.{term_of};
+    ghost use Rattle.cl_syntax.specs.ExprTree.{nodes};
+    ghost use Rattle.cl_syntax.specs.Expr.{expr_tree_of};
 
-    ghost view = { λ e. term_of e.kind };
+    ghost view = { λ e. expr_tree_of e.kind };
 
     ghost size = { nodes };
 
@@ -107,7 +107,7 @@ impl Model for Expr {
 impl Expr {
     /// A number, a text, `true`, `false`, `null` or a quoted name.
     pub fn constant(value: Value) -> Expr
-        ensures { result ≡ term.constant (data_of value) }
+        ensures { result ≡ expr.Constant (data_of value) }
     {
         Expr {
             kind: ExprKind::Constant(value),
@@ -116,7 +116,7 @@ impl Expr {
 
     /// A variable.
     pub fn variable(name: Text) -> Expr
-        ensures { result ≡ term.variable name }
+        ensures { result ≡ expr.Variable name }
     {
         Expr {
             kind: ExprKind::Variable(name),
@@ -125,7 +125,7 @@ impl Expr {
 
     /// `(slot NAME)`
     pub fn slot(name: Text) -> Expr
-        ensures { result ≡ term.slot name }
+        ensures { result ≡ expr.Slot name }
     {
         Expr {
             kind: ExprKind::Slot(name),
@@ -134,7 +134,7 @@ impl Expr {
 
     /// `(if TEST THEN ELSE)`
     pub fn choice(alloc: Global, test: Expr, then: Expr, other: Expr) -> Result<Expr, AllocError>
-        ensures { IfOk result (λ e. e ≡ term.choice test then other) }
+        ensures { IfOk result (λ e. e ≡ expr.If test then other) }
     {
         let choice = ExprChoice { test, then, other };
         Ok(Expr {
@@ -144,7 +144,7 @@ impl Expr {
 
     /// `(let ((NAME E) ...) BODY)`: each binding sees the earlier ones.
     pub fn bind(alloc: Global, bindings: Vec<Binding>, body: Expr) -> Result<Expr, AllocError>
-        ensures { IfOk result (λ e. e ≡ term.bind (bindings_of bindings.items) body) }
+        ensures { IfOk result (λ e. e ≡ expr.Let (bindings_of bindings.items) body) }
     {
         Ok(Expr {
             kind: ExprKind::Let(bindings, Box::new(alloc, body)?),
@@ -153,7 +153,7 @@ impl Expr {
 
     /// `(and E ...)`
     pub fn every(parts: Vec<Expr>) -> Expr
-        ensures { result ≡ term.every (term.terms_of parts.items) }
+        ensures { result ≡ expr.And (expr.expr_trees_of parts.items) }
     {
         Expr {
             kind: ExprKind::And(parts),
@@ -162,7 +162,7 @@ impl Expr {
 
     /// `(or E ...)`
     pub fn some(parts: Vec<Expr>) -> Expr
-        ensures { result ≡ term.some (term.terms_of parts.items) }
+        ensures { result ≡ expr.Or (expr.expr_trees_of parts.items) }
     {
         Expr {
             kind: ExprKind::Or(parts),
@@ -171,7 +171,7 @@ impl Expr {
 
     /// `(map NAME LIST BODY)`
     pub fn map(alloc: Global, name: Text, list: Expr, body: Expr) -> Result<Expr, AllocError>
-        ensures { IfOk result (λ e. e ≡ term.map name list body) }
+        ensures { IfOk result (λ e. e ≡ expr.Map name list body) }
     {
         let each = Iteration { name, list, body };
         Ok(Expr {
@@ -181,7 +181,7 @@ impl Expr {
 
     /// `(filter NAME LIST BODY)`
     pub fn filter(alloc: Global, name: Text, list: Expr, body: Expr) -> Result<Expr, AllocError>
-        ensures { IfOk result (λ e. e ≡ term.filter name list body) }
+        ensures { IfOk result (λ e. e ≡ expr.Filter name list body) }
     {
         let each = Iteration { name, list, body };
         Ok(Expr {
@@ -198,7 +198,7 @@ impl Expr {
         opening: Expr,
         body: Expr,
     ) -> Result<Expr, AllocError>
-        ensures { IfOk result (λ e. e ≡ term.fold name list accumulator opening body) }
+        ensures { IfOk result (λ e. e ≡ expr.Fold name list accumulator opening body) }
     {
         let fold = Folding {
             name,
@@ -214,7 +214,7 @@ impl Expr {
 
     /// An operator over the values of its parts.
     pub fn operation(operator: Operator, parts: Vec<Expr>) -> Expr
-        ensures { result ≡ term.operation operator (term.terms_of parts.items) }
+        ensures { result ≡ expr.Operation operator (expr.expr_trees_of parts.items) }
     {
         Expr {
             kind: ExprKind::Operation(operator, parts),
@@ -223,7 +223,7 @@ impl Expr {
 
     /// `(FUNCTION E ...)`
     pub fn call(name: Text, parts: Vec<Expr>) -> Expr
-        ensures { result ≡ term.call name (term.terms_of parts.items) }
+        ensures { result ≡ expr.Call name (expr.expr_trees_of parts.items) }
     {
         Expr {
             kind: ExprKind::Call(name, parts),

@@ -1,14 +1,14 @@
 //! Statements of the application language, which is our own profile's.
 ghost use Rattle.std.specs.Prelude.{◌≡◌, [], ◌∷◌, ◌++◌, IfOk, OnOk, OnErr};
 ghost use Rattle.cl_syntax.specs.Expr.{bindings_of};
-ghost use Rattle.cl_syntax.specs.Statement as statement;
+ghost use Rattle.cl_syntax.specs.ActTree as act;
 
 use crate::expressions::{Binding, Expr};
 use cl_value::Text;
 use std::alloc::{AllocError, Global};
 use std::marker::Model;
 
-/// A statement, which contracts see as its tree, a `Statement`.
+/// A statement, which contracts see as its tree, a `ActTree`.
 #[cycle(act)]
 #[derive(Drop)]
 pub struct Act {
@@ -52,17 +52,17 @@ pub struct ActChoice {
 }
 
 impl Model for Act {
-    ghost use Rattle.cl_syntax.specs.Statement.{Statement};
-    ghost use Rattle.cl_syntax.specs.StatementCode.{coded_statement};
+    ghost use Rattle.cl_syntax.specs.ActTree.{ActTree};
+    ghost use Rattle.cl_syntax.specs.ActTreeCode.{coded_act_tree};
 
-    ghost Value = { Statement };
+    ghost Value = { ActTree };
 
-    ghost coded = { coded_statement };
+    ghost coded = { coded_act_tree };
 
-    ghost use Rattle.cl_syntax.specs.Statement.{nodes};
-    ghost use Rattle.cl_syntax.specs.Act.{statement_of};
+    ghost use Rattle.cl_syntax.specs.ActTree.{nodes};
+    ghost use Rattle.cl_syntax.specs.Act.{act_tree_of};
 
-    ghost view = { λ a. statement_of a.kind };
+    ghost view = { λ a. act_tree_of a.kind };
 
     ghost size = { nodes };
 
@@ -75,16 +75,16 @@ impl Model for Act {
 impl Model for Acts {
     ghost use Rattle.std.specs.Prelude.{List};
     ghost use Rattle.std.specs.Coded.{coded_list};
-    ghost use Rattle.cl_syntax.specs.Statement.{Statement, statements_of, nodes_all};
-    ghost use Rattle.cl_syntax.specs.StatementCode.{coded_statement};
+    ghost use Rattle.cl_syntax.specs.ActTree.{ActTree, act_trees_of, nodes_all};
+    ghost use Rattle.cl_syntax.specs.ActTreeCode.{coded_act_tree};
 
-    ghost Value = { List Statement };
+    ghost Value = { List ActTree };
 
-    ghost coded = { coded_list coded_statement };
+    ghost coded = { coded_list coded_act_tree };
 
     ghost view = { λ a. a.items.items };
 
-    ghost size = { λ ss. nodes_all (statements_of ss) };
+    ghost size = { λ ss. nodes_all (act_trees_of ss) };
 
     ghost use Rattle.std.proofs.Common.{arith};
     ghost use Rattle.cl_syntax.specs.ActFalls.{most-nodes};
@@ -95,7 +95,7 @@ impl Model for Acts {
 impl Act {
     /// `(setf (slot NAME) E)`
     pub fn setf(name: Text, part: Expr) -> Act
-        ensures { result ≡ statement.setf name part }
+        ensures { result ≡ act.Setf name part }
     {
         Act {
             kind: ActKind::Setf(name, part),
@@ -104,7 +104,7 @@ impl Act {
 
     /// `(reply E)`
     pub fn reply(part: Expr) -> Act
-        ensures { result ≡ statement.reply part }
+        ensures { result ≡ act.Reply part }
     {
         Act {
             kind: ActKind::Reply(part),
@@ -113,7 +113,7 @@ impl Act {
 
     /// `(if TEST THEN ELSE)`
     pub fn choice(alloc: Global, test: Expr, then: Act, other: Act) -> Result<Act, AllocError>
-        ensures { IfOk result (λ a. a ≡ statement.choice test then other) }
+        ensures { IfOk result (λ a. a ≡ act.If test then other) }
     {
         let choice = ActChoice { test, then, other };
         Ok(Act {
@@ -123,7 +123,7 @@ impl Act {
 
     /// `(when TEST STATEMENT ...)`
     pub fn when(test: Expr, body: Acts) -> Act
-        ensures { result ≡ statement.when test (statement.statements_of body) }
+        ensures { result ≡ act.When test (act.act_trees_of body) }
     {
         Act {
             kind: ActKind::When(test, body),
@@ -133,7 +133,7 @@ impl Act {
     /// `(let ((NAME E) ...) STATEMENT ...)`: each binding sees the earlier ones.
     pub fn bind(bindings: Vec<Binding>, body: Acts) -> Act
         ensures { result
-            ≡ statement.bind (bindings_of bindings.items) (statement.statements_of body) }
+            ≡ act.Let (bindings_of bindings.items) (act.act_trees_of body) }
     {
         Act {
             kind: ActKind::Let(bindings, body),
@@ -142,7 +142,7 @@ impl Act {
 
     /// `(dolist (NAME LIST) STATEMENT ...)`
     pub fn each(name: Text, list: Expr, body: Acts) -> Act
-        ensures { result ≡ statement.each name list (statement.statements_of body) }
+        ensures { result ≡ act.Dolist name list (act.act_trees_of body) }
     {
         Act {
             kind: ActKind::Dolist(name, list, body),
@@ -151,7 +151,7 @@ impl Act {
 
     /// `(progn STATEMENT ...)`
     pub fn sequence(body: Acts) -> Act
-        ensures { result ≡ statement.sequence (statement.statements_of body) }
+        ensures { result ≡ act.Progn (act.act_trees_of body) }
     {
         Act {
             kind: ActKind::Progn(body),

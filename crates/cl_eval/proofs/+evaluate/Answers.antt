@@ -2,9 +2,9 @@ use Rattle.std.proofs.Common.{◌≡◌, ◌∙◌, ◌∷◌, ◌++◌, [], suc
 use Rattle.std.proofs.lemmas.Result.{err_from_is_err_and}
 use Rattle.cl_value.specs.Value.{data_of}
 use Rattle.cl_value.specs.declared.Value.{Value}
-use Rattle.cl_syntax.specs.Term as term
-use Rattle.cl_syntax.specs.Term.{none, part, terms_of}
-use Rattle.cl_syntax.specs.Expr.{term_of, bindings_of}
+use Rattle.cl_syntax.specs.ExprTree as expr
+use Rattle.cl_syntax.specs.ExprTree.{none, part, expr_trees_of}
+use Rattle.cl_syntax.specs.Expr.{expr_tree_of, bindings_of}
 use Rattle.cl_syntax.specs.declared.expressions.Binding.{Binding}
 use Rattle.cl_syntax.specs.declared.expressions.Expr.{Expr}
 use Rattle.cl_eval.specs.Scope.{variables_of}
@@ -28,7 +28,7 @@ evaluation::evaluate_each-returns-in_err-value-clause-meaning g t c =
     let step : drop at c.args.parts.now ≡ c.part-item.result ∷ rest =
     drop-cons c.args.parts.now at c.part-item.result c.loop-part-test.true ∙ ap (λ (a : Expr). a ∷ rest) (sym c.part-item.is) in
     rw (p.1, p.2, ← c.loop-part.invariant.meaning, step)
-    (stop-each (means c.args.left c.args.context.now.budget c.args.context.now.app.now c.args.context.now.slots.now) (grows-means c.args.left c.args.context.now.budget c.args.context.now.app.now c.args.context.now.slots.now) c.args.level (variables_of c.args.scope.now) c.part-item.result (terms_of rest) (map data_of c.loop-part.values.items) c.in_err-value.field-0.0 c.evaluate.new.meter c.loop-part.meter.cost c.loop-part.meter.deepest
+    (stop-each (means c.args.left c.args.context.now.budget c.args.context.now.app.now c.args.context.now.slots.now) (grows-means c.args.left c.args.context.now.budget c.args.context.now.app.now c.args.context.now.slots.now) c.args.level (variables_of c.args.scope.now) c.part-item.result (expr_trees_of rest) (map data_of c.loop-part.values.items) c.in_err-value.field-0.0 c.evaluate.new.meter c.loop-part.meter.cost c.loop-part.meter.deepest
     c.in_err-value.ensures.meaning)
 
 pub evaluation::evaluate_each-returns-in_err-push-clause-meaning : goal.evaluation::evaluate_each-returns-in_err-push-clause-meaning
@@ -39,7 +39,7 @@ evaluation::evaluate_each-returns-in_err-push-clause-meaning g t c =
     let step : drop at c.args.parts.now ≡ c.part-item.result ∷ rest =
     drop-cons c.args.parts.now at c.part-item.result c.loop-part-test.true ∙ ap (λ (a : Expr). a ∷ rest) (sym c.part-item.is) in
     rw (p.1, p.2, ← c.loop-part.invariant.meaning, step)
-    (full-each (means c.args.left c.args.context.now.budget c.args.context.now.app.now c.args.context.now.slots.now) (grows-means c.args.left c.args.context.now.budget c.args.context.now.app.now c.args.context.now.slots.now) c.args.level (variables_of c.args.scope.now) c.part-item.result (terms_of rest) (map data_of c.loop-part.values.items) (data_of c.in_ok-value.value) c.loop-part.meter.cost c.loop-part.meter.deepest c.evaluate.new.meter.cost c.evaluate.new.meter.deepest
+    (full-each (means c.args.left c.args.context.now.budget c.args.context.now.app.now c.args.context.now.slots.now) (grows-means c.args.left c.args.context.now.budget c.args.context.now.app.now c.args.context.now.slots.now) c.args.level (variables_of c.args.scope.now) c.part-item.result (expr_trees_of rest) (map data_of c.loop-part.values.items) (data_of c.in_ok-value.value) c.loop-part.meter.cost c.loop-part.meter.deepest c.evaluate.new.meter.cost c.evaluate.new.meter.deepest
     c.in_ok-value.ensures.meaning)
 
 pub evaluation::evaluate_every-returns-in_err-truth-clause-meaning : goal.evaluation::evaluate_every-returns-in_err-truth-clause-meaning
@@ -50,7 +50,7 @@ evaluation::evaluate_every-returns-in_err-truth-clause-meaning g t c =
     let step : drop at c.args.parts.now ≡ c.part-item.result ∷ rest =
     drop-cons c.args.parts.now at c.part-item.result c.loop-part-test.true ∙ ap (λ (a : Expr). a ∷ rest) (sym c.part-item.is) in
     rw (p.1, p.2, ← c.loop-part.invariant.meaning, step)
-    (stop-every (means c.args.left c.args.context.now.budget c.args.context.now.app.now c.args.context.now.slots.now) (grows-means c.args.left c.args.context.now.budget c.args.context.now.app.now c.args.context.now.slots.now) c.args.level (variables_of c.args.scope.now) c.part-item.result (terms_of rest) c.in_err-truth.field-0.0 c.evaluate_test.new.meter c.loop-part.meter.cost c.loop-part.meter.deepest
+    (stop-every (means c.args.left c.args.context.now.budget c.args.context.now.app.now c.args.context.now.slots.now) (grows-means c.args.left c.args.context.now.budget c.args.context.now.app.now c.args.context.now.slots.now) c.args.level (variables_of c.args.scope.now) c.part-item.result (expr_trees_of rest) c.in_err-truth.field-0.0 c.evaluate_test.new.meter c.loop-part.meter.cost c.loop-part.meter.deepest
     c.in_err-truth.ensures.meaning)
 
 pub evaluation::evaluate_some-returns-in_err-truth-clause-meaning : goal.evaluation::evaluate_some-returns-in_err-truth-clause-meaning
@@ -61,7 +61,7 @@ evaluation::evaluate_some-returns-in_err-truth-clause-meaning g t c =
     let step : drop at c.args.parts.now ≡ c.part-item.result ∷ rest =
     drop-cons c.args.parts.now at c.part-item.result c.loop-part-test.true ∙ ap (λ (a : Expr). a ∷ rest) (sym c.part-item.is) in
     rw (p.1, p.2, ← c.loop-part.invariant.meaning, step)
-    (stop-some (means c.args.left c.args.context.now.budget c.args.context.now.app.now c.args.context.now.slots.now) (grows-means c.args.left c.args.context.now.budget c.args.context.now.app.now c.args.context.now.slots.now) c.args.level (variables_of c.args.scope.now) c.part-item.result (terms_of rest) c.in_err-truth.field-0.0 c.evaluate_test.new.meter c.loop-part.meter.cost c.loop-part.meter.deepest
+    (stop-some (means c.args.left c.args.context.now.budget c.args.context.now.app.now c.args.context.now.slots.now) (grows-means c.args.left c.args.context.now.budget c.args.context.now.app.now c.args.context.now.slots.now) c.args.level (variables_of c.args.scope.now) c.part-item.result (expr_trees_of rest) c.in_err-truth.field-0.0 c.evaluate_test.new.meter c.loop-part.meter.cost c.loop-part.meter.deepest
     c.in_err-truth.ensures.meaning)
 
 pub bindings::evaluate_let-returns-in_err-frame-clause-meaning : goal.bindings::evaluate_let-returns-in_err-frame-clause-meaning
@@ -107,7 +107,7 @@ bindings::evaluate_bindings-returns-in_err-bind-clause-meaning g t c =
 pub calls::evaluate_operation-returns-in_err-first-in-len2-clause-meaning : goal.calls::evaluate_operation-returns-in_err-first-in-len2-clause-meaning
 calls::evaluate_operation-returns-in_err-first-in-len2-clause-meaning g t c =
     let p = err_from_is_err_and c.from_residual-in_err-first-in-len2.result c.from_residual-in_err-first-in-len2.ensures.1 in
-    let whole : terms_of c.args.parts.now ≡ part c.first-item.result (part c.second-item.result none) =
+    let whole : expr_trees_of c.args.parts.now ≡ part c.first-item.result (part c.second-item.result none) =
     pair c.args.parts.now c.first-item.result c.second-item.result (omega (arith, c.in-len2.len_at_least)) (omega (arith, c.in-len2.len_below)) c.first-item.is c.second-item.is in
     rw (p.1, p.2, whole)
     (stop-first c.args.context.now.app.now (means c.args.left c.args.context.now.budget c.args.context.now.app.now c.args.context.now.slots.now) (grows-means c.args.left c.args.context.now.budget c.args.context.now.app.now c.args.context.now.slots.now) c.args.level (variables_of c.args.scope.now) c.args.operator.now c.first-item.result (part c.second-item.result none) c.in_err-first-in-len2.field-0.0 c.evaluate-in-len2.new.meter c.args.meter.now.cost c.args.meter.now.deepest
@@ -116,7 +116,7 @@ calls::evaluate_operation-returns-in_err-first-in-len2-clause-meaning g t c =
 pub calls::evaluate_operation-returns-in_err-second-in-len2-clause-meaning : goal.calls::evaluate_operation-returns-in_err-second-in-len2-clause-meaning
 calls::evaluate_operation-returns-in_err-second-in-len2-clause-meaning g t c =
     let p = err_from_is_err_and c.from_residual-in_err-second-in-len2.result c.from_residual-in_err-second-in-len2.ensures.1 in
-    let whole : terms_of c.args.parts.now ≡ part c.first-item.result (part c.second-item.result none) =
+    let whole : expr_trees_of c.args.parts.now ≡ part c.first-item.result (part c.second-item.result none) =
     pair c.args.parts.now c.first-item.result c.second-item.result (omega (arith, c.in-len2.len_at_least)) (omega (arith, c.in-len2.len_below)) c.first-item.is c.second-item.is in
     rw (p.1, p.2, whole)
     (stop-second c.args.context.now.app.now (means c.args.left c.args.context.now.budget c.args.context.now.app.now c.args.context.now.slots.now) (grows-means c.args.left c.args.context.now.budget c.args.context.now.app.now c.args.context.now.slots.now) c.args.level (variables_of c.args.scope.now) c.args.operator.now c.first-item.result c.second-item.result none (data_of c.in_ok-first-in-len2.first) c.in_err-second-in-len2.field-0.0 c.evaluate-in-len2-2.new.meter c.args.meter.now.cost c.args.meter.now.deepest c.evaluate-in-len2.new.meter.cost c.evaluate-in-len2.new.meter.deepest
@@ -124,7 +124,7 @@ calls::evaluate_operation-returns-in_err-second-in-len2-clause-meaning g t c =
 
 pub calls::evaluate_operation-returns-in_ok-second-in-len2-clause-meaning : goal.calls::evaluate_operation-returns-in_ok-second-in-len2-clause-meaning
 calls::evaluate_operation-returns-in_ok-second-in-len2-clause-meaning g t c =
-    let whole : terms_of c.args.parts.now ≡ part c.first-item.result (part c.second-item.result none) =
+    let whole : expr_trees_of c.args.parts.now ≡ part c.first-item.result (part c.second-item.result none) =
     pair c.args.parts.now c.first-item.result c.second-item.result (omega (arith, c.in-len2.len_at_least)) (omega (arith, c.in-len2.len_below)) c.first-item.is c.second-item.is in
     rw whole
     (done-second c.args.context.now.app.now (means c.args.left c.args.context.now.budget c.args.context.now.app.now c.args.context.now.slots.now) c.args.level (variables_of c.args.scope.now) c.args.operator.now c.first-item.result c.second-item.result (data_of c.in_ok-first-in-len2.first) (data_of c.in_ok-second-in-len2.second) c.operate-in-len2.result c.evaluate-in-len2-2.new.meter c.args.meter.now.cost c.args.meter.now.deepest c.evaluate-in-len2.new.meter.cost c.evaluate-in-len2.new.meter.deepest
@@ -133,7 +133,7 @@ calls::evaluate_operation-returns-in_ok-second-in-len2-clause-meaning g t c =
 pub evaluation::evaluate_parts-returns-in_err-evaluate_test-in-If-clause-meaning : goal.evaluation::evaluate_parts-returns-in_err-evaluate_test-in-If-clause-meaning
 evaluation::evaluate_parts-returns-in_err-evaluate_test-in-If-clause-meaning g t c =
     let p = err_from_is_err_and c.from_residual-in_err-evaluate_test-in-If.result c.from_residual-in_err-evaluate_test-in-If.ensures.1 in
-    let whole : c.args.expr.now ≡ term.choice c.in-If.choice.value.test c.in-If.choice.value.then c.in-If.choice.value.other = sym c.expr.view_is ∙ ap term_of c.in-If.is in
+    let whole : c.args.expr.now ≡ expr.If c.in-If.choice.value.test c.in-If.choice.value.then c.in-If.choice.value.other = sym c.expr.view_is ∙ ap expr_tree_of c.in-If.is in
     let stop = rw c.deref.ensures at c.in_err-evaluate_test-in-If.ensures.meaning in
     rw (p.1, p.2, whole)
     (stop-choice c.args.context.now.app.now c.args.context.now.slots.now (means c.args.left c.args.context.now.budget c.args.context.now.app.now c.args.context.now.slots.now) (grows-means c.args.left c.args.context.now.budget c.args.context.now.app.now c.args.context.now.slots.now) c.args.level (variables_of c.args.scope.now) c.in-If.choice.value.test c.in-If.choice.value.then c.in-If.choice.value.other c.in_err-evaluate_test-in-If.field-0.0 c.evaluate_test.new.meter c.args.meter.now.cost c.args.meter.now.deepest stop)
@@ -141,7 +141,7 @@ evaluation::evaluate_parts-returns-in_err-evaluate_test-in-If-clause-meaning g t
 pub evaluation::evaluate_parts-returns-in_err-list-in-Map-clause-meaning : goal.evaluation::evaluate_parts-returns-in_err-list-in-Map-clause-meaning
 evaluation::evaluate_parts-returns-in_err-list-in-Map-clause-meaning g t c =
     let p = err_from_is_err_and c.from_residual-in_err-list-in-Map.result c.from_residual-in_err-list-in-Map.ensures.1 in
-    let whole : c.args.expr.now ≡ term.map c.in-Map.each.value.name c.in-Map.each.value.list c.in-Map.each.value.body = sym c.expr.view_is ∙ ap term_of c.in-Map.is in
+    let whole : c.args.expr.now ≡ expr.Map c.in-Map.each.value.name c.in-Map.each.value.list c.in-Map.each.value.body = sym c.expr.view_is ∙ ap expr_tree_of c.in-Map.is in
     let stop = rw c.deref-in-Map.ensures at c.in_err-list-in-Map.ensures.meaning in
     rw (p.1, p.2, whole)
     (stop-map c.args.context.now.app.now c.args.context.now.slots.now (means c.args.left c.args.context.now.budget c.args.context.now.app.now c.args.context.now.slots.now) (grows-means c.args.left c.args.context.now.budget c.args.context.now.app.now c.args.context.now.slots.now) c.args.level (variables_of c.args.scope.now) c.in-Map.each.value.name c.in-Map.each.value.list c.in-Map.each.value.body c.in_err-list-in-Map.field-0.0 c.evaluate_list.new.meter c.args.meter.now.cost c.args.meter.now.deepest stop)
@@ -149,7 +149,7 @@ evaluation::evaluate_parts-returns-in_err-list-in-Map-clause-meaning g t c =
 pub evaluation::evaluate_parts-returns-in_err-list-in-Filter-clause-meaning : goal.evaluation::evaluate_parts-returns-in_err-list-in-Filter-clause-meaning
 evaluation::evaluate_parts-returns-in_err-list-in-Filter-clause-meaning g t c =
     let p = err_from_is_err_and c.from_residual-in_err-list-in-Filter.result c.from_residual-in_err-list-in-Filter.ensures.1 in
-    let whole : c.args.expr.now ≡ term.filter c.in-Filter.each.value.name c.in-Filter.each.value.list c.in-Filter.each.value.body = sym c.expr.view_is ∙ ap term_of c.in-Filter.is in
+    let whole : c.args.expr.now ≡ expr.Filter c.in-Filter.each.value.name c.in-Filter.each.value.list c.in-Filter.each.value.body = sym c.expr.view_is ∙ ap expr_tree_of c.in-Filter.is in
     let stop = rw c.deref-in-Filter.ensures at c.in_err-list-in-Filter.ensures.meaning in
     rw (p.1, p.2, whole)
     (stop-filter c.args.context.now.app.now c.args.context.now.slots.now (means c.args.left c.args.context.now.budget c.args.context.now.app.now c.args.context.now.slots.now) (grows-means c.args.left c.args.context.now.budget c.args.context.now.app.now c.args.context.now.slots.now) c.args.level (variables_of c.args.scope.now) c.in-Filter.each.value.name c.in-Filter.each.value.list c.in-Filter.each.value.body c.in_err-list-in-Filter.field-0.0 c.evaluate_list-in-Filter.new.meter c.args.meter.now.cost c.args.meter.now.deepest stop)
@@ -157,7 +157,7 @@ evaluation::evaluate_parts-returns-in_err-list-in-Filter-clause-meaning g t c =
 pub evaluation::evaluate_parts-returns-in_err-list-in-Fold-clause-meaning : goal.evaluation::evaluate_parts-returns-in_err-list-in-Fold-clause-meaning
 evaluation::evaluate_parts-returns-in_err-list-in-Fold-clause-meaning g t c =
     let p = err_from_is_err_and c.from_residual-in_err-list-in-Fold.result c.from_residual-in_err-list-in-Fold.ensures.1 in
-    let whole : c.args.expr.now ≡ term.fold c.in-Fold.fold.value.name c.in-Fold.fold.value.list c.in-Fold.fold.value.accumulator c.in-Fold.fold.value.opening c.in-Fold.fold.value.body = sym c.expr.view_is ∙ ap term_of c.in-Fold.is in
+    let whole : c.args.expr.now ≡ expr.Fold c.in-Fold.fold.value.name c.in-Fold.fold.value.list c.in-Fold.fold.value.accumulator c.in-Fold.fold.value.opening c.in-Fold.fold.value.body = sym c.expr.view_is ∙ ap expr_tree_of c.in-Fold.is in
     let stop = rw c.deref-in-Fold.ensures at c.in_err-list-in-Fold.ensures.meaning in
     rw (p.1, p.2, whole)
     (stop-fold c.args.context.now.app.now c.args.context.now.slots.now (means c.args.left c.args.context.now.budget c.args.context.now.app.now c.args.context.now.slots.now) (grows-means c.args.left c.args.context.now.budget c.args.context.now.app.now c.args.context.now.slots.now) c.args.level (variables_of c.args.scope.now) c.in-Fold.fold.value.name c.in-Fold.fold.value.accumulator c.in-Fold.fold.value.list c.in-Fold.fold.value.opening c.in-Fold.fold.value.body c.in_err-list-in-Fold.field-0.0 c.evaluate-in-Fold.new.meter c.args.meter.now.cost c.args.meter.now.deepest stop)
@@ -165,7 +165,7 @@ evaluation::evaluate_parts-returns-in_err-list-in-Fold-clause-meaning g t c =
 pub evaluation::evaluate_parts-returns-in_err-opening-in-Fold-clause-meaning : goal.evaluation::evaluate_parts-returns-in_err-opening-in-Fold-clause-meaning
 evaluation::evaluate_parts-returns-in_err-opening-in-Fold-clause-meaning g t c =
     let p = err_from_is_err_and c.from_residual-in_err-opening-in-Fold.result c.from_residual-in_err-opening-in-Fold.ensures.1 in
-    let whole : c.args.expr.now ≡ term.fold c.in-Fold.fold.value.name c.in-Fold.fold.value.list c.in-Fold.fold.value.accumulator c.in-Fold.fold.value.opening c.in-Fold.fold.value.body = sym c.expr.view_is ∙ ap term_of c.in-Fold.is in
+    let whole : c.args.expr.now ≡ expr.Fold c.in-Fold.fold.value.name c.in-Fold.fold.value.list c.in-Fold.fold.value.accumulator c.in-Fold.fold.value.opening c.in-Fold.fold.value.body = sym c.expr.view_is ∙ ap expr_tree_of c.in-Fold.is in
     let listed = rw c.deref-in-Fold.ensures at c.in_ok-list-in-Fold.ensures.meaning in
     let stop = rw c.deref-in-Fold-2.ensures at c.in_err-opening-in-Fold.ensures.meaning in
     rw (p.1, p.2, whole)
@@ -175,7 +175,7 @@ evaluation::evaluate_parts-returns-in_err-opening-in-Fold-clause-meaning g t c =
 pub evaluation::evaluate_parts-returns-in_err-list-in-Fold-2-clause-meaning : goal.evaluation::evaluate_parts-returns-in_err-list-in-Fold-2-clause-meaning
 evaluation::evaluate_parts-returns-in_err-list-in-Fold-2-clause-meaning g t c =
     let p = err_from_is_err_and c.from_residual-in_err-list-in-Fold-2.result c.from_residual-in_err-list-in-Fold-2.ensures.1 in
-    let whole : c.args.expr.now ≡ term.fold c.in-Fold.fold.value.name c.in-Fold.fold.value.list c.in-Fold.fold.value.accumulator c.in-Fold.fold.value.opening c.in-Fold.fold.value.body = sym c.expr.view_is ∙ ap term_of c.in-Fold.is in
+    let whole : c.args.expr.now ≡ expr.Fold c.in-Fold.fold.value.name c.in-Fold.fold.value.list c.in-Fold.fold.value.accumulator c.in-Fold.fold.value.opening c.in-Fold.fold.value.body = sym c.expr.view_is ∙ ap expr_tree_of c.in-Fold.is in
     let listed = rw c.deref-in-Fold.ensures at c.in_ok-list-in-Fold.ensures.meaning in
     let opened = rw c.deref-in-Fold-2.ensures at c.in_ok-opening-in-Fold.ensures.meaning in
     rw (p.1, p.2, whole)
@@ -185,10 +185,10 @@ evaluation::evaluate_parts-returns-in_err-list-in-Fold-2-clause-meaning g t c =
 pub evaluation::evaluate_parts-returns-in_err-values-in-Call-clause-meaning : goal.evaluation::evaluate_parts-returns-in_err-values-in-Call-clause-meaning
 evaluation::evaluate_parts-returns-in_err-values-in-Call-clause-meaning g t c =
     let p = err_from_is_err_and c.from_residual-in_err-values-in-Call.result c.from_residual-in_err-values-in-Call.ensures.1 in
-    let whole : c.args.expr.now ≡ term.call c.in-Call.name (terms_of c.in-Call.parts.items) = sym c.expr.view_is ∙ ap term_of c.in-Call.is in
+    let whole : c.args.expr.now ≡ expr.Call c.in-Call.name (expr_trees_of c.in-Call.parts.items) = sym c.expr.view_is ∙ ap expr_tree_of c.in-Call.is in
     let stop = rw c.deref-in-Call.ensures.value at c.in_err-values-in-Call.ensures.meaning in
     rw (p.1, p.2, whole)
-    (stop-call c.args.context.now.app.now c.args.context.now.slots.now (means c.args.left c.args.context.now.budget c.args.context.now.app.now c.args.context.now.slots.now) (grows-means c.args.left c.args.context.now.budget c.args.context.now.app.now c.args.context.now.slots.now) c.args.level (variables_of c.args.scope.now) c.in-Call.name (terms_of c.in-Call.parts.items) c.in_err-values-in-Call.field-0.0 c.evaluate_each.new.meter c.args.meter.now.cost c.args.meter.now.deepest stop)
+    (stop-call c.args.context.now.app.now c.args.context.now.slots.now (means c.args.left c.args.context.now.budget c.args.context.now.app.now c.args.context.now.slots.now) (grows-means c.args.left c.args.context.now.budget c.args.context.now.app.now c.args.context.now.slots.now) c.args.level (variables_of c.args.scope.now) c.in-Call.name (expr_trees_of c.in-Call.parts.items) c.in_err-values-in-Call.field-0.0 c.evaluate_each.new.meter c.args.meter.now.cost c.args.meter.now.deepest stop)
 
 pub traversal::filter_over-returns-in_err-kept-clause-meaning : goal.traversal::filter_over-returns-in_err-kept-clause-meaning
 traversal::filter_over-returns-in_err-kept-clause-meaning g t c =

@@ -1,6 +1,6 @@
 use Rattle.std.proofs.Common.{◌≡◌, ◌+◌, ◌*◌, ◌^◌, ◌++◌, [], drop, map}
 use Rattle.cl_value.specs.Value.{data_of}
-use Rattle.cl_syntax.specs.Term.{terms_of}
+use Rattle.cl_syntax.specs.ExprTree.{expr_trees_of}
 use Rattle.cl_syntax.specs.Expr.{bindings_of}
 use Rattle.cl_eval.specs.Scope.{variables_of}
 use Rattle.cl_eval.specs.Meaning.{bound, each, every, some, mapped, filtered, folded, means}
@@ -50,7 +50,7 @@ decreases-calls::call g l = l.left * 2 ^ 66 + 1
 
 abbrev pub invariant-evaluation::evaluate_each-loop-part : goal.invariant-evaluation::evaluate_each-loop-part
 invariant-evaluation::evaluate_each-loop-part g l = record {
-  meaning : each (means l.left l.context.budget l.context.app.now l.context.slots.now) l.level (variables_of l.scope) (terms_of (drop l.part-index l.parts)) (map data_of l.values.items) l.meter.cost l.meter.deepest ≡ each (means l.left l.context.budget l.context.app.now l.context.slots.now) l.level (variables_of l.scope) (terms_of l.parts) [] l.initial.meter.cost l.initial.meter.deepest;
+  meaning : each (means l.left l.context.budget l.context.app.now l.context.slots.now) l.level (variables_of l.scope) (expr_trees_of (drop l.part-index l.parts)) (map data_of l.values.items) l.meter.cost l.meter.deepest ≡ each (means l.left l.context.budget l.context.app.now l.context.slots.now) l.level (variables_of l.scope) (expr_trees_of l.parts) [] l.initial.meter.cost l.initial.meter.deepest;
   ledger : l.steps + l.initial.meter.cost ≡ l.initial.steps + l.meter.cost;
 }
 
@@ -62,13 +62,13 @@ invariant-bindings::evaluate_bindings-loop-binding g l = record {
 
 abbrev pub invariant-evaluation::evaluate_every-loop-part : goal.invariant-evaluation::evaluate_every-loop-part
 invariant-evaluation::evaluate_every-loop-part g l = record {
-  meaning : every (means l.left l.context.budget l.context.app.now l.context.slots.now) l.level (variables_of l.scope) (terms_of (drop l.part-index l.parts)) l.meter.cost l.meter.deepest ≡ every (means l.left l.context.budget l.context.app.now l.context.slots.now) l.level (variables_of l.scope) (terms_of l.parts) l.initial.meter.cost l.initial.meter.deepest;
+  meaning : every (means l.left l.context.budget l.context.app.now l.context.slots.now) l.level (variables_of l.scope) (expr_trees_of (drop l.part-index l.parts)) l.meter.cost l.meter.deepest ≡ every (means l.left l.context.budget l.context.app.now l.context.slots.now) l.level (variables_of l.scope) (expr_trees_of l.parts) l.initial.meter.cost l.initial.meter.deepest;
   ledger : l.steps + l.initial.meter.cost ≡ l.initial.steps + l.meter.cost;
 }
 
 abbrev pub invariant-evaluation::evaluate_some-loop-part : goal.invariant-evaluation::evaluate_some-loop-part
 invariant-evaluation::evaluate_some-loop-part g l = record {
-  meaning : some (means l.left l.context.budget l.context.app.now l.context.slots.now) l.level (variables_of l.scope) (terms_of (drop l.part-index l.parts)) l.meter.cost l.meter.deepest ≡ some (means l.left l.context.budget l.context.app.now l.context.slots.now) l.level (variables_of l.scope) (terms_of l.parts) l.initial.meter.cost l.initial.meter.deepest;
+  meaning : some (means l.left l.context.budget l.context.app.now l.context.slots.now) l.level (variables_of l.scope) (expr_trees_of (drop l.part-index l.parts)) l.meter.cost l.meter.deepest ≡ some (means l.left l.context.budget l.context.app.now l.context.slots.now) l.level (variables_of l.scope) (expr_trees_of l.parts) l.initial.meter.cost l.initial.meter.deepest;
   ledger : l.steps + l.initial.meter.cost ≡ l.initial.steps + l.meter.cost;
 }
 

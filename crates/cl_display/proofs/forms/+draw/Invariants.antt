@@ -1,6 +1,6 @@
 use Rattle.std.proofs.Common.{◌≡◌, ◌+◌, ◌*◌, ◌^◌, drop, map}
 use Rattle.cl_value.specs.Value.{data_of}
-use Rattle.cl_syntax.specs.Form.{forms_of}
+use Rattle.cl_syntax.specs.ShapeTree.{shape_trees_of}
 use Rattle.cl_eval.specs.Scope.{variables_of}
 use Rattle.cl_display.specs.Drawings.{drawing_of}
 use Rattle.cl_display.specs.Fresh.{draws, for_each, in_order}
@@ -35,12 +35,12 @@ decreases-call g l = l.left * 2 ^ 66 + 3
 
 abbrev pub invariant-draw_all-loop-form : goal.invariant-draw_all-loop-form
 invariant-draw_all-loop-form g l = record {
-  meaning : in_order (draws l.left l.context.budget l.context.app.now l.context.slots.now) l.level (variables_of l.scope) (forms_of (drop l.form-index l.forms)) (drawing_of l.drawing) l.meter.cost l.meter.deepest ≡ in_order (draws l.left l.context.budget l.context.app.now l.context.slots.now) l.level (variables_of l.scope) (forms_of l.forms) (drawing_of l.initial.drawing) l.initial.meter.cost l.initial.meter.deepest;
+  meaning : in_order (draws l.left l.context.budget l.context.app.now l.context.slots.now) l.level (variables_of l.scope) (shape_trees_of (drop l.form-index l.forms)) (drawing_of l.drawing) l.meter.cost l.meter.deepest ≡ in_order (draws l.left l.context.budget l.context.app.now l.context.slots.now) l.level (variables_of l.scope) (shape_trees_of l.forms) (drawing_of l.initial.drawing) l.initial.meter.cost l.initial.meter.deepest;
   ledger : l.steps + l.initial.meter.cost ≡ l.initial.steps + l.meter.cost;
 }
 
 abbrev pub invariant-draw_each-loop-item : goal.invariant-draw_each-loop-item
 invariant-draw_each-loop-item g l = record {
-  meaning : for_each (draws l.left l.context.budget l.context.app.now l.context.slots.now) l.level (variables_of l.scope) l.name (forms_of l.body) (map data_of (drop l.item-index l.list)) (drawing_of l.drawing) l.meter.cost l.meter.deepest ≡ for_each (draws l.left l.context.budget l.context.app.now l.context.slots.now) l.level (variables_of l.scope) l.name (forms_of l.body) (map data_of l.list) (drawing_of l.initial.drawing) l.initial.meter.cost l.initial.meter.deepest;
+  meaning : for_each (draws l.left l.context.budget l.context.app.now l.context.slots.now) l.level (variables_of l.scope) l.name (shape_trees_of l.body) (map data_of (drop l.item-index l.list)) (drawing_of l.drawing) l.meter.cost l.meter.deepest ≡ for_each (draws l.left l.context.budget l.context.app.now l.context.slots.now) l.level (variables_of l.scope) l.name (shape_trees_of l.body) (map data_of l.list) (drawing_of l.initial.drawing) l.initial.meter.cost l.initial.meter.deepest;
   ledger : l.steps + l.initial.meter.cost ≡ l.initial.steps + l.meter.cost;
 }

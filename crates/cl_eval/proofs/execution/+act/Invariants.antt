@@ -1,6 +1,6 @@
 use Rattle.std.proofs.Common.{◌≡◌, ◌+◌, ◌*◌, ◌^◌, drop, map}
 use Rattle.cl_value.specs.Value.{data_of}
-use Rattle.cl_syntax.specs.Statement.{statements_of}
+use Rattle.cl_syntax.specs.ActTree.{act_trees_of}
 use Rattle.cl_eval.specs.Scope.{variables_of}
 use Rattle.cl_eval.specs.Statements.{does, in_turn, for_each}
 use Rattle.cl_eval.proofs.execution.+act.Given as goal
@@ -22,12 +22,12 @@ decreases-act_each g l = l.left * 2 ^ 66 + 3
 
 abbrev pub invariant-act_all-loop-statement : goal.invariant-act_all-loop-statement
 invariant-act_all-loop-statement g l = record {
-  meaning : in_turn (does l.left l.program.budget l.program.app.now (g.T.Types.holds l.program.types.now)) l.level (variables_of l.scope) (statements_of (drop l.statement-index l.statements)) l.effects l.meter.cost l.meter.deepest ≡ in_turn (does l.left l.program.budget l.program.app.now (g.T.Types.holds l.program.types.now)) l.level (variables_of l.scope) (statements_of l.statements) l.initial.effects l.initial.meter.cost l.initial.meter.deepest;
+  meaning : in_turn (does l.left l.program.budget l.program.app.now (g.T.Types.holds l.program.types.now)) l.level (variables_of l.scope) (act_trees_of (drop l.statement-index l.statements)) l.effects l.meter.cost l.meter.deepest ≡ in_turn (does l.left l.program.budget l.program.app.now (g.T.Types.holds l.program.types.now)) l.level (variables_of l.scope) (act_trees_of l.statements) l.initial.effects l.initial.meter.cost l.initial.meter.deepest;
   ledger : l.steps + l.initial.meter.cost ≡ l.initial.steps + l.meter.cost;
 }
 
 abbrev pub invariant-act_each-loop-item : goal.invariant-act_each-loop-item
 invariant-act_each-loop-item g l = record {
-  meaning : for_each (does l.left l.program.budget l.program.app.now (g.T.Types.holds l.program.types.now)) l.level (variables_of l.scope) l.name (statements_of l.body) (map data_of (drop l.item-index l.list)) l.effects l.meter.cost l.meter.deepest ≡ for_each (does l.left l.program.budget l.program.app.now (g.T.Types.holds l.program.types.now)) l.level (variables_of l.scope) l.name (statements_of l.body) (map data_of l.list) l.initial.effects l.initial.meter.cost l.initial.meter.deepest;
+  meaning : for_each (does l.left l.program.budget l.program.app.now (g.T.Types.holds l.program.types.now)) l.level (variables_of l.scope) l.name (act_trees_of l.body) (map data_of (drop l.item-index l.list)) l.effects l.meter.cost l.meter.deepest ≡ for_each (does l.left l.program.budget l.program.app.now (g.T.Types.holds l.program.types.now)) l.level (variables_of l.scope) l.name (act_trees_of l.body) (map data_of l.list) l.initial.effects l.initial.meter.cost l.initial.meter.deepest;
   ledger : l.steps + l.initial.meter.cost ≡ l.initial.steps + l.meter.cost;
 }

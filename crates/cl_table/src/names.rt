@@ -1,6 +1,6 @@
 //! Names in a row.
 ghost use Rattle.std.specs.Prelude.{◌≡◌, ◌↔◌, [], ◌∷◌, ◌++◌, length, OnOk, OnErr, IsTrue};
-ghost use Rattle.cl_syntax.specs.Names.{place_of};
+ghost use Rattle.cl_table.specs.Names.{place_of};
 
 use cl_value::Text;
 use std::alloc::{AllocError, Global};
@@ -60,10 +60,10 @@ impl Names {
         self.items.is_empty()
     }
 
-    /// The first place of the name, counted from 0.
-    pub fn place_of(&self, name: &Text) -> Option<usize>
+    /// The first place of the name, counted from 0, which takes no memory.
+    pub fn place_of(&self, name: &[u8]) -> Option<usize>
         ensures { result ≡ place_of name.now self.now }
     {
-        self.items.iter().position(|other| name == other)
+        self.items.iter().position(|other| name == other.as_slice())
     }
 }

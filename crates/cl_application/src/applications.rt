@@ -1,13 +1,12 @@
 //! Applications.
 ghost use Rattle.std.specs.Prelude.{◌≡◌, option_map};
-ghost use Rattle.cl_syntax.specs.App.{record_named, function_named, display_named, command_named, slot_type, pane_forms};
+ghost use Rattle.cl_application.specs.App.{record_named, function_named, display_named, command_named, slot_type, pane_named, pane_of, pane_forms, HasPane};
 
 use crate::declarations::{
-    CommandDecl, Commands, DisplayDecl, Displays, FrameDecl, FunctionDecl, Functions, RecordDecl,
-    Records,
+    CommandDecl, Commands, DisplayDecl, Displays, FrameDecl, FunctionDecl, Functions, PaneDecl,
+    RecordDecl, Records,
 };
-use crate::display_forms::Shape;
-use crate::type_specs::TypeSpec;
+use cl_syntax::{Shape, TypeSpec};
 use cl_value::Text;
 
 /// An application: what its text declares.
@@ -22,35 +21,35 @@ pub struct App {
 
 impl App {
     /// The record of that name.
-    pub fn record(&self, name: &Text) -> Option<&RecordDecl>
+    pub fn record(&self, name: &[u8]) -> Option<&RecordDecl>
         ensures { option_map (λ d. d.now) result ≡ record_named name.now self.now }
     {
         self.records.get(name)
     }
 
     /// The function of that name.
-    pub fn function(&self, name: &Text) -> Option<&FunctionDecl>
+    pub fn function(&self, name: &[u8]) -> Option<&FunctionDecl>
         ensures { option_map (λ d. d.now) result ≡ function_named name.now self.now }
     {
         self.functions.get(name)
     }
 
     /// The display of that name.
-    pub fn shape_of(&self, name: &Text) -> Option<&DisplayDecl>
+    pub fn shape_of(&self, name: &[u8]) -> Option<&DisplayDecl>
         ensures { option_map (λ d. d.now) result ≡ display_named name.now self.now }
     {
         self.displays.get(name)
     }
 
     /// The command of that name.
-    pub fn command(&self, name: &Text) -> Option<&CommandDecl>
+    pub fn command(&self, name: &[u8]) -> Option<&CommandDecl>
         ensures { option_map (λ d. d.now) result ≡ command_named name.now self.now }
     {
         self.commands.get(name)
     }
 
     /// The type of the frame's slot of that name.
-    pub fn slot_spec(&self, name: &Text) -> Option<&TypeSpec>
+    pub fn slot_spec(&self, name: &[u8]) -> Option<&TypeSpec>
         ensures { option_map (λ t. t.now) result ≡ slot_type name.now self.now }
     {
         match self.frame.slots.get(name) {
@@ -59,11 +58,30 @@ impl App {
         }
     }
 
-    /// The body of the display that the frame's pane names; no forms where there is no such display.
+    /// The pane of the frame that has that name.
+    pub fn pane(&self, name: &[u8]) -> Option<&PaneDecl>
+        ensures { option_map (λ p. p.now) result ≡ pane_named name.now self.now }
+    {
+        self.frame.panes.get(name)
+    }
+
+    /// The first pane of the frame, which is the only one that is built so far.
+    pub fn first_pane(&self) -> &PaneDecl
+        requires { HasPane self.now }
+        ensures { result.now ≡ pane_of self.now }
+    {
+        let Some(pane) = self.frame.panes.at(0) else {
+            unreachable!()
+        };
+        pane
+    }
+
+    /// The body of the display that the first pane names; no forms where there is no such display.
     pub fn pane_forms(&self) -> &[Shape]
+        requires { HasPane self.now }
         ensures { result.now ≡ pane_forms self.now }
     {
-        match self.shape_of(&self.frame.pane.display) {
+        match self.shape_of(self.first_pane().display.as_slice()) {
             Some(display) => display.body.as_slice(),
             None => &[],
         }

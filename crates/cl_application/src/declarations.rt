@@ -1,10 +1,6 @@
 //! What an application text declares. In each declaration `at` is its offset in the text in bytes.
-use crate::display_forms::Shapes;
-use crate::expressions::Expr;
-use crate::names::Names;
-use crate::statements::Acts;
-use crate::tables::{Declared, Table};
-use crate::type_specs::TypeSpec;
+use cl_syntax::{Acts, Expr, Shapes, TypeSpec};
+use cl_table::{Declared, Names, Table};
 use cl_value::Text;
 
 /// `(define-record NAME FIELD ...)`
@@ -48,6 +44,9 @@ pub type Commands = Table<CommandDecl>;
 /// The slots of a frame by name.
 pub type SlotDecls = Table<SlotDecl>;
 
+/// The panes of a frame by name.
+pub type PaneDecls = Table<PaneDecl>;
+
 impl Declared for RecordDecl {
     ghost own_name = { λ d. d.name };
 
@@ -88,6 +87,14 @@ impl Declared for SlotDecl {
     }
 }
 
+impl Declared for PaneDecl {
+    ghost own_name = { λ d. d.name };
+
+    fn name(&self) -> &Text {
+        &self.name
+    }
+}
+
 /// `(define-command NAME () STATEMENT ...)`. The command-line name is made from the symbol: a leading
 /// `com-` is dropped, hyphens become spaces, and the first letter of each word becomes a capital.
 #[derive(Drop)]
@@ -98,7 +105,7 @@ pub struct CommandDecl {
     pub at: u32,
 }
 
-/// `(define-application-frame NAME (:size WIDTH HEIGHT) (:slots SLOT ...) (:panes PANE))`, sizes in
+/// `(define-application-frame NAME (:size WIDTH HEIGHT) (:slots SLOT ...) (:panes PANE ...))`, sizes in
 /// cells.
 #[derive(Drop)]
 pub struct FrameDecl {
@@ -106,7 +113,7 @@ pub struct FrameDecl {
     pub width: u16,
     pub height: u16,
     pub slots: SlotDecls,
-    pub pane: PaneDecl,
+    pub panes: PaneDecls,
     pub at: u32,
 }
 
@@ -118,6 +125,7 @@ pub struct SlotDecl {
     pub spec: TypeSpec,
     pub opening: Expr,
     pub opening_at: u32,
+    pub at: u32,
 }
 
 /// `(NAME X Y WIDTH HEIGHT DISPLAY)`, in cells of the frame.
@@ -129,4 +137,5 @@ pub struct PaneDecl {
     pub width: u16,
     pub height: u16,
     pub display: Text,
+    pub at: u32,
 }

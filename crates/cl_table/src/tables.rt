@@ -1,10 +1,11 @@
-//! Tables of declarations.
+//! Tables of what is declared by name.
 ghost use Rattle.std.specs.Prelude.{◌≡◌, ◌↔◌, [], ◌∷◌, ◌++◌, length, None, OnOk, OnErr, IfErr, IsTrue, option_map};
-ghost use Rattle.cl_syntax.specs.Names.{declared_at, named};
+ghost use Rattle.cl_table.specs.Names.{declared_at, named, with_first, IsTable};
 
+use crate::asked::Asked;
 use cl_value::Text;
 use indexmap::IndexMap;
-use std::alloc::Global;
+use std::alloc::{AllocError, Global};
 use std::marker::Model;
 
 /// What is declared under a name.
@@ -19,17 +20,21 @@ pub trait Declared: Drop {
 }
 
 /// Declarations by name, seen as the list of the names with their declarations, in order of declaration.
+/// Each stands under its own name, and no two under one.
 #[derive(Drop)]
-pub struct Table<D> {
+pub struct Table<D: Declared> {
     entries: IndexMap<Text, D>,
 }
 
-impl<D> Model for Table<D> {
+impl<D: Declared> Model for Table<D> {
     ghost use Rattle.std.specs.Prelude.{ℕ, List};
+    ghost use Rattle.cl_table.specs.Names.{IsTable};
 
     ghost Value = { List (List ℕ × D) };
 
     ghost view = { λ t. t.entries.entries };
+
+    ghost invariant = { λ t. IsTable D.own_name t.entries.entries };
 }
 
 impl<D: Declared> Table<D> {
@@ -42,11 +47,18 @@ impl<D: Declared> Table<D> {
         }
     }
 
-    /// The declaration of that name.
-    pub fn get(&self, name: &Text) -> Option<&D>
+    /// The declaration of that name, which takes no memory.
+    pub fn get(&self, name: &[u8]) -> Option<&D>
         ensures { option_map (λ d. d.now) result ≡ named name.now self.now }
     {
-        self.entries.get(name)
+        self.entries.get(Asked { name })
+    }
+
+    /// What is true of each table: a declaration stands under its own name, and no two under one.
+    pub fn is_table(&self)
+        ensures { IsTable D.own_name self.now }
+    {
+        let _ = &self.entries;
     }
 
     /// The declaration at a place in order of declaration, from 0.
@@ -74,6 +86,17 @@ impl<D: Declared> Table<D> {
             Ok(_) => Ok(()),
             Err(failed) => Err(failed.value.1),
         }
+    }
+
+    /// Puts a declaration behind the others, where none has its name; of two of one name the first stays.
+    pub fn add_first(&mut self, declaration: D) -> Result<(), AllocError>
+        ensures ok { OnOk result (self.new ≡ with_first D.own_name self.old declaration) }
+        ensures err { OnErr result (self.new ≡ self.old) }
+    {
+        if self.get(declaration.name().as_slice()).is_some() {
+            return Ok(());
+        }
+        self.add(declaration).map_err(|_| AllocError)
     }
 
     /// How many declarations there are.

@@ -1,0 +1,54 @@
+-- What is found in an application.
+use Rattle.std.specs.Prelude.{◌<◌, ℕ, List, [], length, Option, Some, None}
+use Rattle.cl_syntax.specs.ShapeTree.{ShapeTree}
+use Rattle.cl_table.specs.Names.{named, declared_at}
+use Rattle.cl_application.specs.declared.applications.App.{App}
+use Rattle.cl_application.specs.declared.declarations.RecordDecl.{RecordDecl}
+use Rattle.cl_application.specs.declared.declarations.FunctionDecl.{FunctionDecl}
+use Rattle.cl_application.specs.declared.declarations.DisplayDecl.{DisplayDecl}
+use Rattle.cl_application.specs.declared.declarations.CommandDecl.{CommandDecl}
+use Rattle.cl_application.specs.declared.declarations.SlotDecl.{SlotDecl}
+use Rattle.cl_application.specs.declared.declarations.PaneDecl.{PaneDecl}
+use Rattle.cl_syntax.specs.declared.type_specs.TypeSpec.{TypeSpec}
+
+abbrev pub record_named : List ℕ → App → Option RecordDecl
+record_named x app = named x app.records
+
+abbrev pub function_named : List ℕ → App → Option FunctionDecl
+function_named x app = named x app.functions
+
+abbrev pub display_named : List ℕ → App → Option DisplayDecl
+display_named x app = named x app.displays
+
+abbrev pub command_named : List ℕ → App → Option CommandDecl
+command_named x app = named x app.commands
+
+abbrev pub type_of_slot : Option SlotDecl → Option TypeSpec
+type_of_slot None = None
+type_of_slot (Some d) = Some d.spec
+
+-- the type of the slot of that name; None where there is no such slot
+abbrev pub slot_type : List ℕ → App → Option TypeSpec
+slot_type x app = type_of_slot (named x app.frame.slots)
+
+abbrev pub body_of : Option DisplayDecl → List ShapeTree
+body_of None = []
+body_of (Some d) = d.body
+
+abbrev pub pane_named : List ℕ → App → Option PaneDecl
+pane_named x app = named x app.frame.panes
+
+abbrev pub HasPane : App → Type 0
+HasPane app = 0 < length app.frame.panes
+
+abbrev pub first_of : Option PaneDecl → PaneDecl
+first_of None = record { name = []; x = 0; y = 0; width = 0; height = 0; display = []; at = 0 }
+first_of (Some p) = p
+
+-- the first pane of the frame, which is the only one that is built so far; one without cells where there is none
+abbrev pub pane_of : App → PaneDecl
+pane_of app = first_of (declared_at 0 app.frame.panes)
+
+-- the forms of the display that the pane names; none where there is no such display
+abbrev pub pane_forms : App → List ShapeTree
+pane_forms app = body_of (display_named (pane_of app).display app)
