@@ -1,4 +1,4 @@
--- The parts of a list are the data that it was made of, and steps over them.
+-- The parts of a list are the data that it was parse_make_parts of, and steps over them.
 use Rattle.std.proofs.Common.{◌≡◌, List, [], ◌∷◌, refl, ap}
 use Rattle.cl_forms.specs.Datum.{Datum, datums_of, in_order}
 

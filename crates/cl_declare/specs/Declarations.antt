@@ -9,15 +9,15 @@ use Rattle.cl_application.specs.declared.declarations.DisplayDecl.{DisplayDecl}
 use Rattle.cl_application.specs.declared.declarations.CommandDecl.{CommandDecl}
 use Rattle.cl_forms.specs.Datum.{Datum, number, literal, word, quoted, stray, list, in_order, parts_of, offset, datums_of}
 use Rattle.cl_forms.specs.LineNames.{line_name_of}
-use Rattle.cl_forms.specs.Load.{Load, ◌>>=◌, give, refuse}
+use Rattle.cl_expressions.specs.Load.{Load, ◌>>=◌, give, refuse}
 use Rattle.cl_forms.specs.Words.{is_name}
-use Rattle.cl_forms.specs.Scopes.{Names, in_sight}
-use Rattle.cl_forms.specs.World.{are_names, name_in, symbol_of}
-use Rattle.cl_forms.specs.Expressions.{expr_of}
-use Rattle.cl_forms.specs.declared.worlds.World.{World}
-use Rattle.cl_declare.specs.Displays.{shapes_of}
-use Rattle.cl_declare.specs.Commands.{acts_of}
-use Rattle.cl_declare.specs.Frames.{first_symbol, behind_first, frame_row}
+use Rattle.cl_expressions.specs.Scopes.{Names, in_sight}
+use Rattle.cl_forms.specs.Naming.{are_names, name_in, symbol_of}
+use Rattle.cl_expressions.specs.Expressions.{parse_expression}
+use Rattle.cl_words.specs.declared.signatures.Signatures.{Signatures}
+use Rattle.cl_bodies.specs.Displays.{parse_shapes}
+use Rattle.cl_bodies.specs.Commands.{parse_acts}
+use Rattle.cl_declare.specs.Frames.{first_symbol, behind_first, parse_frame}
 use Rattle.cl_declare.specs.declared.declarations.Declarations.{Declarations}
 use Rattle.cl_declare.specs.declared.frames.FrameForm.{FrameForm}
 use Rattle.cl_declare.specs.declared.heads.DeclarationKind.{DeclarationKind}
@@ -70,27 +70,27 @@ variables_in d = in_sight (names_of (parts_of d)) []
 -- ---- declarations one by one
 
 -- `(define-record NAME FIELD FIELD ...)`
-abbrev pub record_row : ℕ → List Datum → Load RecordDecl
-record_row at [] = refuse 6 at
-record_row at (n ∷ []) = refuse 6 at
-record_row at (n ∷ f ∷ fs) =
+abbrev pub parse_record : ℕ → List Datum → Load RecordDecl
+parse_record at [] = refuse 6 at
+parse_record at (n ∷ []) = refuse 6 at
+parse_record at (n ∷ f ∷ fs) =
     if are_names (n ∷ f ∷ fs) then give (record { name = symbol_of n; fields = names_of (f ∷ fs); at = at }) else refuse 6 at
 
 -- `(define-function NAME (PARAMETER ...) BODY)`
-abbrev pub function_row : World → ℕ → List Datum → Load FunctionDecl
-function_row w at (n ∷ ps ∷ e ∷ []) =
+abbrev pub parse_function : Signatures → ℕ → List Datum → Load FunctionDecl
+parse_function w at (n ∷ ps ∷ e ∷ []) =
     if is_some (name_in n) && is_name_list ps
-    then (expr_of w e (variables_in ps) >>= λ t. give (record { name = symbol_of n; parameters = names_of (parts_of ps); body = t; at = at }))
+    then (parse_expression w e (variables_in ps) >>= λ t. give (record { name = symbol_of n; parameters = names_of (parts_of ps); body = t; at = at }))
     else refuse 6 at
-function_row w at parts = refuse 6 at
+parse_function w at parts = refuse 6 at
 
 -- `(define-display NAME (PARAMETER ...) FORM ...)`
-abbrev pub display_row : World → ℕ → List Datum → Load DisplayDecl
-display_row w at [] = refuse 6 at
-display_row w at (n ∷ []) = refuse 6 at
-display_row w at (n ∷ ps ∷ body) =
+abbrev pub parse_display : Signatures → ℕ → List Datum → Load DisplayDecl
+parse_display w at [] = refuse 6 at
+parse_display w at (n ∷ []) = refuse 6 at
+parse_display w at (n ∷ ps ∷ body) =
     if is_some (name_in n) && is_name_list ps
-    then (shapes_of w (datums_of body) (variables_in ps) >>= λ fs. give (record { name = symbol_of n; parameters = names_of (parts_of ps); body = fs; at = at }))
+    then (parse_shapes w (datums_of body) (variables_in ps) >>= λ fs. give (record { name = symbol_of n; parameters = names_of (parts_of ps); body = fs; at = at }))
     else refuse 6 at
 
 abbrev pub is_command_key : List ℕ → Bool
@@ -112,17 +112,17 @@ none_yet [] = give tt
 none_yet (d ∷ ds) = refuse 0 (offset d)
 
 -- a command of this name, with the keys behind it
-abbrev pub command_named : World → ℕ → List ℕ → List Datum → Datum → List Datum → Load CommandDecl
+abbrev pub command_named : Signatures → ℕ → List ℕ → List Datum → Datum → List Datum → Load CommandDecl
 command_named w at x keys arguments body =
-    none_yet keys >>= λ u. none_yet (parts_of arguments) >>= λ v. acts_of w (datums_of body) [] >>= λ acts.
+    none_yet keys >>= λ u. none_yet (parts_of arguments) >>= λ v. parse_acts w (datums_of body) [] >>= λ acts.
     give (record { name = x; line_name = line_name_of x; body = acts; at = at })
 
-abbrev pub command_listed : World → ℕ → List Datum → Datum → List Datum → Load CommandDecl
+abbrev pub command_listed : Signatures → ℕ → List Datum → Datum → List Datum → Load CommandDecl
 command_listed w at parts arguments body =
     if is_command_head parts then command_named w at (first_symbol parts) (behind_first parts) arguments body else refuse 6 at
 
 -- the name of a command: `NAME`, or `(NAME KEY VALUE ...)`
-abbrev pub command_headed : World → ℕ → Datum → Datum → List Datum → Load CommandDecl
+abbrev pub command_headed : Signatures → ℕ → Datum → Datum → List Datum → Load CommandDecl
 command_headed w at (list ds head_at) arguments body = command_listed w at (in_order ds) arguments body
 command_headed w at (word x head_at) arguments body = if is_name x then command_named w at x [] arguments body else refuse 6 at
 command_headed w at (number z head_at) arguments body = refuse 6 at
@@ -131,10 +131,10 @@ command_headed w at (quoted x head_at name_at) arguments body = refuse 6 at
 command_headed w at (stray head_at) arguments body = refuse 6 at
 
 -- `(define-command NAME () STATEMENT ...)`
-abbrev pub command_row : World → ℕ → List Datum → Load CommandDecl
-command_row w at [] = refuse 6 at
-command_row w at (n ∷ []) = refuse 6 at
-command_row w at (n ∷ arguments ∷ body) = if is_list arguments then command_headed w at n arguments body else refuse 6 at
+abbrev pub parse_command : Signatures → ℕ → List Datum → Load CommandDecl
+parse_command w at [] = refuse 6 at
+parse_command w at (n ∷ []) = refuse 6 at
+parse_command w at (n ∷ arguments ∷ body) = if is_list arguments then command_headed w at n arguments body else refuse 6 at
 
 -- ---- all declarations; of two of one name in one table the first counts
 
@@ -164,21 +164,21 @@ with_command s d = if is_some (named d.name s.commands) then s else record s { c
 abbrev pub with_frame : Declared → FrameForm → Declared
 with_frame s f = record s { frames = s.frames ++ f ∷ [] }
 
-abbrev pub declared_as : World → DeclarationKind → ℕ → List Datum → Declared → Load Declared
-declared_as w Record at parts s = record_row at parts >>= λ d. give (with_record s d)
-declared_as w Function at parts s = function_row w at parts >>= λ d. give (with_function s d)
-declared_as w Display at parts s = display_row w at parts >>= λ d. give (with_display s d)
-declared_as w Command at parts s = command_row w at parts >>= λ d. give (with_command s d)
-declared_as w Frame at parts s = frame_row w at parts >>= λ f. give (with_frame s f)
+abbrev pub declared_as : Signatures → DeclarationKind → ℕ → List Datum → Declared → Load Declared
+declared_as w Record at parts s = parse_record at parts >>= λ d. give (with_record s d)
+declared_as w Function at parts s = parse_function w at parts >>= λ d. give (with_function s d)
+declared_as w Display at parts s = parse_display w at parts >>= λ d. give (with_display s d)
+declared_as w Command at parts s = parse_command w at parts >>= λ d. give (with_command s d)
+declared_as w Frame at parts s = parse_frame w at parts >>= λ f. give (with_frame s f)
 
 abbrev pub no_declaration : List ℕ → ℕ → Load Declared
 no_declaration x head_at = if is_later_declaration x then refuse 0 head_at else refuse 5 head_at
 
-abbrev pub declared_by_head : World → Option DeclarationKind → List ℕ → ℕ → ℕ → List Datum → Declared → Load Declared
+abbrev pub declared_by_head : Signatures → Option DeclarationKind → List ℕ → ℕ → ℕ → List Datum → Declared → Load Declared
 declared_by_head w (Some kind) x head_at at parts s = declared_as w kind at parts s
 declared_by_head w None x head_at at parts s = no_declaration x head_at
 
-abbrev pub declared_headed : World → Datum → ℕ → List Datum → Declared → Load Declared
+abbrev pub declared_headed : Signatures → Datum → ℕ → List Datum → Declared → Load Declared
 declared_headed w (word x head_at) at parts s = declared_by_head w (kind_named x) x head_at at parts s
 declared_headed w (number z head_at) at parts s = refuse 6 at
 declared_headed w (literal x head_at) at parts s = refuse 6 at
@@ -186,15 +186,15 @@ declared_headed w (quoted x head_at name_at) at parts s = refuse 6 at
 declared_headed w (stray head_at) at parts s = refuse 6 at
 declared_headed w (list ds head_at) at parts s = refuse 6 at
 
-abbrev pub declared_listed : World → ℕ → List Datum → Declared → Load Declared
+abbrev pub declared_listed : Signatures → ℕ → List Datum → Declared → Load Declared
 declared_listed w at [] s = refuse 6 at
 declared_listed w at (h ∷ parts) s = declared_headed w h at parts s
 
 -- a declaration is a list that begins with its head; an atom is none
-abbrev pub declared_by : World → Datum → Declared → Load Declared
+abbrev pub declared_by : Signatures → Datum → Declared → Load Declared
 declared_by w d s = declared_listed w (offset d) (parts_of d) s
 
-abbrev pub declared_all : World → List Datum → Declared → Load Declared
+abbrev pub declared_all : Signatures → List Datum → Declared → Load Declared
 declared_all w [] s = give s
 declared_all w (d ∷ ds) s = declared_by w d s >>= λ t. declared_all w ds t
 
@@ -202,5 +202,5 @@ abbrev pub nothing_read : Declared
 nothing_read = record { records = []; functions = []; displays = []; commands = []; frames = [] }
 
 -- what the forms of a text declare
-abbrev pub declarations_of : World → List Datum → Load Declared
+abbrev pub declarations_of : Signatures → List Datum → Load Declared
 declarations_of w ds = declared_all w ds nothing_read

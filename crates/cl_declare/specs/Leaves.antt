@@ -1,6 +1,6 @@
 -- What a step of the reading leaves in what it was lent.
 use Rattle.std.specs.Prelude.{◌≡◌, Result, Ok, Err}
-use Rattle.cl_forms.specs.Load.{Unknown, Fault}
+use Rattle.cl_expressions.specs.Load.{Unknown, Fault}
 use Rattle.cl_forms.specs.declared.refusals.LoadRefusal.{LoadRefusal}
 use Rattle.cl_forms.specs.declared.refusals.LoadRefusal.TheVariants.{Refused, Memory}
 

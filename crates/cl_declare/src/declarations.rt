@@ -2,14 +2,15 @@
 ghost use Rattle.std.specs.Prelude.{◌≡◌, ◌∷◌, ◌++◌, [], OnOk, OnErr, map};
 ghost use Rattle.cl_forms.specs.Datum.{word};
 ghost use Rattle.cl_forms.specs.DatumView.{datum_of};
-ghost use Rattle.cl_forms.specs.Load.{Gives, Unknown, itself};
+ghost use Rattle.cl_expressions.specs.Load.{Gives, Unknown, itself};
 ghost use Rattle.cl_declare.specs.Declarations.{with_record, with_function, with_display, with_command, with_frame, declared_as, declared_of, declared_headed, declared_listed, declared_by, declarations_of};
 ghost use Rattle.cl_declare.specs.Leaves.{Leaves};
 
-use crate::frames::{FrameForm, frame_row};
+use crate::frames::{FrameForm, parse_frame};
 use crate::heads::{DeclarationKind, is_later_declaration, kind_named};
-use crate::rows::{command_row, display_row, function_row, record_row};
-use cl_forms::{Datum, LoadRefusal, World};
+use crate::rows::{parse_command, parse_display, parse_function, parse_record};
+use cl_forms::{Datum, LoadRefusal};
+use cl_words::Signatures;
 use cl_application::{CommandDecl, Commands, DisplayDecl, Displays, FunctionDecl, Functions, RecordDecl, Records};
 use cl_value::Text;
 use std::alloc::{AllocError, Global};
@@ -28,12 +29,12 @@ pub struct Declarations {
 /// not declared is noted.
 pub fn declarations_in(
     alloc: Global,
-    world: &World,
+    signatures: &Signatures,
     forms: &[Datum],
     unknown: &mut Option<u32>,
 ) -> Result<Declarations, LoadRefusal>
     ensures { Gives declared_of result unknown.new
-        (declarations_of world.now (map datum_of forms.now) unknown.old) }
+        (declarations_of signatures.now (map datum_of forms.now) unknown.old) }
 {
     let mut declarations = Declarations {
         records: Records::new(alloc),
@@ -43,20 +44,20 @@ pub fn declarations_in(
         frames: Vec::new(alloc),
     };
     for form in forms {
-        declare(alloc, world, form, &mut declarations, unknown)?;
+        declare(alloc, signatures, form, &mut declarations, unknown)?;
     }
     Ok(declarations)
 }
 
 fn declare(
     alloc: Global,
-    world: &World,
+    signatures: &Signatures,
     form: &Datum,
     declarations: &mut Declarations,
     unknown: &mut Option<u32>,
 ) -> Result<(), LoadRefusal>
     ensures { Leaves result (declared_of declarations.new) unknown.new
-        (declared_by world.now (datum_of form.now) (declared_of declarations.old) unknown.old) }
+        (declared_by signatures.now (datum_of form.now) (declared_of declarations.old) unknown.old) }
 {
     let at = form.offset();
     let Some((head, parts)) = form.parts().split_first() else {
@@ -65,7 +66,7 @@ fn declare(
     match head {
         Datum::Word(head, head_at) => declare_headed(
             alloc,
-            world,
+            signatures,
             head,
             *head_at,
             at,
@@ -83,7 +84,7 @@ fn declare(
 
 fn declare_headed(
     alloc: Global,
-    world: &World,
+    signatures: &Signatures,
     head: &Text,
     head_at: u32,
     at: u32,
@@ -92,11 +93,11 @@ fn declare_headed(
     unknown: &mut Option<u32>,
 ) -> Result<(), LoadRefusal>
     ensures { Leaves result (declared_of declarations.new) unknown.new
-        (declared_headed world.now (word head.now head_at) at (map datum_of parts.now)
+        (declared_headed signatures.now (word head.now head_at) at (map datum_of parts.now)
         (declared_of declarations.old) unknown.old) }
 {
     match kind_named(head.as_slice()) {
-        Some(kind) => declare_as(alloc, world, kind, at, parts, declarations, unknown),
+        Some(kind) => declare_as(alloc, signatures, kind, at, parts, declarations, unknown),
         None => {
             if is_later_declaration(head.as_slice()) {
                 Err(LoadRefusal::Refused(0, head_at))
@@ -109,7 +110,7 @@ fn declare_headed(
 
 fn declare_as(
     alloc: Global,
-    world: &World,
+    signatures: &Signatures,
     kind: DeclarationKind,
     at: u32,
     parts: &[Datum],
@@ -117,22 +118,22 @@ fn declare_as(
     unknown: &mut Option<u32>,
 ) -> Result<(), LoadRefusal>
     ensures { Leaves result (declared_of declarations.new) unknown.new
-        (declared_as world.now kind at (map datum_of parts.now) (declared_of declarations.old)
+        (declared_as signatures.now kind at (map datum_of parts.now) (declared_of declarations.old)
         unknown.old) }
 {
     match kind {
-        DeclarationKind::Record => declarations.add_record(record_row(alloc, at, parts)?)?,
+        DeclarationKind::Record => declarations.add_record(parse_record(alloc, at, parts)?)?,
         DeclarationKind::Function => {
-            declarations.add_function(function_row(alloc, world, at, parts, unknown)?)?
+            declarations.add_function(parse_function(alloc, signatures, at, parts, unknown)?)?
         }
         DeclarationKind::Display => {
-            declarations.add_display(display_row(alloc, world, at, parts, unknown)?)?
+            declarations.add_display(parse_display(alloc, signatures, at, parts, unknown)?)?
         }
         DeclarationKind::Command => {
-            declarations.add_command(command_row(alloc, world, at, parts, unknown)?)?
+            declarations.add_command(parse_command(alloc, signatures, at, parts, unknown)?)?
         }
         DeclarationKind::Frame => {
-            declarations.add_frame(frame_row(alloc, world, at, parts, unknown)?)?
+            declarations.add_frame(parse_frame(alloc, signatures, at, parts, unknown)?)?
         }
     }
     Ok(())

@@ -1,13 +1,14 @@
 //! The frame that a form declares.
 ghost use Rattle.std.specs.Prelude.{◌≡◌, map, option_map};
 ghost use Rattle.cl_forms.specs.DatumView.{datum_of};
-ghost use Rattle.cl_forms.specs.Load.{Gives, Unknown, itself};
-ghost use Rattle.cl_forms.specs.World.{name_in, symbol_of};
-ghost use Rattle.cl_declare.specs.Frames.{is_size, is_slot, are_slots, takes_none, may_be_shown, is_extent, is_pane, are_panes, is_frame, size_row, extent_row, place_row, pane_row, first_pane, frame_of, frame_row};
+ghost use Rattle.cl_expressions.specs.Load.{Gives, Unknown, itself};
+ghost use Rattle.cl_forms.specs.Naming.{name_in, symbol_of};
+ghost use Rattle.cl_declare.specs.Frames.{is_size, is_slot, are_slots, takes_none, may_be_shown, is_extent, is_pane, are_panes, is_frame, parse_size, parse_extent, parse_place, parse_pane, first_pane, frame_of, parse_frame};
 
 use crate::parts::{are_sections, is_number, number_of, section};
 use crate::slots::sections_read;
-use cl_forms::{Datum, LoadRefusal, World, fits, name_in, symbol_text};
+use cl_forms::{Datum, LoadRefusal, fits, name_in, symbol_text};
+use cl_words::Signatures;
 use cl_application::SlotDecls;
 use cl_value::Text;
 use std::alloc::Global;
@@ -43,23 +44,23 @@ pub struct Size {
 }
 
 /// `(define-application-frame NAME SECTION ...)`
-pub fn frame_row(
+pub fn parse_frame(
     alloc: Global,
-    world: &World,
+    signatures: &Signatures,
     at: u32,
     parts: &[Datum],
     unknown: &mut Option<u32>,
 ) -> Result<FrameForm, LoadRefusal>
     ensures { Gives itself result unknown.new
-        (frame_row world.now at (map datum_of parts.now) unknown.old) }
+        (parse_frame signatures.now at (map datum_of parts.now) unknown.old) }
 {
     match parts {
         [] => Err(LoadRefusal::Refused(6, at)),
         [name, sections @ ..] => {
-            if !is_frame(world, name, sections) {
+            if !is_frame(signatures, name, sections) {
                 return Err(LoadRefusal::Refused(6, at));
             }
-            let slots = sections_read(alloc, world, at, sections, unknown)?;
+            let slots = sections_read(alloc, signatures, at, sections, unknown)?;
             frame_of(alloc, at, name, sections, slots)
         }
     }
@@ -76,7 +77,7 @@ fn frame_of(
         → Gives itself result u
         (frame_of at (datum_of name.now) (map datum_of sections.now) slots u) }
 {
-    let size = size_row(at, section(b":size", sections))?;
+    let size = parse_size(at, section(b":size", sections))?;
     let pane = first_pane(alloc, at, section(b":panes", sections))?;
     let name = symbol_text(alloc, name)?;
     Ok(FrameForm {
@@ -91,8 +92,8 @@ fn frame_of(
 
 /// `(:size WIDTH HEIGHT)`
 #[tactic(auto, using(crate::proofs::FrameRows::size_counts))]
-fn size_row(at: u32, parts: &[Datum]) -> Result<Size, LoadRefusal>
-    ensures { (u : Unknown) → Gives itself result u (size_row at (map datum_of parts.now) u) }
+fn parse_size(at: u32, parts: &[Datum]) -> Result<Size, LoadRefusal>
+    ensures { (u : Unknown) → Gives itself result u (parse_size at (map datum_of parts.now) u) }
 {
     match parts {
         [width, height] => Ok(Size {
@@ -110,22 +111,22 @@ fn first_pane(alloc: Global, at: u32, panes: &[Datum]) -> Result<PaneForm, LoadR
 {
     match panes {
         [] => Err(LoadRefusal::Refused(6, at)),
-        [pane, ..] => pane_row(alloc, at, pane.offset(), pane.parts()),
+        [pane, ..] => parse_pane(alloc, at, pane.offset(), pane.parts()),
     }
 }
 
 /// `(NAME X Y WIDTH HEIGHT DISPLAY)`
-fn pane_row(alloc: Global, at: u32, pane_at: u32, parts: &[Datum]) -> Result<PaneForm, LoadRefusal>
+fn parse_pane(alloc: Global, at: u32, pane_at: u32, parts: &[Datum]) -> Result<PaneForm, LoadRefusal>
     ensures { (u : Unknown)
-        → Gives itself result u (pane_row at pane_at (map datum_of parts.now) u) }
+        → Gives itself result u (parse_pane at pane_at (map datum_of parts.now) u) }
 {
     match parts {
         [] => Err(LoadRefusal::Refused(6, at)),
-        [name, place @ ..] => place_row(alloc, at, pane_at, name, place),
+        [name, place @ ..] => parse_place(alloc, at, pane_at, name, place),
     }
 }
 
-fn place_row(
+fn parse_place(
     alloc: Global,
     at: u32,
     pane_at: u32,
@@ -134,18 +135,18 @@ fn place_row(
 ) -> Result<PaneForm, LoadRefusal>
     ensures { (u : Unknown)
         → Gives itself result u
-        (place_row at pane_at (symbol_of (datum_of name.now)) (map datum_of place.now) u) }
+        (parse_place at pane_at (symbol_of (datum_of name.now)) (map datum_of place.now) u) }
 {
     match place {
         [] => Err(LoadRefusal::Refused(6, at)),
         [_] => Err(LoadRefusal::Refused(6, at)),
-        [x, y, extent @ ..] => extent_row(alloc, at, pane_at, name, x, y, extent),
+        [x, y, extent @ ..] => parse_extent(alloc, at, pane_at, name, x, y, extent),
     }
 }
 
 /// The pane of this name at this place, with `WIDTH HEIGHT DISPLAY`.
 #[tactic(auto, using(crate::proofs::FrameRows::extent_counts))]
-fn extent_row(
+fn parse_extent(
     alloc: Global,
     at: u32,
     pane_at: u32,
@@ -155,7 +156,7 @@ fn extent_row(
     extent: &[Datum],
 ) -> Result<PaneForm, LoadRefusal>
     ensures { (u : Unknown)
-        → Gives itself result u (extent_row at pane_at (symbol_of (datum_of name.now))
+        → Gives itself result u (parse_extent at pane_at (symbol_of (datum_of name.now))
         (datum_of x.now) (datum_of y.now) (map datum_of extent.now) u) }
 {
     match extent {
@@ -176,14 +177,14 @@ fn extent_row(
 }
 
 /// Whether a frame is right but for the forms in its sections.
-fn is_frame(world: &World, name: &Datum, sections: &[Datum]) -> bool
-    ensures { result ≡ is_frame world.now (datum_of name.now) (map datum_of sections.now) }
+fn is_frame(signatures: &Signatures, name: &Datum, sections: &[Datum]) -> bool
+    ensures { result ≡ is_frame signatures.now (datum_of name.now) (map datum_of sections.now) }
 {
     name_in(name).is_some()
         && are_sections(sections)
         && is_size(section(b":size", sections))
         && are_slots(section(b":slots", sections))
-        && are_panes(world, section(b":panes", sections))
+        && are_panes(signatures, section(b":panes", sections))
 }
 
 #[tactic(auto, using(crate::proofs::FrameRows::is_size_counts))]
@@ -223,36 +224,36 @@ fn is_slot(parts: &[Datum]) -> bool
     }
 }
 
-fn are_panes(world: &World, panes: &[Datum]) -> bool
-    ensures { result ≡ are_panes world.now (map datum_of panes.now) }
+fn are_panes(signatures: &Signatures, panes: &[Datum]) -> bool
+    ensures { result ≡ are_panes signatures.now (map datum_of panes.now) }
 {
     match panes {
         [] => false,
-        [pane, ..] => is_pane(world, pane.parts()),
+        [pane, ..] => is_pane(signatures, pane.parts()),
     }
 }
 
-fn is_pane(world: &World, parts: &[Datum]) -> bool
-    ensures { result ≡ is_pane world.now (map datum_of parts.now) }
+fn is_pane(signatures: &Signatures, parts: &[Datum]) -> bool
+    ensures { result ≡ is_pane signatures.now (map datum_of parts.now) }
 {
     match parts {
         [] => false,
         [_] => false,
         [_, _] => false,
         [name, x, y, extent @ ..] => {
-            name_in(name).is_some() && is_number(x) && is_number(y) && is_extent(world, extent)
+            name_in(name).is_some() && is_number(x) && is_number(y) && is_extent(signatures, extent)
         }
     }
 }
 
 /// Whether these are `WIDTH HEIGHT DISPLAY`.
 #[tactic(auto, using(crate::proofs::FrameRows::is_extent_counts))]
-fn is_extent(world: &World, extent: &[Datum]) -> bool
-    ensures { result ≡ is_extent world.now (map datum_of extent.now) }
+fn is_extent(signatures: &Signatures, extent: &[Datum]) -> bool
+    ensures { result ≡ is_extent signatures.now (map datum_of extent.now) }
 {
     match extent {
         [width, height, display] => {
-            is_number(width) && is_number(height) && may_be_shown(world, name_in(display))
+            is_number(width) && is_number(height) && may_be_shown(signatures, name_in(display))
         }
         [] => false,
         [_] => false,
@@ -262,11 +263,11 @@ fn is_extent(world: &World, extent: &[Datum]) -> bool
 }
 
 /// Whether a pane may name this display: one that is declared takes no parameters.
-fn may_be_shown(world: &World, display: Option<&Text>) -> bool
-    ensures { result ≡ may_be_shown world.now (option_map (λ n. n.now) display.entry) }
+fn may_be_shown(signatures: &Signatures, display: Option<&Text>) -> bool
+    ensures { result ≡ may_be_shown signatures.now (option_map (λ n. n.now) display.entry) }
 {
     match display {
-        Some(name) => takes_none(world.display(name)),
+        Some(name) => takes_none(signatures.display(name)),
         None => false,
     }
 }

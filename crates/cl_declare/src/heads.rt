@@ -1,7 +1,7 @@
 //! The heads of declarations.
 ghost use Rattle.std.specs.Prelude.{◌≡◌};
 ghost use Rattle.cl_declare.specs.Declarations.{kind_named, is_type_declaration, is_later_declaration, is_command_key};
-ghost use Rattle.cl_declare.specs.SlotTypes.{is_option_key};
+ghost use Rattle.cl_bodies.specs.SlotTypes.{is_option_key};
 ghost use Rattle.cl_declare.specs.Frames.{is_section_key};
 
 /// The declarations that are built.

@@ -1,24 +1,23 @@
 //! Records, functions, displays and commands, as forms declare them.
 ghost use Rattle.std.specs.Prelude.{◌≡◌, ◌∷◌, [], map};
 ghost use Rattle.cl_forms.specs.DatumView.{datum_of};
-ghost use Rattle.cl_forms.specs.Load.{Gives, Unknown, itself};
-ghost use Rattle.cl_forms.specs.World.{symbol_of};
-ghost use Rattle.cl_declare.specs.Declarations.{record_row, function_row, display_row, command_row, command_headed, command_listed, command_named, none_yet};
+ghost use Rattle.cl_expressions.specs.Load.{Gives, Unknown, itself};
+ghost use Rattle.cl_forms.specs.Naming.{symbol_of};
+ghost use Rattle.cl_declare.specs.Declarations.{parse_record, parse_function, parse_display, parse_command, command_headed, command_listed, command_named, none_yet};
 ghost use Rattle.cl_declare.specs.Leaves.{Notes};
 
-use crate::display_forms::shapes_in;
+use cl_bodies::parse_shapes;
 use crate::parts::{is_command_head, is_list, is_name_list, names_in};
-use crate::statements::acts_in;
-use cl_forms::{
-    Datum, LoadRefusal, Scope, World, are_names, expr_in, is_name, line_name_of, name_in,
-    symbol_of, symbol_text,
-};
+use cl_bodies::parse_acts;
+use cl_expressions::{Scope, parse_expression};
+use cl_forms::{Datum, LoadRefusal, are_names, is_name, line_name_of, name_in, symbol_of, symbol_text};
+use cl_words::Signatures;
 use cl_application::{CommandDecl, DisplayDecl, FunctionDecl, RecordDecl};
 use std::alloc::Global;
 
 /// `(define-record NAME FIELD FIELD ...)`
-pub fn record_row(alloc: Global, at: u32, parts: &[Datum]) -> Result<RecordDecl, LoadRefusal>
-    ensures { (u : Unknown) → Gives itself result u (record_row at (map datum_of parts.now) u) }
+pub fn parse_record(alloc: Global, at: u32, parts: &[Datum]) -> Result<RecordDecl, LoadRefusal>
+    ensures { (u : Unknown) → Gives itself result u (parse_record at (map datum_of parts.now) u) }
 {
     match parts {
         [] => Err(LoadRefusal::Refused(6, at)),
@@ -38,15 +37,15 @@ pub fn record_row(alloc: Global, at: u32, parts: &[Datum]) -> Result<RecordDecl,
 
 /// `(define-function NAME (PARAMETER ...) BODY)`
 #[tactic(auto, using(crate::proofs::FrameRows::function_counts))]
-pub fn function_row(
+pub fn parse_function(
     alloc: Global,
-    world: &World,
+    signatures: &Signatures,
     at: u32,
     parts: &[Datum],
     unknown: &mut Option<u32>,
 ) -> Result<FunctionDecl, LoadRefusal>
     ensures { Gives itself result unknown.new
-        (function_row world.now at (map datum_of parts.now) unknown.old) }
+        (parse_function signatures.now at (map datum_of parts.now) unknown.old) }
 {
     match parts {
         [name, parameters, body] => {
@@ -55,7 +54,7 @@ pub fn function_row(
             }
             let parameters = names_in(alloc, parameters.parts())?;
             let variables = Scope::Names(parameters.as_slice(), &Scope::Empty);
-            let body = expr_in(alloc, world, body, &variables, unknown)?;
+            let body = parse_expression(alloc, signatures, body, &variables, unknown)?;
             Ok(FunctionDecl {
                 name: symbol_text(alloc, name)?,
                 parameters,
@@ -71,15 +70,15 @@ pub fn function_row(
 }
 
 /// `(define-display NAME (PARAMETER ...) FORM ...)`
-pub fn display_row(
+pub fn parse_display(
     alloc: Global,
-    world: &World,
+    signatures: &Signatures,
     at: u32,
     parts: &[Datum],
     unknown: &mut Option<u32>,
 ) -> Result<DisplayDecl, LoadRefusal>
     ensures { Gives itself result unknown.new
-        (display_row world.now at (map datum_of parts.now) unknown.old) }
+        (parse_display signatures.now at (map datum_of parts.now) unknown.old) }
 {
     match parts {
         [] => Err(LoadRefusal::Refused(6, at)),
@@ -90,7 +89,7 @@ pub fn display_row(
             }
             let parameters = names_in(alloc, parameters.parts())?;
             let variables = Scope::Names(parameters.as_slice(), &Scope::Empty);
-            let body = shapes_in(alloc, world, body, &variables, unknown)?;
+            let body = parse_shapes(alloc, signatures, body, &variables, unknown)?;
             Ok(DisplayDecl {
                 name: symbol_text(alloc, name)?,
                 parameters,
@@ -102,15 +101,15 @@ pub fn display_row(
 }
 
 /// `(define-command NAME () STATEMENT ...)`
-pub fn command_row(
+pub fn parse_command(
     alloc: Global,
-    world: &World,
+    signatures: &Signatures,
     at: u32,
     parts: &[Datum],
     unknown: &mut Option<u32>,
 ) -> Result<CommandDecl, LoadRefusal>
     ensures { Gives itself result unknown.new
-        (command_row world.now at (map datum_of parts.now) unknown.old) }
+        (parse_command signatures.now at (map datum_of parts.now) unknown.old) }
 {
     match parts {
         [] => Err(LoadRefusal::Refused(6, at)),
@@ -119,7 +118,7 @@ pub fn command_row(
             if !is_list(arguments) {
                 return Err(LoadRefusal::Refused(6, at));
             }
-            command_headed(alloc, world, at, head, arguments, body, unknown)
+            command_headed(alloc, signatures, at, head, arguments, body, unknown)
         }
     }
 }
@@ -128,7 +127,7 @@ pub fn command_row(
 #[tactic(auto, using(crate::proofs::DatumLists::data_in_order))]
 fn command_headed(
     alloc: Global,
-    world: &World,
+    signatures: &Signatures,
     at: u32,
     head: &Datum,
     arguments: &Datum,
@@ -136,13 +135,13 @@ fn command_headed(
     unknown: &mut Option<u32>,
 ) -> Result<CommandDecl, LoadRefusal>
     ensures { Gives itself result unknown.new
-        (command_headed world.now at (datum_of head.now) (datum_of arguments.now)
+        (command_headed signatures.now at (datum_of head.now) (datum_of arguments.now)
         (map datum_of body.now) unknown.old) }
 {
     match head {
         Datum::List(parts, _) => command_listed(
             alloc,
-            world,
+            signatures,
             at,
             parts.as_slice(),
             arguments,
@@ -153,7 +152,7 @@ fn command_headed(
             if !is_name(word.as_slice()) {
                 return Err(LoadRefusal::Refused(6, at));
             }
-            command_named(alloc, world, at, head, &[], arguments, body, unknown)
+            command_named(alloc, signatures, at, head, &[], arguments, body, unknown)
         }
         Datum::Number(_, _) => Err(LoadRefusal::Refused(6, at)),
         Datum::Literal(_, _) => Err(LoadRefusal::Refused(6, at)),
@@ -164,7 +163,7 @@ fn command_headed(
 
 fn command_listed(
     alloc: Global,
-    world: &World,
+    signatures: &Signatures,
     at: u32,
     parts: &[Datum],
     arguments: &Datum,
@@ -172,7 +171,7 @@ fn command_listed(
     unknown: &mut Option<u32>,
 ) -> Result<CommandDecl, LoadRefusal>
     ensures { Gives itself result unknown.new
-        (command_listed world.now at (map datum_of parts.now) (datum_of arguments.now)
+        (command_listed signatures.now at (map datum_of parts.now) (datum_of arguments.now)
         (map datum_of body.now) unknown.old) }
 {
     match parts {
@@ -181,7 +180,7 @@ fn command_listed(
             if !is_command_head(parts) {
                 return Err(LoadRefusal::Refused(6, at));
             }
-            command_named(alloc, world, at, name, keys, arguments, body, unknown)
+            command_named(alloc, signatures, at, name, keys, arguments, body, unknown)
         }
     }
 }
@@ -189,7 +188,7 @@ fn command_listed(
 /// Keys and arguments are not built yet.
 fn command_named(
     alloc: Global,
-    world: &World,
+    signatures: &Signatures,
     at: u32,
     name: &Datum,
     keys: &[Datum],
@@ -198,12 +197,12 @@ fn command_named(
     unknown: &mut Option<u32>,
 ) -> Result<CommandDecl, LoadRefusal>
     ensures { Gives itself result unknown.new
-        (command_named world.now at (symbol_of (datum_of name.now)) (map datum_of keys.now)
+        (command_named signatures.now at (symbol_of (datum_of name.now)) (map datum_of keys.now)
         (datum_of arguments.now) (map datum_of body.now) unknown.old) }
 {
     none_yet(keys)?;
     none_yet(arguments.parts())?;
-    let body = acts_in(alloc, world, body, &Scope::Empty, unknown)?;
+    let body = parse_acts(alloc, signatures, body, &Scope::Empty, unknown)?;
     Ok(CommandDecl {
         name: symbol_text(alloc, name)?,
         line_name: line_name_of(alloc, symbol_of(name))?,

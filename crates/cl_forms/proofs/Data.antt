@@ -6,9 +6,7 @@ use Rattle.cl_forms.specs.declared.form.Form.{Form}
 use Rattle.cl_forms.specs.Datum.{Datum, datums_of, in_order}
 use Rattle.cl_forms.specs.Datum as datum
 use Rattle.cl_forms.specs.DatumView.{datum_of}
-use Rattle.cl_forms.specs.Expressions.{subs}
 use Rattle.cl_forms.specs.declared.datum.Datum as program
-use Rattle.cl_forms.specs.declared.worlds.World.{World}
 
 pub data_in_order : (ds : List Datum) → in_order (datums_of ds) ≡ ds
 data_in_order [] = refl
@@ -25,8 +23,3 @@ pub datum_weighs : (ds : List program.Datum) (i : ℕ) (d : program.Datum) → i
 datum_weighs [] i d l e = absurd (omega (arith, l))
 datum_weighs (c ∷ cs) zero d l e = rw e (omega arith)
 datum_weighs (c ∷ cs) (suc i) d l e = omega (arith, datum_weighs cs i d (omega (arith, l)) e)
-
--- a form has as many parts as data stand behind its head
-pub subs_counted : (w : World) (ds : List program.Datum) → length (subs w (datums_of (map datum_of ds))) ≡ length ds
-subs_counted w [] = refl
-subs_counted w (d ∷ ds) = ap suc (subs_counted w ds)

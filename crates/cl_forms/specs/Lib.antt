@@ -7,11 +7,6 @@ pub mod Datum
 pub mod DatumView
 pub mod DatumFalls
 pub mod Grouped
-pub mod Load
-pub mod TypeNames
-pub mod World
-pub mod Scopes
-pub mod Expressions
+pub mod Naming
 pub mod Named
-pub mod TermViews
 pub mod LineNames

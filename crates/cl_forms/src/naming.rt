@@ -1,9 +1,8 @@
 //! Names and counts that forms ask for.
 ghost use Rattle.std.specs.Prelude.{◌≡◌, IfOk, map, option_map};
 ghost use Rattle.cl_forms.specs.DatumView.{datum_of};
-ghost use Rattle.cl_forms.specs.World.{are_names, name_in, symbol_of};
-ghost use Rattle.cl_forms.specs.Load.{unless};
-ghost use Rattle.cl_forms.specs.Expressions.{fits};
+ghost use Rattle.cl_forms.specs.Naming.{are_names, name_in, symbol_of};
+ghost use Rattle.cl_forms.specs.Naming.{fits};
 ghost use Rattle.cl_forms.specs.Named.{NamesPart};
 
 use crate::datum::Datum;
@@ -79,15 +78,6 @@ pub fn named_part(at: u32, datum: &Datum) -> Result<Text, LoadRefusal>
     match name_in(datum) {
         Some(name) => Ok(name.copy()?),
         None => Err(LoadRefusal::Refused(6, at)),
-    }
-}
-
-/// Notes a name at this offset, where it is not known and no earlier one was noted.
-pub fn note(unknown: &mut Option<u32>, known: bool, at: u32)
-    ensures { unknown.new ≡ unless known at unknown.old }
-{
-    if !known && unknown.is_none() {
-        *unknown = Some(at);
     }
 }
 

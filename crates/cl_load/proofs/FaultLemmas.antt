@@ -2,9 +2,9 @@
 use Rattle.std.proofs.Common.{◌≡◌, ℕ, Bool, true, false, if◌then◌else◌, List, IfErr, refl, ap, ◌∙◌}
 use Rattle.std.specs.Prelude.{Result, Ok, Err, Option, Some, None}
 use Rattle.cl_forms.specs.Datum.{Datum}
-use Rattle.cl_forms.specs.Load.{Load, Unknown, Fault, after, ◌>>=◌, give, refuse, noted}
-use Rattle.cl_forms.specs.World.{name_in}
-use Rattle.cl_forms.specs.Expressions.{named_part}
+use Rattle.cl_expressions.specs.Load.{Load, Unknown, Fault, after, ◌>>=◌, give, refuse, noted}
+use Rattle.cl_forms.specs.Naming.{name_in}
+use Rattle.cl_expressions.specs.Expressions.{named_part}
 
 -- what a reading comes to, without the first name that is not declared
 abbrev pub outcome : {A : Type 0} → Result (A × Unknown) Fault → Result A Fault

@@ -3,10 +3,10 @@ use Rattle.std.proofs.Common.{◌≡◌, ◌≤◌, ℕ, suc, arith, Bool, true,
 use Rattle.std.specs.Prelude.{Option, Some, None, Result, Ok, Err}
 use Rattle.std.proofs.lemmas.List.Elements.{All-nil, All-cons, All-contains, All-weaker}
 use Rattle.cl_forms.specs.Datum.{Datum, word, parts_of, offset}
-use Rattle.cl_forms.specs.Load.{Load, Unknown, Fault, after, ◌>>=◌, give, refuse}
-use Rattle.cl_forms.specs.declared.worlds.World.{World}
-use Rattle.cl_declare.specs.Declarations.{Declared, kind_named, is_later_declaration, declared_as, declared_by_head, declared_headed, declared_listed, declared_by, declared_all, nothing_read, declarations_of, record_row, function_row, display_row, command_row, with_record, with_function, with_display, with_command, with_frame}
-use Rattle.cl_declare.specs.Frames.{frame_row}
+use Rattle.cl_expressions.specs.Load.{Load, Unknown, Fault, after, ◌>>=◌, give, refuse}
+use Rattle.cl_words.specs.declared.signatures.Signatures.{Signatures}
+use Rattle.cl_declare.specs.Declarations.{Declared, kind_named, is_later_declaration, declared_as, declared_by_head, declared_headed, declared_listed, declared_by, declared_all, nothing_read, declarations_of, parse_record, parse_function, parse_display, parse_command, with_record, with_function, with_display, with_command, with_frame}
+use Rattle.cl_declare.specs.Frames.{parse_frame}
 use Rattle.cl_declare.specs.declared.heads.DeclarationKind.{DeclarationKind}
 use Rattle.cl_declare.specs.declared.heads.DeclarationKind.TheVariants.{Record, Function, Display, Command, Frame}
 use Rattle.cl_load.specs.Faults.{StandsIn, IsBefore, AreInOrder, HasFault, IsLeastFault}
@@ -19,7 +19,7 @@ stands : (d : Datum) (r : Result (Declared × Unknown) Fault) (n o : ℕ) → If
     → StandsIn o d
 stands d r n o h e = subst (λ (q : Result (Declared × Unknown) Fault). IfErr q (λ fault. StandsIn fault.1 d)) e h
 
-pub faults_stand_in_their_form : (w : World) (d : Datum) (s : Declared) (u : Unknown) (n o : ℕ) → declared_by w d s u ≡ Err (n, o)
+pub faults_stand_in_their_form : (w : Signatures) (d : Datum) (s : Declared) (u : Unknown) (n o : ℕ) → declared_by w d s u ≡ Err (n, o)
     → StandsIn o d
 faults_stand_in_their_form w d s u n o e =
     stands d (declared_by w d s u) n o ((declaration_faults {P = λ p. StandsIn p d} w d s (λ p h. h)).stand u) e
@@ -55,42 +55,42 @@ SameFault m k = (u v : Unknown) → fault_in (m u) ≡ fault_in (k v)
 row_same : {A : Type 0} (m : Load A) (f g : A → Declared) → FaultsAt Anywhere m → SameFault (m >>= λ x. give (f x)) (m >>= λ x. give (g x))
 row_same m f g h = λ u v. given_same f g (m u) (m v) (h.steady u v)
 
-kind_same : (w : World) (kind : DeclarationKind) (at : ℕ) (ds : List Datum) (s t : Declared)
+kind_same : (w : Signatures) (kind : DeclarationKind) (at : ℕ) (ds : List Datum) (s t : Declared)
     → SameFault (declared_as w kind at ds s) (declared_as w kind at ds t)
-kind_same w Record at ds s t = row_same (record_row at ds) (with_record s) (with_record t) (record_faults at ds tt)
+kind_same w Record at ds s t = row_same (parse_record at ds) (with_record s) (with_record t) (record_faults at ds tt)
 kind_same w Function at ds s t =
-    row_same (function_row w at ds) (with_function s) (with_function t) (function_faults w at ds tt (anywhere ds))
+    row_same (parse_function w at ds) (with_function s) (with_function t) (function_faults w at ds tt (anywhere ds))
 kind_same w Display at ds s t =
-    row_same (display_row w at ds) (with_display s) (with_display t) (display_faults w at ds tt (anywhere ds))
+    row_same (parse_display w at ds) (with_display s) (with_display t) (display_faults w at ds tt (anywhere ds))
 kind_same w Command at ds s t =
-    row_same (command_row w at ds) (with_command s) (with_command t) (command_faults w at ds tt (anywhere ds))
-kind_same w Frame at ds s t = row_same (frame_row w at ds) (with_frame s) (with_frame t) (frame_faults w at ds tt (anywhere ds))
+    row_same (parse_command w at ds) (with_command s) (with_command t) (command_faults w at ds tt (anywhere ds))
+kind_same w Frame at ds s t = row_same (parse_frame w at ds) (with_frame s) (with_frame t) (frame_faults w at ds tt (anywhere ds))
 
 neither : (b : Bool) (at : ℕ) → SameFault (if b then refuse 0 at else refuse 5 at) (if b then refuse 0 at else refuse 5 at)
 neither true at = λ u v. refl
 neither false at = λ u v. refl
 
-head_same : (w : World) (kind : Option DeclarationKind) (x : List ℕ) (head_at at : ℕ) (ds : List Datum) (s t : Declared)
+head_same : (w : Signatures) (kind : Option DeclarationKind) (x : List ℕ) (head_at at : ℕ) (ds : List Datum) (s t : Declared)
     → SameFault (declared_by_head w kind x head_at at ds s) (declared_by_head w kind x head_at at ds t)
 head_same w (Some kind) x head_at at ds s t = kind_same w kind at ds s t
 head_same w None x head_at at ds s t = neither (is_later_declaration x) head_at
 
-headed_same : (w : World) (d : Datum) (at : ℕ) (ds : List Datum) (s t : Declared)
+headed_same : (w : Signatures) (d : Datum) (at : ℕ) (ds : List Datum) (s t : Declared)
     → SameFault (declared_headed w d at ds s) (declared_headed w d at ds t)
 headed_same w (word x head_at) at ds s t = head_same w (kind_named x) x head_at at ds s t
 headed_same w d at ds s t = λ u v. refl
 
-listed_same : (w : World) (at : ℕ) (ds : List Datum) (s t : Declared) → SameFault (declared_listed w at ds s) (declared_listed w at ds t)
+listed_same : (w : Signatures) (at : ℕ) (ds : List Datum) (s t : Declared) → SameFault (declared_listed w at ds s) (declared_listed w at ds t)
 listed_same w at [] s t = λ u v. refl
 listed_same w at (d ∷ ds) s t = headed_same w d at ds s t
 
-declared_same : (w : World) (d : Datum) (s t : Declared) → SameFault (declared_by w d s) (declared_by w d t)
+declared_same : (w : Signatures) (d : Datum) (s t : Declared) → SameFault (declared_by w d s) (declared_by w d t)
 declared_same w d s t = listed_same w (offset d) (parts_of d) s t
 
 -- ---- the first fault
 
 -- no fault of the datum has an offset below this one
-abbrev NoneBelow : World → ℕ → Datum → Type 0
+abbrev NoneBelow : Signatures → ℕ → Datum → Type 0
 NoneBelow w o d = (s : Declared) (u : Unknown) (m p : ℕ) → declared_by w d s u ≡ Err (m, p) → o ≤ p
 
 faultless : (a b : Result (Declared × Unknown) Fault) (x : Declared × Unknown) (fault : Fault) → fault_in a ≡ fault_in b → a ≡ Ok x
@@ -103,7 +103,7 @@ same_offset a b n o m p h e f =
     let g : ◌≡◌ {A = Option Fault} (Some (n, o)) (Some (m, p)) = sym (ap fault_in e) ∙ h ∙ ap fault_in f in
     ap (λ k. k.1) (same_one (n, o) (m, p) g)
 
-least_from : (w : World) (d : Datum) (ds : List Datum) (s : Declared) (u : Unknown) (n o : ℕ) → All (IsBefore d) ds
+least_from : (w : Signatures) (d : Datum) (ds : List Datum) (s : Declared) (u : Unknown) (n o : ℕ) → All (IsBefore d) ds
     → ((x : Declared × Unknown) → declared_all w ds x.0 x.1 ≡ Err (n, o) → All (NoneBelow w o) ds)
     → (r : Result (Declared × Unknown) Fault) → declared_by w d s u ≡ r → after r (λ t. declared_all w ds t) ≡ Err (n, o)
     → All (NoneBelow w o) (d ∷ ds)
@@ -117,7 +117,7 @@ least_from w d ds s u n o before rest (Err fault) e h =
     (All-weaker (IsBefore d) (NoneBelow w o)
     (λ c b t v m p f. le_of_lt (b o p (faults_stand_in_their_form w d s u n o found) (faults_stand_in_their_form w c t v m p f))) ds before)
 
-least : (w : World) (ds : List Datum) (s : Declared) (u : Unknown) (n o : ℕ) → AreInOrder ds → declared_all w ds s u ≡ Err (n, o)
+least : (w : Signatures) (ds : List Datum) (s : Declared) (u : Unknown) (n o : ℕ) → AreInOrder ds → declared_all w ds s u ≡ Err (n, o)
     → All (NoneBelow w o) ds
 least w [] s u n o i h = All-nil (NoneBelow w o)
 least w (d ∷ ds) s u n o i h =
@@ -129,15 +129,15 @@ found_in : (r : Result (Declared × Unknown) Fault) (fault : Fault) → fault_in
 found_in (Ok x) fault h = cc
 found_in (Err other) fault h = cc
 
-always : (w : World) (d : Datum) (s : Declared) (u : Unknown) (n o : ℕ) → declared_by w d s u ≡ Err (n, o) → HasFault w d n o
+always : (w : Signatures) (d : Datum) (s : Declared) (u : Unknown) (n o : ℕ) → declared_by w d s u ≡ Err (n, o) → HasFault w d n o
 always w d s u n o e = λ t v.
     found_in (declared_by w d t v) (n, o) (sym (declared_same w d s t u v) ∙ ap fault_in e)
 
 -- one of the data that has the fault
-abbrev Owner : World → List Datum → (n o : ℕ) → Type 0
+abbrev Owner : Signatures → List Datum → (n o : ℕ) → Type 0
 Owner w ds n o = (d : Datum) × (Contains ds d × HasFault w d n o)
 
-owner_from : (w : World) (d : Datum) (ds : List Datum) (s : Declared) (u : Unknown) (n o : ℕ)
+owner_from : (w : Signatures) (d : Datum) (ds : List Datum) (s : Declared) (u : Unknown) (n o : ℕ)
     → ((x : Declared × Unknown) → declared_all w ds x.0 x.1 ≡ Err (n, o) → Owner w ds n o)
     → (r : Result (Declared × Unknown) Fault) → declared_by w d s u ≡ r → after r (λ t. declared_all w ds t) ≡ Err (n, o)
     → Owner w (d ∷ ds) n o
@@ -146,12 +146,12 @@ owner_from w d ds s u n o rest (Ok x) e h =
     (later.0, ((suc later.1.0.0, omega (arith, later.1.0.1), later.1.0.2), later.1.1))
 owner_from w d ds s u n o rest (Err fault) e h = (d, ((0, omega arith, refl), always w d s u n o (e ∙ h)))
 
-owner : (w : World) (ds : List Datum) (s : Declared) (u : Unknown) (n o : ℕ) → declared_all w ds s u ≡ Err (n, o) → Owner w ds n o
+owner : (w : Signatures) (ds : List Datum) (s : Declared) (u : Unknown) (n o : ℕ) → declared_all w ds s u ≡ Err (n, o) → Owner w ds n o
 owner w [] s u n o h = cc
 owner w (d ∷ ds) s u n o h =
     owner_from w d ds s u n o (λ x k. owner w ds x.0 x.1 n o k) (declared_by w d s u) refl h
 
-pub first_fault_has_least_offset : (w : World) (ds : List Datum) (u : Unknown) (n o : ℕ) → AreInOrder ds
+pub first_fault_has_least_offset : (w : Signatures) (ds : List Datum) (u : Unknown) (n o : ℕ) → AreInOrder ds
     → declarations_of w ds u ≡ Err (n, o) → IsLeastFault w ds n o
 first_fault_has_least_offset w ds u n o i h =
     let one = owner w ds nothing_read u n o h in

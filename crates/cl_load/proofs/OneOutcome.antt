@@ -17,11 +17,11 @@ use Rattle.cl_load.specs.Readings.{IsFirstReading, NoneReads}
 use Rattle.cl_load.specs.Review.{review}
 
 -- trees in a row
-abbrev in_row : Trees → List Tree
-in_row none = []
-in_row (item t ts) = t ∷ in_row ts
+abbrev parse_in : Trees → List Tree
+parse_in none = []
+parse_in (item t ts) = t ∷ parse_in ts
 
-in_row_trees : (ts : List Tree) → in_row (trees_of ts) ≡ ts
+in_row_trees : (ts : List Tree) → parse_in (trees_of ts) ≡ ts
 in_row_trees [] = refl
 in_row_trees (t ∷ ts) = ap (λ us. t ∷ us) (in_row_trees ts)
 
@@ -40,7 +40,7 @@ same_forms bytes forms others a b =
     let t : a.tokens ≡ b.tokens = same_tokens (tokens_of bytes) a.tokens b.tokens a.read b.read in
     let spell : spelled_all (trees_of forms) ≡ spelled_all (trees_of others) = sym a.spelled ∙ ap (lexemes bytes) t ∙ b.spelled in
     let trees : trees_of forms ≡ trees_of others = one_forest (trees_of forms) (trees_of others) spell in
-    sym (in_row_trees forms) ∙ ap in_row trees ∙ in_row_trees others
+    sym (in_row_trees forms) ∙ ap parse_in trees ∙ in_row_trees others
 
 first_once : (fs : Functions) (frames : List FrameForm) (m n : ℕ) → IsFirstReading fs frames m → IsFirstReading fs frames n → m ≡ n
 first_once fs [] m n x y = absurd x

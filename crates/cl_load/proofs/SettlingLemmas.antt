@@ -3,7 +3,7 @@ use Rattle.std.proofs.Common.{◌≡◌, ◌++◌, ◌⊎◌, inl, inr, ℕ, Lis
 use Rattle.std.specs.Prelude.{Option, Some, None, Result, Ok, Err, option_to_list}
 use Rattle.cl_application.specs.declared.applications.App.{App}
 use Rattle.cl_application.specs.declared.declarations.FrameDecl.{FrameDecl}
-use Rattle.cl_forms.specs.Load.{Fault, itself}
+use Rattle.cl_expressions.specs.Load.{Fault, itself}
 use Rattle.cl_forms.specs.declared.refusals.LoadRefusal.{LoadRefusal}
 use Rattle.cl_forms.specs.declared.refusals.LoadRefusal.TheVariants.{Refused, Memory}
 use Rattle.cl_declare.specs.Declarations.{Declared}

@@ -1,8 +1,8 @@
 -- Where the fault of a form may stand, the offsets of its data, and which fault of the forms of a text is the first.
 use Rattle.std.specs.Prelude.{◌≡◌, ◌≤◌, ◌<◌, ◌⊎◌, ℕ, List, [], ◌∷◌, All, Contains, Err}
 use Rattle.cl_forms.specs.Datum.{Datum, Datums, number, literal, word, quoted, stray, list, none, item}
-use Rattle.cl_forms.specs.Load.{Unknown}
-use Rattle.cl_forms.specs.declared.worlds.World.{World}
+use Rattle.cl_expressions.specs.Load.{Unknown}
+use Rattle.cl_words.specs.declared.signatures.Signatures.{Signatures}
 use Rattle.cl_declare.specs.Declarations.{Declared, declared_by}
 
 -- the offset is that of the datum, or of one of its parts at any depth
@@ -29,11 +29,11 @@ AreInOrder [] = Unit {0}
 AreInOrder (d ∷ ds) = All (IsBefore d) ds × AreInOrder ds
 
 -- the form has this fault, whatever was read before
-abbrev pub HasFault : World → Datum → (number at : ℕ) → Type 0
+abbrev pub HasFault : Signatures → Datum → (number at : ℕ) → Type 0
 HasFault w d n o = (s : Declared) (u : Unknown) → declared_by w d s u ≡ Err (n, o)
 
 -- one of the forms has this fault whatever was read before, and no form has, behind any reading, one of a smaller offset
-pub record IsLeastFault (w : World) (ds : List Datum) (number at : ℕ) : Type 0 where
+pub record IsLeastFault (w : Signatures) (ds : List Datum) (number at : ℕ) : Type 0 where
   pub form : Datum
   pub stands : Contains ds form
   pub has : HasFault w form number at

@@ -1,7 +1,7 @@
 -- What the data of a text come to: an application, or the first of its refusals.
 use Rattle.std.specs.Prelude.{◌≡◌, ◌⊎◌, ℕ, List, [], ◌∷◌, Result, Ok, Err}
 use Rattle.cl_forms.specs.Datum.{Datum}
-use Rattle.cl_forms.specs.Load.{Fault}
+use Rattle.cl_expressions.specs.Load.{Fault}
 use Rattle.cl_application.specs.declared.applications.App.{App}
 use Rattle.cl_application.specs.declared.declarations.FrameDecl.{FrameDecl}
 use Rattle.cl_declare.specs.Declarations.{Declared}

@@ -1,7 +1,7 @@
 -- The device of a frame, and its pane in it.
 use Rattle.std.specs.Prelude.{ℕ, ◌+◌, ◌≤◌, ℤ, pos, negsuc, ◌&&◌, nat_le, Option, Some, None, Result, Ok, Err}
-use Rattle.cl_forms.specs.Load.{Fault}
-use Rattle.cl_forms.specs.World.{some_if}
+use Rattle.cl_expressions.specs.Load.{Fault}
+use Rattle.cl_forms.specs.Naming.{some_if}
 use Rattle.cl_application.specs.declared.declarations.FrameDecl.{FrameDecl}
 use Rattle.cl_application.specs.declared.declarations.PaneDecl.{PaneDecl}
 use Rattle.cl_declare.specs.declared.frames.FrameForm.{FrameForm}

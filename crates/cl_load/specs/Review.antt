@@ -2,8 +2,8 @@
 -- limit; then a name that stands twice or is reserved; then one that is not declared.
 use Rattle.std.specs.Prelude.{ℕ, List, Option, Some, None, Result, Ok, Err}
 use Rattle.cl_forms.specs.Datum.{Datum}
-use Rattle.cl_forms.specs.Load.{Unknown, Fault}
-use Rattle.cl_forms.specs.World.{world_of}
+use Rattle.cl_expressions.specs.Load.{Unknown, Fault}
+use Rattle.cl_words.specs.Signatures.{signatures_of}
 use Rattle.cl_declare.specs.Declarations.{Declared, declarations_of}
 use Rattle.cl_phases.specs.Limits.{first_past}
 use Rattle.cl_phases.specs.Twice.{first_twice}
@@ -27,4 +27,4 @@ reviewed ds (Ok r) = allowed (passed ds r.1) r.0
 
 -- what the forms declare, if no refusal up to 8 is found
 abbrev pub review : List Datum → Result Declared Fault
-review ds = reviewed ds (declarations_of (world_of ds) ds None)
+review ds = reviewed ds (declarations_of (signatures_of ds) ds None)

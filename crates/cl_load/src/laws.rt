@@ -2,9 +2,9 @@
 ghost use Rattle.std.specs.Prelude.{◌≡◌, ℕ, List, Result, Err};
 ghost use Rattle.cl_application.specs.declared.applications.App.{App};
 ghost use Rattle.cl_forms.specs.Datum.{Datum};
-ghost use Rattle.cl_forms.specs.Load.{Unknown};
+ghost use Rattle.cl_expressions.specs.Load.{Unknown};
 ghost use Rattle.cl_forms.specs.Tree.{Tree};
-ghost use Rattle.cl_forms.specs.declared.worlds.World.{World};
+ghost use Rattle.cl_words.specs.declared.signatures.Signatures.{Signatures};
 ghost use Rattle.cl_declare.specs.Declarations.{Declared, declared_by, declarations_of};
 ghost use Rattle.cl_load.specs.Faults.{StandsIn, AreInOrder, IsLeastFault};
 ghost use Rattle.cl_load.specs.Loads.{AreForms, HasOutcome, data_of};
@@ -19,14 +19,14 @@ pub fn one_outcome()
 /// The fault of a form stands in it, whatever was read before.
 #[tactic(auto, using(crate::proofs::FirstFault::faults_stand_in_their_form))]
 pub fn faults_stand_in_their_form()
-    ensures { (w : World) (d : Datum) (s : Declared) (u : Unknown) (n o : ℕ)
+    ensures { (w : Signatures) (d : Datum) (s : Declared) (u : Unknown) (n o : ℕ)
         → declared_by w d s u ≡ Err (n, o) → StandsIn o d }
 {}
 
 /// Of the faults of forms that stand in order, the one that is found first is that of least offset.
 #[tactic(auto, using(crate::proofs::FirstFault::first_fault_has_least_offset))]
 pub fn first_fault_has_least_offset()
-    ensures { (w : World) (ds : List Datum) (u : Unknown) (n o : ℕ) → AreInOrder ds
+    ensures { (w : Signatures) (ds : List Datum) (u : Unknown) (n o : ℕ) → AreInOrder ds
         → declarations_of w ds u ≡ Err (n, o) → IsLeastFault w ds n o }
 {}
 
@@ -38,7 +38,7 @@ pub fn data_stand_in_order()
 
 /// The fault that is found first in the forms of a text is that of least offset.
 pub fn first_fault_of_a_text_has_least_offset()
-    ensures { (bytes : List ℕ) (forms : List Tree) (w : World) (u : Unknown) (n o : ℕ)
+    ensures { (bytes : List ℕ) (forms : List Tree) (w : Signatures) (u : Unknown) (n o : ℕ)
         → AreForms bytes forms → declarations_of w (data_of forms) u ≡ Err (n, o)
         → IsLeastFault w (data_of forms) n o }
 {}

@@ -1,7 +1,7 @@
 //! The device of a frame, and its pane in it.
 ghost use Rattle.std.specs.Prelude.{◌≡◌, ◌≤◌, IfOk, IfSome};
 ghost use Rattle.cl_load.specs.Placing.{side, span_of, spanned, placed, IsSize, Lies, IsWithin};
-ghost use Rattle.cl_forms.specs.Load.{itself};
+ghost use Rattle.cl_expressions.specs.Load.{itself};
 ghost use Rattle.cl_load.specs.Answers.{Makes};
 
 use cl_declare::FrameForm;

@@ -6,7 +6,8 @@ ghost use Rattle.cl_load.specs.Answers.{Makes, Passed, Passes};
 ghost use Rattle.cl_load.specs.Review.{passed, review};
 
 use cl_declare::{Declarations, declarations_in};
-use cl_forms::{Datum, LoadRefusal, world_of};
+use cl_forms::{Datum, LoadRefusal};
+use cl_words::signatures_of;
 use cl_phases::{first_past, first_twice};
 use std::alloc::Global;
 
@@ -14,9 +15,9 @@ use std::alloc::Global;
 pub fn review(alloc: Global, forms: &[Datum]) -> Result<Declarations, LoadRefusal>
     ensures { Makes declared_of result (review (map datum_of forms.now)) }
 {
-    let world = world_of(alloc, forms)?;
+    let signatures = signatures_of(alloc, forms)?;
     let mut unknown = None;
-    let declarations = declarations_in(alloc, &world, forms, &mut unknown)?;
+    let declarations = declarations_in(alloc, &signatures, forms, &mut unknown)?;
     passed(alloc, forms, unknown)?;
     Ok(declarations)
 }

@@ -1,7 +1,7 @@
 //! The frame of declarations, and the application that they make.
 ghost use Rattle.std.specs.Prelude.{◌≡◌, IfOk};
 ghost use Rattle.cl_declare.specs.Declarations.{declared_of};
-ghost use Rattle.cl_forms.specs.Load.{itself};
+ghost use Rattle.cl_expressions.specs.Load.{itself};
 ghost use Rattle.cl_load.specs.Answers.{Makes};
 ghost use Rattle.cl_load.specs.Outcome.{only_frame, placed_only, app_of};
 ghost use Rattle.cl_load.specs.Placing.{IsSize, IsWithin};

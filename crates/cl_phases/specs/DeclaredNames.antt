@@ -3,9 +3,9 @@ use Rattle.std.specs.Prelude.{ℕ, Bool, false, ◌||◌, if◌then◌else◌, L
 use Rattle.std.specs.Str.{bytes_eq}
 use Rattle.cl_forms.specs.Datum.{Datum, number, literal, word, quoted, stray, list, parts_of}
 use Rattle.cl_forms.specs.LineNames.{line_name_of}
-use Rattle.cl_forms.specs.TypeNames.{is_standard_type}
-use Rattle.cl_forms.specs.Words.{is_operator}
-use Rattle.cl_forms.specs.World.{symbol_of}
+use Rattle.cl_words.specs.TypeNames.{is_standard_type}
+use Rattle.cl_words.specs.Heads.{is_operator}
+use Rattle.cl_forms.specs.Naming.{symbol_of}
 use Rattle.cl_phases.specs.declared.repeats.NameAt.{NameAt}
 use Rattle.cl_phases.specs.declared.declared_names.Space.{Space}
 use Rattle.cl_phases.specs.declared.declared_names.Space.TheVariants as space
@@ -57,6 +57,6 @@ declared_in s (d ∷ ds) = declares s (parts_of d) ++ declared_in s ds
 abbrev pub line_named : NameAt → NameAt
 line_named n = record { name = line_name_of n.name; at = n.at }
 
--- command-line names, each where the symbol stands from which it is made
+-- command-line names, each where the symbol stands from which it is parse_make_parts
 abbrev pub line_names : List NameAt → List NameAt
 line_names ns = map line_named ns

@@ -2,7 +2,7 @@
 use Rattle.std.specs.Prelude.{ℕ, nat_lt, if◌then◌else◌, List, [], ◌∷◌, length, slice_get, Option, Some, None, codes}
 use Rattle.std.specs.Str.{bytes_eq}
 use Rattle.cl_forms.specs.Datum.{Datum, Datums, number, literal, word, quoted, stray, list, none, item, datums_of, offset, parts_of}
-use Rattle.cl_forms.specs.World.{symbol_of}
+use Rattle.cl_forms.specs.Naming.{symbol_of}
 use Rattle.cl_phases.specs.Earlier.{earlier, at_if}
 
 -- a symbol has at most 64 bytes, a text 4,096

@@ -2,7 +2,7 @@
 use Rattle.std.specs.Prelude.{ℕ, ◌||◌, if◌then◌else◌, List, [], ◌∷◌, Option, None, codes}
 use Rattle.std.specs.Str.{bytes_eq}
 use Rattle.cl_forms.specs.Datum.{Datum, parts_of}
-use Rattle.cl_forms.specs.World.{symbol_of}
+use Rattle.cl_forms.specs.Naming.{symbol_of}
 use Rattle.cl_phases.specs.Earlier.{earlier, at_if}
 use Rattle.cl_phases.specs.Repeats.{first_repeated}
 use Rattle.cl_phases.specs.DeclaredNames.{names_at, declared_in, line_names, is_in, is_reserved}

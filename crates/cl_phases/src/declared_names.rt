@@ -4,7 +4,8 @@ ghost use Rattle.cl_forms.specs.DatumView.{datum_of};
 ghost use Rattle.cl_phases.specs.DeclaredNames.{declared_in, declares, first_at, is_in, is_reserved, line_names, name_at, names_at, word_at};
 
 use crate::repeats::NameAt;
-use cl_forms::{Datum, is_operator, is_standard_type, line_name_of, symbol_of};
+use cl_forms::{Datum, line_name_of, symbol_of};
+use cl_words::{is_operator, is_standard_type};
 use std::alloc::{AllocError, Global};
 
 /// Declarations whose names differ.
@@ -114,7 +115,7 @@ fn add_word(names: &mut Vec<NameAt>, datum: &Datum) -> Result<(), AllocError>
     }
 }
 
-/// The command-line names that are made from the names of commands, with the same offsets.
+/// The command-line names that are parse_make_parts from the names of commands, with the same offsets.
 pub fn line_names(alloc: Global, names: &[NameAt]) -> Result<Vec<NameAt>, AllocError>
     ensures { IfOk result (λ v. v.items ≡ line_names names.now) }
 {

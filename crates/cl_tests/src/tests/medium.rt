@@ -12,7 +12,7 @@ const STILL: Shift = Shift { dx: 0, dy: 0 };
 
 // Asks for the glyphs of an item in a row from the left edge of the pane on; a space where it paints
 // nothing.
-fn assert_row(rt: &impl Abort, drawn: &Drawn, y: i64, glyphs: &[u8]) {
+fn parse_assert(rt: &impl Abort, drawn: &Drawn, y: i64, glyphs: &[u8]) {
     if let Drawn::Item(leaf) = drawn {
         let bounds = leaf.bounds();
         if bounds.fits(STILL) {
@@ -30,14 +30,14 @@ fn assert_row(rt: &impl Abort, drawn: &Drawn, y: i64, glyphs: &[u8]) {
 fn items(rt: HostRuntime) {
     let ambient = Ambient::start();
     let outline = draw_box(&ambient, 0, 0, 4, 3);
-    assert_row(&rt, &outline, 0, b"+--+ ");
-    assert_row(&rt, &outline, 1, b"|  | ");
-    assert_row(&rt, &outline, 2, b"+--+ ");
-    assert_row(&rt, &draw_box(&ambient, 0, 0, 1, 3), 1, b"| ");
-    assert_row(&rt, &draw_hline(&ambient, 1, 0, 2), 0, b" -- ");
-    assert_row(&rt, &draw_vline(&ambient, 1, 0, 2), 1, b" | ");
-    assert_row(&rt, &draw_point(&ambient, 1, 0, 200), 0, b" # ");
-    assert_row(&rt, &fill_box(&ambient, 1, 0, 2, 1, b'*'), 0, b" ** ");
+    parse_assert(&rt, &outline, 0, b"+--+ ");
+    parse_assert(&rt, &outline, 1, b"|  | ");
+    parse_assert(&rt, &outline, 2, b"+--+ ");
+    parse_assert(&rt, &draw_box(&ambient, 0, 0, 1, 3), 1, b"| ");
+    parse_assert(&rt, &draw_hline(&ambient, 1, 0, 2), 0, b" -- ");
+    parse_assert(&rt, &draw_vline(&ambient, 1, 0, 2), 1, b" | ");
+    parse_assert(&rt, &draw_point(&ambient, 1, 0, 200), 0, b" # ");
+    parse_assert(&rt, &fill_box(&ambient, 1, 0, 2, 1, b'*'), 0, b" ** ");
 }
 
 #[test]
@@ -48,7 +48,7 @@ fn cursor(rt: HostRuntime) {
         assert!(rt; false);
         return;
     };
-    assert_row(&rt, &draw_text(&mut ambient, &text), 0, b"a#b ");
+    parse_assert(&rt, &draw_text(&mut ambient, &text), 0, b"a#b ");
     assert_eq!(rt; (ambient.x, ambient.y), (3, 0));
     assert!(rt; newline(&mut ambient));
     assert_eq!(rt; (ambient.x, ambient.y), (2, 1));

@@ -1,8 +1,10 @@
 //! Trees from texts, over what the tests declare. A function holds one tree at most: the proof of a path on which several are
 //! dropped is long.
-use cl_declare::{acts_in, shapes_in};
+use cl_bodies::{parse_acts, parse_shapes};
 use cl_eval::Env;
-use cl_forms::{Datum, Datums, Form, Scope, World, all_forms, data_in, expr_in, world_of};
+use cl_expressions::{Scope, parse_expression};
+use cl_forms::{Datum, Datums, Form, all_forms, data_in};
+use cl_words::{Signatures, signatures_of};
 use cl_load::{Loaded, load};
 use cl_sexp::read_forms;
 use cl_syntax::{Acts, Expr, Shapes};
@@ -67,12 +69,12 @@ pub fn expression(alloc: Global, text: &str) -> Result<Expr, Fail> {
 
 fn expression_in(alloc: Global, data: &[Datum]) -> Result<Expr, Fail> {
     let last = last_of(data)?;
-    let world = world_of(alloc, data)?;
-    expression_of(alloc, &world, last)
+    let signatures = signatures_of(alloc, data)?;
+    expression_of(alloc, &signatures, last)
 }
 
-fn expression_of(alloc: Global, world: &World, datum: &Datum) -> Result<Expr, Fail> {
-    Ok(expr_in(alloc, world, datum, &Scope::Empty, &mut None)?)
+fn expression_of(alloc: Global, signatures: &Signatures, datum: &Datum) -> Result<Expr, Fail> {
+    Ok(parse_expression(alloc, signatures, datum, &Scope::Empty, &mut None)?)
 }
 
 /// The statements in this form.
@@ -83,12 +85,12 @@ pub fn statements(alloc: Global, text: &str) -> Result<Acts, Fail> {
 
 fn statements_in(alloc: Global, data: &[Datum]) -> Result<Acts, Fail> {
     let last = last_of(data)?;
-    let world = world_of(alloc, data)?;
-    statements_of(alloc, &world, last)
+    let signatures = signatures_of(alloc, data)?;
+    statements_of(alloc, &signatures, last)
 }
 
-fn statements_of(alloc: Global, world: &World, datum: &Datum) -> Result<Acts, Fail> {
-    Ok(acts_in(alloc, world, datum.parts(), &Scope::Empty, &mut None)?)
+fn statements_of(alloc: Global, signatures: &Signatures, datum: &Datum) -> Result<Acts, Fail> {
+    Ok(parse_acts(alloc, signatures, datum.parts(), &Scope::Empty, &mut None)?)
 }
 
 /// The display forms in this form.
@@ -99,10 +101,10 @@ pub fn display_forms(alloc: Global, text: &str) -> Result<Shapes, Fail> {
 
 fn display_forms_in(alloc: Global, data: &[Datum]) -> Result<Shapes, Fail> {
     let last = last_of(data)?;
-    let world = world_of(alloc, data)?;
-    display_forms_of(alloc, &world, last)
+    let signatures = signatures_of(alloc, data)?;
+    display_forms_of(alloc, &signatures, last)
 }
 
-fn display_forms_of(alloc: Global, world: &World, datum: &Datum) -> Result<Shapes, Fail> {
-    Ok(shapes_in(alloc, world, datum.parts(), &Scope::Empty, &mut None)?)
+fn display_forms_of(alloc: Global, signatures: &Signatures, datum: &Datum) -> Result<Shapes, Fail> {
+    Ok(parse_shapes(alloc, signatures, datum.parts(), &Scope::Empty, &mut None)?)
 }

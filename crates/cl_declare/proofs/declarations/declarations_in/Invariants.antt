@@ -5,5 +5,5 @@ use Rattle.cl_declare.proofs.declarations.declarations_in.Given as goal
 
 abbrev pub invariant-loop-form : goal.invariant-loop-form
 invariant-loop-form l =
-    declared_all l.world (map datum_of (drop l.form-index l.forms)) (declared_of l.declarations) l.unknown
-    ≡ declarations_of l.world (map datum_of l.forms) l.initial.unknown
+    declared_all l.signatures (map datum_of (drop l.form-index l.forms)) (declared_of l.declarations) l.unknown
+    ≡ declarations_of l.signatures (map datum_of l.forms) l.initial.unknown

@@ -5,5 +5,5 @@ use Rattle.cl_declare.proofs.slots.sections_read.Given as goal
 
 abbrev pub invariant-loop-datum : goal.invariant-loop-datum
 invariant-loop-datum l =
-    sections_read l.world l.at (map datum_of (drop l.datum-index l.sections)) l.slots l.unknown
-    ≡ sections_read l.world l.at (map datum_of l.sections) [] l.initial.unknown
+    sections_read l.signatures l.at (map datum_of (drop l.datum-index l.sections)) l.slots l.unknown
+    ≡ sections_read l.signatures l.at (map datum_of l.sections) [] l.initial.unknown

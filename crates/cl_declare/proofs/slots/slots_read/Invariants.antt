@@ -5,5 +5,5 @@ use Rattle.cl_declare.proofs.slots.slots_read.Given as goal
 
 abbrev pub invariant-loop-slot : goal.invariant-loop-slot
 invariant-loop-slot l =
-    slots_read l.world l.at (map datum_of (drop l.slot-index l.parts)) l.slots l.unknown
-    ≡ slots_read l.world l.at (map datum_of l.parts) l.initial.slots l.initial.unknown
+    slots_read l.signatures l.at (map datum_of (drop l.slot-index l.parts)) l.slots l.unknown
+    ≡ slots_read l.signatures l.at (map datum_of l.parts) l.initial.slots l.initial.unknown

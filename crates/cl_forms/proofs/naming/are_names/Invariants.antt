@@ -1,6 +1,6 @@
 use Rattle.std.proofs.Common.{◌≡◌, drop, map}
 use Rattle.cl_forms.specs.DatumView.{datum_of}
-use Rattle.cl_forms.specs.World.{are_names}
+use Rattle.cl_forms.specs.Naming.{are_names}
 use Rattle.cl_forms.proofs.naming.are_names.Given as goal
 
 abbrev pub invariant-loop-part : goal.invariant-loop-part

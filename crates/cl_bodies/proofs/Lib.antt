@@ -1,0 +1,4 @@
+pub mod BodyRows
+pub mod BodySteps
+pub mod DisplayRows
+pub mod CommandRows

@@ -1,0 +1,69 @@
+-- The statements that display forms do not have. Each row says first what makes the form itself wrong, and then its parts from left to right.
+use Rattle.std.specs.Prelude.{ℕ, if◌then◌else◌, List, [], ◌∷◌, codes}
+use Rattle.std.specs.Str.{bytes_eq}
+use Rattle.cl_syntax.specs.Expr.{bindings_of}
+use Rattle.cl_syntax.specs.ActTree as act
+use Rattle.cl_syntax.specs.ActTree.{ActTree, act_trees_of}
+use Rattle.cl_forms.specs.Datum.{Datum, Datums, offset, parts_of}
+use Rattle.cl_expressions.specs.Load.{Load, ◌>>=◌, give, refuse, noted}
+use Rattle.cl_expressions.specs.Scopes.{Names}
+use Rattle.cl_words.specs.Heads.{is_later_statement}
+use Rattle.cl_words.specs.Signatures.{slot_in}
+use Rattle.cl_forms.specs.Naming.{symbol_of}
+use Rattle.cl_expressions.specs.Expressions.{Sub, named_part}
+use Rattle.cl_words.specs.declared.signatures.Signatures.{Signatures}
+use Rattle.cl_bodies.specs.declared.own.Own.{Own}
+use Rattle.cl_bodies.specs.declared.own.Own.TheVariants.{Whole}
+use Rattle.cl_bodies.specs.Bodies.{Language, parse_form, parse_body}
+
+-- the name of a slot, which is noted where no such slot is declared
+abbrev pub parse_place_name : Signatures → ℕ → Datum → Load (List ℕ)
+parse_place_name w at d = named_part at d >>= λ x. noted (slot_in w x) (offset d) >>= λ u. give x
+
+-- the name in the parts of `(slot NAME)`
+abbrev pub parse_place : Signatures → ℕ → List Datum → Load (List ℕ)
+parse_place w at (h ∷ n ∷ []) = if bytes_eq (symbol_of h) (codes "slot") then parse_place_name w at n else refuse 6 at
+parse_place w at ds = refuse 6 at
+
+-- `(setf (slot NAME) E)`
+abbrev pub parse_setf : Signatures → ℕ → List Sub → Names → Load ActTree
+parse_setf w at (a ∷ b ∷ []) env = parse_place w at (parts_of a.shape) >>= λ x. b.expr env >>= λ t. give (act.Setf x t)
+parse_setf w at subs env = refuse 6 at
+
+-- `(reply E)`
+abbrev pub parse_reply : ℕ → List Sub → Names → Load ActTree
+parse_reply at (a ∷ []) env = a.expr env >>= λ t. give (act.Reply t)
+parse_reply at subs env = refuse 6 at
+
+abbrev pub parse_plain : Signatures → List ℕ → ℕ → ℕ → List Sub → Names → Load ActTree
+parse_plain w x head_at at subs env =
+    if bytes_eq x (codes "setf") then parse_setf w at subs env
+    else (if bytes_eq x (codes "reply") then parse_reply at subs env
+    else (if is_later_statement x then refuse 0 head_at else refuse 5 head_at))
+
+-- none of its own has a body
+abbrev pub parse_own : Signatures → List ℕ → ℕ → ℕ → List Sub → Names → Load (Own ActTree (Unit {0}))
+parse_own w x head_at at subs env = parse_plain w x head_at at subs env >>= λ s. give (Whole s)
+
+-- so nothing would stand before one
+abbrev pub closed : Unit {0} → List ActTree → ActTree
+closed o ss = act.Progn (act_trees_of ss)
+
+abbrev pub commands : Language ActTree (Unit {0})
+commands = record {
+  choice = act.If;
+  when = λ t ss. act.When t (act_trees_of ss);
+  bind = λ bs ss. act.Let (bindings_of bs) (act_trees_of ss);
+  each = λ x t ss. act.Dolist x t (act_trees_of ss);
+  sequence = λ ss. act.Progn (act_trees_of ss);
+  own = parse_own;
+  closed = closed;
+}
+
+-- the statement that a datum is
+abbrev pub parse_act : Signatures → Datum → Names → Load ActTree
+parse_act w d env = parse_form commands w d env
+
+-- the statements of a body
+abbrev pub parse_acts : Signatures → Datums → Names → Load (List ActTree)
+parse_acts w ds env = parse_body commands w ds env

@@ -1,0 +1,4 @@
+pub mod Bodies
+pub mod Displays
+pub mod Commands
+pub mod SlotTypes

@@ -1,0 +1,72 @@
+-- The type that a datum is where a slot asks for one: `NAME`, `(NAME)` or `((NAME))`. Types with arguments or options are not built
+-- yet, and neither are the types that have no members or are parse_make_parts of others.
+use Rattle.std.specs.Prelude.{ℕ, Bool, true, false, ◌||◌, if◌then◌else◌, List, [], ◌∷◌, Option, Some, None, codes}
+use Rattle.std.specs.Str.{bytes_eq}
+use Rattle.cl_syntax.specs.declared.type_specs.TypeSpec.{TypeSpec}
+use Rattle.cl_forms.specs.Datum.{Datum, number, literal, word, quoted, stray, list, in_order, offset}
+use Rattle.cl_expressions.specs.Load.{Load, ◌>>=◌, give, refuse, noted}
+use Rattle.cl_words.specs.TypeNames.{is_plain_type, is_ranged_type, is_later_type}
+use Rattle.cl_forms.specs.Naming.{name_in, symbol_of}
+use Rattle.cl_words.specs.Signatures.{record_in}
+use Rattle.cl_words.specs.declared.signatures.Signatures.{Signatures}
+
+abbrev pub type_named : List ℕ → TypeSpec
+type_named x = record { name = x }
+
+-- a type without arguments
+abbrev pub parse_plain_type : List ℕ → ℕ → List Datum → Load TypeSpec
+parse_plain_type x at [] = give (type_named x)
+parse_plain_type x at (a ∷ more) = refuse 6 at
+
+-- a record takes no arguments; a name that is not declared is noted
+abbrev pub parse_record_type : Option (Option ℕ) → List ℕ → ℕ → ℕ → List Datum → Load TypeSpec
+parse_record_type None x name_at at arguments = noted false name_at >>= λ u. give (type_named x)
+parse_record_type (Some fields) x name_at at arguments = parse_plain_type x at arguments
+
+-- a number or a text, whose bounds and length are not built yet
+abbrev pub parse_ranged_type : List ℕ → ℕ → List Datum → Load TypeSpec
+parse_ranged_type x name_at [] = give (type_named x)
+parse_ranged_type x name_at (a ∷ more) = refuse 0 name_at
+
+abbrev pub parse_type_named : Signatures → List ℕ → ℕ → ℕ → List Datum → Load TypeSpec
+parse_type_named w x name_at at arguments =
+    if is_plain_type x then parse_plain_type x at arguments
+    else (if is_ranged_type x then parse_ranged_type x name_at arguments
+    else (if is_later_type x then refuse 0 name_at else parse_record_type (record_in w x) x name_at at arguments))
+
+abbrev pub parse_type_head : Signatures → ℕ → Datum → List Datum → Load TypeSpec
+parse_type_head w at h arguments = elim (name_in h) [ None ↦ refuse 6 at | Some x ↦ parse_type_named w x (offset h) at arguments ]
+
+-- the name, and its arguments
+abbrev pub parse_type_parts : Signatures → ℕ → List Datum → Load TypeSpec
+parse_type_parts w at [] = refuse 6 at
+parse_type_parts w at (h ∷ arguments) = parse_type_head w at h arguments
+
+abbrev pub is_option_key : List ℕ → Bool
+is_option_key x = bytes_eq x (codes ":description") || bytes_eq x (codes ":separator")
+
+-- options behind the name and its arguments
+abbrev pub parse_type_options : Signatures → ℕ → List Datum → List Datum → Load TypeSpec
+parse_type_options w at parts [] = parse_type_parts w at parts
+parse_type_options w at parts (o ∷ more) =
+    if is_option_key (symbol_of o) then (parse_type_parts w at parts >>= λ t. refuse 0 (offset o)) else refuse 6 at
+
+abbrev pub parse_type_first : Signatures → ℕ → Datum → List Datum → Load TypeSpec
+parse_type_first w at (list ds list_at) more = parse_type_options w at (in_order ds) more
+parse_type_first w at (number z first_at) more = parse_type_head w at (number z first_at) more
+parse_type_first w at (literal s first_at) more = parse_type_head w at (literal s first_at) more
+parse_type_first w at (word x first_at) more = parse_type_head w at (word x first_at) more
+parse_type_first w at (quoted x first_at name_at) more = parse_type_head w at (quoted x first_at name_at) more
+parse_type_first w at (stray first_at) more = parse_type_head w at (stray first_at) more
+
+abbrev pub parse_type_list : Signatures → ℕ → List Datum → Load TypeSpec
+parse_type_list w at [] = refuse 6 at
+parse_type_list w at (h ∷ more) = parse_type_first w at h more
+
+abbrev pub parse_type : Signatures → Datum → Load TypeSpec
+parse_type w (list ds at) = parse_type_list w at (in_order ds)
+parse_type w (number z at) = parse_type_head w at (number z at) []
+parse_type w (literal s at) = parse_type_head w at (literal s at) []
+parse_type w (word x at) = parse_type_head w at (word x at) []
+parse_type w (quoted x at name_at) = parse_type_head w at (quoted x at name_at) []
+parse_type w (stray at) = parse_type_head w at (stray at) []

@@ -1,0 +1,14 @@
+//! The display forms and the statements of an application text, with their exact refusals.
+#![tactic(auto)]
+
+mod bodies;
+mod display_forms;
+mod languages;
+mod own;
+mod plain_forms;
+mod slot_types;
+mod statements;
+
+pub use display_forms::{parse_shape, parse_shapes};
+pub use slot_types::parse_type;
+pub use statements::{parse_act, parse_acts};

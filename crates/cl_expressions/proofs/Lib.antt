@@ -1,0 +1,5 @@
+pub mod Subs
+pub mod Onto
+pub mod ScopeLemmas
+pub mod BindingLemmas
+pub mod ExpressionCounts

@@ -1,0 +1,4 @@
+pub mod Load
+pub mod Scopes
+pub mod Expressions
+pub mod ExpressionViews

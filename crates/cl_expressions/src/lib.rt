@@ -1,0 +1,13 @@
+//! The expressions of an application text, with their exact refusals.
+#![tactic(auto)]
+
+mod bindings;
+mod expressions;
+mod notes;
+mod records;
+mod scopes;
+
+pub use bindings::{Bindings, is_binding_list, parse_binding, parse_bindings};
+pub use expressions::{parse_each, parse_expression};
+pub use notes::note;
+pub use scopes::Scope;

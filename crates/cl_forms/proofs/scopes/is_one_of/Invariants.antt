@@ -1,6 +1,0 @@
-use Rattle.std.proofs.Common.{◌≡◌, drop, map}
-use Rattle.cl_forms.specs.Scopes.{among}
-use Rattle.cl_forms.proofs.scopes.is_one_of.Given as goal
-
-abbrev pub invariant-loop-one : goal.invariant-loop-one
-invariant-loop-one l = among l.name (drop l.one-index l.names) ≡ among l.name l.names
