@@ -1,5 +1,5 @@
 -- One more declaration in a table.
-use Rattle.std.proofs.Common.{◌≡◌, ◌++◌, ◌==◌, ◌∙◌, All, Bool, false, List, [], ◌∷◌, None, ℕ, refl}
+use Rattle.std.proofs.Common.{◌≡◌, ◌++◌, ◌==◌, ◌∙◌, Bool, false, List, [], ◌∷◌, None, ℕ, refl}
 use Rattle.std.specs.Prelude.{Result, Ok, Err, OnOk, OnErr}
 use Rattle.std.specs.Cmp.Lexicographic.{pointwise}
 use Rattle.indexmap.specs.IndexMap.{insert_entry}
@@ -16,10 +16,11 @@ none_more t (f ∷ es) e n h = (n.0, none_more t es e n.1 h)
 differ_more : {D : Type 0} (es : List (List ℕ × D)) (x : List ℕ) (d : D) → named x es ≡ None → Differ es → Differ (es ++ (x, d) ∷ [])
 differ_more [] x d n h = (refl, tt)
 differ_more (e ∷ es) x d n h =
-    let none : NonePasses (pointwise ◌==◌ x) (e ∷ es) = none_passes_from_lookup (pointwise ◌==◌ x) (e ∷ es) n in
-    (lookup-none (pointwise ◌==◌ e.0) (es ++ (x, d) ∷ [])
-      (none_more (pointwise ◌==◌ e.0) es (x, d) (none_passes_from_lookup (pointwise ◌==◌ e.0) es h.0) (nat_list_eq_equiv.symm e.0 x ∙ none.0)),
-    differ_more es x d (lookup-none (pointwise ◌==◌ x) es none.1) h.1)
+    let none : NonePasses (pointwise ◌==◌ x) (e ∷ es) = none_passes_from_lookup (pointwise ◌==◌ x) (e ∷ es) n in (
+      lookup-none (pointwise ◌==◌ e.0) (es ++ (x, d) ∷ [])
+          (none_more (pointwise ◌==◌ e.0) es (x, d) (none_passes_from_lookup (pointwise ◌==◌ e.0) es h.0) (nat_list_eq_equiv.symm e.0 x ∙ none.0)),
+      differ_more es x d (lookup-none (pointwise ◌==◌ x) es none.1) h.1,
+    )
 
 pub table_more : {D : Type 0} (own : D → List ℕ) (es : List (List ℕ × D)) (x : List ℕ) (d : D) → x ≡ own d → named x es ≡ None → IsTable own es
     → IsTable own (es ++ (x, d) ∷ [])

@@ -1,4 +1,4 @@
-use Rattle.std.proofs.Common.{◌≡◌, arith, sym, ◌∙◌}
+use Rattle.std.proofs.Common.{◌≡◌, arith, ◌∙◌}
 use Rattle.std.proofs.lemmas.Grind.{common_steps}
 use Rattle.indexmap.proofs.CallerLemmas.{insert_entry-new}
 use Rattle.cl_table.proofs.TableLemmas.{table_inserted}
