@@ -294,7 +294,7 @@ fn call<L: Ledger>(
         (drawing_of drawing.old) meter.old.cost meter.old.deepest) }
     ensures ledger { steps.new + meter.old.cost ≡ steps.old + meter.new.cost }
 {
-    match context.app.shape_of(name) {
+    match context.app.shape_of(name.as_slice()) {
         Some(display) if display.parameters.len() == values.len() => {
             let inner = Scope::Parameters(&display.parameters, &*values);
             draw_all(

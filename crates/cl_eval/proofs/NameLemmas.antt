@@ -32,13 +32,13 @@ module _ (app : App) (s s' : Slots) where
   On P e e' = (r : Root) (n : ℕ) → P r n → value_at r s e ≡ value_at r s' e'
 
   abbrev pub In : ExprTree → Root → ℕ → Type 0
-  In t r n = Names (Within n app r) r t
+  In t r n = Names (Within n app.functions r) r t
 
   abbrev pub InAll : ExprTrees → Root → ℕ → Type 0
-  InAll ts r n = NamesAmong (Within n app r) r ts
+  InAll ts r n = NamesAmong (Within n app.functions r) r ts
 
   abbrev pub InLet : Bindings → ExprTree → Root → ℕ → Type 0
-  InLet bs t r n = NamesBound (Within n app r) r bs (In t r n)
+  InLet bs t r n = NamesBound (Within n app.functions r) r bs (In t r n)
 
   abbrev pub Behind : List ℕ → (Root → ℕ → Type 0) → Root → ℕ → Type 0
   Behind x P r n = Apart x r × P r n
@@ -99,11 +99,11 @@ module _ (app : App) (s s' : Slots) where
         (behind (In t) y d ((x, c) ∷ e) ((x, c) ∷ e') (behind (Behind y (In t)) x c e e' a)) i >>= λ v. same-folded e e' x y t a ds v i
 
     -- what a function's body names are slots
-    inside : (f : FunctionDecl) (e : Env) → ((x : List ℕ) (n : ℕ) → InBody (Within n app (slot x)) (slot x) (Some f) → found x s ≡ found x s') → On (In f.body) e e
+    inside : (f : FunctionDecl) (e : Env) → ((x : List ℕ) (n : ℕ) → InBody (Within n app.functions (slot x)) (slot x) (Some f) → found x s ≡ found x s') → On (In f.body) e e
     inside f e a (variable y) n p = refl
     inside f e a (slot y) n p = a y n p
 
-    same-called : (f : Option FunctionDecl) (ds : List Data) → ((x : List ℕ) (n : ℕ) → InBody (Within n app (slot x)) (slot x) f → found x s ≡ found x s')
+    same-called : (f : Option FunctionDecl) (ds : List Data) → ((x : List ℕ) (n : ℕ) → InBody (Within n app.functions (slot x)) (slot x) f → found x s ≡ found x s')
         → called go level f ds ≡ called go' level f ds
     same-called None ds a = refl
     same-called (Some f) ds a =

@@ -1,11 +1,12 @@
 -- The operators, over the values of their parts: a value, or the kind of a trap.
 -- Traps: 1 a wrong kind, or a wrong count of parts; 2 a number past 64 bits; 3 a zero divisor; 4 no such place; 7 a value past its limits.
-use Rattle.std.specs.Prelude.{ℕ, zero, suc, ◌+◌, ◌-◌, ◌^◌, ℤ, pos, negsuc, neg_ℤ, ◌+ℤ◌, ◌-ℤ◌, ◌*ℤ◌, int_lt, int_le, Bool, true, false, not, ◌&&◌, nat_lt, nat_le, ◌==◌, if◌then◌else◌, List, [], ◌∷◌, ◌++◌, length, replicate, slice_range, position, Option, Some, None, Result, Ok, Err}
+use Rattle.std.specs.Prelude.{ℕ, zero, suc, ◌+◌, ◌-◌, ◌^◌, ℤ, pos, negsuc, neg_ℤ, ◌+ℤ◌, ◌-ℤ◌, ◌*ℤ◌, int_lt, int_le, Bool, true, false, not, ◌&&◌, nat_lt, nat_le, ◌==◌, if◌then◌else◌, List, [], ◌∷◌, ◌++◌, length, replicate, slice_range, Option, Some, None, Result, Ok, Err}
 use Rattle.std.specs.Fmt.{signed_decimal}
 use Rattle.std.specs.Int.{int_min, int_max, int_div_euclid}
 use Rattle.std.specs.declared.cmp.Ordering.{Ordering}
 use Rattle.std.specs.declared.cmp.Ordering.TheVariants.{Less, Equal, Greater}
 use Rattle.cl_value.specs.Data.{Data, int, bool, text, symbol, null, list, rec, Items, none, item, items_of, size_of, depth_of, order_of}
+use Rattle.cl_table.specs.Names.{place_of}
 use Rattle.cl_application.specs.App.{record_named}
 use Rattle.cl_application.specs.declared.applications.App.{App}
 use Rattle.cl_application.specs.declared.declarations.RecordDecl.{RecordDecl}
@@ -161,13 +162,6 @@ text_made written.Written (d ∷ []) = text_of d
 text_made o ds = Err 1
 
 -- ---- records
-
-abbrev pub is_called : List ℕ → List ℕ → Bool
-is_called x y = is_name y x
-
--- the place of the first of these names
-abbrev pub place_of : List ℕ → List (List ℕ) → Option ℕ
-place_of x ys = position (is_called x) ys
 
 -- the place of a field among those of a record that is declared
 abbrev pub field_place : List ℕ → Option RecordDecl → Option ℕ

@@ -4,7 +4,7 @@ use Rattle.std.specs.Prelude.{◌≡◌, ℕ, zero, suc, false, ◌⊎◌, List,
 use Rattle.cl_value.specs.Data.{Data}
 use Rattle.cl_syntax.specs.ExprTree as expr
 use Rattle.cl_syntax.specs.ExprTree.{ExprTree, ExprTrees, Bindings, none, part, unbound, binding}
-use Rattle.cl_application.specs.App.{function_named}
+use Rattle.cl_table.specs.Names.{named}
 use Rattle.cl_application.specs.declared.applications.App.{App}
 use Rattle.cl_application.specs.declared.declarations.FunctionDecl.{FunctionDecl}
 use Rattle.cl_eval.specs.Slots.{Slots, Env, is_name, found}
@@ -50,15 +50,22 @@ InBody calls (variable x) f = ⊥
 InBody calls (slot x) None = ⊥
 InBody calls (slot x) (Some f) = Names calls (slot x) f.body
 
+abbrev pub Functions : Type 0
+Functions = List (List ℕ × FunctionDecl)
+
 -- the function of that name, and those that it calls in turn, so many one within the other
-abbrev pub Within : ℕ → App → Root → List ℕ → Type 0
-Within zero app r f = ⊥
-Within (suc n) app r f = InBody (Within n app r) r (function_named f app)
+abbrev pub Within : ℕ → Functions → Root → List ℕ → Type 0
+Within zero fs r f = ⊥
+Within (suc n) fs r f = InBody (Within n fs r) r (named f fs)
 
 -- an expression names it itself, or through calls
-pub record Uses (app : App) (r : Root) (t : ExprTree) : Type 0 where
+pub record Uses (fs : Functions) (r : Root) (t : ExprTree) : Type 0 where
   pub calls : ℕ
-  pub named : Names (Within calls app r) r t
+  pub named : Names (Within calls fs r) r t
+
+-- some slot is named, itself or through calls
+abbrev pub ReadsSlot : Functions → ExprTree → Type 0
+ReadsSlot fs t = (x : List ℕ) × Uses fs (slot x) t
 
 abbrev pub value_at : Root → Slots → Env → Option Data
 value_at (variable x) slots env = found x env
@@ -66,4 +73,4 @@ value_at (slot x) slots env = found x slots
 
 -- the same value, or none in both, wherever the expression reads one
 abbrev pub AgreeOn : App → ExprTree → Slots → Env → Slots → Env → Type 0
-AgreeOn app t slots env slots' env' = (r : Root) → Uses app r t → value_at r slots env ≡ value_at r slots' env'
+AgreeOn app t slots env slots' env' = (r : Root) → Uses app.functions r t → value_at r slots env ≡ value_at r slots' env'

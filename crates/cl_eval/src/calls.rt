@@ -70,7 +70,7 @@ pub fn call<L: Ledger>(
         meter.old.deepest) }
     ensures ledger { steps.new + meter.old.cost ≡ steps.old + meter.new.cost }
 {
-    match context.app.function(name) {
+    match context.app.function(name.as_slice()) {
         Some(function) if function.parameters.len() == values.len() => {
             let inner = Scope::Parameters(&function.parameters, &*values);
             evaluate(context, &function.body, &inner, left, level, meter, steps)

@@ -15,8 +15,8 @@ use crate::execution::Types;
 use crate::metering::{Meter, Stop};
 use crate::slot_table::Slots;
 use crate::variables::{Env, Scope};
-use cl_outside::{Ledger, Steps};
 use cl_application::App;
+use cl_outside::{Ledger, Steps};
 use cl_syntax::{Binding, Expr};
 use cl_value::{Held, Text, Value, Values};
 use std::alloc::Global;
@@ -145,7 +145,7 @@ pub fn assign<T: Types>(
         (assigned (T.holds program.now.types.now) name.now (slot_type name.now program.now.app.now)
         effects.old (data_of value)) }
 {
-    let Some(spec) = program.app.slot_spec(name) else {
+    let Some(spec) = program.app.slot_spec(name.as_slice()) else {
         return Err(Stop::Trap(1));
     };
     match program.types.member(&value, spec) {

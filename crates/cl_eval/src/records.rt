@@ -2,7 +2,7 @@
 ghost use Rattle.std.specs.Prelude.{◌≡◌, ◌<◌, length, map, option_map, IfOk};
 ghost use Rattle.cl_value.specs.Value.{data_of};
 ghost use Rattle.cl_application.specs.App.{record_named};
-ghost use Rattle.cl_eval.specs.Operators.{changed_at, field_place, made, place_of, record_made, value_at, with_part};
+ghost use Rattle.cl_eval.specs.Operators.{changed_at, field_place, made, record_made, value_at, with_part};
 ghost use Rattle.cl_eval.specs.Agrees.{Comes};
 
 use crate::lists::{add_all, add_part, copy_all};
@@ -43,7 +43,7 @@ fn make(alloc: Global, app: &App, name: &Text, values: &[Value]) -> Result<Value
     ensures { Comes data_of result
         (made name.now (record_named name.now app.now) (map data_of values.now)) }
 {
-    match app.record(name) {
+    match app.record(name.as_slice()) {
         Some(declared) if declared.fields.len() == values.len() => {
             limit(Value::Record(name.copy()?, copy_all(alloc, values)?))
         }
@@ -55,16 +55,8 @@ fn make(alloc: Global, app: &App, name: &Text, values: &[Value]) -> Result<Value
 fn field_place(app: &App, name: &Text, field: &Text) -> Option<usize>
     ensures { result ≡ field_place field.now (record_named name.now app.now) }
 {
-    let declared = app.record(name)?;
-    place_of(field, declared.fields.as_slice())
-}
-
-fn place_of(field: &Text, names: &[Text]) -> Option<usize>
-    ensures { result ≡ place_of field.now names.now }
-{
-    names
-        .iter()
-        .position(|name| name.as_slice() == field.as_slice())
+    let declared = app.record(name.as_slice())?;
+    declared.fields.place_of(field.as_slice())
 }
 
 fn part_at(parts: &Values, place: Option<usize>) -> Result<Value, Stop>
