@@ -1,3 +1,1 @@
-pub mod FrameRows
-pub mod DeclareSteps
-pub mod DatumLists
+pub mod DeclarationCounts

@@ -1,14 +1,14 @@
 -- What a step of the reading leaves in what it was lent.
 use Rattle.std.specs.Prelude.{◌≡◌, Result, Ok, Err}
-use Rattle.cl_expressions.specs.Load.{Unknown, Fault}
+use Rattle.cl_expressions.specs.Load.{Notes, Fault}
 use Rattle.cl_forms.specs.declared.refusals.LoadRefusal.{LoadRefusal}
 use Rattle.cl_forms.specs.declared.refusals.LoadRefusal.TheVariants.{Refused, Memory}
 
-abbrev pub Leaves : {A B : Type 0} → Result B LoadRefusal → A → Unknown → Result (A × Unknown) Fault → Type 0
-Leaves (Ok done) x unknown r = r ≡ Ok (x, unknown)
-Leaves (Err (Refused number at)) x unknown r = r ≡ Err (number, at)
-Leaves (Err Memory) x unknown r = Unit {0}
+abbrev pub Leaves : {A B : Type 0} → Result B LoadRefusal → A → Notes → Result (A × Notes) Fault → Type 0
+Leaves (Ok done) x notes r = r ≡ Ok (x, notes)
+Leaves (Err (Refused number at)) x notes r = r ≡ Err (number, at)
+Leaves (Err Memory) x notes r = Unit {0}
 
--- nothing but the first name that is not declared
-abbrev pub Notes : {B : Type 0} → Result B LoadRefusal → Unknown → Result (Unit {0} × Unknown) Fault → Type 0
-Notes result unknown r = Leaves result tt unknown r
+-- nothing but notes
+abbrev pub LeavesNotes : {B : Type 0} → Result B LoadRefusal → Notes → Result (Unit {0} × Notes) Fault → Type 0
+LeavesNotes result notes r = Leaves result tt notes r

@@ -1,3 +1,8 @@
+pub mod Names
+pub mod Callees
+pub mod Commands
+pub mod CommandView
 pub mod Frames
-pub mod Declarations
+pub mod Sections
 pub mod Leaves
+pub mod Declarations

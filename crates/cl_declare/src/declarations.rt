@@ -1,19 +1,18 @@
 //! What a text declares, as it is read.
-ghost use Rattle.std.specs.Prelude.{◌≡◌, ◌∷◌, ◌++◌, [], OnOk, OnErr, map};
-ghost use Rattle.cl_forms.specs.Datum.{word};
+ghost use Rattle.std.specs.Prelude.{◌≡◌, map};
 ghost use Rattle.cl_forms.specs.DatumView.{datum_of};
-ghost use Rattle.cl_expressions.specs.Load.{Gives, Unknown, itself};
-ghost use Rattle.cl_declare.specs.Declarations.{with_record, with_function, with_display, with_command, with_frame, declared_as, declared_of, declared_headed, declared_listed, declared_by, declarations_of};
+ghost use Rattle.cl_forms.specs.OuterView.{outer_of};
+ghost use Rattle.cl_expressions.specs.Load.{Gives, itself};
+ghost use Rattle.cl_declare.specs.Declarations.{parse_declared, parse_kind, parse_declaration, parse_declarations};
 ghost use Rattle.cl_declare.specs.Leaves.{Leaves};
 
-use crate::frames::{FrameForm, parse_frame};
-use crate::heads::{DeclarationKind, is_later_declaration, kind_named};
-use crate::rows::{parse_command, parse_display, parse_function, parse_record};
-use cl_forms::{Datum, LoadRefusal};
-use cl_words::Signatures;
-use cl_application::{CommandDecl, Commands, DisplayDecl, Displays, FunctionDecl, Functions, RecordDecl, Records};
-use cl_value::Text;
-use std::alloc::{AllocError, Global};
+use crate::callees::{parse_display, parse_function, parse_record};
+use crate::commands::parse_command;
+use crate::frame_forms::FrameForms;
+use crate::sections::parse_frame;
+use cl_application::{Commands, Displays, Functions, Records};
+use cl_expressions::{Notes, Reader};
+use cl_forms::{Datum, DeclarationKind, LoadRefusal, Outer, OuterKind};
 
 /// What a text declares: tables by name, of two of one name the first, and all frames in their order.
 #[derive(Drop)]
@@ -22,165 +21,85 @@ pub struct Declarations {
     pub functions: Functions,
     pub displays: Displays,
     pub commands: Commands,
-    pub frames: Vec<FrameForm>,
+    pub frames: FrameForms,
 }
 
-/// What the forms of a text declare; or the first of its refusals 0, 5 and 6. The first name that is
-/// not declared is noted.
-pub fn declarations_in(
-    alloc: Global,
-    signatures: &Signatures,
-    forms: &[Datum],
-    unknown: &mut Option<u32>,
+/// What the outermost forms of a text declare; or the first of its refusals 0, 5 and 6. The first name
+/// that is not declared is noted.
+pub fn parse_declarations(
+    reader: &Reader,
+    outers: &[Outer],
+    notes: &mut Notes,
 ) -> Result<Declarations, LoadRefusal>
-    ensures { Gives declared_of result unknown.new
-        (declarations_of signatures.now (map datum_of forms.now) unknown.old) }
+    ensures { Gives itself result notes.new
+        (parse_declarations reader.now.signatures.now (map outer_of outers.now) notes.old) }
 {
     let mut declarations = Declarations {
-        records: Records::new(alloc),
-        functions: Functions::new(alloc),
-        displays: Displays::new(alloc),
-        commands: Commands::new(alloc),
-        frames: Vec::new(alloc),
+        records: Records::new(reader.alloc),
+        functions: Functions::new(reader.alloc),
+        displays: Displays::new(reader.alloc),
+        commands: Commands::new(reader.alloc),
+        frames: FrameForms::new(reader.alloc),
     };
-    for form in forms {
-        declare(alloc, signatures, form, &mut declarations, unknown)?;
+    for outer in outers {
+        parse_declaration(reader, outer, &mut declarations, notes)?;
     }
     Ok(declarations)
 }
 
-fn declare(
-    alloc: Global,
-    signatures: &Signatures,
-    form: &Datum,
+fn parse_declaration(
+    reader: &Reader,
+    outer: &Outer,
     declarations: &mut Declarations,
-    unknown: &mut Option<u32>,
+    notes: &mut Notes,
 ) -> Result<(), LoadRefusal>
-    ensures { Leaves result (declared_of declarations.new) unknown.new
-        (declared_by signatures.now (datum_of form.now) (declared_of declarations.old) unknown.old) }
+    ensures { Leaves result declarations.new notes.new
+        (parse_declaration reader.now.signatures.now (outer_of outer.now) declarations.old
+        notes.old) }
 {
-    let at = form.offset();
-    let Some((head, parts)) = form.parts().split_first() else {
-        return Err(LoadRefusal::Refused(6, at));
-    };
-    match head {
-        Datum::Word(head, head_at) => declare_headed(
-            alloc,
-            signatures,
-            head,
-            *head_at,
-            at,
-            parts,
-            declarations,
-            unknown,
-        ),
-        Datum::Number(_, _) => Err(LoadRefusal::Refused(6, at)),
-        Datum::Literal(_, _) => Err(LoadRefusal::Refused(6, at)),
-        Datum::Quoted(_, _, _) => Err(LoadRefusal::Refused(6, at)),
-        Datum::Stray(_) => Err(LoadRefusal::Refused(6, at)),
-        Datum::List(_, _) => Err(LoadRefusal::Refused(6, at)),
-    }
-}
-
-fn declare_headed(
-    alloc: Global,
-    signatures: &Signatures,
-    head: &Text,
-    head_at: u32,
-    at: u32,
-    parts: &[Datum],
-    declarations: &mut Declarations,
-    unknown: &mut Option<u32>,
-) -> Result<(), LoadRefusal>
-    ensures { Leaves result (declared_of declarations.new) unknown.new
-        (declared_headed signatures.now (word head.now head_at) at (map datum_of parts.now)
-        (declared_of declarations.old) unknown.old) }
-{
-    match kind_named(head.as_slice()) {
-        Some(kind) => declare_as(alloc, signatures, kind, at, parts, declarations, unknown),
-        None => {
-            if is_later_declaration(head.as_slice()) {
-                Err(LoadRefusal::Refused(0, head_at))
-            } else {
-                Err(LoadRefusal::Refused(5, head_at))
-            }
+    match outer.kind {
+        OuterKind::Declared(kind) => {
+            parse_declared(reader, kind, outer.at, outer.parts, declarations, notes)
         }
+        OuterKind::Planned(head_at) => Err(LoadRefusal::Refused(0, head_at)),
+        OuterKind::Unknown(head_at) => Err(LoadRefusal::Refused(5, head_at)),
+        OuterKind::Headless => Err(LoadRefusal::Refused(6, outer.at)),
     }
 }
 
-fn declare_as(
-    alloc: Global,
-    signatures: &Signatures,
+fn parse_declared(
+    reader: &Reader,
     kind: DeclarationKind,
     at: u32,
     parts: &[Datum],
     declarations: &mut Declarations,
-    unknown: &mut Option<u32>,
+    notes: &mut Notes,
 ) -> Result<(), LoadRefusal>
-    ensures { Leaves result (declared_of declarations.new) unknown.new
-        (declared_as signatures.now kind at (map datum_of parts.now) (declared_of declarations.old)
-        unknown.old) }
+    ensures { Leaves result declarations.new notes.new
+        (parse_declared reader.now.signatures.now kind at (map datum_of parts.now) declarations.old
+        notes.old) }
 {
     match kind {
-        DeclarationKind::Record => declarations.add_record(parse_record(alloc, at, parts)?)?,
+        DeclarationKind::Record => {
+            let record = parse_record(reader.alloc, at, parts)?;
+            declarations.records.add_first(record)?
+        }
         DeclarationKind::Function => {
-            declarations.add_function(parse_function(alloc, signatures, at, parts, unknown)?)?
+            let function = parse_function(reader, at, parts, notes)?;
+            declarations.functions.add_first(function)?
         }
         DeclarationKind::Display => {
-            declarations.add_display(parse_display(alloc, signatures, at, parts, unknown)?)?
+            let display = parse_display(reader, at, parts, notes)?;
+            declarations.displays.add_first(display)?
         }
         DeclarationKind::Command => {
-            declarations.add_command(parse_command(alloc, signatures, at, parts, unknown)?)?
+            let command = parse_command(reader, at, parts, notes)?;
+            declarations.commands.add_first(command)?
         }
         DeclarationKind::Frame => {
-            declarations.add_frame(parse_frame(alloc, signatures, at, parts, unknown)?)?
+            let frame = parse_frame(reader, at, parts, notes)?;
+            declarations.frames.push(frame)?
         }
     }
     Ok(())
-}
-
-impl Declarations {
-    fn add_record(&mut self, declaration: RecordDecl) -> Result<(), AllocError>
-        ensures { OnOk result
-            (declared_of self.new ≡ with_record (declared_of self.old) declaration) }
-    {
-        if self.records.get(&declaration.name).is_some() {
-            return Ok(());
-        }
-        self.records.add(declaration).map_err(|_| AllocError)
-    }
-
-    fn add_function(&mut self, function: FunctionDecl) -> Result<(), AllocError>
-        ensures { OnOk result
-            (declared_of self.new ≡ with_function (declared_of self.old) function) }
-    {
-        if self.functions.get(&function.name).is_some() {
-            return Ok(());
-        }
-        self.functions.add(function).map_err(|_| AllocError)
-    }
-
-    fn add_display(&mut self, display: DisplayDecl) -> Result<(), AllocError>
-        ensures { OnOk result (declared_of self.new ≡ with_display (declared_of self.old) display) }
-    {
-        if self.displays.get(&display.name).is_some() {
-            return Ok(());
-        }
-        self.displays.add(display).map_err(|_| AllocError)
-    }
-
-    fn add_command(&mut self, command: CommandDecl) -> Result<(), AllocError>
-        ensures { OnOk result (declared_of self.new ≡ with_command (declared_of self.old) command) }
-    {
-        if self.commands.get(&command.name).is_some() {
-            return Ok(());
-        }
-        self.commands.add(command).map_err(|_| AllocError)
-    }
-
-    fn add_frame(&mut self, frame: FrameForm) -> Result<(), AllocError>
-        ensures { OnOk result (declared_of self.new ≡ with_frame (declared_of self.old) frame) }
-    {
-        self.frames.push(frame).map_err(|_| AllocError)
-    }
 }

@@ -1,17 +1,18 @@
-//! The frame that a form declares.
-ghost use Rattle.std.specs.Prelude.{◌≡◌, map, option_map};
+//! The shape of a frame, but for the forms in it.
+ghost use Rattle.std.specs.Prelude.{◌≡◌, IfOk, map, option_map};
+ghost use Rattle.cl_forms.specs.Datum.{parts_of};
 ghost use Rattle.cl_forms.specs.DatumView.{datum_of};
-ghost use Rattle.cl_expressions.specs.Load.{Gives, Unknown, itself};
-ghost use Rattle.cl_forms.specs.Naming.{name_in, symbol_of};
-ghost use Rattle.cl_declare.specs.Frames.{is_size, is_slot, are_slots, takes_none, may_be_shown, is_extent, is_pane, are_panes, is_frame, parse_size, parse_extent, parse_place, parse_pane, first_pane, frame_of, parse_frame};
+ghost use Rattle.cl_forms.specs.KeyedView.{keyed_of};
+ghost use Rattle.cl_declare.specs.Frames.{number_in, size_in, is_slot, are_slots, takes_none, place_in, pane_of, pane_listed, first_pane, behind, frame_shape};
 
-use crate::parts::{are_sections, is_number, number_of, section};
-use crate::slots::sections_read;
-use cl_forms::{Datum, LoadRefusal, fits, name_in, symbol_text};
-use cl_words::Signatures;
 use cl_application::SlotDecls;
+use cl_forms::{Datum, Key, Keyed, fits, name_in, values_of};
 use cl_value::Text;
-use std::alloc::Global;
+use cl_words::Signatures;
+use std::alloc::AllocError;
+
+/// The keys that a frame may have.
+pub const FRAME_KEYS: [Key; 4] = [Key::Size, Key::Slots, Key::Panes, Key::CommandTable];
 
 /// A frame as its text gives it, sizes in cells.
 #[derive(Drop)]
@@ -36,166 +37,91 @@ pub struct PaneForm {
     pub at: u32,
 }
 
-/// The size of a frame in cells.
+/// Two numbers of cells.
 #[derive(Clone, Copy)]
 pub struct Size {
     pub width: i64,
     pub height: i64,
 }
 
-/// `(define-application-frame NAME SECTION ...)`
-pub fn parse_frame(
-    alloc: Global,
+/// Where a pane lies in its frame, in cells.
+#[derive(Clone, Copy)]
+struct Place {
+    x: i64,
+    y: i64,
+    width: i64,
+    height: i64,
+}
+
+/// What a frame is, but for its slots.
+#[derive(Drop)]
+pub struct FrameShape {
+    pub name: Text,
+    pub size: Size,
+    pub pane: PaneForm,
+}
+
+/// The name, the size and the pane of a frame; None where the frame is wrong by itself.
+pub fn frame_shape(
     signatures: &Signatures,
-    at: u32,
-    parts: &[Datum],
-    unknown: &mut Option<u32>,
-) -> Result<FrameForm, LoadRefusal>
-    ensures { Gives itself result unknown.new
-        (parse_frame signatures.now at (map datum_of parts.now) unknown.old) }
+    name: &Datum,
+    sections: &[Keyed],
+) -> Result<Option<FrameShape>, AllocError>
+    ensures { IfOk result
+        (λ f. f ≡ frame_shape signatures.now (datum_of name.now) (map keyed_of sections.now)) }
 {
-    match parts {
-        [] => Err(LoadRefusal::Refused(6, at)),
-        [name, sections @ ..] => {
-            if !is_frame(signatures, name, sections) {
-                return Err(LoadRefusal::Refused(6, at));
-            }
-            let slots = sections_read(alloc, signatures, at, sections, unknown)?;
-            frame_of(alloc, at, name, sections, slots)
-        }
+    if !are_slots(behind(Key::Slots, sections)) {
+        return Ok(None);
+    }
+    let Some(name) = name_in(name) else {
+        return Ok(None);
+    };
+    let Some(size) = size_in(behind(Key::Size, sections)) else {
+        return Ok(None);
+    };
+    let Some(pane) = first_pane(signatures, behind(Key::Panes, sections))? else {
+        return Ok(None);
+    };
+    let name = name.copy()?;
+    Ok(Some(FrameShape { name, size, pane }))
+}
+
+/// What stands behind a key; nothing where the frame has no such section.
+fn behind<'a>(key: Key, sections: &[Keyed<'a>]) -> &'a [Datum]
+    ensures { map datum_of result.now ≡ behind key (map keyed_of sections.now) }
+{
+    match values_of(key, sections) {
+        Some(values) => values,
+        None => &[],
     }
 }
 
-fn frame_of(
-    alloc: Global,
-    at: u32,
-    name: &Datum,
-    sections: &[Datum],
-    slots: SlotDecls,
-) -> Result<FrameForm, LoadRefusal>
-    ensures { (u : Unknown)
-        → Gives itself result u
-        (frame_of at (datum_of name.now) (map datum_of sections.now) slots u) }
+fn number_in(datum: &Datum) -> Option<i64>
+    ensures { result ≡ number_in (datum_of datum.now) }
 {
-    let size = parse_size(at, section(b":size", sections))?;
-    let pane = first_pane(alloc, at, section(b":panes", sections))?;
-    let name = symbol_text(alloc, name)?;
-    Ok(FrameForm {
-        name,
-        width: size.width,
-        height: size.height,
-        slots,
-        pane,
-        at,
-    })
+    match datum {
+        Datum::Number(number, _) => Some(*number),
+        Datum::Literal(_, _) => None,
+        Datum::Word(_, _) => None,
+        Datum::Quoted(_, _, _) => None,
+        Datum::Stray(_) => None,
+        Datum::List(_, _) => None,
+    }
 }
 
-/// `(:size WIDTH HEIGHT)`
-#[tactic(auto, using(crate::proofs::FrameRows::size_counts))]
-fn parse_size(at: u32, parts: &[Datum]) -> Result<Size, LoadRefusal>
-    ensures { (u : Unknown) → Gives itself result u (parse_size at (map datum_of parts.now) u) }
+/// `WIDTH HEIGHT`
+#[tactic(auto, using(crate::proofs::DeclarationCounts::size_counts))]
+fn size_in(parts: &[Datum]) -> Option<Size>
+    ensures { result ≡ size_in (map datum_of parts.now) }
 {
     match parts {
-        [width, height] => Ok(Size {
-            width: number_of(width),
-            height: number_of(height),
+        [width, height] => Some(Size {
+            width: number_in(width)?,
+            height: number_in(height)?,
         }),
-        [] => Err(LoadRefusal::Refused(6, at)),
-        [_] => Err(LoadRefusal::Refused(6, at)),
-        [_, _, _, ..] => Err(LoadRefusal::Refused(6, at)),
-    }
-}
-
-fn first_pane(alloc: Global, at: u32, panes: &[Datum]) -> Result<PaneForm, LoadRefusal>
-    ensures { (u : Unknown) → Gives itself result u (first_pane at (map datum_of panes.now) u) }
-{
-    match panes {
-        [] => Err(LoadRefusal::Refused(6, at)),
-        [pane, ..] => parse_pane(alloc, at, pane.offset(), pane.parts()),
-    }
-}
-
-/// `(NAME X Y WIDTH HEIGHT DISPLAY)`
-fn parse_pane(alloc: Global, at: u32, pane_at: u32, parts: &[Datum]) -> Result<PaneForm, LoadRefusal>
-    ensures { (u : Unknown)
-        → Gives itself result u (parse_pane at pane_at (map datum_of parts.now) u) }
-{
-    match parts {
-        [] => Err(LoadRefusal::Refused(6, at)),
-        [name, place @ ..] => parse_place(alloc, at, pane_at, name, place),
-    }
-}
-
-fn parse_place(
-    alloc: Global,
-    at: u32,
-    pane_at: u32,
-    name: &Datum,
-    place: &[Datum],
-) -> Result<PaneForm, LoadRefusal>
-    ensures { (u : Unknown)
-        → Gives itself result u
-        (parse_place at pane_at (symbol_of (datum_of name.now)) (map datum_of place.now) u) }
-{
-    match place {
-        [] => Err(LoadRefusal::Refused(6, at)),
-        [_] => Err(LoadRefusal::Refused(6, at)),
-        [x, y, extent @ ..] => parse_extent(alloc, at, pane_at, name, x, y, extent),
-    }
-}
-
-/// The pane of this name at this place, with `WIDTH HEIGHT DISPLAY`.
-#[tactic(auto, using(crate::proofs::FrameRows::extent_counts))]
-fn parse_extent(
-    alloc: Global,
-    at: u32,
-    pane_at: u32,
-    name: &Datum,
-    x: &Datum,
-    y: &Datum,
-    extent: &[Datum],
-) -> Result<PaneForm, LoadRefusal>
-    ensures { (u : Unknown)
-        → Gives itself result u (parse_extent at pane_at (symbol_of (datum_of name.now))
-        (datum_of x.now) (datum_of y.now) (map datum_of extent.now) u) }
-{
-    match extent {
-        [width, height, display] => Ok(PaneForm {
-            name: symbol_text(alloc, name)?,
-            x: number_of(x),
-            y: number_of(y),
-            width: number_of(width),
-            height: number_of(height),
-            display: symbol_text(alloc, display)?,
-            at: pane_at,
-        }),
-        [] => Err(LoadRefusal::Refused(6, at)),
-        [_] => Err(LoadRefusal::Refused(6, at)),
-        [_, _] => Err(LoadRefusal::Refused(6, at)),
-        [_, _, _, _, ..] => Err(LoadRefusal::Refused(6, at)),
-    }
-}
-
-/// Whether a frame is right but for the forms in its sections.
-fn is_frame(signatures: &Signatures, name: &Datum, sections: &[Datum]) -> bool
-    ensures { result ≡ is_frame signatures.now (datum_of name.now) (map datum_of sections.now) }
-{
-    name_in(name).is_some()
-        && are_sections(sections)
-        && is_size(section(b":size", sections))
-        && are_slots(section(b":slots", sections))
-        && are_panes(signatures, section(b":panes", sections))
-}
-
-#[tactic(auto, using(crate::proofs::FrameRows::is_size_counts))]
-fn is_size(parts: &[Datum]) -> bool
-    ensures { result ≡ is_size (map datum_of parts.now) }
-{
-    match parts {
-        [width, height] => is_number(width) && is_number(height),
-        [] => false,
-        [_] => false,
-        [_, _, _, ..] => false,
+        [] => None,
+        [_] => None,
+        [_, _, _, ..] => None,
     }
 }
 
@@ -210,8 +136,8 @@ fn are_slots(slots: &[Datum]) -> bool
     true
 }
 
-/// Whether these are the parts of `(NAME TYPE OPENING)`.
-#[tactic(auto, using(crate::proofs::FrameRows::is_slot_counts))]
+/// Whether these are the parts of `(NAME TYPE E)`.
+#[tactic(auto, using(crate::proofs::DeclarationCounts::is_slot_counts))]
 fn is_slot(parts: &[Datum]) -> bool
     ensures { result ≡ is_slot (map datum_of parts.now) }
 {
@@ -224,54 +150,85 @@ fn is_slot(parts: &[Datum]) -> bool
     }
 }
 
-fn are_panes(signatures: &Signatures, panes: &[Datum]) -> bool
-    ensures { result ≡ are_panes signatures.now (map datum_of panes.now) }
+/// The first pane, which is the only one that is built so far.
+fn first_pane(signatures: &Signatures, panes: &[Datum]) -> Result<Option<PaneForm>, AllocError>
+    ensures { IfOk result (λ p. p ≡ first_pane signatures.now (map datum_of panes.now)) }
 {
     match panes {
-        [] => false,
-        [pane, ..] => is_pane(signatures, pane.parts()),
+        [] => Ok(None),
+        [pane, ..] => pane_listed(signatures, pane.offset(), pane.parts()),
     }
 }
 
-fn is_pane(signatures: &Signatures, parts: &[Datum]) -> bool
-    ensures { result ≡ is_pane signatures.now (map datum_of parts.now) }
+/// `(NAME X Y WIDTH HEIGHT DISPLAY)`
+#[tactic(auto, using(crate::proofs::DeclarationCounts::pane_counts))]
+fn pane_listed(
+    signatures: &Signatures,
+    at: u32,
+    parts: &[Datum],
+) -> Result<Option<PaneForm>, AllocError>
+    ensures { IfOk result (λ p. p ≡ pane_listed signatures.now at (map datum_of parts.now)) }
 {
     match parts {
-        [] => false,
-        [_] => false,
-        [_, _] => false,
-        [name, x, y, extent @ ..] => {
-            name_in(name).is_some() && is_number(x) && is_number(y) && is_extent(signatures, extent)
+        [name, x, y, width, height, display] => {
+            let place = place_in(x, y, width, height);
+            pane_of(signatures, at, name_in(name), place, name_in(display))
         }
+        [] => Ok(None),
+        [_] => Ok(None),
+        [_, _] => Ok(None),
+        [_, _, _] => Ok(None),
+        [_, _, _, _] => Ok(None),
+        [_, _, _, _, _] => Ok(None),
+        [_, _, _, _, _, _, _, ..] => Ok(None),
     }
 }
 
-/// Whether these are `WIDTH HEIGHT DISPLAY`.
-#[tactic(auto, using(crate::proofs::FrameRows::is_extent_counts))]
-fn is_extent(signatures: &Signatures, extent: &[Datum]) -> bool
-    ensures { result ≡ is_extent signatures.now (map datum_of extent.now) }
+fn place_in(x: &Datum, y: &Datum, width: &Datum, height: &Datum) -> Option<Place>
+    ensures { result ≡ place_in (datum_of x.now) (datum_of y.now) (datum_of width.now) (datum_of height.now) }
 {
-    match extent {
-        [width, height, display] => {
-            is_number(width) && is_number(height) && may_be_shown(signatures, name_in(display))
-        }
-        [] => false,
-        [_] => false,
-        [_, _] => false,
-        [_, _, _, _, ..] => false,
-    }
+    Some(Place {
+        x: number_in(x)?,
+        y: number_in(y)?,
+        width: number_in(width)?,
+        height: number_in(height)?,
+    })
 }
 
-/// Whether a pane may name this display: one that is declared takes no parameters.
-fn may_be_shown(signatures: &Signatures, display: Option<&Text>) -> bool
-    ensures { result ≡ may_be_shown signatures.now (option_map (λ n. n.now) display.entry) }
+fn pane_of(
+    signatures: &Signatures,
+    at: u32,
+    name: Option<&Text>,
+    place: Option<Place>,
+    display: Option<&Text>,
+) -> Result<Option<PaneForm>, AllocError>
+    ensures { IfOk result (λ p. p ≡ pane_of signatures.now at (option_map (λ n. n.now) name) place
+        (option_map (λ n. n.now) display)) }
 {
-    match display {
-        Some(name) => takes_none(signatures.display(name)),
-        None => false,
+    let Some(name) = name else {
+        return Ok(None);
+    };
+    let Some(place) = place else {
+        return Ok(None);
+    };
+    let Some(display) = display else {
+        return Ok(None);
+    };
+    if !takes_none(signatures.display(display.as_slice())) {
+        return Ok(None);
     }
+    Ok(Some(PaneForm {
+        name: name.copy()?,
+        x: place.x,
+        y: place.y,
+        width: place.width,
+        height: place.height,
+        display: display.copy()?,
+        at,
+    }))
 }
 
+/// Whether a display that is declared takes no parameters.
 fn takes_none(count: Option<Option<usize>>) -> bool
     ensures { result ≡ takes_none count }
 {

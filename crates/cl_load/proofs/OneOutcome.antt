@@ -3,18 +3,21 @@ use Rattle.std.proofs.Common.{◌≡◌, ◌⊎◌, inl, inr, List, ℕ, [], ◌
 use Rattle.std.specs.Prelude.{Result, Ok, Err}
 use Rattle.cl_sexp.specs.declared.Token.{Token}
 use Rattle.cl_sexp.specs.Tokens.{tokens_of}
+use Rattle.std.specs.Prelude.{Option, Some, None}
 use Rattle.cl_application.specs.declared.applications.App.{App}
-use Rattle.cl_application.specs.declared.declarations.SlotDecl.{SlotDecl}
+use Rattle.cl_forms.specs.Datum.{Datum}
 use Rattle.cl_forms.specs.Tree.{Tree, Trees, none, item, trees_of, spelled_all}
 use Rattle.cl_forms.specs.Spelled.{lexemes}
 use Rattle.cl_forms.proofs.OneTree.{one_forest}
-use Rattle.cl_declare.specs.Declarations.{Declared}
+use Rattle.cl_expressions.specs.Load.{Fault, Notes, nothing_noted}
+use Rattle.cl_declare.specs.declared.declarations.Declarations.{Declarations}
 use Rattle.cl_declare.specs.declared.frames.FrameForm.{FrameForm}
 use Rattle.cl_phases.specs.SlotReads.{Functions}
-use Rattle.cl_load.specs.Loads.{AreForms, IsTooLong, IsUnread, IsUnreadable, ComesTo, HasOutcome, data_of}
-use Rattle.cl_load.specs.Outcome.{Comes, Outcome, Reading, Settled}
-use Rattle.cl_load.specs.Readings.{IsFirstReading, NoneReads}
-use Rattle.cl_load.specs.Review.{review}
+use Rattle.cl_load.specs.Application.{AreForms, IsTooLong, IsUnread, IsUnreadable, ComesTo, HasOutcome, data_of}
+use Rattle.cl_load.specs.Outcome.{Comes, IsVerdict, Outcome, Settled, parse}
+use Rattle.cl_load.specs.Readings.{Finds, IsFirstReading, NoneReads}
+use Rattle.cl_load.specs.Refusals.{app_in, faults, first_fault, form_faults, frame_faults}
+use Rattle.cl_load.proofs.ConcludeLemmas.{first_some}
 
 -- trees in a row
 abbrev parse_in : Trees → List Tree
@@ -54,18 +57,53 @@ none_first fs [] at x u = x
 none_first fs (f ∷ more) at (inl x) u = u.0 x.0
 none_first fs (f ∷ more) at (inr x) u = none_first fs more at x.1 u.1
 
-comes_once : (size : ℕ) (r : Result Declared (ℕ × ℕ)) (a b : Result App (ℕ × ℕ)) → Comes size r a → Comes size r b → a ≡ b
-comes_once size (Err fault) a b x y = x ∙ sym y
-comes_once size (Ok s) a b (inl x) (inl y) =
-    x.refused ∙ ap (λ (at : ℕ). Err (10, at)) (first_once s.functions s.frames x.at y.at x.first y.first) ∙ sym y.refused
-comes_once size (Ok s) a b (inl x) (inr y) = absurd (none_first s.functions s.frames x.at x.first y.unread)
-comes_once size (Ok s) a b (inr x) (inl y) = absurd (none_first s.functions s.frames y.at y.first x.unread)
-comes_once size (Ok s) a b (inr x) (inr y) = x.comes ∙ sym y.comes
+found_once : (fs : Functions) (frames : List FrameForm) (r q : Option ℕ) → Finds fs frames r → Finds fs frames q → r ≡ q
+found_once fs frames (Some m) (Some n) x y = ap (λ (at : ℕ). Some at) (first_once fs frames m n x y)
+found_once fs frames (Some m) None x y = absurd (none_first fs frames m x y)
+found_once fs frames None (Some n) x y = absurd (none_first fs frames n y x)
+found_once fs frames None None x y = refl
+
+same_app : (app : Option App) (a b : App) → app ≡ Some a → app ≡ Some b → ◌≡◌ {A = Result App Fault} (Ok a) (Ok b)
+same_app app a b p q = cc
+
+-- one fault, or one application
+verdict_once : (first : Option Fault) (app : Option App) (a b : Result App Fault) → IsVerdict first app a → IsVerdict first app b → a ≡ b
+verdict_once (Some fault) app a b x y = x ∙ sym y
+verdict_once None app (Ok a) (Ok b) x y = same_app app a b x y
+verdict_once None app (Ok a) (Err g) x y = absurd y
+verdict_once None app (Err f) b x y = absurd x
+
+-- where the forms have a fault, it is the first, whatever reads a slot
+faulty_once : (length : ℕ) (ds : List Datum) (s : Declarations) (notes : Notes) (fault : Fault) (a b : Result App Fault) → first_fault (form_faults ds notes) ≡ Some fault
+    → Settled length ds s notes a → Settled length ds s notes b → a ≡ b
+faulty_once length ds s notes fault a b h x y =
+    verdict_once (Some fault) (app_in s s.frames) a b
+    (subst (λ first. IsVerdict first (app_in s s.frames) a) (first_some (form_faults ds notes) (frame_faults length s x.reading) fault h) x.verdict)
+    (subst (λ first. IsVerdict first (app_in s s.frames) b) (first_some (form_faults ds notes) (frame_faults length s y.reading) fault h) y.verdict)
+
+clear_once : (length : ℕ) (ds : List Datum) (s : Declarations) (notes : Notes) (a b : Result App Fault) → first_fault (form_faults ds notes) ≡ None
+    → Settled length ds s notes a → Settled length ds s notes b → a ≡ b
+clear_once length ds s notes a b h x y =
+    verdict_once (first_fault (faults length ds s notes y.reading)) (app_in s s.frames) a b
+    (subst (λ reading. IsVerdict (first_fault (faults length ds s notes reading)) (app_in s s.frames) a)
+      (found_once s.functions s.frames x.reading y.reading (x.found h) (y.found h)) x.verdict)
+    y.verdict
+
+settled_once : (length : ℕ) (ds : List Datum) (s : Declarations) (notes : Notes) (a b : Result App Fault) → Settled length ds s notes a → Settled length ds s notes b → a ≡ b
+settled_once length ds s notes a b x y = by (first_fault (form_faults ds notes)) refl
+  where
+    by : (first : Option Fault) → first_fault (form_faults ds notes) ≡ first → a ≡ b
+    by (Some fault) h = faulty_once length ds s notes fault a b h x y
+    by None h = clear_once length ds s notes a b h x y
+
+comes_once : (length : ℕ) (ds : List Datum) (r : Result (Declarations × Notes) Fault) (a b : Result App Fault) → Comes length ds r a → Comes length ds r b → a ≡ b
+comes_once length ds (Err fault) a b x y = x ∙ sym y
+comes_once length ds (Ok r) a b x y = settled_once length ds r.0 r.1 a b x y
 
 come_once : (bytes : List ℕ) (a b : Result App (ℕ × ℕ)) → ComesTo bytes a → ComesTo bytes b → a ≡ b
 come_once bytes a b x y =
     let same : x.forms ≡ y.forms = same_forms bytes x.forms y.forms x.read y.read in
-    comes_once (length bytes) (review (data_of y.forms)) a b (subst (λ (fs : List Tree). Outcome (length bytes) (data_of fs) a) same x.comes) y.comes
+    comes_once (length bytes) (data_of y.forms) (parse (data_of y.forms) nothing_noted) a b (subst (λ (fs : List Tree). Outcome (length bytes) (data_of fs) a) same x.comes) y.comes
 
 -- what has forms is readable
 readable : (bytes : List ℕ) (number at : ℕ) (a : Result App (ℕ × ℕ)) → IsUnreadable bytes number at → ComesTo bytes a → ⊥

@@ -1,18 +1,18 @@
 -- What the last steps come to, by their answers.
-use Rattle.std.proofs.Common.{◌≡◌, ◌++◌, ◌⊎◌, inl, inr, ℕ, List, [], ◌∷◌, refl, sym, ap, ◌∙◌, arith}
+use Rattle.std.proofs.Common.{◌≡◌, ◌++◌, ℕ, List, [], ◌∷◌, refl}
 use Rattle.std.specs.Prelude.{Option, Some, None, Result, Ok, Err, option_to_list}
-use Rattle.cl_application.specs.declared.applications.App.{App}
 use Rattle.cl_application.specs.declared.declarations.FrameDecl.{FrameDecl}
-use Rattle.cl_expressions.specs.Load.{Fault, itself}
+use Rattle.cl_expressions.specs.Load.{itself}
 use Rattle.cl_forms.specs.declared.refusals.LoadRefusal.{LoadRefusal}
 use Rattle.cl_forms.specs.declared.refusals.LoadRefusal.TheVariants.{Refused, Memory}
-use Rattle.cl_declare.specs.Declarations.{Declared}
+use Rattle.cl_declare.specs.declared.declarations.Declarations.{Declarations}
 use Rattle.cl_declare.specs.declared.frames.FrameForm.{FrameForm}
-use Rattle.cl_load.specs.Answers.{Makes}
-use Rattle.cl_load.specs.Outcome.{only_frame, placed_only, app_of, opened_app, settled, Comes}
-use Rattle.cl_load.specs.Readings.{IsFirstReading, NoneReads}
-use Rattle.cl_load.specs.Settling.{Settles, Opens}
-use Rattle.cl_load.specs.declared.application.Loaded.{Loaded}
+use Rattle.cl_load.specs.Answers.{Makes, Passes}
+use Rattle.cl_load.specs.Placing.{place_frame}
+use Rattle.cl_load.specs.Readings.{Finds}
+use Rattle.cl_load.specs.Refusals.{app_of, numbered}
+use Rattle.cl_load.specs.Settling.{Opens, Settles, TakesFrame}
+use Rattle.cl_load.specs.declared.application.Opened.{Opened}
 
 -- the one frame is the one that is taken out
 pub only_taken : (f g : FrameForm) (left : List FrameForm) → f ∷ [] ≡ left ++ option_to_list (Some g) → f ≡ g
@@ -20,16 +20,23 @@ only_taken f g [] h = cc
 only_taken f g (x ∷ []) h = cc
 only_taken f g (x ∷ y ∷ left) h = cc
 
-pub reads_first : (size at : ℕ) (s : Declared) → IsFirstReading s.functions s.frames at → Settles (Err (Refused 10 at)) size s
-reads_first size at s h = inl (record { at = at; first = h; refused = refl })
+pub stops_reading : (B : Type 0) (e : LoadRefusal) (size : ℕ) (s : Declarations) (reading : Option ℕ) → Finds s.functions s.frames reading
+    → Passes {B = B} (Err e) (numbered 10 reading) → Settles (Err e) size s
+stops_reading B (Refused number at) size s reading found h = record { reading = reading; found = found; verdict = rw h refl }
+stops_reading B Memory size s reading found h = tt
 
-pub has_no_place : (e : LoadRefusal) (size : ℕ) (s : Declared) → NoneReads s.functions s.frames
-    → Makes (itself {A = FrameDecl}) (Err e) (placed_only (only_frame size s.frames)) → Settles (Err e) size s
-has_no_place (Refused number at) size s u h = inr (record { unread = u; comes = rw h refl })
-has_no_place Memory size s u h = tt
+pub stops_frame : (e : LoadRefusal) (size : ℕ) (s : Declarations) (reading : Option ℕ) → Finds s.functions s.frames reading → numbered 10 reading ≡ None
+    → TakesFrame (Err e) size s.frames → Settles (Err e) size s
+stops_frame (Refused number at) size s reading found none h = record { reading = reading; found = found; verdict = rw (none, h) refl }
+stops_frame Memory size s reading found none h = tt
 
-pub has_place : (r : Result Loaded LoadRefusal) (size : ℕ) (s : Declared) (f : FrameDecl) → NoneReads s.functions s.frames
-    → placed_only (only_frame size s.frames) ≡ Ok f → Opens r (app_of s f) → Settles r size s
-has_place (Ok loaded) size s f u p o = inr (record { unread = u; comes = rw (p, o) refl })
-has_place (Err (Refused number at)) size s f u p o = inr (record { unread = u; comes = rw (p, o) refl })
-has_place (Err Memory) size s f u p o = tt
+pub stops_place : (e : LoadRefusal) (size : ℕ) (s : Declarations) (reading : Option ℕ) (f : FrameForm) → Finds s.functions s.frames reading
+    → numbered 10 reading ≡ None → s.frames ≡ f ∷ [] → Makes (itself {A = FrameDecl}) (Err e) (place_frame f) → Settles (Err e) size s
+stops_place (Refused number at) size s reading f found none one h = record { reading = reading; found = found; verdict = rw (none, one, h) refl }
+stops_place Memory size s reading f found none one h = tt
+
+pub opens : (r : Result Opened LoadRefusal) (size : ℕ) (s : Declarations) (reading : Option ℕ) (f : FrameForm) (d : FrameDecl) → Finds s.functions s.frames reading
+    → numbered 10 reading ≡ None → s.frames ≡ f ∷ [] → place_frame f ≡ Ok d → Opens r (app_of s d) → Settles r size s
+opens (Ok opened) size s reading f d found none one placed o = record { reading = reading; found = found; verdict = rw (none, one, placed, o.1, o.0) refl }
+opens (Err (Refused number at)) size s reading f d found none one placed o = record { reading = reading; found = found; verdict = rw (none, one, placed, o) refl }
+opens (Err Memory) size s reading f d found none one placed o = tt

@@ -9,14 +9,8 @@ Makes f (Ok x) r = r ≡ Ok (f x)
 Makes f (Err (Refused number at)) r = r ≡ Err (number, at)
 Makes f (Err Memory) r = Unit {0}
 
--- a refusal of this number where there is an offset for it
-abbrev pub Passes : {B : Type 0} → Result B LoadRefusal → ℕ → Option ℕ → Type 0
-Passes (Ok done) number at = at ≡ None
-Passes (Err (Refused k offset)) number at = (k ≡ number) × (at ≡ Some offset)
-Passes (Err Memory) number at = ⊥
-
--- nothing is refused, or this is
-abbrev pub Passed : {B : Type 0} → Result B LoadRefusal → Result (Unit {0}) Fault → Type 0
-Passed (Ok done) r = r ≡ Ok tt
-Passed (Err (Refused number at)) r = r ≡ Err (number, at)
-Passed (Err Memory) r = Unit {0}
+-- nothing is refused, or this fault
+abbrev pub Passes : {B : Type 0} → Result B LoadRefusal → Option Fault → Type 0
+Passes (Ok done) f = f ≡ None
+Passes (Err (Refused number at)) f = f ≡ Some (number, at)
+Passes (Err Memory) f = Unit {0}

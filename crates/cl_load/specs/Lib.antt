@@ -1,10 +1,10 @@
-pub mod Answers
 pub mod SlotTypes
 pub mod Opening
 pub mod Placing
-pub mod Review
 pub mod Readings
+pub mod Refusals
 pub mod Outcome
+pub mod Application
+pub mod Answers
 pub mod Settling
 pub mod Loads
-pub mod Faults

@@ -45,14 +45,6 @@ opened app (s ∷ more) slots = opened app more (put s.1.name (value_in (opening
 abbrev pub opening_slots : App → Slots
 opening_slots app = opened app app.frame.slots []
 
--- the application, or the refusal of its first opening value that is not fit
-abbrev pub with_fit : Option ℕ → App → Result App (ℕ × ℕ)
-with_fit None app = Ok app
-with_fit (Some at) app = Err (12, at)
-
-abbrev pub with_openings : App → Result App (ℕ × ℕ)
-with_openings app = with_fit (first_unfit app app.frame.slots) app
-
 -- ---- what the program answers
 
 -- the value, where it is a member of the slot's type

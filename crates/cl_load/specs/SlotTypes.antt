@@ -3,11 +3,7 @@ use Rattle.std.specs.Prelude.{ℕ, Bool, false, not, ◌&&◌, ◌||◌, List, c
 use Rattle.std.specs.Str.{bytes_eq}
 use Rattle.cl_value.specs.Data.{Data, int, bool, text, symbol, null, list, rec}
 use Rattle.cl_syntax.specs.declared.type_specs.TypeSpec.{TypeSpec}
-
--- the names that are no names of records
-abbrev pub is_standard : List ℕ → Bool
-is_standard type =
-    bytes_eq type (codes "t") || bytes_eq type (codes "integer") || bytes_eq type (codes "string") || bytes_eq type (codes "symbol") || bytes_eq type (codes "boolean")
+use Rattle.cl_words.specs.TypeNames.{is_standard_type}
 
 -- `integer` has the numbers, `boolean` true and false, `string` the texts, `symbol` the symbols, and a record's name the records of that name
 abbrev pub is_of : List ℕ → Data → Bool
@@ -17,7 +13,7 @@ is_of type (text s) = bytes_eq type (codes "string")
 is_of type (symbol s) = bytes_eq type (codes "symbol")
 is_of type null = false
 is_of type (list ds) = false
-is_of type (rec name ds) = bytes_eq type name && not (is_standard type)
+is_of type (rec name ds) = bytes_eq type name && not (is_standard_type type)
 
 -- `t` has all values
 abbrev pub is_member : Data → TypeSpec → Bool

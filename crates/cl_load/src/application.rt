@@ -1,22 +1,36 @@
-ghost use Rattle.std.specs.Prelude.{◌≡◌, ◌≤◌, ◌+◌, None};
-ghost use Rattle.cl_phases.specs.SlotReads.{AnyReads};
-ghost use Rattle.cl_load.specs.Opening.{first_unfit, opening_slots};
+//! An application that loads.
+ghost use Rattle.std.specs.Prelude.{◌≡◌, ◌≤◌, ◌+◌, ℕ, List};
+ghost use Rattle.cl_application.specs.App.{HasPane, pane_of};
+ghost use Rattle.cl_load.specs.Application.{IsApplication};
+ghost use Rattle.cl_load.specs.Opening.{opening_slots};
 
-use cl_eval::Slots;
 use cl_application::App;
+use cl_eval::Slots;
 
-/// An application that loads, with its opening slots. Its frame is at most 512 cells wide and 256
-/// cells high, and its pane lies in it; no opening value reads a slot, and each ends without a trap in
-/// a member of its slot's type.
+/// An application that loads, with its opening slots: no refusal of its text applies to it. Its frame is at
+/// most 512 cells wide and 256 cells high, and its pane lies in it.
 #[derive(Drop)]
 pub struct Loaded {
     pub app: App,
     pub slots: Slots,
+    pub ghost of_text: { (bytes : List ℕ) × IsApplication bytes app },
     pub ghost columns: { (1 ≤ app.frame.width) × (app.frame.width ≤ 512) },
     pub ghost rows: { (1 ≤ app.frame.height) × (app.frame.height ≤ 256) },
-    pub ghost pane_columns: { (1 ≤ app.frame.pane.width) × (app.frame.pane.x + app.frame.pane.width ≤ app.frame.width) },
-    pub ghost pane_rows: { (1 ≤ app.frame.pane.height) × (app.frame.pane.y + app.frame.pane.height ≤ app.frame.height) },
-    pub ghost unread: { AnyReads app.functions app.frame.slots → ⊥ },
-    pub ghost fit: { first_unfit app app.frame.slots ≡ None },
+    pub ghost has_pane: { HasPane app },
+    pub ghost pane_columns: { (1 ≤ (pane_of app).width) × ((pane_of app).x + (pane_of app).width ≤ app.frame.width) },
+    pub ghost pane_rows: { (1 ≤ (pane_of app).height) × ((pane_of app).y + (pane_of app).height ≤ app.frame.height) },
+    pub ghost opening: { slots ≡ opening_slots app },
+}
+
+/// An application on its device with its opening slots, whose text is not told.
+#[derive(Drop)]
+pub struct Opened {
+    pub app: App,
+    pub slots: Slots,
+    pub ghost columns: { (1 ≤ app.frame.width) × (app.frame.width ≤ 512) },
+    pub ghost rows: { (1 ≤ app.frame.height) × (app.frame.height ≤ 256) },
+    pub ghost has_pane: { HasPane app },
+    pub ghost pane_columns: { (1 ≤ (pane_of app).width) × ((pane_of app).x + (pane_of app).width ≤ app.frame.width) },
+    pub ghost pane_rows: { (1 ≤ (pane_of app).height) × ((pane_of app).y + (pane_of app).height ≤ app.frame.height) },
     pub ghost opening: { slots ≡ opening_slots app },
 }

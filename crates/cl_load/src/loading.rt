@@ -1,13 +1,18 @@
 //! The load of an application.
-ghost use Rattle.cl_load.specs.Loads.{Concludes, Loads, Reads};
-ghost use Rattle.cl_forms.specs.DatumView.{datum_of};
 ghost use Rattle.std.specs.Prelude.{map};
+ghost use Rattle.cl_forms.specs.DatumView.{datum_of};
+ghost use Rattle.cl_expressions.specs.Load.{Gives, itself};
+ghost use Rattle.cl_load.specs.Loads.{Concludes, Loads, Reads};
+ghost use Rattle.cl_load.specs.Outcome.{parse};
 
-use crate::application::Loaded;
-use crate::reviews::review;
-use crate::settling::settled;
-use cl_forms::{Datum, Forms, LoadRefusal, all_forms, data_in};
+use crate::application::{Loaded, Opened};
+use crate::faults::pass_forms;
+use crate::settling::settle;
+use cl_declare::{Declarations, parse_declarations};
+use cl_expressions::{Notes, Reader, Scope};
+use cl_forms::{Datum, Forms, LoadRefusal, all_forms, data_in, outers_of};
 use cl_sexp::{ReadRefusal, read_forms};
+use cl_words::signatures_of;
 use std::alloc::Global;
 
 /// The most bytes that a text may have.
@@ -21,7 +26,11 @@ pub fn load(alloc: Global, text: &[u8]) -> Result<Loaded, LoadRefusal>
 {
     let forms = read(alloc, text)?;
     let data = data_in(alloc, forms.as_slice())?;
-    concluded(alloc, text.len() as u32, data.as_slice())
+    let opened = conclude(alloc, text.len() as u32, data.as_slice())?;
+    Ok(Loaded {
+        app: opened.app,
+        slots: opened.slots,
+    })
 }
 
 /// The forms of a text.
@@ -39,9 +48,26 @@ fn read(alloc: Global, text: &[u8]) -> Result<Forms, LoadRefusal>
 }
 
 /// What the data of a text of this length come to.
-fn concluded(alloc: Global, length: u32, forms: &[Datum]) -> Result<Loaded, LoadRefusal>
-    ensures { Concludes result length (map datum_of forms.now) }
+fn conclude(alloc: Global, length: u32, data: &[Datum]) -> Result<Opened, LoadRefusal>
+    ensures { Concludes result length (map datum_of data.now) }
 {
-    let declarations = review(alloc, forms)?;
-    settled(alloc, length, declarations)
+    let mut notes = Notes::new(alloc);
+    let declarations = parse(alloc, data, &mut notes)?;
+    pass_forms(alloc, data, &notes)?;
+    settle(alloc, length, declarations)
+}
+
+/// What the data of a text declare, and what is noted while they are read; or the first of refusals
+/// 0, 5 and 6.
+fn parse(alloc: Global, data: &[Datum], notes: &mut Notes) -> Result<Declarations, LoadRefusal>
+    ensures { Gives itself result notes.new (parse (map datum_of data.now) notes.old) }
+{
+    let outers = outers_of(alloc, data)?;
+    let signatures = signatures_of(alloc, outers.as_slice())?;
+    let reader = Reader {
+        alloc,
+        signatures: &signatures,
+        scope: &Scope::Empty,
+    };
+    parse_declarations(&reader, outers.as_slice(), notes)
 }

@@ -1,11 +1,12 @@
 //! The types that a slot may have.
 ghost use Rattle.std.specs.Prelude.{◌≡◌};
 ghost use Rattle.cl_value.specs.Value.{data_of};
-ghost use Rattle.cl_load.specs.SlotTypes.{is_standard, is_of, is_member};
+ghost use Rattle.cl_load.specs.SlotTypes.{is_of, is_member};
 
 use cl_eval::Types;
 use cl_syntax::TypeSpec;
 use cl_value::{Held, Value};
+use cl_words::is_standard_type;
 
 /// The types that a slot may have: `t`, `integer`, `string`, `symbol`, `boolean` and the records by
 /// their names. They take no memory.
@@ -43,16 +44,6 @@ fn is_of(name: &[u8], value: &Value) -> bool
         Value::Symbol(_) => name == b"symbol".as_slice(),
         Value::Null => false,
         Value::List(_) => false,
-        Value::Record(record, _) => name == record.as_slice() && !is_standard(name),
+        Value::Record(record, _) => name == record.as_slice() && !is_standard_type(name),
     }
-}
-
-fn is_standard(name: &[u8]) -> bool
-    ensures { result ≡ is_standard name.now }
-{
-    name == b"t".as_slice()
-        || name == b"integer".as_slice()
-        || name == b"string".as_slice()
-        || name == b"symbol".as_slice()
-        || name == b"boolean".as_slice()
 }

@@ -1,5 +1,6 @@
 -- What a session is as a world, and when it fits an application and slots.
 use Rattle.std.specs.Prelude.{◌≡◌, ◌⊎◌, ◌≤◌, Bool, true, ◌||◌, is_none, Option, Some, None, List, []}
+use Rattle.cl_application.specs.App.{pane_of}
 use Rattle.cl_application.specs.declared.applications.App.{App}
 use Rattle.cl_eval.specs.Slots.{Slots}
 use Rattle.cl_eval.specs.declared.metering.Limits.{Limits}
@@ -29,7 +30,7 @@ pub record Fits (app : App) (slots : Slots) (session : Session) : Type 0 where
   pub depth : session.limits.depth ≤ 512
   pub width : session.pane.screen.width ≡ app.frame.width
   pub height : session.pane.screen.height ≡ app.frame.height
-  pub area : session.pane.area ≡ area_of app.frame.pane
+  pub area : session.pane.area ≡ area_of (pane_of app)
   pub painted : IsPainted session.pane
   pub current : IsCurrent app session.limits slots (marks_of_pane session.pane.history)
   pub none_waits : session.outgoing ≡ []
@@ -37,7 +38,7 @@ pub record Fits (app : App) (slots : Slots) (session : Session) : Type 0 where
 -- the history and the lines of a pane that is settled where that is due or where it is blank
 pub record SettlesIf (due : Bool) (app : App) (limits : Limits) (slots : Slots) (old new : Option (List (Mark AnyLeaf))) (report : PaneReport) : Type 0 where
   pub history : new ≡ (settled_if (due || is_none old) app limits slots old (met_memory report)).pane
-  pub lines : report_lines app.frame.pane.name report ≡ (settled_if (due || is_none old) app limits slots old (met_memory report)).lines
+  pub lines : report_lines (pane_of app).name report ≡ (settled_if (due || is_none old) app limits slots old (met_memory report)).lines
 
 -- A gesture took the world to the next one, and these are the replies: the own lines of its handling and the line of the pane, each
 -- in its place.
@@ -45,6 +46,6 @@ pub record Steps (app : App) (old new : Session) (slots_old slots_new : Slots) (
   pub world : world_of new slots_new ≡ (next app old.limits (world_of old slots_old) gesture (met_of replies)).world
   pub own : own_lines replies.memory replies.own ≡ (handled_or_not app old.limits (world_of old slots_old) gesture replies.memory).replies
   pub none_of_own : replies.memory ≡ true → replies.own ≡ []
-  pub report : report_lines app.frame.pane.name replies.pane
+  pub report : report_lines (pane_of app).name replies.pane
       ≡ (settled_behind app old.limits (world_of old slots_old) (handled_or_not app old.limits (world_of old slots_old) gesture replies.memory) (met_memory replies.pane)).lines
   pub limits : new.limits ≡ old.limits

@@ -2,6 +2,7 @@
 use Rattle.std.specs.Prelude.{◌≡◌, ◌≤◌, ℕ, ◌+◌, Bool, true, false, ◌||◌, nat_le, is_none, if◌then◌else◌, List, [], ◌∷◌, ◌++◌, length, Option, Some, None, codes}
 use Rattle.std.specs.Fmt.{decimal}
 use Rattle.cl_table.specs.Names.{declared_at}
+use Rattle.cl_application.specs.App.{pane_of}
 use Rattle.cl_application.specs.declared.applications.App.{App}
 use Rattle.cl_application.specs.declared.declarations.CommandDecl.{CommandDecl}
 use Rattle.cl_eval.specs.declared.metering.Limits.{Limits}
@@ -87,22 +88,22 @@ told w replies = record { replies = replies; slots = w.slots; line = w.line; com
 
 -- the rows of the screen, by their glyphs and by their inks
 abbrev pub glyph_rows : App → World → List (List ℕ)
-glyph_rows app w = shown_rows (area_of app.frame.pane) (marks_in w.pane) app.frame.width app.frame.height
+glyph_rows app w = shown_rows (area_of (pane_of app)) (marks_in w.pane) app.frame.width app.frame.height
 
 abbrev pub ink_rows : App → World → List (List ℕ)
-ink_rows app w = shown_ink_rows (area_of app.frame.pane) (marks_in w.pane) app.frame.width app.frame.height
+ink_rows app w = shown_ink_rows (area_of (pane_of app)) (marks_in w.pane) app.frame.width app.frame.height
 
 -- `history NAME N` and N lines
 abbrev pub headed : List ℕ → List (List ℕ) → List (List ℕ)
 headed name lines = (codes "history " ++ name ++ 32 ∷ decimal (length lines)) ∷ lines
 
 abbrev pub history_rows : App → World → List (List ℕ)
-history_rows app w = headed app.frame.pane.name (lines_from item_line 0 (marks_in w.pane))
+history_rows app w = headed (pane_of app).name (lines_from item_line 0 (marks_in w.pane))
 
 -- the history of the pane of this name, without regard to case
 abbrev pub asked : App → World → List ℕ → Handled
 asked app w name =
-    if str_eq_ignore_ascii_case name app.frame.pane.name then told w (history_rows app w) else refused w 0 (codes "! pane")
+    if str_eq_ignore_ascii_case name (pane_of app).name then told w (history_rows app w) else refused w 0 (codes "! pane")
 
 abbrev pub handled : App → Limits → World → Gesture → Handled
 handled app limits w (gesture.«Type» text) = typed w text
@@ -145,9 +146,9 @@ pane_line name erased (Traps kind cost deepest) = trap_line name kind
 
 -- a pane that is settled has its script, or is blank where it met want of memory
 abbrev pub settled : App → Outcome DrawingAt → List (Mark AnyLeaf) → Bool → Settled
-settled app shown old true = record { pane = None; lines = memory_line app.frame.pane.name ∷ []; cost = cost_of shown }
+settled app shown old true = record { pane = None; lines = memory_line (pane_of app).name ∷ []; cost = cost_of shown }
 settled app shown old false =
-    record { pane = Some (history_of shown); lines = pane_line app.frame.pane.name (count_of old) shown ∷ []; cost = cost_of shown }
+    record { pane = Some (history_of shown); lines = pane_line (pane_of app).name (count_of old) shown ∷ []; cost = cost_of shown }
 
 -- a pane is settled where a command committed, and tried again where it is blank
 abbrev pub settled_if : Bool → App → Limits → Slots → Option (List (Mark AnyLeaf)) → Bool → Settled

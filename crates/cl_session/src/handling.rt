@@ -3,6 +3,7 @@ ghost use Rattle.std.specs.Fmt.{decimal};
 ghost use Rattle.cl_command.specs.Line.{finish_of};
 ghost use Rattle.cl_command.specs.Naming.{line_names};
 ghost use Rattle.cl_eval.specs.Outcome.{RisesBy};
+ghost use Rattle.cl_application.specs.App.{HasPane, pane_of};
 ghost use Rattle.cl_session.specs.World.{area_of, marks_of_pane};
 ghost use Rattle.cl_session.specs.Step.{asked, command_run, handled, ok_lines, returned, run_of, text_lines, typed};
 ghost use Rattle.cl_session.specs.Pane.{IsPainted};
@@ -42,10 +43,11 @@ pub fn handle<L: Ledger>(
     steps: &mut Steps<L>,
 ) -> Handling
     requires depth { limits.depth ≤ 512 }
+    requires has_pane { HasPane app.now }
     requires painted { IsPainted pane.now }
     requires width { pane.now.screen.width ≡ app.now.frame.width }
     requires height { pane.now.screen.height ≡ app.now.frame.height }
-    requires area { pane.now.area ≡ area_of app.now.frame.pane }
+    requires area { pane.now.area ≡ area_of (pane_of app.now) }
     ensures handles { HandlesTo (handled app.now limits
         (record { slots = slots.old; line = line.old; pane = marks_of_pane pane.now.history })
         gesture.now) result slots.old slots.new line.old line.new }
@@ -78,6 +80,7 @@ fn tell_history(
     slots: &Slots,
     line: &Line,
 ) -> Handling
+    requires { HasPane app.now }
     ensures handles { HandlesTo (asked app.now
         (record { slots = slots.now; line = line.now; pane = marks_of_pane pane.now.history })
         name.now) result slots.now slots.now line.now line.now }
@@ -85,7 +88,7 @@ fn tell_history(
         { slots = slots.now; line = line.now; pane = marks_of_pane pane.now.history })
         name.now).cost ≡ 0 }
 {
-    let own_name = app.frame.pane.name.as_slice();
+    let own_name = app.first_pane().name.as_slice();
     if !name.eq_ignore_ascii_case(own_name) {
         return reply(alloc, b"! pane");
     }

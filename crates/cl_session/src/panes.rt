@@ -6,6 +6,7 @@ ghost use Rattle.cl_raster.specs.Raster.{IsInk, SameSize};
 ghost use Rattle.cl_record.specs.Counts.{count_of};
 ghost use Rattle.cl_record.specs.Marks.{history_marks};
 ghost use Rattle.cl_redisplay.specs.Paint.{ink_digit, shown_ink_row, shown_row};
+ghost use Rattle.cl_application.specs.App.{HasPane};
 ghost use Rattle.cl_session.specs.World.{area_of, marks_in, marks_of_pane};
 ghost use Rattle.cl_session.specs.Replies.{met_memory};
 ghost use Rattle.cl_session.specs.Pane.{IsPainted, SettlesTo};
@@ -101,6 +102,7 @@ impl Pane {
         steps: &mut Steps<L>,
     ) -> PaneReport
         requires depth { limits.depth ≤ 512 }
+        requires pane { HasPane app.now }
         requires painted { IsPainted self.old }
         ensures settles { SettlesTo (marks_of_pane self.old.history)
             (marks_of_pane self.new.history) (pane_fresh limits app.now slots.now) result }

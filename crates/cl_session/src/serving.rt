@@ -98,7 +98,7 @@ impl Session {
         match gestures.next() {
             Next::Gesture(gesture) => {
                 let replies = self.step(alloc, loaded, &gesture, slots, steps);
-                let name = loaded.app.frame.pane.name.as_slice();
+                let name = loaded.app.first_pane().name.as_slice();
                 goes_on(say_replies(&mut self.outgoing, out, name, &replies))
             }
             Next::Bad(number) => goes_on(say_bad(&mut self.outgoing, out, number)),

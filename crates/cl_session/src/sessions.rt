@@ -2,6 +2,7 @@ ghost use Rattle.std.specs.Prelude.{◌≡◌, ◌≤◌, ◌+◌, ◌||◌, fal
 ghost use Rattle.cl_display.specs.Script.{pane_fresh};
 ghost use Rattle.cl_eval.specs.Outcome.{RisesBy, cost_of};
 ghost use Rattle.cl_raster.specs.Raster.{SameSize};
+ghost use Rattle.cl_application.specs.App.{HasPane};
 ghost use Rattle.cl_session.specs.Replies.{met_memory, met_of};
 ghost use Rattle.cl_session.specs.Pane.{IsPainted};
 ghost use Rattle.cl_session.specs.World.{marks_of_pane};
@@ -57,7 +58,7 @@ impl Session {
         let line = Line::new(alloc)?;
         let outgoing = Outgoing::new(alloc)?;
         let frame = &loaded.app.frame;
-        let mut pane = Pane::new(alloc, frame.width, frame.height, area_of(&frame.pane))?;
+        let mut pane = Pane::new(alloc, frame.width, frame.height, area_of(loaded.app.first_pane()))?;
         let limits = Limits {
             budget,
             depth: DEPTH,
@@ -139,6 +140,7 @@ impl Session {
         steps: &mut Steps<L>,
     ) -> PaneReport
         requires depth { self.old.limits.depth ≤ 512 }
+        requires pane { HasPane app.now }
         requires painted { IsPainted self.old.pane }
         requires current { due ≡ false
             → IsCurrent app.now self.old.limits slots.now (marks_of_pane self.old.pane.history) }

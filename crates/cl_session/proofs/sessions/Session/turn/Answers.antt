@@ -1,4 +1,5 @@
 use Rattle.std.proofs.Common.{◌≡◌, ◌+◌, [], ◌∷◌, ◌++◌, codes, length, length-append, ap, refl, arith, ◌∙◌, List, ℕ}
+use Rattle.cl_application.specs.App.{pane_of}
 use Rattle.cl_gesture.specs.Gesture.{bad, does}
 use Rattle.cl_gesture.specs.Reader.{progress_of}
 use Rattle.cl_session.specs.Session.{world_of}
@@ -10,7 +11,7 @@ use Rattle.cl_session.proofs.sessions.Session.turn.Goals as goal
 
 pub returns-in-Gesture-clause-turns : goal.returns-in-Gesture-clause-turns
 returns-in-Gesture-clause-turns g c = λ going.
-    let both : lines_of c.args.loaded.now.app.frame.pane.name c.step-replies.result
+    let both : lines_of (pane_of c.args.loaded.now.app).name c.step-replies.result
     ≡ (next c.args.loaded.now.app c.args.self.now.limits (world_of c.args.self.now c.args.slots.now) c.in-Gesture.gesture (met_of c.step-replies.result)).lines =
     λ i. c.step-replies.ensures.steps.own i ++ c.step-replies.ensures.steps.report i in
     let lines = ap (λ (name : List ℕ). lines_of name c.step-replies.result) c.as_slice-name.ensures ∙ both in

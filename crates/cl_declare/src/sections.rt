@@ -1,0 +1,174 @@
+//! The sections of a frame, in the order of the text.
+ghost use Rattle.std.specs.Prelude.{◌≡◌, [], Ok, map};
+ghost use Rattle.cl_forms.specs.Datum.{offset};
+ghost use Rattle.cl_forms.specs.DatumView.{datum_of};
+ghost use Rattle.cl_forms.specs.KeyedView.{keyed_of};
+ghost use Rattle.cl_forms.specs.Naming.{name_in};
+ghost use Rattle.cl_expressions.specs.Load.{Gives, Notes as Noted, itself};
+ghost use Rattle.cl_declare.specs.Leaves.{Leaves, LeavesNotes};
+ghost use Rattle.cl_declare.specs.Sections.{parse_slot, parse_slots, note_display, note_pane, no_more, parse_panes, parse_section, parse_sections, parse_frame};
+
+use crate::frames::{FRAME_KEYS, FrameForm, frame_shape};
+use cl_application::{SlotDecl, SlotDecls};
+use cl_bodies::parse_type;
+use cl_expressions::{Notes, Reader, Scope, parse_expression};
+use cl_forms::{Datum, Key, Keyed, LoadRefusal, keyed_sections, name_in, symbol_text};
+use std::alloc::AllocError;
+
+/// `(define-application-frame NAME SECTION ...)`
+pub fn parse_frame(
+    reader: &Reader,
+    at: u32,
+    parts: &[Datum],
+    notes: &mut Notes,
+) -> Result<FrameForm, LoadRefusal>
+    ensures { Gives itself result notes.new
+        (parse_frame reader.now.signatures.now at (map datum_of parts.now) notes.old) }
+{
+    let Some((name, sections)) = parts.split_first() else {
+        return Err(LoadRefusal::Refused(6, at));
+    };
+    let Some(sections) = keyed_sections(reader.alloc, &FRAME_KEYS, sections)? else {
+        return Err(LoadRefusal::Refused(6, at));
+    };
+    let Some(shape) = frame_shape(reader.signatures, name, sections.as_slice())? else {
+        return Err(LoadRefusal::Refused(6, at));
+    };
+    let slots = parse_sections(reader, sections.as_slice(), notes)?;
+    Ok(FrameForm {
+        name: shape.name,
+        width: shape.size.width,
+        height: shape.size.height,
+        slots,
+        pane: shape.pane,
+        at,
+    })
+}
+
+/// The slots of a frame's sections. What is not declared is noted.
+fn parse_sections(
+    reader: &Reader,
+    sections: &[Keyed],
+    notes: &mut Notes,
+) -> Result<SlotDecls, LoadRefusal>
+    ensures { Gives itself result notes.new
+        (parse_sections reader.now.signatures.now (map keyed_of sections.now) [] notes.old) }
+{
+    let mut slots = SlotDecls::new(reader.alloc);
+    for section in sections {
+        parse_section(reader, section, &mut slots, notes)?;
+    }
+    Ok(slots)
+}
+
+fn parse_section(
+    reader: &Reader,
+    section: &Keyed,
+    slots: &mut SlotDecls,
+    notes: &mut Notes,
+) -> Result<(), LoadRefusal>
+    ensures { Leaves result slots.new notes.new
+        (parse_section reader.now.signatures.now (keyed_of section.now) slots.old notes.old) }
+{
+    match section.key {
+        Key::Slots => parse_slots(reader, section.values, slots, notes),
+        Key::Panes => parse_panes(reader, section.values, notes),
+        Key::CommandTable => Err(LoadRefusal::Refused(0, section.at)),
+        Key::Size => Ok(()),
+        Key::Name => Ok(()),
+        Key::Keystroke => Ok(()),
+        Key::Description => Ok(()),
+        Key::Separator => Ok(()),
+    }
+}
+
+fn parse_slots(
+    reader: &Reader,
+    parts: &[Datum],
+    slots: &mut SlotDecls,
+    notes: &mut Notes,
+) -> Result<(), LoadRefusal>
+    ensures { Leaves result slots.new notes.new
+        (parse_slots reader.now.signatures.now (map datum_of parts.now) slots.old notes.old) }
+{
+    for slot in parts {
+        parse_slot(reader, slot.offset(), slot.parts(), slots, notes)?;
+    }
+    Ok(())
+}
+
+/// `(NAME TYPE E)`
+#[tactic(auto, using(crate::proofs::DeclarationCounts::slot_counts))]
+fn parse_slot(
+    reader: &Reader,
+    at: u32,
+    parts: &[Datum],
+    slots: &mut SlotDecls,
+    notes: &mut Notes,
+) -> Result<(), LoadRefusal>
+    ensures { Leaves result slots.new notes.new
+        (parse_slot reader.now.signatures.now at (map datum_of parts.now) slots.old notes.old) }
+{
+    match parts {
+        [name, spec, value] => {
+            let spec = parse_type(reader, spec, notes)?;
+            let opening = parse_expression(&reader.seeing(&Scope::Empty), value, notes)?;
+            let name = symbol_text(reader.alloc, name)?;
+            let opening_at = value.offset();
+            Ok(slots.add_first(SlotDecl { name, spec, opening, opening_at, at })?)
+        }
+        [] => Ok(()),
+        [_] => Ok(()),
+        [_, _] => Ok(()),
+        [_, _, _, _, ..] => Ok(()),
+    }
+}
+
+/// The display of the first pane is noted where it is not declared; a second pane is not built yet.
+fn parse_panes(reader: &Reader, panes: &[Datum], notes: &mut Notes) -> Result<(), LoadRefusal>
+    ensures { LeavesNotes result notes.new
+        (parse_panes reader.now.signatures.now (map datum_of panes.now) notes.old) }
+{
+    match panes {
+        [] => Ok(()),
+        [pane, more @ ..] => {
+            note_pane(reader, pane.parts(), notes);
+            no_more(more)
+        }
+    }
+}
+
+fn no_more(panes: &[Datum]) -> Result<(), LoadRefusal>
+    ensures { (n : Noted) → LeavesNotes result n (no_more (map datum_of panes.now) n) }
+{
+    match panes {
+        [] => Ok(()),
+        [pane, ..] => Err(LoadRefusal::Refused(0, pane.offset())),
+    }
+}
+
+#[tactic(auto, using(crate::proofs::DeclarationCounts::note_counts))]
+fn note_pane(reader: &Reader, parts: &[Datum], notes: &mut Notes)
+    ensures { note_pane reader.now.signatures.now (map datum_of parts.now) notes.old
+        ≡ Ok (tt, notes.new) }
+{
+    match parts {
+        [_, _, _, _, _, display] => note_display(reader, display, notes),
+        [] => (),
+        [_] => (),
+        [_, _] => (),
+        [_, _, _] => (),
+        [_, _, _, _] => (),
+        [_, _, _, _, _] => (),
+        [_, _, _, _, _, _, _, ..] => (),
+    }
+}
+
+fn note_display(reader: &Reader, display: &Datum, notes: &mut Notes)
+    ensures { note_display reader.now.signatures.now (offset (datum_of display.now))
+        (name_in (datum_of display.now)) notes.old ≡ Ok (tt, notes.new) }
+{
+    if let Some(name) = name_in(display) {
+        notes.note(reader.signatures.display(name.as_slice()).is_some(), display.offset());
+    }
+}

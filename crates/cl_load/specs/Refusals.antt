@@ -1,0 +1,70 @@
+-- The refusals of a text whose forms were read, in the order in which they are looked for.
+use Rattle.std.specs.Prelude.{ℕ, List, [], ◌∷◌, ◌++◌, Option, Some, None, Result, Ok, Err}
+use Rattle.cl_application.specs.declared.applications.App.{App}
+use Rattle.cl_application.specs.declared.declarations.FrameDecl.{FrameDecl}
+use Rattle.cl_forms.specs.Datum.{Datum}
+use Rattle.cl_forms.specs.Outer.{outers_of}
+use Rattle.cl_expressions.specs.Load.{Fault, Notes}
+use Rattle.cl_declare.specs.declared.declarations.Declarations.{Declarations}
+use Rattle.cl_declare.specs.declared.frames.FrameForm.{FrameForm}
+use Rattle.cl_phases.specs.Limits.{first_past}
+use Rattle.cl_phases.specs.Twice.{first_twice}
+use Rattle.cl_load.specs.Opening.{first_unfit}
+use Rattle.cl_load.specs.Placing.{place_frame}
+
+-- a fault of this number, where there is an offset for it
+abbrev pub numbered : ℕ → Option ℕ → Option Fault
+numbered number None = None
+numbered number (Some at) = Some (number, at)
+
+-- the first that is there
+abbrev pub first_fault : List (Option Fault) → Option Fault
+first_fault [] = None
+first_fault (None ∷ more) = first_fault more
+first_fault (Some fault ∷ more) = Some fault
+
+-- no frame, at the end of the text; or the second one
+abbrev pub frame_missed : ℕ → List FrameForm → Option ℕ
+frame_missed length [] = Some length
+frame_missed length (f ∷ []) = None
+frame_missed length (f ∷ g ∷ more) = Some g.at
+
+abbrev pub fault_in : {A : Type 0} → Result A Fault → Option Fault
+fault_in (Ok x) = None
+fault_in (Err fault) = Some fault
+
+-- the frame or its pane has no place
+abbrev pub no_place : List FrameForm → Option Fault
+no_place [] = None
+no_place (f ∷ more) = fault_in (place_frame f)
+
+abbrev pub app_of : Declarations → FrameDecl → App
+app_of s f = record { records = s.records; functions = s.functions; displays = s.displays; commands = s.commands; frame = f }
+
+abbrev pub app_placed : Declarations → Result FrameDecl Fault → Option App
+app_placed s (Ok f) = Some (app_of s f)
+app_placed s (Err fault) = None
+
+-- the application that is declared, where its frame has a place
+abbrev pub app_in : Declarations → List FrameForm → Option App
+app_in s [] = None
+app_in s (f ∷ more) = app_placed s (place_frame f)
+
+-- an opening value that traps or is no member of its type
+abbrev pub unfit : Option App → Option ℕ
+unfit None = None
+unfit (Some app) = first_unfit app app.frame.slots
+
+-- what is past a limit; what is declared twice or reserved; the first name that is not declared
+abbrev pub form_faults : List Datum → Notes → List (Option Fault)
+form_faults ds notes =
+    numbered 13 (first_past ds) ∷ numbered 7 (first_twice (outers_of ds)) ∷ numbered 8 notes.unknown ∷ []
+
+-- an opening value that reads a slot; no frame or two; no place for it; an opening value that is not fit
+abbrev pub frame_faults : ℕ → Declarations → Option ℕ → List (Option Fault)
+frame_faults length s reading =
+    numbered 10 reading ∷ numbered 14 (frame_missed length s.frames) ∷ no_place s.frames ∷ numbered 12 (unfit (app_in s s.frames)) ∷ []
+
+-- all of them
+abbrev pub faults : ℕ → List Datum → Declarations → Notes → Option ℕ → List (Option Fault)
+faults length ds s notes reading = form_faults ds notes ++ frame_faults length s reading
