@@ -10,3 +10,4 @@ pub mod Grouped
 pub mod Naming
 pub mod Named
 pub mod LineNames
+pub mod Quotes

@@ -15,7 +15,7 @@ mod words;
 pub use datum::{Datum, Datums};
 pub use form::{Form, Forms};
 pub use grouping::data_in;
-pub use laws::one_tree;
+pub use laws::{data_are_written, one_tree};
 pub use line_names::line_name_of;
 pub use naming::{are_names, fits, name_in, named_part, symbol_of, symbol_text};
 pub use parse::all_forms;
