@@ -1,9 +1,9 @@
 -- What the outermost forms of a text declare: functions, displays, records and slots by name, whether their forms are right or
 -- not. Of two of one name in one space the first counts.
-use Rattle.std.specs.Prelude.{ℕ, Bool, true, false, ◌&&◌, is_some, if◌then◌else◌, List, [], ◌∷◌, ◌++◌, length, Option, Some, None, codes}
+use Rattle.std.specs.Prelude.{ℕ, Bool, is_some, if◌then◌else◌, List, [], ◌∷◌, ◌++◌, Option, Some, None, codes}
 use Rattle.std.specs.Str.{bytes_eq}
 use Rattle.cl_table.specs.Names.{named}
-use Rattle.cl_forms.specs.Datum.{Datum, word, list, number, literal, quoted, stray, in_order, parts_of}
+use Rattle.cl_forms.specs.Datum.{Datum, parts_of}
 use Rattle.cl_forms.specs.Naming.{name_in, symbol_of, names_counted, list_counted}
 use Rattle.cl_words.specs.Heads.{is_operator}
 use Rattle.cl_words.specs.TypeNames.{is_standard_type}
@@ -12,7 +12,6 @@ use Rattle.cl_words.specs.declared.signatures.Callee.{Callee}
 use Rattle.cl_words.specs.declared.signatures.CalleeKind.{CalleeKind}
 use Rattle.cl_words.specs.declared.signatures.CalleeKind.TheVariants.{Function, Display}
 use Rattle.cl_words.specs.declared.signatures.RecordHead.{RecordHead}
-use Rattle.cl_words.specs.declared.signatures.SlotHead.{SlotHead}
 
 -- how many parameters stand first
 abbrev pub parameters_counted : List Datum → Option ℕ

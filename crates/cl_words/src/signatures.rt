@@ -4,10 +4,9 @@ ghost use Rattle.cl_forms.specs.DatumView.{datum_of};
 ghost use Rattle.cl_forms.specs.Naming.{names_counted, name_in, list_counted};
 ghost use Rattle.cl_words.specs.Signatures.{parameters_counted, with_callee, with_record, with_slot, with_slot_of, with_slots, with_section, with_sections, with_declaration_head, with_declaration, with_declarations, signatures_of, nothing_declared, function_in, display_in, function_count, display_count, record_in, record_count, slot_in};
 
-use cl_forms::Datum;
-use cl_forms::{are_names, name_in, symbol_of};
-use crate::type_names::is_standard_type;
 use crate::heads::is_operator;
+use crate::type_names::is_standard_type;
+use cl_forms::{Datum, are_names, name_in, symbol_of};
 use cl_table::{Declared, Table};
 use cl_value::Text;
 use std::alloc::{AllocError, Global};
@@ -95,16 +94,31 @@ fn add_declaration(signatures: &mut Signatures, parts: &[Datum]) -> Result<(), A
     }
 }
 
-fn add_head(signatures: &mut Signatures, head: &[u8], name: &Datum, more: &[Datum]) -> Result<(), AllocError>
+fn add_head(
+    signatures: &mut Signatures,
+    head: &[u8],
+    name: &Datum,
+    more: &[Datum],
+) -> Result<(), AllocError>
     ensures { OnOk result
         (signatures.new ≡ with_declaration_head signatures.old head.now (datum_of name.now) (map datum_of more.now)) }
 {
     if head == b"define-record".as_slice() {
         add_record(signatures, name, names_counted(more))
     } else if head == b"define-function".as_slice() {
-        add_callee(signatures, CalleeKind::Function, name, parameters_counted(more))
+        add_callee(
+            signatures,
+            CalleeKind::Function,
+            name,
+            parameters_counted(more),
+        )
     } else if head == b"define-display".as_slice() {
-        add_callee(signatures, CalleeKind::Display, name, parameters_counted(more))
+        add_callee(
+            signatures,
+            CalleeKind::Display,
+            name,
+            parameters_counted(more),
+        )
     } else if head == b"define-application-frame".as_slice() {
         add_sections(signatures, more)
     } else {
@@ -112,7 +126,11 @@ fn add_head(signatures: &mut Signatures, head: &[u8], name: &Datum, more: &[Datu
     }
 }
 
-fn add_record(signatures: &mut Signatures, name: &Datum, count: Option<usize>) -> Result<(), AllocError>
+fn add_record(
+    signatures: &mut Signatures,
+    name: &Datum,
+    count: Option<usize>,
+) -> Result<(), AllocError>
     ensures { OnOk result (signatures.new ≡ with_record signatures.old (name_in (datum_of name.now)) count) }
 {
     let Some(name) = name_in(name) else {
@@ -165,7 +183,10 @@ fn add_slot_named(signatures: &mut Signatures, name: &Datum) -> Result<(), Alloc
         return Ok(());
     }
     let name = name.copy()?;
-    signatures.slots.add(SlotHead { name }).map_err(|_| AllocError)
+    signatures
+        .slots
+        .add(SlotHead { name })
+        .map_err(|_| AllocError)
 }
 
 fn add_slots(signatures: &mut Signatures, slots: &[Datum]) -> Result<(), AllocError>
