@@ -10,3 +10,5 @@ pub mod Grouped
 pub mod Naming
 pub mod Named
 pub mod LineNames
+pub mod Outer
+pub mod OuterView

@@ -1,8 +1,8 @@
 -- What the outermost forms of a text declare: functions, displays, records and slots by name, whether their forms are right or
--- not. Of two of one name in one space the first counts.
+-- not. Of two of one name in one space the first counts, and a name that is reserved is none.
 use Rattle.std.specs.Prelude.{ℕ, Bool, is_some, if◌then◌else◌, List, [], ◌∷◌, ◌++◌, Option, Some, None, codes}
 use Rattle.std.specs.Str.{bytes_eq}
-use Rattle.cl_table.specs.Names.{named}
+use Rattle.cl_table.specs.Names.{named, with_first}
 use Rattle.cl_forms.specs.Datum.{Datum, parts_of}
 use Rattle.cl_forms.specs.Naming.{name_in, symbol_of, names_counted, list_counted}
 use Rattle.cl_words.specs.Heads.{is_operator}
@@ -18,20 +18,21 @@ abbrev pub parameters_counted : List Datum → Option ℕ
 parameters_counted [] = None
 parameters_counted (d ∷ ds) = list_counted d
 
+-- a function or a display that is named as an operator is none
 abbrev pub with_callee : Signatures → CalleeKind → Option (List ℕ) → Option ℕ → Signatures
 with_callee w kind None count = w
 with_callee w kind (Some x) count =
-    if is_some (named x w.callees) then w
-    else record w { callees = w.callees ++ (x, record { name = x; kind = kind; count = count }) ∷ [] }
+    if is_operator x then w else record w { callees = with_first (λ c. c.name) w.callees (record { name = x; kind = kind; count = count }) }
 
+-- a record that is named as a standard type is none
 abbrev pub with_record : Signatures → Option (List ℕ) → Option ℕ → Signatures
 with_record w None count = w
 with_record w (Some x) count =
-    if is_some (named x w.records) then w else record w { records = w.records ++ (x, record { name = x; count = count }) ∷ [] }
+    if is_standard_type x then w else record w { records = with_first (λ r. r.name) w.records (record { name = x; count = count }) }
 
 abbrev pub with_slot : Signatures → Option (List ℕ) → Signatures
 with_slot w None = w
-with_slot w (Some x) = if is_some (named x w.slots) then w else record w { slots = w.slots ++ (x, record { name = x }) ∷ [] }
+with_slot w (Some x) = record w { slots = with_first (λ s. s.name) w.slots (record { name = x }) }
 
 -- the slot of a part of `(:slots ..)`, which is a list that begins with its name
 abbrev pub with_slot_of : Signatures → List Datum → Signatures
@@ -85,20 +86,18 @@ abbrev pub display_count : Option Callee → Option (Option ℕ)
 display_count None = None
 display_count (Some c) = elim c.kind [ Function ↦ None | Display ↦ Some c.count ]
 
--- an operator keeps its meaning
 abbrev pub function_in : Signatures → List ℕ → Option (Option ℕ)
-function_in w x = if is_operator x then None else function_count (named x w.callees)
+function_in w x = function_count (named x w.callees)
 
 abbrev pub display_in : Signatures → List ℕ → Option (Option ℕ)
-display_in w x = if is_operator x then None else display_count (named x w.callees)
+display_in w x = display_count (named x w.callees)
 
 abbrev pub record_count : Option RecordHead → Option (Option ℕ)
 record_count None = None
 record_count (Some r) = Some r.count
 
--- a standard type keeps its meaning
 abbrev pub record_in : Signatures → List ℕ → Option (Option ℕ)
-record_in w x = if is_standard_type x then None else record_count (named x w.records)
+record_in w x = record_count (named x w.records)
 
 abbrev pub slot_in : Signatures → List ℕ → Bool
 slot_in w x = is_some (named x w.slots)

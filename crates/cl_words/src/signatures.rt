@@ -136,12 +136,11 @@ fn add_record(
     let Some(name) = name_in(name) else {
         return Ok(());
     };
-    if signatures.records.get(name.as_slice()).is_some() {
+    if is_standard_type(name.as_slice()) {
         return Ok(());
     }
     let name = name.copy()?;
-    let record = RecordHead { name, count };
-    signatures.records.add(record).map_err(|_| AllocError)
+    signatures.records.add_first(RecordHead { name, count })
 }
 
 fn add_callee(
@@ -156,12 +155,11 @@ fn add_callee(
     let Some(name) = name_in(name) else {
         return Ok(());
     };
-    if signatures.callees.get(name.as_slice()).is_some() {
+    if is_operator(name.as_slice()) {
         return Ok(());
     }
     let name = name.copy()?;
-    let callee = Callee { name, kind, count };
-    signatures.callees.add(callee).map_err(|_| AllocError)
+    signatures.callees.add_first(Callee { name, kind, count })
 }
 
 fn add_slot(signatures: &mut Signatures, parts: &[Datum]) -> Result<(), AllocError>
@@ -179,14 +177,8 @@ fn add_slot_named(signatures: &mut Signatures, name: &Datum) -> Result<(), Alloc
     let Some(name) = name_in(name) else {
         return Ok(());
     };
-    if signatures.slots.get(name.as_slice()).is_some() {
-        return Ok(());
-    }
     let name = name.copy()?;
-    signatures
-        .slots
-        .add(SlotHead { name })
-        .map_err(|_| AllocError)
+    signatures.slots.add_first(SlotHead { name })
 }
 
 fn add_slots(signatures: &mut Signatures, slots: &[Datum]) -> Result<(), AllocError>
@@ -258,13 +250,10 @@ fn parameters_counted(parts: &[Datum]) -> Option<usize>
 impl Signatures {
     /// The count of a function's parameters; None where there is no such function, and in it None
     /// where the count cannot be told.
-    pub fn function(&self, name: &Text) -> Option<Option<usize>>
+    pub fn function(&self, name: &[u8]) -> Option<Option<usize>>
         ensures { result ≡ function_in self.now name.now }
     {
-        if is_operator(name.as_slice()) {
-            return None;
-        }
-        match self.callees.get(name.as_slice()) {
+        match self.callees.get(name) {
             Some(callee) => match callee.kind {
                 CalleeKind::Function => Some(callee.count),
                 CalleeKind::Display => None,
@@ -274,13 +263,10 @@ impl Signatures {
     }
 
     /// The same of a display.
-    pub fn display(&self, name: &Text) -> Option<Option<usize>>
+    pub fn display(&self, name: &[u8]) -> Option<Option<usize>>
         ensures { result ≡ display_in self.now name.now }
     {
-        if is_operator(name.as_slice()) {
-            return None;
-        }
-        match self.callees.get(name.as_slice()) {
+        match self.callees.get(name) {
             Some(callee) => match callee.kind {
                 CalleeKind::Display => Some(callee.count),
                 CalleeKind::Function => None,
@@ -290,22 +276,19 @@ impl Signatures {
     }
 
     /// The same of a record and its fields.
-    pub fn record_fields(&self, name: &Text) -> Option<Option<usize>>
+    pub fn record_fields(&self, name: &[u8]) -> Option<Option<usize>>
         ensures { result ≡ record_in self.now name.now }
     {
-        if is_standard_type(name.as_slice()) {
-            return None;
-        }
-        match self.records.get(name.as_slice()) {
+        match self.records.get(name) {
             Some(head) => Some(head.count),
             None => None,
         }
     }
 
     /// Whether there is a slot of this name.
-    pub fn has_slot(&self, name: &Text) -> bool
+    pub fn has_slot(&self, name: &[u8]) -> bool
         ensures { result ≡ slot_in self.now name.now }
     {
-        self.slots.get(name.as_slice()).is_some()
+        self.slots.get(name).is_some()
     }
 }
