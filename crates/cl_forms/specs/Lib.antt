@@ -12,3 +12,5 @@ pub mod Named
 pub mod LineNames
 pub mod Outer
 pub mod OuterView
+pub mod Keys
+pub mod KeyedView
