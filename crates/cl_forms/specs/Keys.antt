@@ -1,5 +1,5 @@
 -- The keys that forms have, with what stands behind each.
-use Rattle.std.specs.Prelude.{ℕ, Bool, is_some, if◌then◌else◌, List, [], ◌∷◌, ◌++◌, Option, Some, None, option_and_then, codes}
+use Rattle.std.specs.Prelude.{ℕ, Bool, false, is_some, if◌then◌else◌, List, [], ◌∷◌, ◌++◌, Option, Some, None, option_and_then, codes}
 use Rattle.std.specs.List.{list_any}
 use Rattle.std.specs.Str.{bytes_eq}
 use denote.Enum.Bare.{sameb}
@@ -51,6 +51,20 @@ has_key key ks = is_some (values_of key ks)
 abbrev pub keyed_as : Option Key → ℕ → List Datum → Option Keyed
 keyed_as None at ds = None
 keyed_as (Some key) at ds = Some (record { key = key; at = at; values = ds })
+
+-- ---- one section
+
+abbrev pub is_key : Key → Option Key → Bool
+is_key key None = false
+is_key key (Some found) = same_key key found
+
+abbrev pub values_behind : Key → List Datum → List Datum
+values_behind key [] = []
+values_behind key (d ∷ ds) = if is_key key (key_named (symbol_of d)) then ds else []
+
+-- what stands behind this key in a section; nothing where another begins it
+abbrev pub section_values : Key → Datum → List Datum
+section_values key d = values_behind key (parts_of d)
 
 -- ---- the keys of a form, in the order of the text; None where a part is no key that the form may have, or a key stands twice
 

@@ -1,7 +1,8 @@
 -- The outermost forms of a text, by their heads.
-use Rattle.std.specs.Prelude.{ℕ, Bool, ◌||◌, if◌then◌else◌, List, [], ◌∷◌, map, Option, Some, None, codes}
+use Rattle.std.specs.Prelude.{ℕ, Bool, ◌||◌, if◌then◌else◌, List, [], ◌∷◌, map, Option, Some, None, option_and_then, codes}
 use Rattle.std.specs.Str.{bytes_eq}
 use Rattle.cl_forms.specs.Datum.{Datum, number, literal, word, quoted, stray, list, in_order, offset, parts_of}
+use Rattle.cl_forms.specs.Naming.{name_in}
 use Rattle.cl_forms.specs.declared.outer.DeclarationKind.{DeclarationKind}
 use Rattle.cl_forms.specs.declared.outer.DeclarationKind.TheVariants.{Record, Function, Display, Command, Frame}
 use Rattle.cl_forms.specs.declared.outer.OuterKind.{OuterKind}
@@ -80,6 +81,13 @@ outer_name (Declared Frame) ds = first_of ds
 outer_name (Planned at) ds = first_of ds
 outer_name (Unknown at) ds = first_of ds
 outer_name Headless ds = None
+
+-- the name, where one stands there
+abbrev pub declared_name : Outer → Option (List ℕ)
+declared_name o = option_and_then name_in o.name
+
+abbrev pub behind_name : Outer → List Datum
+behind_name o = behind_first o.parts
 
 -- ---- forms
 

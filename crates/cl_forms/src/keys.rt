@@ -3,7 +3,7 @@ ghost use Rattle.std.specs.Prelude.{◌≡◌, ◌++◌, ◌∷◌, [], IfOk, ma
 ghost use Rattle.std.specs.List.{list_any};
 ghost use Rattle.cl_forms.specs.DatumView.{datum_of};
 ghost use Rattle.cl_forms.specs.KeyedView.{keyed_of};
-ghost use Rattle.cl_forms.specs.Keys.{key_named, same_key, is_among, key_in, has_key, section_of, section_in, pair_in, keyed_sections, keyed_pairs, values_of};
+ghost use Rattle.cl_forms.specs.Keys.{key_named, same_key, is_among, key_in, has_key, is_key, values_behind, section_values, section_of, section_in, pair_in, keyed_sections, keyed_pairs, values_of};
 
 use crate::datum::Datum;
 use crate::naming::symbol_of;
@@ -96,6 +96,38 @@ fn has_key(key: Key, keyed: &[Keyed<'_>]) -> bool
     ensures { result ≡ has_key key (map keyed_of keyed.now) }
 {
     values_of(key, keyed).is_some()
+}
+
+/// What stands behind this key in a section, which is a list that begins with its key; nothing where
+/// another begins it.
+pub fn section_values(key: Key, section: &Datum) -> &[Datum]
+    ensures { map datum_of result.now ≡ section_values key (datum_of section.now) }
+{
+    values_behind(key, section.parts())
+}
+
+fn values_behind(key: Key, parts: &[Datum]) -> &[Datum]
+    ensures { map datum_of result.now ≡ values_behind key (map datum_of parts.now) }
+{
+    match parts {
+        [] => &[],
+        [first, values @ ..] => {
+            if is_key(key, key_named(symbol_of(first))) {
+                values
+            } else {
+                &[]
+            }
+        }
+    }
+}
+
+fn is_key(key: Key, found: Option<Key>) -> bool
+    ensures { result ≡ is_key key found }
+{
+    match found {
+        Some(found) => same_key(key, found),
+        None => false,
+    }
 }
 
 /// `(KEY VALUE ...)`

@@ -2,9 +2,11 @@
 ghost use Rattle.std.specs.Prelude.{◌≡◌, ◌++◌, ◌∷◌, IfOk, map, option_map};
 ghost use Rattle.cl_forms.specs.DatumView.{datum_of};
 ghost use Rattle.cl_forms.specs.OuterView.{outer_of};
-ghost use Rattle.cl_forms.specs.Outer.{declaration_named, is_type_declaration, is_table_declaration, is_planned, kind_named, first_of, behind_first, command_name, first_or_itself, outer_name, headless, outer_headed, outer_listed, outer_in, outers_of};
+ghost use Rattle.cl_forms.specs.Outer.{declaration_named, is_type_declaration, is_table_declaration, is_planned, kind_named, first_of, behind_first, command_name, first_or_itself, outer_name, declared_name, behind_name, headless, outer_headed, outer_listed, outer_in, outers_of};
 
 use crate::datum::Datum;
+use crate::naming::name_in;
+use cl_value::Text;
 use std::alloc::{AllocError, Global};
 
 /// The declarations that are built.
@@ -42,9 +44,19 @@ pub struct Outer<'a> {
 }
 
 impl<'a> Outer<'a> {
+    /// The name, where one stands there.
+    pub fn declared_name(&self) -> Option<&'a Text>
+        ensures { option_map (λ name. name.now) result ≡ declared_name (outer_of self.now) }
+    {
+        match self.name {
+            Some(name) => name_in(name),
+            None => None,
+        }
+    }
+
     /// What stands behind the name.
     pub fn behind_name(&self) -> &'a [Datum]
-        ensures { map datum_of result.now ≡ behind_first (outer_of self.now).parts }
+        ensures { map datum_of result.now ≡ behind_name (outer_of self.now) }
     {
         behind_first(self.parts)
     }

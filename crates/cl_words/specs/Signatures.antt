@@ -1,10 +1,17 @@
 -- What the outermost forms of a text declare: functions, displays, records and slots by name, whether their forms are right or
 -- not. Of two of one name in one space the first counts, and a name that is reserved is none.
-use Rattle.std.specs.Prelude.{ℕ, Bool, is_some, if◌then◌else◌, List, [], ◌∷◌, ◌++◌, Option, Some, None, codes}
-use Rattle.std.specs.Str.{bytes_eq}
+use Rattle.std.specs.Prelude.{ℕ, Bool, is_some, if◌then◌else◌, List, [], ◌∷◌, Option, Some, None}
 use Rattle.cl_table.specs.Names.{named, with_first}
 use Rattle.cl_forms.specs.Datum.{Datum, parts_of}
-use Rattle.cl_forms.specs.Naming.{name_in, symbol_of, names_counted, list_counted}
+use Rattle.cl_forms.specs.Naming.{name_in, names_counted, list_counted}
+use Rattle.cl_forms.specs.Keys.{section_values}
+use Rattle.cl_forms.specs.declared.keys.Key.TheVariants.{Slots}
+use Rattle.cl_forms.specs.Outer.{Outer, declared_name, behind_name}
+use Rattle.cl_forms.specs.declared.outer.DeclarationKind.{DeclarationKind}
+use Rattle.cl_forms.specs.declared.outer.DeclarationKind.TheVariants.{Record, Command, Frame}
+use Rattle.cl_forms.specs.declared.outer.DeclarationKind.TheVariants as kind
+use Rattle.cl_forms.specs.declared.outer.OuterKind.{OuterKind}
+use Rattle.cl_forms.specs.declared.outer.OuterKind.TheVariants.{Declared, Planned, Unknown, Headless}
 use Rattle.cl_words.specs.Heads.{is_operator}
 use Rattle.cl_words.specs.TypeNames.{is_standard_type}
 use Rattle.cl_words.specs.declared.signatures.Signatures.{Signatures}
@@ -43,37 +50,36 @@ abbrev pub with_slots : Signatures → List Datum → Signatures
 with_slots w [] = w
 with_slots w (d ∷ ds) = with_slots (with_slot_of w (parts_of d)) ds
 
--- the slots of a section of a frame
-abbrev pub with_section : Signatures → List Datum → Signatures
-with_section w [] = w
-with_section w (key ∷ slots) = if bytes_eq (symbol_of key) (codes ":slots") then with_slots w slots else w
-
+-- the slots of the sections of a frame
 abbrev pub with_sections : Signatures → List Datum → Signatures
 with_sections w [] = w
-with_sections w (d ∷ ds) = with_sections (with_section w (parts_of d)) ds
+with_sections w (d ∷ ds) = with_sections (with_slots w (section_values Slots d)) ds
 
--- a declaration of this head and name, with what follows
-abbrev pub with_declaration_head : Signatures → List ℕ → Datum → List Datum → Signatures
-with_declaration_head w head n more =
-    if bytes_eq head (codes "define-record") then with_record w (name_in n) (names_counted more)
-    else (if bytes_eq head (codes "define-function") then with_callee w Function (name_in n) (parameters_counted more)
-    else (if bytes_eq head (codes "define-display") then with_callee w Display (name_in n) (parameters_counted more)
-    else (if bytes_eq head (codes "define-application-frame") then with_sections w more else w)))
+abbrev pub with_declaration : Signatures → DeclarationKind → Outer → Signatures
+with_declaration w Record o = with_record w (declared_name o) (names_counted (behind_name o))
+with_declaration w kind.Function o = with_callee w Function (declared_name o) (parameters_counted (behind_name o))
+with_declaration w kind.Display o = with_callee w Display (declared_name o) (parameters_counted (behind_name o))
+with_declaration w Command o = w
+with_declaration w Frame o = with_sections w (behind_name o)
 
-abbrev pub with_declaration : Signatures → List Datum → Signatures
-with_declaration w [] = w
-with_declaration w (head ∷ []) = w
-with_declaration w (head ∷ n ∷ more) = with_declaration_head w (symbol_of head) n more
+abbrev pub with_outer_kind : Signatures → OuterKind → Outer → Signatures
+with_outer_kind w (Declared kind) o = with_declaration w kind o
+with_outer_kind w (Planned at) o = w
+with_outer_kind w (Unknown at) o = w
+with_outer_kind w Headless o = w
 
-abbrev pub with_declarations : Signatures → List Datum → Signatures
-with_declarations w [] = w
-with_declarations w (d ∷ ds) = with_declarations (with_declaration w (parts_of d)) ds
+abbrev pub with_outer : Signatures → Outer → Signatures
+with_outer w o = with_outer_kind w o.kind o
+
+abbrev pub with_outers : Signatures → List Outer → Signatures
+with_outers w [] = w
+with_outers w (o ∷ os) = with_outers (with_outer w o) os
 
 abbrev pub nothing_declared : Signatures
 nothing_declared = record { callees = []; records = []; slots = [] }
 
-abbrev pub signatures_of : List Datum → Signatures
-signatures_of ds = with_declarations nothing_declared ds
+abbrev pub signatures_of : List Outer → Signatures
+signatures_of os = with_outers nothing_declared os
 
 -- ---- what a name stands for
 
