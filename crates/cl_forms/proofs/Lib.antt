@@ -2,3 +2,4 @@ pub mod OneTree
 pub mod Reading
 pub mod Data
 pub mod QuoteLemmas
+pub mod KeyLemmas

@@ -11,3 +11,7 @@ pub mod Naming
 pub mod Named
 pub mod LineNames
 pub mod Quotes
+pub mod Outer
+pub mod OuterView
+pub mod Keys
+pub mod KeyedView
