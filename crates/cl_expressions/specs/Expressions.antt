@@ -1,5 +1,5 @@
 -- The expression that a form is. Each row says first what makes the form itself wrong, and then its parts from left to right.
-use Rattle.std.specs.Prelude.{ℕ, Bool, true, false, ◌==◌, ◌&&◌, is_some, if◌then◌else◌, List, [], ◌∷◌, ◌++◌, length, Option, Some, None, Result, Ok, Err, codes}
+use Rattle.std.specs.Prelude.{ℕ, Bool, true, false, ◌&&◌, is_some, if◌then◌else◌, List, [], ◌∷◌, length, Option, Some, None, codes}
 use Rattle.std.specs.Str.{bytes_eq}
 use Rattle.cl_value.specs.Data as value
 use Rattle.cl_syntax.specs.Expr.{bindings_of}
@@ -11,7 +11,7 @@ use Rattle.cl_syntax.specs.declared.operators.Operator.TheVariants as operator
 use Rattle.cl_syntax.specs.declared.operators.RecordOperator.TheVariants.{Make, Get, With}
 use Rattle.cl_forms.specs.Datum.{Datum, Datums, number, literal, word, quoted, stray, list, none, item, in_order, parts_of, offset}
 use Rattle.cl_forms.specs.Naming.{fits}
-use Rattle.cl_expressions.specs.Load.{Load, Unknown, Fault, ◌>>=◌, give, refuse, noted}
+use Rattle.cl_expressions.specs.Load.{Load, ◌>>=◌, give, refuse, noted}
 use Rattle.cl_expressions.specs.Scopes.{Names, among}
 use Rattle.cl_forms.specs.Words.{is_name}
 use Rattle.cl_words.specs.Heads.{special_named, operator_named, count_of}

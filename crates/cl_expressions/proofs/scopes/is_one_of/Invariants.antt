@@ -1,4 +1,4 @@
-use Rattle.std.proofs.Common.{◌≡◌, drop, map}
+use Rattle.std.proofs.Common.{◌≡◌, drop}
 use Rattle.cl_expressions.specs.Scopes.{among}
 use Rattle.cl_expressions.proofs.scopes.is_one_of.Given as goal
 
