@@ -115,7 +115,13 @@ fn parse_slot(
             let opening = parse_expression(&reader.seeing(&Scope::Empty), value, notes)?;
             let name = symbol_text(reader.alloc, name)?;
             let opening_at = value.offset();
-            Ok(slots.add_first(SlotDecl { name, spec, opening, opening_at, at })?)
+            Ok(slots.add_first(SlotDecl {
+                name,
+                spec,
+                opening,
+                opening_at,
+                at,
+            })?)
         }
         [] => Ok(()),
         [_] => Ok(()),
@@ -169,6 +175,9 @@ fn note_display(reader: &Reader, display: &Datum, notes: &mut Notes)
         (name_in (datum_of display.now)) notes.old ≡ Ok (tt, notes.new) }
 {
     if let Some(name) = name_in(display) {
-        notes.note(reader.signatures.display(name.as_slice()).is_some(), display.offset());
+        notes.note(
+            reader.signatures.display(name.as_slice()).is_some(),
+            display.offset(),
+        );
     }
 }

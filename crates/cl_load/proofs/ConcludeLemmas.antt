@@ -45,7 +45,7 @@ settled_so size ds s notes o none f = record {
   reading = f.reading;
   found = λ none. f.found;
   verdict =
-    subst (λ first. IsVerdict first (app_in s s.frames) o) (sym (first_none (form_faults ds notes) (frame_faults size s f.reading) none)) f.verdict;
+      subst (λ first. IsVerdict first (app_in s s.frames) o) (sym (first_none (form_faults ds notes) (frame_faults size s f.reading) none)) f.verdict;
 }
 
 -- where the forms have none, the frame decides

@@ -86,7 +86,7 @@ clear_once : (length : ℕ) (ds : List Datum) (s : Declarations) (notes : Notes)
 clear_once length ds s notes a b h x y =
     verdict_once (first_fault (faults length ds s notes y.reading)) (app_in s s.frames) a b
     (subst (λ reading. IsVerdict (first_fault (faults length ds s notes reading)) (app_in s s.frames) a)
-      (found_once s.functions s.frames x.reading y.reading (x.found h) (y.found h)) x.verdict)
+    (found_once s.functions s.frames x.reading y.reading (x.found h) (y.found h)) x.verdict)
     y.verdict
 
 settled_once : (length : ℕ) (ds : List Datum) (s : Declarations) (notes : Notes) (a b : Result App Fault) → Settled length ds s notes a → Settled length ds s notes b → a ≡ b

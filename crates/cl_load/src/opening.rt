@@ -4,10 +4,10 @@ ghost use Rattle.cl_load.specs.Opening.{opening_of, IsMemberOf, OpensSlots, Open
 ghost use Rattle.cl_value.specs.Value.{data_of};
 
 use crate::slot_types::SlotTypes;
+use cl_application::{App, SlotDecl};
 use cl_eval::{Env, Evaluated, Limits, Slots, Types, eval};
 use cl_forms::LoadRefusal;
 use cl_outside::own_steps;
-use cl_application::{App, SlotDecl};
 use cl_value::{Held, Value};
 use std::alloc::Global;
 

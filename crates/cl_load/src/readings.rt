@@ -2,9 +2,9 @@
 ghost use Rattle.std.specs.Prelude.{IfOk};
 ghost use Rattle.cl_load.specs.Readings.{Finds};
 
+use cl_application::Functions;
 use cl_declare::FrameForm;
 use cl_phases::any_reads_slot;
-use cl_application::Functions;
 use std::alloc::{AllocError, Global};
 
 /// The offset of the first frame with an opening value that reads a slot, through calls too.

@@ -16,14 +16,14 @@ use std::alloc::Global;
 
 /// The application of declarations in a text of this length, with its opening slots; or the first of
 /// refusals 10, 14, 15 and 12.
-pub fn settle(
-    alloc: Global,
-    length: u32,
-    declarations: Declarations,
-) -> Result<Opened, LoadRefusal>
+pub fn settle(alloc: Global, length: u32, declarations: Declarations) -> Result<Opened, LoadRefusal>
     ensures { Settles result length declarations }
 {
-    let reading = first_reading(alloc, &declarations.functions, declarations.frames.as_slice())?;
+    let reading = first_reading(
+        alloc,
+        &declarations.functions,
+        declarations.frames.as_slice(),
+    )?;
     pass(10, reading)?;
     let mut declarations = declarations;
     let frame = take_frame(length, &mut declarations.frames)?;

@@ -11,12 +11,12 @@ ghost use Rattle.cl_session.specs.Handling.{HandlesTo, IsReply, handling_met};
 
 use crate::panes::Pane;
 use crate::telling::{frame_lines, history_lines, ink_lines};
+use cl_application::{App, CommandDecl};
 use cl_command::{Finished, Line, Pushed};
 use cl_eval::{Env, Executed, Limits, Lines, Slots, exec};
 use cl_gesture::Gesture;
 use cl_load::SlotTypes;
 use cl_outside::{Ledger, Steps};
-use cl_application::{App, CommandDecl};
 use cl_value::Text;
 use std::alloc::{AllocError, Global};
 

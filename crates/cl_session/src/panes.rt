@@ -12,12 +12,12 @@ ghost use Rattle.cl_session.specs.Replies.{met_memory};
 ghost use Rattle.cl_session.specs.Pane.{IsPainted, SettlesTo};
 
 use crate::answers::{PaneReport, Report};
+use cl_application::{App, PaneDecl};
 use cl_display::{History, Shown, display};
 use cl_eval::{Env, Limits, Slots};
 use cl_outside::{Ledger, Steps};
 use cl_raster::Raster;
 use cl_redisplay::{Area, blank, paint};
-use cl_application::{App, PaneDecl};
 use std::alloc::{AllocError, Global};
 
 /// A pane, the only one of its screen: its history, None where it is blank for want of memory, how

@@ -13,12 +13,12 @@ use crate::answers::{PaneReport, Replies};
 use crate::handling::{Handling, handle};
 use crate::panes::{Pane, area_of};
 use crate::writing::Outgoing;
+use cl_application::App;
 use cl_command::Line;
 use cl_eval::{Limits, Lines, Slots};
 use cl_gesture::Gesture;
 use cl_load::Loaded;
 use cl_outside::{Ledger, Steps};
-use cl_application::App;
 use std::alloc::{AllocError, Global};
 
 /// How many forms may be entered and not left.
@@ -58,7 +58,12 @@ impl Session {
         let line = Line::new(alloc)?;
         let outgoing = Outgoing::new(alloc)?;
         let frame = &loaded.app.frame;
-        let mut pane = Pane::new(alloc, frame.width, frame.height, area_of(loaded.app.first_pane()))?;
+        let mut pane = Pane::new(
+            alloc,
+            frame.width,
+            frame.height,
+            area_of(loaded.app.first_pane()),
+        )?;
         let limits = Limits {
             budget,
             depth: DEPTH,

@@ -4,11 +4,11 @@ use cl_bodies::{parse_acts, parse_shapes};
 use cl_eval::Env;
 use cl_expressions::{Scope, parse_expression};
 use cl_forms::{Datum, Datums, Form, all_forms, data_in};
-use cl_words::{Signatures, signatures_of};
 use cl_load::{Loaded, load};
 use cl_sexp::read_forms;
 use cl_syntax::{Acts, Expr, Shapes};
 use cl_value::{Text, Value};
+use cl_words::{Signatures, signatures_of};
 use std::alloc::Global;
 use std::test::Fail;
 
