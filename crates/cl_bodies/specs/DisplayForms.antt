@@ -1,6 +1,5 @@
 -- The display forms that statements do not have. Each row says first what makes the form itself wrong, and then its parts from left to right.
-use Rattle.std.specs.Prelude.{ℕ, ◌==◌, if◌then◌else◌, List, [], ◌∷◌, length, Option, Some, None, codes}
-use Rattle.std.specs.Str.{bytes_eq}
+use Rattle.std.specs.Prelude.{ℕ, ◌==◌, if◌then◌else◌, List, [], ◌∷◌, length, Option, Some, None}
 use Rattle.cl_syntax.specs.Expr.{bindings_of}
 use Rattle.cl_syntax.specs.ExprTree.{ExprTree, expr_trees_of}
 use Rattle.cl_syntax.specs.ShapeTree as shape
@@ -10,15 +9,22 @@ use Rattle.cl_syntax.specs.declared.figures.Figure.{Figure}
 use Rattle.cl_forms.specs.Datum.{Datum, Datums}
 use Rattle.cl_expressions.specs.Load.{Load, ◌>>=◌, give, refuse}
 use Rattle.cl_expressions.specs.Scopes.{Names}
-use Rattle.cl_words.specs.Heads.{figure_named, figure_count, setting_named, is_later_form}
+use Rattle.cl_words.specs.Heads.{figure_count}
 use Rattle.cl_words.specs.Signatures.{display_in}
 use Rattle.cl_expressions.specs.Expressions.{Sub, parse_each}
 use Rattle.cl_forms.specs.Naming.{fits}
+use Rattle.cl_words.specs.declared.heads.Head.{Head}
+use Rattle.cl_words.specs.declared.heads.Head.TheVariants as head
+use Rattle.cl_words.specs.declared.heads.Planned.TheVariants as planned
+use Rattle.cl_words.specs.declared.heads.Writing.{Writing}
+use Rattle.cl_words.specs.declared.heads.Writing.TheVariants as writing
 use Rattle.cl_words.specs.declared.heads.Setting.{Setting}
 use Rattle.cl_words.specs.declared.heads.Setting.TheVariants as setting
 use Rattle.cl_words.specs.declared.signatures.Signatures.{Signatures}
 use Rattle.cl_bodies.specs.declared.own.Own.{Own}
 use Rattle.cl_bodies.specs.declared.own.Own.TheVariants.{Whole, Before}
+use Rattle.cl_bodies.specs.declared.display_forms.Context.{Context}
+use Rattle.cl_bodies.specs.declared.display_forms.Context.TheVariants as context
 use Rattle.cl_bodies.specs.declared.display_forms.Opening.{Opening}
 use Rattle.cl_bodies.specs.declared.display_forms.Opening.TheVariants as opening
 use Rattle.cl_bodies.specs.Bodies.{Language, parse_form, parse_body}
@@ -40,6 +46,7 @@ abbrev pub parse_newline : ℕ → List Sub → Load ShapeTree
 parse_newline at [] = give shape.Newline
 parse_newline at (a ∷ subs) = refuse 6 at
 
+-- a call of what has this count of parameters, if a display
 abbrev pub parse_call_counted : Option (Option ℕ) → List ℕ → ℕ → ℕ → List Sub → Names → Load ShapeTree
 parse_call_counted None x head_at at subs env = refuse 5 head_at
 parse_call_counted (Some count) x head_at at subs env =
@@ -49,60 +56,69 @@ parse_call_counted (Some count) x head_at at subs env =
 abbrev pub parse_call : Signatures → List ℕ → ℕ → ℕ → List Sub → Names → Load ShapeTree
 parse_call w x head_at at subs env = parse_call_counted (display_in w x) x head_at at subs env
 
-abbrev pub parse_written : Signatures → List ℕ → ℕ → ℕ → List Sub → Names → Load ShapeTree
-parse_written w x head_at at subs env =
-    if bytes_eq x (codes "write-text") then parse_write at subs env
-    else (if bytes_eq x (codes "newline") then parse_newline at subs
-    else (if is_later_form x then refuse 0 head_at else parse_call w x head_at at subs env))
-
-abbrev pub parse_plain : Signatures → List ℕ → ℕ → ℕ → List Sub → Names → Load ShapeTree
-parse_plain w x head_at at subs env =
-    elim (figure_named x) [ None ↦ parse_written w x head_at at subs env | Some figure ↦ parse_draw figure at subs env ]
+-- the forms that write
+abbrev pub parse_writing : Writing → ℕ → List Sub → Names → Load ShapeTree
+parse_writing writing.WriteText at subs env = parse_write at subs env
+parse_writing writing.Newline at subs env = parse_newline at subs
 
 -- ---- forms that set something for their bodies
 
 -- `(indenting-output E FORM ...)`
-abbrev pub parse_indent : ℕ → List Sub → Names → Load (Own ShapeTree Opening)
-parse_indent at [] env = refuse 6 at
-parse_indent at (a ∷ subs) env = a.expr env >>= λ t. give (Before (opening.Indent t) 1)
+abbrev pub parse_indent : Context → ℕ → List Sub → Names → Load (Own ShapeTree Opening Context)
+parse_indent c at [] env = refuse 6 at
+parse_indent c at (a ∷ subs) env = a.expr env >>= λ t. give (Before (opening.Indent t) 1 c)
 
 -- `(with-ink E FORM ...)`
-abbrev pub parse_ink : ℕ → List Sub → Names → Load (Own ShapeTree Opening)
-parse_ink at [] env = refuse 6 at
-parse_ink at (a ∷ subs) env = a.expr env >>= λ t. give (Before (opening.Ink t) 1)
+abbrev pub parse_ink : Context → ℕ → List Sub → Names → Load (Own ShapeTree Opening Context)
+parse_ink c at [] env = refuse 6 at
+parse_ink c at (a ∷ subs) env = a.expr env >>= λ t. give (Before (opening.Ink t) 1 c)
 
--- the last is `(with-room-for-graphics FORM ...)`
-abbrev pub parse_setting : Setting → ℕ → List Sub → Names → Load (Own ShapeTree Opening)
-parse_setting setting.Margin at subs env = parse_indent at subs env
-parse_setting setting.Ink at subs env = parse_ink at subs env
-parse_setting setting.Origin at subs env = give (Before opening.Room 0)
+-- the last is `(with-room-for-graphics FORM ...)`; the body stands in what the form stands in
+abbrev pub parse_setting : Context → Setting → ℕ → List Sub → Names → Load (Own ShapeTree Opening Context)
+parse_setting c setting.Indent at subs env = parse_indent c at subs env
+parse_setting c setting.Ink at subs env = parse_ink c at subs env
+parse_setting c setting.Room at subs env = give (Before opening.Room 0 c)
 
-abbrev pub parse_own : Signatures → List ℕ → ℕ → ℕ → List Sub → Names → Load (Own ShapeTree Opening)
-parse_own w x head_at at subs env = elim (setting_named x) [
-  | Some s ↦ parse_setting s at subs env
-  | None ↦ parse_plain w x head_at at subs env >>= λ f. give (Whole f)
-]
+-- ---- by the head
 
+-- a display form that is not built yet is refused as such; what heads no display form, as a word that is not known
+abbrev pub parse_own : Context → Head → ℕ → ℕ → List Sub → Names → Load (Own ShapeTree Opening Context)
+parse_own c (head.Figure f) head_at at subs env = parse_draw f at subs env >>= λ s. give (Whole s)
+parse_own c (head.Setting s) head_at at subs env = parse_setting c s at subs env
+parse_own c (head.Writing k) head_at at subs env = parse_writing k at subs env >>= λ s. give (Whole s)
+parse_own c (head.Planned planned.Display) head_at at subs env = refuse 0 head_at
+parse_own c (head.Planned planned.Statement) head_at at subs env = refuse 5 head_at
+parse_own c (head.Planned planned.Part) head_at at subs env = refuse 5 head_at
+parse_own c head.If head_at at subs env = refuse 5 head_at
+parse_own c head.Let head_at at subs env = refuse 5 head_at
+parse_own c (head.Special s) head_at at subs env = refuse 5 head_at
+parse_own c (head.Operator o) head_at at subs env = refuse 5 head_at
+parse_own c (head.Control k) head_at at subs env = refuse 5 head_at
+parse_own c (head.Change k) head_at at subs env = refuse 5 head_at
+
+-- a form that sets something, with its body
 abbrev pub closed : Opening → List ShapeTree → ShapeTree
 closed (opening.Indent t) fs = shape.Indent t (shape_trees_of fs)
 closed (opening.Ink t) fs = shape.Ink t (shape_trees_of fs)
 closed opening.Room fs = shape.Room (shape_trees_of fs)
 
-abbrev pub display_forms : Language ShapeTree Opening
+-- the language of display forms
+abbrev pub display_forms : Language ShapeTree Opening Context
 display_forms = record {
   choice = shape.If;
   when = λ t fs. shape.When t (shape_trees_of fs);
   bind = λ bs fs. shape.Let (bindings_of bs) (shape_trees_of fs);
   each = λ x t fs. shape.Dolist x t (shape_trees_of fs);
   sequence = λ fs. shape.Progn (shape_trees_of fs);
-  own = parse_own;
+  own = λ w. parse_own;
+  call = parse_call;
   closed = closed;
 }
 
 -- the display form that a datum is
 abbrev pub parse_shape : Signatures → Datum → Names → Load ShapeTree
-parse_shape w d env = parse_form display_forms w d env
+parse_shape w d env = parse_form display_forms w context.Display d env
 
 -- the display forms of a body
 abbrev pub parse_shapes : Signatures → Datums → Names → Load (List ShapeTree)
-parse_shapes w ds env = parse_body display_forms w ds env
+parse_shapes w ds env = parse_body display_forms w context.Display ds env

@@ -7,10 +7,14 @@ use Rattle.cl_syntax.specs.ActTree.{ActTree, act_trees_of}
 use Rattle.cl_forms.specs.Datum.{Datum, Datums, offset, parts_of}
 use Rattle.cl_expressions.specs.Load.{Load, ◌>>=◌, give, refuse, noted}
 use Rattle.cl_expressions.specs.Scopes.{Names}
-use Rattle.cl_words.specs.Heads.{is_later_statement}
 use Rattle.cl_words.specs.Signatures.{slot_in}
 use Rattle.cl_forms.specs.Naming.{symbol_of}
 use Rattle.cl_expressions.specs.Expressions.{Sub, named_part}
+use Rattle.cl_words.specs.declared.heads.Head.{Head}
+use Rattle.cl_words.specs.declared.heads.Head.TheVariants as head
+use Rattle.cl_words.specs.declared.heads.Planned.TheVariants as planned
+use Rattle.cl_words.specs.declared.heads.Change.{Change}
+use Rattle.cl_words.specs.declared.heads.Change.TheVariants as change
 use Rattle.cl_words.specs.declared.signatures.Signatures.{Signatures}
 use Rattle.cl_bodies.specs.declared.own.Own.{Own}
 use Rattle.cl_bodies.specs.declared.own.Own.TheVariants.{Whole}
@@ -35,35 +39,47 @@ abbrev pub parse_reply : ℕ → List Sub → Names → Load ActTree
 parse_reply at (a ∷ []) env = a.expr env >>= λ t. give (act.Reply t)
 parse_reply at subs env = refuse 6 at
 
-abbrev pub parse_plain : Signatures → List ℕ → ℕ → ℕ → List Sub → Names → Load ActTree
-parse_plain w x head_at at subs env =
-    if bytes_eq x (codes "setf") then parse_setf w at subs env
-    else (if bytes_eq x (codes "reply") then parse_reply at subs env
-    else (if is_later_statement x then refuse 0 head_at else refuse 5 head_at))
+-- the statements that change or answer something
+abbrev pub parse_change : Signatures → Change → ℕ → List Sub → Names → Load ActTree
+parse_change w change.Setf at subs env = parse_setf w at subs env
+parse_change w change.Reply at subs env = parse_reply at subs env
 
--- none of its own has a body
-abbrev pub parse_own : Signatures → List ℕ → ℕ → ℕ → List Sub → Names → Load (Own ActTree (Unit {0}))
-parse_own w x head_at at subs env = parse_plain w x head_at at subs env >>= λ s. give (Whole s)
+-- a statement that is not built yet is refused as such; what heads no statement, as a word that is not known
+abbrev pub parse_own : Signatures → Head → ℕ → ℕ → List Sub → Names → Load (Own ActTree (Unit {0}) (Unit {0}))
+parse_own w (head.Change k) head_at at subs env = parse_change w k at subs env >>= λ s. give (Whole s)
+parse_own w (head.Planned planned.Statement) head_at at subs env = refuse 0 head_at
+parse_own w (head.Planned planned.Display) head_at at subs env = refuse 5 head_at
+parse_own w (head.Planned planned.Part) head_at at subs env = refuse 5 head_at
+parse_own w head.If head_at at subs env = refuse 5 head_at
+parse_own w head.Let head_at at subs env = refuse 5 head_at
+parse_own w (head.Special s) head_at at subs env = refuse 5 head_at
+parse_own w (head.Operator o) head_at at subs env = refuse 5 head_at
+parse_own w (head.Control k) head_at at subs env = refuse 5 head_at
+parse_own w (head.Figure f) head_at at subs env = refuse 5 head_at
+parse_own w (head.Setting s) head_at at subs env = refuse 5 head_at
+parse_own w (head.Writing k) head_at at subs env = refuse 5 head_at
 
--- so nothing would stand before one
+-- no statement has a body of its own, so nothing would stand before one
 abbrev pub closed : Unit {0} → List ActTree → ActTree
 closed o ss = act.Progn (act_trees_of ss)
 
-abbrev pub statements : Language ActTree (Unit {0})
+-- the language of statements; nothing is called by its name
+abbrev pub statements : Language ActTree (Unit {0}) (Unit {0})
 statements = record {
   choice = act.If;
   when = λ t ss. act.When t (act_trees_of ss);
   bind = λ bs ss. act.Let (bindings_of bs) (act_trees_of ss);
   each = λ x t ss. act.Dolist x t (act_trees_of ss);
   sequence = λ ss. act.Progn (act_trees_of ss);
-  own = parse_own;
+  own = λ w c. parse_own w;
+  call = λ w x head_at at subs env. refuse 5 head_at;
   closed = closed;
 }
 
 -- the statement that a datum is
 abbrev pub parse_act : Signatures → Datum → Names → Load ActTree
-parse_act w d env = parse_form statements w d env
+parse_act w d env = parse_form statements w tt d env
 
 -- the statements of a body
 abbrev pub parse_acts : Signatures → Datums → Names → Load (List ActTree)
-parse_acts w ds env = parse_body statements w ds env
+parse_acts w ds env = parse_body statements w tt ds env

@@ -15,7 +15,7 @@ use cl_expressions::{
 use cl_forms::{Datum, LoadRefusal};
 use cl_syntax::{Binding, Expr};
 use cl_value::Text;
-use cl_words::{Control, control_named};
+use cl_words::{Control, Head, head_named};
 use std::alloc::{AllocError, Global};
 
 /// The test of an `if` and the form where it holds.
@@ -29,14 +29,15 @@ struct Opening<F> {
 #[cycle(body)]
 pub fn parse_form<L: Language>(
     reader: &Reader,
+    context: L::Context,
     datum: &Datum,
     notes: &mut Notes,
 ) -> Result<L, LoadRefusal>
     ensures { Gives itself result notes.new
-        (parse_form L.rows reader.now.signatures.now (datum_of datum.now) (variables_of reader.now.scope.now) notes.old) }
+        (parse_form L.rows reader.now.signatures.now context (datum_of datum.now) (variables_of reader.now.scope.now) notes.old) }
 {
     match datum {
-        Datum::List(parts, at) => parse_listed(reader, *at, parts.as_slice(), notes),
+        Datum::List(parts, at) => parse_listed(reader, context, *at, parts.as_slice(), notes),
         Datum::Number(_, at) => Err(LoadRefusal::Refused(6, *at)),
         Datum::Literal(_, at) => Err(LoadRefusal::Refused(6, *at)),
         Datum::Word(_, at) => Err(LoadRefusal::Refused(6, *at)),
@@ -50,16 +51,17 @@ pub fn parse_form<L: Language>(
 #[tactic(auto, using(cl_forms::proofs::Data::datum_weighs))]
 pub fn parse_body<L: Language>(
     reader: &Reader,
+    context: L::Context,
     parts: &[Datum],
     notes: &mut Notes,
 ) -> Result<L::Body, LoadRefusal>
     ensures { Gives L.items result notes.new
-        (parse_body L.rows reader.now.signatures.now (datums_of (map datum_of parts.now)) (variables_of reader.now.scope.now)
+        (parse_body L.rows reader.now.signatures.now context (datums_of (map datum_of parts.now)) (variables_of reader.now.scope.now)
         notes.old) }
 {
     let mut body = L::empty(reader.alloc);
     for part in parts {
-        let form = parse_form::<L>(reader, part, notes)?;
+        let form = parse_form::<L>(reader, context, part, notes)?;
         L::push(&mut body, form)?;
     }
     Ok(body)
@@ -69,12 +71,13 @@ pub fn parse_body<L: Language>(
 #[cycle(body)]
 fn parse_listed<L: Language>(
     reader: &Reader,
+    context: L::Context,
     at: u32,
     parts: &[Datum],
     notes: &mut Notes,
 ) -> Result<L, LoadRefusal>
     ensures { Gives itself result notes.new
-        (parse_listed L.rows reader.now.signatures.now at
+        (parse_listed L.rows reader.now.signatures.now context at
         (parts_in L.rows reader.now.signatures.now (datums_of (map datum_of parts.now)))
         (variables_of reader.now.scope.now) notes.old) }
 {
@@ -82,7 +85,7 @@ fn parse_listed<L: Language>(
         return Err(LoadRefusal::Refused(6, at));
     };
     match head {
-        Datum::Word(head, head_at) => parse_head(reader, head, *head_at, at, parts, notes),
+        Datum::Word(head, head_at) => parse_head(reader, context, head, *head_at, at, parts, notes),
         Datum::Number(_, _) => Err(LoadRefusal::Refused(6, at)),
         Datum::Literal(_, _) => Err(LoadRefusal::Refused(6, at)),
         Datum::Quoted(_, _, _) => Err(LoadRefusal::Refused(6, at)),
@@ -92,8 +95,10 @@ fn parse_listed<L: Language>(
 }
 
 #[cycle(body)]
+#[tactic(auto, using(crate::proofs::BodyCounts::parts_subs))]
 fn parse_head<L: Language>(
     reader: &Reader,
+    context: L::Context,
     head: &Text,
     head_at: u32,
     at: u32,
@@ -101,35 +106,37 @@ fn parse_head<L: Language>(
     notes: &mut Notes,
 ) -> Result<L, LoadRefusal>
     ensures { Gives itself result notes.new
-        (parse_headed L.rows reader.now.signatures.now (word head.now head_at) at
+        (parse_headed L.rows reader.now.signatures.now context (word head.now head_at) at
         (parts_in L.rows reader.now.signatures.now (datums_of (map datum_of parts.now)))
         (variables_of reader.now.scope.now) notes.old) }
 {
-    match control_named(head.as_slice()) {
-        Some(control) => parse_control(reader, control, at, parts, notes),
-        None => parse_own(reader, head, head_at, at, parts, notes),
+    match head_named(head.as_slice()) {
+        None => L::parse_call(reader, head, head_at, at, parts, notes),
+        Some(Head::If) => parse_if(reader, context, at, parts, notes),
+        Some(Head::Let) => parse_let(reader, context, at, parts, notes),
+        Some(Head::Control(control)) => parse_control(reader, context, control, at, parts, notes),
+        Some(own) => parse_own(reader, context, own, head_at, at, parts, notes),
     }
 }
 
 #[cycle(body)]
 fn parse_control<L: Language>(
     reader: &Reader,
+    context: L::Context,
     control: Control,
     at: u32,
     parts: &[Datum],
     notes: &mut Notes,
 ) -> Result<L, LoadRefusal>
     ensures { Gives itself result notes.new
-        (parse_control L.rows reader.now.signatures.now control at
+        (parse_control L.rows reader.now.signatures.now context control at
         (parts_in L.rows reader.now.signatures.now (datums_of (map datum_of parts.now)))
         (variables_of reader.now.scope.now) notes.old) }
 {
     match control {
-        Control::If => parse_if(reader, at, parts, notes),
-        Control::When => parse_when(reader, at, parts, notes),
-        Control::Let => parse_let(reader, at, parts, notes),
-        Control::Dolist => parse_dolist(reader, at, parts, notes),
-        Control::Progn => Ok(L::sequence(parse_body::<L>(reader, parts, notes)?)),
+        Control::When => parse_when(reader, context, at, parts, notes),
+        Control::Dolist => parse_dolist(reader, context, at, parts, notes),
+        Control::Progn => Ok(L::sequence(parse_body::<L>(reader, context, parts, notes)?)),
     }
 }
 
@@ -138,18 +145,19 @@ fn parse_control<L: Language>(
 #[tactic(auto, using(crate::proofs::BodyCounts::if_counts))]
 fn parse_if<L: Language>(
     reader: &Reader,
+    context: L::Context,
     at: u32,
     parts: &[Datum],
     notes: &mut Notes,
 ) -> Result<L, LoadRefusal>
     ensures { Gives itself result notes.new
-        (parse_if L.rows at (parts_in L.rows reader.now.signatures.now (datums_of (map datum_of parts.now)))
+        (parse_if L.rows context at (parts_in L.rows reader.now.signatures.now (datums_of (map datum_of parts.now)))
         (variables_of reader.now.scope.now) notes.old) }
 {
     match parts {
         [test, first, other] => {
             let test = parse_expression(reader, test, notes)?;
-            parse_then(reader, test, first, other, notes)
+            parse_then(reader, context, test, first, other, notes)
         }
         [] => Err(LoadRefusal::Refused(6, at)),
         [_] => Err(LoadRefusal::Refused(6, at)),
@@ -161,6 +169,7 @@ fn parse_if<L: Language>(
 #[cycle(body)]
 fn parse_then<L: Language>(
     reader: &Reader,
+    context: L::Context,
     test: Expr,
     first: &Datum,
     other: &Datum,
@@ -168,26 +177,27 @@ fn parse_then<L: Language>(
 ) -> Result<L, LoadRefusal>
     ensures { Gives itself result notes.new
         (parse_then L.rows test
-        (parse_form L.rows reader.now.signatures.now (datum_of first.now) (variables_of reader.now.scope.now))
-        (parse_form L.rows reader.now.signatures.now (datum_of other.now) (variables_of reader.now.scope.now)) notes.old) }
+        (parse_form L.rows reader.now.signatures.now context (datum_of first.now) (variables_of reader.now.scope.now))
+        (parse_form L.rows reader.now.signatures.now context (datum_of other.now) (variables_of reader.now.scope.now)) notes.old) }
 {
-    let first = parse_form::<L>(reader, first, notes)?;
+    let first = parse_form::<L>(reader, context, first, notes)?;
     let opening = Opening { test, first };
-    parse_else(reader, opening, other, notes)
+    parse_else(reader, context, opening, other, notes)
 }
 
 #[cycle(body)]
 fn parse_else<L: Language>(
     reader: &Reader,
+    context: L::Context,
     opening: Opening<L>,
     other: &Datum,
     notes: &mut Notes,
 ) -> Result<L, LoadRefusal>
     ensures { Gives itself result notes.new
         (parse_else L.rows opening.test opening.first
-        (parse_form L.rows reader.now.signatures.now (datum_of other.now) (variables_of reader.now.scope.now)) notes.old) }
+        (parse_form L.rows reader.now.signatures.now context (datum_of other.now) (variables_of reader.now.scope.now)) notes.old) }
 {
-    let other = parse_form::<L>(reader, other, notes)?;
+    let other = parse_form::<L>(reader, context, other, notes)?;
     Ok(choice_of(reader.alloc, opening, other)?)
 }
 
@@ -202,19 +212,20 @@ fn choice_of<L: Language>(alloc: Global, opening: Opening<L>, other: L) -> Resul
 #[cycle(body)]
 fn parse_when<L: Language>(
     reader: &Reader,
+    context: L::Context,
     at: u32,
     parts: &[Datum],
     notes: &mut Notes,
 ) -> Result<L, LoadRefusal>
     ensures { Gives itself result notes.new
-        (parse_when L.rows at (parts_in L.rows reader.now.signatures.now (datums_of (map datum_of parts.now)))
+        (parse_when L.rows context at (parts_in L.rows reader.now.signatures.now (datums_of (map datum_of parts.now)))
         (variables_of reader.now.scope.now) notes.old) }
 {
     let Some((test, body)) = parts.split_first() else {
         return Err(LoadRefusal::Refused(6, at));
     };
     let test = parse_expression(reader, test, notes)?;
-    let body = parse_body::<L>(reader, body, notes)?;
+    let body = parse_body::<L>(reader, context, body, notes)?;
     Ok(L::when(test, body))
 }
 
@@ -222,12 +233,13 @@ fn parse_when<L: Language>(
 #[cycle(body)]
 fn parse_let<L: Language>(
     reader: &Reader,
+    context: L::Context,
     at: u32,
     parts: &[Datum],
     notes: &mut Notes,
 ) -> Result<L, LoadRefusal>
     ensures { Gives itself result notes.new
-        (parse_let L.rows at (parts_in L.rows reader.now.signatures.now (datums_of (map datum_of parts.now)))
+        (parse_let L.rows context at (parts_in L.rows reader.now.signatures.now (datums_of (map datum_of parts.now)))
         (variables_of reader.now.scope.now) notes.old) }
 {
     let Some((bindings, body)) = parts.split_first() else {
@@ -243,7 +255,7 @@ fn parse_let<L: Language>(
         signatures: reader.signatures,
         scope: &inner,
     };
-    let body = parse_body::<L>(&inside, body, notes)?;
+    let body = parse_body::<L>(&inside, context, body, notes)?;
     Ok(L::bind(bound.bindings, body))
 }
 
@@ -251,12 +263,13 @@ fn parse_let<L: Language>(
 #[cycle(body)]
 fn parse_dolist<L: Language>(
     reader: &Reader,
+    context: L::Context,
     at: u32,
     parts: &[Datum],
     notes: &mut Notes,
 ) -> Result<L, LoadRefusal>
     ensures { Gives itself result notes.new
-        (parse_dolist L.rows reader.now.signatures.now at
+        (parse_dolist L.rows reader.now.signatures.now context at
         (parts_in L.rows reader.now.signatures.now (datums_of (map datum_of parts.now)))
         (variables_of reader.now.scope.now) notes.old) }
 {
@@ -264,18 +277,19 @@ fn parse_dolist<L: Language>(
         return Err(LoadRefusal::Refused(6, at));
     };
     let binding = parse_binding(reader, at, binding, notes)?;
-    parse_dolist_body(reader, binding, body, notes)
+    parse_dolist_body(reader, context, binding, body, notes)
 }
 
 #[cycle(body)]
 fn parse_dolist_body<L: Language>(
     reader: &Reader,
+    context: L::Context,
     binding: Binding,
     body: &[Datum],
     notes: &mut Notes,
 ) -> Result<L, LoadRefusal>
     ensures { Gives itself result notes.new
-        (parse_dolist_body L.rows binding.name binding.value
+        (parse_dolist_body L.rows context binding.name binding.value
         (parts_in L.rows reader.now.signatures.now (datums_of (map datum_of body.now))) (variables_of reader.now.scope.now)
         notes.old) }
 {
@@ -286,7 +300,7 @@ fn parse_dolist_body<L: Language>(
         signatures: reader.signatures,
         scope: &inner,
     };
-    let body = parse_body::<L>(&inside, body, notes)?;
+    let body = parse_body::<L>(&inside, context, body, notes)?;
     Ok(L::each(name, value, body))
 }
 
@@ -295,35 +309,39 @@ fn parse_dolist_body<L: Language>(
 #[tactic(auto, using(crate::proofs::BodyCounts::parts_subs, crate::proofs::BodyCounts::parts_behind, crate::proofs::BodyCounts::behind_weighs))]
 fn parse_own<L: Language>(
     reader: &Reader,
-    head: &Text,
+    context: L::Context,
+    head: Head,
     head_at: u32,
     at: u32,
     parts: &[Datum],
     notes: &mut Notes,
 ) -> Result<L, LoadRefusal>
     ensures { Gives itself result notes.new
-        (parse_own L.rows reader.now.signatures.now head.now head_at at
+        (parse_own L.rows reader.now.signatures.now context head head_at at
         (parts_in L.rows reader.now.signatures.now (datums_of (map datum_of parts.now)))
         (variables_of reader.now.scope.now) notes.old) }
 {
-    match L::parse_own(reader, head, head_at, at, parts, notes)? {
+    match L::parse_own(reader, context, head, head_at, at, parts, notes)? {
         Own::Whole(form) => Ok(form),
-        Own::Before(opening, count) => parse_closed(reader, opening, behind(parts, count), notes),
+        Own::Before(opening, count, inside) => {
+            parse_closed(reader, inside, opening, behind(parts, count), notes)
+        }
     }
 }
 
 #[cycle(body)]
 fn parse_closed<L: Language>(
     reader: &Reader,
+    context: L::Context,
     opening: L::Opening,
     body: &[Datum],
     notes: &mut Notes,
 ) -> Result<L, LoadRefusal>
     ensures { Gives itself result notes.new
-        (parse_closed L.rows opening (parts_in L.rows reader.now.signatures.now (datums_of (map datum_of body.now)))
+        (parse_closed L.rows context opening (parts_in L.rows reader.now.signatures.now (datums_of (map datum_of body.now)))
         (variables_of reader.now.scope.now) notes.old) }
 {
-    let body = parse_body::<L>(reader, body, notes)?;
+    let body = parse_body::<L>(reader, context, body, notes)?;
     Ok(L::closed(opening, body))
 }
 

@@ -10,13 +10,21 @@ ghost use Rattle.cl_bodies.specs.DisplayForms.{parse_shape, parse_shapes, parse_
 use crate::bodies::{parse_body, parse_form};
 use crate::languages::Language;
 use crate::own::Own;
-use crate::plain_forms::parse_plain;
+use crate::plain_forms::{parse_call, parse_draw, parse_writing};
 use cl_expressions::{Notes, Reader, parse_expression};
 use cl_forms::{Datum, LoadRefusal};
 use cl_syntax::{Binding, Expr, Shape, Shapes};
 use cl_value::Text;
-use cl_words::{Setting, setting_named};
+use cl_words::{Head, Planned, Setting};
 use std::alloc::{AllocError, Global};
+
+/// In what a display form stands: in a display, or in a row or a cell of a table.
+#[derive(Clone, Copy)]
+pub enum Context {
+    Display,
+    Row,
+    Cell,
+}
 
 /// What stands before the body in a form that sets something for it.
 #[derive(Drop)]
@@ -34,7 +42,7 @@ pub fn parse_shape(reader: &Reader, datum: &Datum, notes: &mut Notes) -> Result<
     ensures { Gives itself result notes.new
         (parse_shape reader.now.signatures.now (datum_of datum.now) (variables_of reader.now.scope.now) notes.old) }
 {
-    parse_form(reader, datum, notes)
+    parse_form(reader, Context::Display, datum, notes)
 }
 
 /// The display forms of a body, in order.
@@ -47,7 +55,7 @@ pub fn parse_shapes(
         (parse_shapes reader.now.signatures.now (datums_of (map datum_of parts.now)) (variables_of reader.now.scope.now)
         notes.old) }
 {
-    parse_body::<Shape>(reader, parts, notes)
+    parse_body::<Shape>(reader, Context::Display, parts, notes)
 }
 
 impl Language for Shape {
@@ -56,6 +64,8 @@ impl Language for Shape {
     type Body = Shapes;
 
     type Opening = Opening;
+
+    type Context = Context;
 
     ghost rows = { display_forms };
 
@@ -91,13 +101,25 @@ impl Language for Shape {
 
     fn parse_own(
         reader: &Reader,
+        context: Context,
+        head: Head,
+        head_at: u32,
+        at: u32,
+        parts: &[Datum],
+        notes: &mut Notes,
+    ) -> Result<Own<Shape, Opening, Context>, LoadRefusal> {
+        parse_own(reader, context, head, head_at, at, parts, notes)
+    }
+
+    fn parse_call(
+        reader: &Reader,
         head: &Text,
         head_at: u32,
         at: u32,
         parts: &[Datum],
         notes: &mut Notes,
-    ) -> Result<Own<Shape, Opening>, LoadRefusal> {
-        parse_own(reader, head, head_at, at, parts, notes)
+    ) -> Result<Shape, LoadRefusal> {
+        parse_call(reader, head, head_at, at, parts, notes)
     }
 
     fn closed(opening: Opening, body: Shapes) -> Shape {
@@ -108,74 +130,89 @@ impl Language for Shape {
 /// A display form that statements do not have, but for its body.
 fn parse_own(
     reader: &Reader,
-    head: &Text,
+    context: Context,
+    head: Head,
     head_at: u32,
     at: u32,
     parts: &[Datum],
     notes: &mut Notes,
-) -> Result<Own<Shape, Opening>, LoadRefusal>
+) -> Result<Own<Shape, Opening, Context>, LoadRefusal>
     ensures { Gives itself result notes.new
-        (parse_own reader.now.signatures.now head.now head_at at (subs reader.now.signatures.now (datums_of (map datum_of parts.now)))
+        (parse_own context head head_at at
+        (subs reader.now.signatures.now (datums_of (map datum_of parts.now)))
         (variables_of reader.now.scope.now) notes.old) }
 {
-    match setting_named(head.as_slice()) {
-        Some(setting) => parse_setting(reader, setting, at, parts, notes),
-        None => Ok(Own::Whole(parse_plain(reader, head, head_at, at, parts, notes)?)),
+    match head {
+        Head::Figure(figure) => Ok(Own::Whole(parse_draw(reader, figure, at, parts, notes)?)),
+        Head::Setting(setting) => parse_setting(reader, context, setting, at, parts, notes),
+        Head::Writing(writing) => Ok(Own::Whole(parse_writing(reader, writing, at, parts, notes)?)),
+        Head::Planned(Planned::Display) => Err(LoadRefusal::Refused(0, head_at)),
+        Head::Planned(Planned::Statement) => Err(LoadRefusal::Refused(5, head_at)),
+        Head::Planned(Planned::Part) => Err(LoadRefusal::Refused(5, head_at)),
+        Head::If => Err(LoadRefusal::Refused(5, head_at)),
+        Head::Let => Err(LoadRefusal::Refused(5, head_at)),
+        Head::Special(_) => Err(LoadRefusal::Refused(5, head_at)),
+        Head::Operator(_) => Err(LoadRefusal::Refused(5, head_at)),
+        Head::Control(_) => Err(LoadRefusal::Refused(5, head_at)),
+        Head::Change(_) => Err(LoadRefusal::Refused(5, head_at)),
     }
 }
 
 fn parse_setting(
     reader: &Reader,
+    context: Context,
     setting: Setting,
     at: u32,
     parts: &[Datum],
     notes: &mut Notes,
-) -> Result<Own<Shape, Opening>, LoadRefusal>
+) -> Result<Own<Shape, Opening, Context>, LoadRefusal>
     ensures { Gives itself result notes.new
-        (parse_setting setting at (subs reader.now.signatures.now (datums_of (map datum_of parts.now)))
+        (parse_setting context setting at (subs reader.now.signatures.now (datums_of (map datum_of parts.now)))
         (variables_of reader.now.scope.now) notes.old) }
 {
     match setting {
-        Setting::Margin => parse_indent(reader, at, parts, notes),
-        Setting::Ink => parse_ink(reader, at, parts, notes),
-        Setting::Origin => Ok(Own::Before(Opening::Room, 0)),
+        Setting::Indent => parse_indent(reader, context, at, parts, notes),
+        Setting::Ink => parse_ink(reader, context, at, parts, notes),
+        Setting::Room => Ok(Own::Before(Opening::Room, 0, context)),
     }
 }
 
 /// `(indenting-output E FORM ...)`
 fn parse_indent(
     reader: &Reader,
+    context: Context,
     at: u32,
     parts: &[Datum],
     notes: &mut Notes,
-) -> Result<Own<Shape, Opening>, LoadRefusal>
+) -> Result<Own<Shape, Opening, Context>, LoadRefusal>
     ensures { Gives itself result notes.new
-        (parse_indent at (subs reader.now.signatures.now (datums_of (map datum_of parts.now)))
+        (parse_indent context at (subs reader.now.signatures.now (datums_of (map datum_of parts.now)))
         (variables_of reader.now.scope.now) notes.old) }
 {
     let Some((number, _)) = parts.split_first() else {
         return Err(LoadRefusal::Refused(6, at));
     };
     let number = parse_expression(reader, number, notes)?;
-    Ok(Own::Before(Opening::Indent(number), 1))
+    Ok(Own::Before(Opening::Indent(number), 1, context))
 }
 
 /// `(with-ink E FORM ...)`
 fn parse_ink(
     reader: &Reader,
+    context: Context,
     at: u32,
     parts: &[Datum],
     notes: &mut Notes,
-) -> Result<Own<Shape, Opening>, LoadRefusal>
+) -> Result<Own<Shape, Opening, Context>, LoadRefusal>
     ensures { Gives itself result notes.new
-        (parse_ink at (subs reader.now.signatures.now (datums_of (map datum_of parts.now))) (variables_of reader.now.scope.now)
+        (parse_ink context at (subs reader.now.signatures.now (datums_of (map datum_of parts.now))) (variables_of reader.now.scope.now)
         notes.old) }
 {
     let Some((number, _)) = parts.split_first() else {
         return Err(LoadRefusal::Refused(6, at));
     };
     let number = parse_expression(reader, number, notes)?;
-    Ok(Own::Before(Opening::Ink(number), 1))
+    Ok(Own::Before(Opening::Ink(number), 1, context))
 }
 
 fn closed(opening: Opening, body: Shapes) -> Shape

@@ -11,6 +11,7 @@ use cl_expressions::{Notes, Reader};
 use cl_forms::{Datum, LoadRefusal};
 use cl_syntax::{Binding, Expr};
 use cl_value::Text;
+use cl_words::Head;
 use std::alloc::{AllocError, Global};
 
 /// A language of forms. It makes the forms that all languages share, and reads its own forms but for
@@ -22,9 +23,11 @@ pub trait Language: Sized + Drop {
     type Body: Drop;
     /// What stands before the body in a form of its own.
     type Opening: Drop;
+    /// In what a form of the language stands.
+    type Context: Copy;
 
     /// How each form is made of its parts.
-    ghost rows: { Rows Self Self.Opening };
+    ghost rows: { Rows Self Self.Opening Self.Context };
 
     ghost items: { Self.Body → List Self };
 
@@ -56,19 +59,34 @@ pub trait Language: Sized + Drop {
     fn push(body: &mut Self::Body, form: Self) -> Result<(), AllocError>
         ensures { OnOk result (items body.new ≡ items body.old ++ form ∷ []) };
 
-    /// A form whose head is none of those that all languages share.
+    /// A form whose head is a fixed one, and none of those that all languages share.
     fn parse_own(
+        reader: &Reader,
+        context: Self::Context,
+        head: Head,
+        head_at: u32,
+        at: u32,
+        parts: &[Datum],
+        notes: &mut Notes,
+    ) -> Result<Own<Self, Self::Opening, Self::Context>, LoadRefusal>
+        ensures { Gives itself result notes.new
+            (rows.own reader.now.signatures.now context head head_at at
+            (subs reader.now.signatures.now (datums_of (map datum_of parts.now))) (variables_of reader.now.scope.now)
+            notes.old) };
+
+    /// A form whose head is no fixed one.
+    fn parse_call(
         reader: &Reader,
         head: &Text,
         head_at: u32,
         at: u32,
         parts: &[Datum],
         notes: &mut Notes,
-    ) -> Result<Own<Self, Self::Opening>, LoadRefusal>
+    ) -> Result<Self, LoadRefusal>
         ensures { Gives itself result notes.new
-            (rows.own reader.now.signatures.now head.now head_at at
-            (subs reader.now.signatures.now (datums_of (map datum_of parts.now))) (variables_of reader.now.scope.now)
-            notes.old) };
+            (rows.call reader.now.signatures.now head.now head_at at
+            (subs reader.now.signatures.now (datums_of (map datum_of parts.now)))
+            (variables_of reader.now.scope.now) notes.old) };
 
     /// A form of its own with its body.
     fn closed(opening: Self::Opening, body: Self::Body) -> Self

@@ -204,7 +204,7 @@ fn parse_record_type(
         (parse_record_type (record_in reader.now.signatures.now name.now) name.now name_at at (map datum_of arguments.now)
         notes.old) }
 {
-    match reader.signatures.record_fields(name) {
+    match reader.signatures.record_fields(name.as_slice()) {
         Some(_) => parse_plain_type(name, at, arguments),
         None => {
             let name = name.copy()?;

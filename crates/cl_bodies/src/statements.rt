@@ -5,7 +5,7 @@ ghost use Rattle.cl_forms.specs.DatumView.{datum_of};
 ghost use Rattle.cl_expressions.specs.Load.{Gives, itself};
 ghost use Rattle.cl_expressions.specs.Scopes.{variables_of};
 ghost use Rattle.cl_expressions.specs.Expressions.{subs};
-ghost use Rattle.cl_bodies.specs.Statements.{parse_act, parse_acts, parse_plain, parse_setf, parse_place, parse_place_name, parse_reply};
+ghost use Rattle.cl_bodies.specs.Statements.{parse_act, parse_acts, parse_own, parse_change, parse_setf, parse_place, parse_place_name, parse_reply};
 
 use crate::bodies::{parse_body, parse_form};
 use crate::languages::Language;
@@ -14,7 +14,7 @@ use cl_expressions::{Notes, Reader, parse_expression};
 use cl_forms::{Datum, LoadRefusal, named_part, symbol_of};
 use cl_syntax::{Act, Acts, Binding, Expr};
 use cl_value::Text;
-use cl_words::is_later_statement;
+use cl_words::{Change, Head, Planned};
 use std::alloc::{AllocError, Global};
 
 /// The statement that a datum is. Where a name in it is not declared, the first such is noted.
@@ -22,7 +22,7 @@ pub fn parse_act(reader: &Reader, datum: &Datum, notes: &mut Notes) -> Result<Ac
     ensures { Gives itself result notes.new
         (parse_act reader.now.signatures.now (datum_of datum.now) (variables_of reader.now.scope.now) notes.old) }
 {
-    parse_form(reader, datum, notes)
+    parse_form(reader, (), datum, notes)
 }
 
 /// The statements of a body, in order.
@@ -31,7 +31,7 @@ pub fn parse_acts(reader: &Reader, parts: &[Datum], notes: &mut Notes) -> Result
         (parse_acts reader.now.signatures.now (datums_of (map datum_of parts.now)) (variables_of reader.now.scope.now)
         notes.old) }
 {
-    parse_body::<Act>(reader, parts, notes)
+    parse_body::<Act>(reader, (), parts, notes)
 }
 
 impl Language for Act {
@@ -40,6 +40,8 @@ impl Language for Act {
     type Body = Acts;
 
     type Opening = ();
+
+    type Context = ();
 
     ghost rows = { statements };
 
@@ -75,13 +77,25 @@ impl Language for Act {
 
     fn parse_own(
         reader: &Reader,
-        head: &Text,
+        _: (),
+        head: Head,
         head_at: u32,
         at: u32,
         parts: &[Datum],
         notes: &mut Notes,
-    ) -> Result<Own<Act, ()>, LoadRefusal> {
-        Ok(Own::Whole(parse_plain(reader, head, head_at, at, parts, notes)?))
+    ) -> Result<Own<Act, (), ()>, LoadRefusal> {
+        parse_own(reader, head, head_at, at, parts, notes)
+    }
+
+    fn parse_call(
+        _: &Reader,
+        _: &Text,
+        head_at: u32,
+        _: u32,
+        _: &[Datum],
+        _: &mut Notes,
+    ) -> Result<Act, LoadRefusal> {
+        Err(LoadRefusal::Refused(5, head_at))
     }
 
     fn closed(_: (), body: Acts) -> Act {
@@ -89,28 +103,51 @@ impl Language for Act {
     }
 }
 
-/// A statement whose parts are expressions.
-fn parse_plain(
+/// A statement that display forms do not have.
+fn parse_own(
     reader: &Reader,
-    head: &Text,
+    head: Head,
     head_at: u32,
+    at: u32,
+    parts: &[Datum],
+    notes: &mut Notes,
+) -> Result<Own<Act, (), ()>, LoadRefusal>
+    ensures { Gives itself result notes.new
+        (parse_own reader.now.signatures.now head head_at at
+        (subs reader.now.signatures.now (datums_of (map datum_of parts.now)))
+        (variables_of reader.now.scope.now) notes.old) }
+{
+    match head {
+        Head::Change(change) => Ok(Own::Whole(parse_change(reader, change, at, parts, notes)?)),
+        Head::Planned(Planned::Statement) => Err(LoadRefusal::Refused(0, head_at)),
+        Head::Planned(Planned::Display) => Err(LoadRefusal::Refused(5, head_at)),
+        Head::Planned(Planned::Part) => Err(LoadRefusal::Refused(5, head_at)),
+        Head::If => Err(LoadRefusal::Refused(5, head_at)),
+        Head::Let => Err(LoadRefusal::Refused(5, head_at)),
+        Head::Special(_) => Err(LoadRefusal::Refused(5, head_at)),
+        Head::Operator(_) => Err(LoadRefusal::Refused(5, head_at)),
+        Head::Control(_) => Err(LoadRefusal::Refused(5, head_at)),
+        Head::Figure(_) => Err(LoadRefusal::Refused(5, head_at)),
+        Head::Setting(_) => Err(LoadRefusal::Refused(5, head_at)),
+        Head::Writing(_) => Err(LoadRefusal::Refused(5, head_at)),
+    }
+}
+
+fn parse_change(
+    reader: &Reader,
+    change: Change,
     at: u32,
     parts: &[Datum],
     notes: &mut Notes,
 ) -> Result<Act, LoadRefusal>
     ensures { Gives itself result notes.new
-        (parse_plain reader.now.signatures.now head.now head_at at
-        (subs reader.now.signatures.now (datums_of (map datum_of parts.now))) (variables_of reader.now.scope.now)
-        notes.old) }
+        (parse_change reader.now.signatures.now change at
+        (subs reader.now.signatures.now (datums_of (map datum_of parts.now)))
+        (variables_of reader.now.scope.now) notes.old) }
 {
-    if head.as_slice() == b"setf".as_slice() {
-        parse_setf(reader, at, parts, notes)
-    } else if head.as_slice() == b"reply".as_slice() {
-        parse_reply(reader, at, parts, notes)
-    } else if is_later_statement(head.as_slice()) {
-        Err(LoadRefusal::Refused(0, head_at))
-    } else {
-        Err(LoadRefusal::Refused(5, head_at))
+    match change {
+        Change::Setf => parse_setf(reader, at, parts, notes),
+        Change::Reply => parse_reply(reader, at, parts, notes),
     }
 }
 
@@ -173,7 +210,7 @@ fn parse_place_name(
         (parse_place_name reader.now.signatures.now at (datum_of datum.now) notes.old) }
 {
     let name = named_part(at, datum)?;
-    notes.note(reader.signatures.has_slot(&name), datum.offset());
+    notes.note(reader.signatures.has_slot(name.as_slice()), datum.offset());
     Ok(name)
 }
 

@@ -43,7 +43,7 @@ first_of (Some earlier) at = Some earlier
 
 abbrev pub unless : Bool → ℕ → Notes → Notes
 unless true at notes = notes
-unless false at notes = record { unknown = first_of notes.unknown at; specifiers = notes.specifiers }
+unless false at notes = record notes { unknown = first_of notes.unknown at }
 
 -- a name that is known, or stands at this offset
 abbrev pub noted : Bool → ℕ → Load (Unit {0})
@@ -52,7 +52,7 @@ noted known at notes = Ok (tt, unless known at notes)
 -- a type specifier behind the others
 abbrev pub with_specifier : TypeSpec → List (List ℕ) → ℕ → Notes → Notes
 with_specifier spec parameters at notes =
-    record { unknown = notes.unknown; specifiers = notes.specifiers ++ record { spec = spec; parameters = parameters; at = at } ∷ [] }
+    record notes { specifiers = notes.specifiers ++ record { spec = spec; parameters = parameters; at = at } ∷ [] }
 
 -- a type specifier that was read, the parameters around it, and its offset
 abbrev pub placed : TypeSpec → List (List ℕ) → ℕ → Load (Unit {0})

@@ -14,7 +14,7 @@ use crate::records::{parse_get, parse_make, parse_with};
 use cl_forms::{Datum, LoadRefusal, fits, is_name, named_part};
 use cl_syntax::{Expr, Operator};
 use cl_value::{Text, Value};
-use cl_words::{Special, count_of, operator_named, special_named};
+use cl_words::{Head, Special, count_of, head_named};
 
 /// The expression that a datum is. Where a name in it is not declared, the first such is noted.
 #[cycle(expression)]
@@ -107,12 +107,18 @@ fn parse_head(
         (subs reader.now.signatures.now (datums_of (map datum_of parts.now))) (variables_of reader.now.scope.now)
         notes.old) }
 {
-    if let Some(special) = special_named(head.as_slice()) {
-        return parse_special(reader, special, at, parts, notes);
-    }
-    match operator_named(head.as_slice()) {
-        Some(operator) => parse_operation(reader, operator, at, parts, notes),
+    match head_named(head.as_slice()) {
         None => parse_call(reader, head, head_at, at, parts, notes),
+        Some(Head::If) => parse_if(reader, at, parts, notes),
+        Some(Head::Let) => parse_let(reader, at, parts, notes),
+        Some(Head::Special(special)) => parse_special(reader, special, at, parts, notes),
+        Some(Head::Operator(operator)) => parse_operation(reader, operator, at, parts, notes),
+        Some(Head::Control(_)) => Err(LoadRefusal::Refused(5, head_at)),
+        Some(Head::Figure(_)) => Err(LoadRefusal::Refused(5, head_at)),
+        Some(Head::Setting(_)) => Err(LoadRefusal::Refused(5, head_at)),
+        Some(Head::Writing(_)) => Err(LoadRefusal::Refused(5, head_at)),
+        Some(Head::Change(_)) => Err(LoadRefusal::Refused(5, head_at)),
+        Some(Head::Planned(_)) => Err(LoadRefusal::Refused(5, head_at)),
     }
 }
 
@@ -130,8 +136,6 @@ fn parse_special(
 {
     match special {
         Special::Slot => parse_slot(reader, at, parts, notes),
-        Special::If => parse_if(reader, at, parts, notes),
-        Special::Let => parse_let(reader, at, parts, notes),
         Special::And => Ok(Expr::every(parse_each(reader, parts, notes)?)),
         Special::Or => Ok(Expr::some(parse_each(reader, parts, notes)?)),
         Special::Make => parse_make(reader, at, parts, notes),
@@ -218,7 +222,7 @@ fn parse_slot_name(
         (parse_slot_name reader.now.signatures.now at (datum_of datum.now) notes.old) }
 {
     let name = named_part(at, datum)?;
-    notes.note(reader.signatures.has_slot(&name), datum.offset());
+    notes.note(reader.signatures.has_slot(name.as_slice()), datum.offset());
     Ok(Expr::slot(name))
 }
 
@@ -259,7 +263,7 @@ fn parse_call(
         (subs reader.now.signatures.now (datums_of (map datum_of parts.now))) (variables_of reader.now.scope.now)
         notes.old) }
 {
-    let Some(count) = reader.signatures.function(head) else {
+    let Some(count) = reader.signatures.function(head.as_slice()) else {
         return Err(LoadRefusal::Refused(5, head_at));
     };
     if !fits(count, parts.len()) {

@@ -52,7 +52,7 @@ fn parse_make_fields(
         (subs reader.now.signatures.now (datums_of (map datum_of parts.now))) (variables_of reader.now.scope.now)
         notes.old) }
 {
-    match reader.signatures.record_fields(&name) {
+    match reader.signatures.record_fields(name.as_slice()) {
         Some(count) => {
             if !fits(count, parts.len()) {
                 return Err(LoadRefusal::Refused(6, at));

@@ -50,5 +50,5 @@ decreases-parse_body g l = 8 * weights (datums_of (map datum_of l.parts.now)) + 
 
 abbrev pub invariant-parse_body-loop-part : goal.invariant-parse_body-loop-part
 invariant-parse_body-loop-part g l =
-    onto (g.L.Language.items l.body) (parse_body g.L.Language.rows l.reader.signatures.now (datums_of (map datum_of (drop l.part-index l.parts))) (variables_of l.reader.scope.now) l.notes)
-    ≡ parse_body g.L.Language.rows l.reader.signatures.now (datums_of (map datum_of l.parts)) (variables_of l.reader.scope.now) l.initial.notes
+    onto (g.L.Language.items l.body) (parse_body g.L.Language.rows l.reader.signatures.now l.context (datums_of (map datum_of (drop l.part-index l.parts))) (variables_of l.reader.scope.now) l.notes)
+    ≡ parse_body g.L.Language.rows l.reader.signatures.now l.context (datums_of (map datum_of l.parts)) (variables_of l.reader.scope.now) l.initial.notes
