@@ -8,7 +8,7 @@ use Rattle.std.specs.Cmp.Lexicographic.{pointwise}
 use Rattle.std.proofs.lemmas.List.{drop_more, map_push}
 use Rattle.std.proofs.lemmas.Map.Made.{is_some-lookup}
 use Rattle.cl_table.specs.Names.{named}
-use Rattle.cl_phases.specs.Repeats.{repeated}
+use Rattle.cl_phases.specs.Repeats.{repeated, with_met}
 use Rattle.cl_phases.specs.declared.repeats.Met.{Met}
 use Rattle.cl_phases.specs.declared.repeats.NameAt.{NameAt}
 
@@ -36,8 +36,9 @@ repeated_here names i n met l e h =
 
 -- it was not, and now it is
 pub repeated_past : (names : List NameAt) (i : ℕ) (n : NameAt) (met : List (List ℕ × Met)) → i < length names → n ≡ get_or names i n → is_some (named n.name met) ≡ false
-    → repeated (keys_of (met ++ (n.name, record { name = n.name }) ∷ [])) (drop (i + 1) names) ≡ repeated (keys_of met) (drop i names)
+    → repeated (keys_of (with_met met n.name)) (drop (i + 1) names) ≡ repeated (keys_of met) (drop i names)
 repeated_past names i n met l e h =
-    ap (λ (xs : List (List ℕ)). repeated xs (drop (i + 1) names)) (map_push (λ (a : List ℕ × Met). a.0) met (n.name, record { name = n.name }))
+    ap (λ (ms : List (List ℕ × Met)). repeated (keys_of ms) (drop (i + 1) names)) (passed (is_some (named n.name met)) met (met ++ (n.name, record { name = n.name }) ∷ []) h)
+    ∙ ap (λ (xs : List (List ℕ)). repeated xs (drop (i + 1) names)) (map_push (λ (a : List ℕ × Met). a.0) met (n.name, record { name = n.name }))
     ∙ sym (ap (repeated (keys_of met)) (rest_begins names i n l e)
     ∙ passed (list_any (bytes_eq n.name) (keys_of met)) (Some n.at) (repeated (keys_of met ++ n.name ∷ []) (drop (i + 1) names)) (met_before n.name met ∙ h))

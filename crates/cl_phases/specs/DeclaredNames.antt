@@ -1,14 +1,19 @@
 -- The names that the outermost forms of a text declare, in the order of the text.
-use Rattle.std.specs.Prelude.{ℕ, Bool, false, ◌||◌, if◌then◌else◌, List, [], ◌∷◌, ◌++◌, map, codes}
-use Rattle.std.specs.Str.{bytes_eq}
+use Rattle.std.specs.Prelude.{ℕ, Bool, false, if◌then◌else◌, List, [], ◌∷◌, ◌++◌, map, Option, Some, None}
+use denote.Enum.Bare.{sameb}
 use Rattle.cl_forms.specs.Datum.{Datum, number, literal, word, quoted, stray, list, parts_of}
 use Rattle.cl_forms.specs.LineNames.{line_name_of}
+use Rattle.cl_forms.specs.Outer.{Outer}
+use Rattle.cl_forms.specs.declared.outer.DeclarationKind.{DeclarationKind}
+use Rattle.cl_forms.specs.declared.outer.DeclarationKind.TheVariants.{Record, Function, Display, Command, Frame}
+use Rattle.cl_forms.specs.declared.outer.OuterKind.{OuterKind}
+use Rattle.cl_forms.specs.declared.outer.OuterKind.TheVariants.{Declared, Planned, Unknown, Headless}
 use Rattle.cl_words.specs.TypeNames.{is_standard_type}
 use Rattle.cl_words.specs.Heads.{is_operator}
-use Rattle.cl_forms.specs.Naming.{symbol_of}
 use Rattle.cl_phases.specs.declared.repeats.NameAt.{NameAt}
 use Rattle.cl_phases.specs.declared.declared_names.Space.{Space}
 use Rattle.cl_phases.specs.declared.declared_names.Space.TheVariants as space
+use Rattle.cl_phases.specs.contracts.declared_names.Space.{the_type}
 
 abbrev pub word_at : Datum → List NameAt
 word_at (word s at) = record { name = s; at = at } ∷ []
@@ -30,12 +35,23 @@ abbrev pub names_at : List Datum → List NameAt
 names_at [] = []
 names_at (d ∷ ds) = name_at d ++ names_at ds
 
+abbrev pub same_space : Space → Space → Bool
+same_space a b = sameb the_type a b
+
 -- functions and displays share one space
-abbrev pub is_in : Space → List ℕ → Bool
-is_in space.Callees head = bytes_eq head (codes "define-function") || bytes_eq head (codes "define-display")
-is_in space.Records head = bytes_eq head (codes "define-record")
-is_in space.Commands head = bytes_eq head (codes "define-command")
-is_in space.Frames head = bytes_eq head (codes "define-application-frame")
+abbrev pub space_of : DeclarationKind → Space
+space_of Record = space.Records
+space_of Function = space.Callees
+space_of Display = space.Callees
+space_of Command = space.Commands
+space_of Frame = space.Frames
+
+-- a form of this kind declares a name in a space
+abbrev pub is_in : Space → OuterKind → Bool
+is_in s (Declared kind) = same_space s (space_of kind)
+is_in s (Planned at) = false
+is_in s (Unknown at) = false
+is_in s Headless = false
 
 -- a name that none may have in a space
 abbrev pub is_reserved : Space → List ℕ → Bool
@@ -44,19 +60,22 @@ is_reserved space.Records name = is_standard_type name
 is_reserved space.Commands name = false
 is_reserved space.Frames name = false
 
--- the name of a form, where the form declares one in a space
-abbrev pub declares : Space → List Datum → List NameAt
-declares s [] = []
-declares s (head ∷ []) = []
-declares s (head ∷ name ∷ more) = if is_in s (symbol_of head) then name_at name else []
+-- the name of a form
+abbrev pub own_name_at : Option Datum → List NameAt
+own_name_at None = []
+own_name_at (Some d) = word_at d
 
-abbrev pub declared_in : Space → List Datum → List NameAt
+-- where the form declares one in a space
+abbrev pub declares : Space → Outer → List NameAt
+declares s o = if is_in s o.kind then own_name_at o.name else []
+
+abbrev pub declared_in : Space → List Outer → List NameAt
 declared_in s [] = []
-declared_in s (d ∷ ds) = declares s (parts_of d) ++ declared_in s ds
+declared_in s (o ∷ os) = declares s o ++ declared_in s os
 
 abbrev pub line_named : NameAt → NameAt
 line_named n = record { name = line_name_of n.name; at = n.at }
 
--- command-line names, each where the symbol stands from which it is parse_make_parts
+-- command-line names, each where the symbol stands from which it is made
 abbrev pub line_names : List NameAt → List NameAt
 line_names ns = map line_named ns

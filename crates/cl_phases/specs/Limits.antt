@@ -1,8 +1,13 @@
 -- What is past a limit in the outermost forms of a text: lengths of symbols and texts, counts of forms and of their parts.
-use Rattle.std.specs.Prelude.{ℕ, nat_lt, if◌then◌else◌, List, [], ◌∷◌, length, slice_get, Option, Some, None, codes}
-use Rattle.std.specs.Str.{bytes_eq}
+use Rattle.std.specs.Prelude.{ℕ, nat_lt, List, [], ◌∷◌, length, slice_get, Option, Some, None}
 use Rattle.cl_forms.specs.Datum.{Datum, Datums, number, literal, word, quoted, stray, list, none, item, datums_of, offset, parts_of}
-use Rattle.cl_forms.specs.Naming.{symbol_of}
+use Rattle.cl_forms.specs.Keys.{section_values}
+use Rattle.cl_forms.specs.declared.keys.Key.TheVariants.{Slots}
+use Rattle.cl_forms.specs.Outer.{Outer, behind_name, outer_in}
+use Rattle.cl_forms.specs.declared.outer.DeclarationKind.{DeclarationKind}
+use Rattle.cl_forms.specs.declared.outer.DeclarationKind.TheVariants.{Record, Function, Display, Command, Frame}
+use Rattle.cl_forms.specs.declared.outer.OuterKind.{OuterKind}
+use Rattle.cl_forms.specs.declared.outer.OuterKind.TheVariants.{Declared, Planned, Unknown, Headless}
 use Rattle.cl_phases.specs.Earlier.{earlier, at_if}
 
 -- a symbol has at most 64 bytes, a text 4,096
@@ -33,30 +38,30 @@ past_parameters [] = None
 past_parameters (d ∷ ds) = past 16 (parts_of d)
 
 -- a frame has at most 256 slots
-abbrev pub past_section : List Datum → Option ℕ
-past_section [] = None
-past_section (key ∷ slots) = if bytes_eq (symbol_of key) (codes ":slots") then past 256 slots else None
-
 abbrev pub past_sections : List Datum → Option ℕ
 past_sections [] = None
-past_sections (d ∷ ds) = earlier (past_section (parts_of d)) (past_sections ds)
+past_sections (d ∷ ds) = earlier (past 256 (section_values Slots d)) (past_sections ds)
 
 -- a record has at most 16 fields
-abbrev pub past_head : List ℕ → List Datum → Option ℕ
-past_head head more =
-    if bytes_eq head (codes "define-record") then past 16 more
-    else (if bytes_eq head (codes "define-function") then past_parameters more
-    else (if bytes_eq head (codes "define-display") then past_parameters more
-    else (if bytes_eq head (codes "define-application-frame") then past_sections more else None)))
+abbrev pub past_kind : DeclarationKind → List Datum → Option ℕ
+past_kind Record more = past 16 more
+past_kind Function more = past_parameters more
+past_kind Display more = past_parameters more
+past_kind Command more = None
+past_kind Frame more = past_sections more
 
-abbrev pub past_declaration : List Datum → Option ℕ
-past_declaration [] = None
-past_declaration (head ∷ []) = None
-past_declaration (head ∷ name ∷ more) = past_head (symbol_of head) more
+abbrev pub past_outer : OuterKind → List Datum → Option ℕ
+past_outer (Declared kind) more = past_kind kind more
+past_outer (Planned at) more = None
+past_outer (Unknown at) more = None
+past_outer Headless more = None
+
+abbrev pub past_declaration : Outer → Option ℕ
+past_declaration o = past_outer o.kind (behind_name o)
 
 abbrev pub past_declarations : List Datum → Option ℕ
 past_declarations [] = None
-past_declarations (d ∷ ds) = earlier (past_declaration (parts_of d)) (past_declarations ds)
+past_declarations (d ∷ ds) = earlier (past_declaration (outer_in d)) (past_declarations ds)
 
 -- a text has at most 4,096 outermost forms
 abbrev pub first_past : List Datum → Option ℕ

@@ -1,7 +1,7 @@
 -- Whether an expression reads a slot: one stands in it, or in the body of a function that it calls, through calls in turn. What a
 -- branch names counts whether or not it is taken.
 use Rattle.std.specs.Prelude.{◌≡◌, ◌⊎◌, ℕ, Bool, true, false, ◌||◌, is_some, if◌then◌else◌, List, [], ◌∷◌, ◌++◌, All, Contains, Option, Some, None}
-use Rattle.cl_table.specs.Names.{named, declared_at}
+use Rattle.cl_table.specs.Names.{named, declared_at, with_first}
 use Rattle.cl_syntax.specs.ExprTree as expr
 use Rattle.cl_syntax.specs.ExprTree.{ExprTree, ExprTrees, Bindings, none, part, unbound, binding}
 use Rattle.cl_application.specs.declared.declarations.FunctionDecl.{FunctionDecl}
@@ -88,8 +88,7 @@ Found = List (List ℕ × Reached)
 
 -- one more, which is declared and was not found before
 abbrev pub with_call : Functions → List ℕ → Found → Found
-with_call fs x found =
-    if is_some (named x fs) then (if is_some (named x found) then found else found ++ (x, record { name = x }) ∷ []) else found
+with_call fs x found = if is_some (named x fs) then with_first (λ r. r.name) found (record { name = x }) else found
 
 abbrev pub with_calls : Functions → List (List ℕ) → Found → Found
 with_calls fs [] found = found

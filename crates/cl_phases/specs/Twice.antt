@@ -1,11 +1,16 @@
 -- Names that are declared twice, or are reserved.
-use Rattle.std.specs.Prelude.{ℕ, ◌||◌, if◌then◌else◌, List, [], ◌∷◌, Option, None, codes}
-use Rattle.std.specs.Str.{bytes_eq}
+use Rattle.std.specs.Prelude.{ℕ, List, [], ◌∷◌, Option, None}
 use Rattle.cl_forms.specs.Datum.{Datum, parts_of}
-use Rattle.cl_forms.specs.Naming.{symbol_of}
+use Rattle.cl_forms.specs.Keys.{section_values}
+use Rattle.cl_forms.specs.declared.keys.Key.TheVariants.{Slots}
+use Rattle.cl_forms.specs.Outer.{Outer, behind_name}
+use Rattle.cl_forms.specs.declared.outer.DeclarationKind.{DeclarationKind}
+use Rattle.cl_forms.specs.declared.outer.DeclarationKind.TheVariants.{Record, Function, Display, Command, Frame}
+use Rattle.cl_forms.specs.declared.outer.OuterKind.{OuterKind}
+use Rattle.cl_forms.specs.declared.outer.OuterKind.TheVariants.{Declared, Planned, Unknown, Headless}
 use Rattle.cl_phases.specs.Earlier.{earlier, at_if}
 use Rattle.cl_phases.specs.Repeats.{first_repeated}
-use Rattle.cl_phases.specs.DeclaredNames.{names_at, declared_in, line_names, is_in, is_reserved}
+use Rattle.cl_phases.specs.DeclaredNames.{names_at, declared_in, line_names, is_reserved}
 use Rattle.cl_phases.specs.declared.repeats.NameAt.{NameAt}
 use Rattle.cl_phases.specs.declared.declared_names.Space.{Space}
 use Rattle.cl_phases.specs.declared.declared_names.Space.TheVariants.{Callees, Records, Commands, Frames}
@@ -26,39 +31,40 @@ commands_twice ns = earlier (first_repeated ns) (first_repeated (line_names ns))
 
 -- ---- within one declaration
 
-abbrev pub section_twice : List Datum → Option ℕ
-section_twice [] = None
-section_twice (key ∷ slots) = if bytes_eq (symbol_of key) (codes ":slots") then first_repeated (names_at slots) else None
-
 abbrev pub sections_twice : List Datum → Option ℕ
 sections_twice [] = None
-sections_twice (d ∷ ds) = earlier (section_twice (parts_of d)) (sections_twice ds)
+sections_twice (d ∷ ds) = earlier (first_repeated (names_at (section_values Slots d))) (sections_twice ds)
 
 abbrev pub parameters_twice : List Datum → Option ℕ
 parameters_twice [] = None
 parameters_twice (d ∷ ds) = first_repeated (names_at (parts_of d))
 
-abbrev pub parts_twice : List ℕ → List Datum → Option ℕ
-parts_twice head more =
-    if is_in Records head then first_repeated (names_at more)
-    else (if is_in Callees head || is_in Commands head then parameters_twice more
-    else (if is_in Frames head then sections_twice more else None))
+abbrev pub parts_twice : DeclarationKind → List Datum → Option ℕ
+parts_twice Record more = first_repeated (names_at more)
+parts_twice Function more = parameters_twice more
+parts_twice Display more = parameters_twice more
+parts_twice Command more = parameters_twice more
+parts_twice Frame more = sections_twice more
 
-abbrev pub declaration_twice : List Datum → Option ℕ
-declaration_twice [] = None
-declaration_twice (head ∷ []) = None
-declaration_twice (head ∷ name ∷ more) = parts_twice (symbol_of head) more
+abbrev pub outer_twice : OuterKind → List Datum → Option ℕ
+outer_twice (Declared kind) more = parts_twice kind more
+outer_twice (Planned at) more = None
+outer_twice (Unknown at) more = None
+outer_twice Headless more = None
 
-abbrev pub declarations_twice : List Datum → Option ℕ
+abbrev pub declaration_twice : Outer → Option ℕ
+declaration_twice o = outer_twice o.kind (behind_name o)
+
+abbrev pub declarations_twice : List Outer → Option ℕ
 declarations_twice [] = None
-declarations_twice (d ∷ ds) = earlier (declaration_twice (parts_of d)) (declarations_twice ds)
+declarations_twice (o ∷ os) = earlier (declaration_twice o) (declarations_twice os)
 
 -- ---- the least offset
 
-abbrev pub spaces_twice : List Datum → Option ℕ
-spaces_twice ds =
-    earlier (earlier (names_twice Callees (declared_in Callees ds)) (names_twice Records (declared_in Records ds)))
-    (earlier (commands_twice (declared_in Commands ds)) (names_twice Frames (declared_in Frames ds)))
+abbrev pub spaces_twice : List Outer → Option ℕ
+spaces_twice os =
+    earlier (earlier (names_twice Callees (declared_in Callees os)) (names_twice Records (declared_in Records os)))
+    (earlier (commands_twice (declared_in Commands os)) (names_twice Frames (declared_in Frames os)))
 
-abbrev pub first_twice : List Datum → Option ℕ
-first_twice ds = earlier (spaces_twice ds) (declarations_twice ds)
+abbrev pub first_twice : List Outer → Option ℕ
+first_twice os = earlier (spaces_twice os) (declarations_twice os)

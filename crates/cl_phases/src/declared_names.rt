@@ -1,15 +1,16 @@
 //! The names that the outermost forms of a text declare.
-ghost use Rattle.std.specs.Prelude.{◌≡◌, ◌++◌, IfOk, OnOk, map};
+ghost use Rattle.std.specs.Prelude.{◌≡◌, ◌++◌, IfOk, OnOk, map, option_map};
 ghost use Rattle.cl_forms.specs.DatumView.{datum_of};
-ghost use Rattle.cl_phases.specs.DeclaredNames.{declared_in, declares, first_at, is_in, is_reserved, line_names, name_at, names_at, word_at};
+ghost use Rattle.cl_forms.specs.OuterView.{outer_of};
+ghost use Rattle.cl_phases.specs.DeclaredNames.{declared_in, declares, first_at, is_in, is_reserved, line_names, name_at, names_at, own_name_at, same_space, space_of, word_at};
 
 use crate::repeats::NameAt;
-use cl_forms::{Datum, line_name_of, symbol_of};
+use cl_forms::{Datum, DeclarationKind, Outer, OuterKind, line_name_of};
 use cl_words::{is_operator, is_standard_type};
 use std::alloc::{AllocError, Global};
 
 /// Declarations whose names differ.
-#[derive(Clone, Copy)]
+#[derive(Clone, Copy, PartialEq, Eq)]
 pub enum Space {
     /// Functions and displays.
     Callees,
@@ -18,17 +19,34 @@ pub enum Space {
     Frames,
 }
 
-/// Whether a form with this head declares a name in the space.
-pub fn is_in(space: Space, head: &[u8]) -> bool
-    ensures { result ≡ is_in space head.now }
+fn same_space(one: Space, other: Space) -> bool
+    ensures { result ≡ same_space one other }
 {
-    match space {
-        Space::Callees => {
-            head == b"define-function".as_slice() || head == b"define-display".as_slice()
-        }
-        Space::Records => head == b"define-record".as_slice(),
-        Space::Commands => head == b"define-command".as_slice(),
-        Space::Frames => head == b"define-application-frame".as_slice(),
+    one == other
+}
+
+/// The space of a declaration's name.
+fn space_of(kind: DeclarationKind) -> Space
+    ensures { result ≡ space_of kind }
+{
+    match kind {
+        DeclarationKind::Record => Space::Records,
+        DeclarationKind::Function => Space::Callees,
+        DeclarationKind::Display => Space::Callees,
+        DeclarationKind::Command => Space::Commands,
+        DeclarationKind::Frame => Space::Frames,
+    }
+}
+
+/// Whether such a form declares a name in the space.
+fn is_in(space: Space, kind: OuterKind) -> bool
+    ensures { result ≡ is_in space kind }
+{
+    match kind {
+        OuterKind::Declared(kind) => same_space(space, space_of(kind)),
+        OuterKind::Planned(_) => false,
+        OuterKind::Unknown(_) => false,
+        OuterKind::Headless => false,
     }
 }
 
@@ -45,30 +63,29 @@ pub fn is_reserved(space: Space, name: &[u8]) -> bool
 }
 
 /// The names that the forms declare in a space, in the order of the text.
-pub fn declared_in(alloc: Global, space: Space, forms: &[Datum]) -> Result<Vec<NameAt>, AllocError>
-    ensures { IfOk result (λ v. v.items ≡ declared_in space (map datum_of forms.now)) }
+pub fn declared_in(
+    alloc: Global,
+    space: Space,
+    outers: &[Outer<'_>],
+) -> Result<Vec<NameAt>, AllocError>
+    ensures { IfOk result (λ v. v.items ≡ declared_in space (map outer_of outers.now)) }
 {
     let mut names = Vec::new(alloc);
-    for form in forms {
-        add_declared(&mut names, space, form.parts())?;
+    for outer in outers {
+        if is_in(space, outer.kind) {
+            add_own_name(&mut names, outer.name)?;
+        }
     }
     Ok(names)
 }
 
-fn add_declared(names: &mut Vec<NameAt>, space: Space, parts: &[Datum]) -> Result<(), AllocError>
+fn add_own_name(names: &mut Vec<NameAt>, name: Option<&Datum>) -> Result<(), AllocError>
     ensures { OnOk result
-        (names.new.items ≡ names.old.items ++ declares space (map datum_of parts.now)) }
+        (names.new.items ≡ names.old.items ++ own_name_at (option_map (λ d. datum_of d.now) name.entry)) }
 {
-    match parts {
-        [] => Ok(()),
-        [_] => Ok(()),
-        [head, name, ..] => {
-            if is_in(space, symbol_of(head)) {
-                add_name(names, name)
-            } else {
-                Ok(())
-            }
-        }
+    match name {
+        None => Ok(()),
+        Some(name) => add_word(names, name),
     }
 }
 
@@ -115,7 +132,7 @@ fn add_word(names: &mut Vec<NameAt>, datum: &Datum) -> Result<(), AllocError>
     }
 }
 
-/// The command-line names that are parse_make_parts from the names of commands, with the same offsets.
+/// The command-line names that are made from the names of commands, with the same offsets.
 pub fn line_names(alloc: Global, names: &[NameAt]) -> Result<Vec<NameAt>, AllocError>
     ensures { IfOk result (λ v. v.items ≡ line_names names.now) }
 {

@@ -2,10 +2,11 @@
 ghost use Rattle.std.specs.Prelude.{◌≡◌, map};
 ghost use Rattle.cl_forms.specs.Datum.{datums_of};
 ghost use Rattle.cl_forms.specs.DatumView.{datum_of};
-ghost use Rattle.cl_phases.specs.Limits.{first_past, long_among, long_in, past, past_declaration, past_declarations, past_head, past_parameters, past_section, past_sections};
+ghost use Rattle.cl_forms.specs.OuterView.{outer_of};
+ghost use Rattle.cl_phases.specs.Limits.{first_past, long_among, long_in, past, past_declaration, past_declarations, past_kind, past_parameters, past_sections};
 
 use crate::earlier::{at_if, earlier};
-use cl_forms::{Datum, symbol_of};
+use cl_forms::{Datum, DeclarationKind, Key, Outer, OuterKind, outer_in, section_values};
 
 /// The most bytes of a symbol.
 const LONGEST_SYMBOL: usize = 64;
@@ -72,34 +73,32 @@ fn past_declarations(forms: &[Datum]) -> Option<u32>
 {
     let mut first = None;
     for form in forms {
-        first = earlier(first, past_declaration(form.parts()));
+        let outer = outer_in(form);
+        first = earlier(first, past_declaration(&outer));
     }
     first
 }
 
-fn past_declaration(parts: &[Datum]) -> Option<u32>
-    ensures { result ≡ past_declaration (map datum_of parts.now) }
+fn past_declaration(outer: &Outer<'_>) -> Option<u32>
+    ensures { result ≡ past_declaration (outer_of outer.now) }
 {
-    match parts {
-        [] => None,
-        [_] => None,
-        [head, _, more @ ..] => past_head(symbol_of(head), more),
+    match outer.kind {
+        OuterKind::Declared(kind) => past_kind(kind, outer.behind_name()),
+        OuterKind::Planned(_) => None,
+        OuterKind::Unknown(_) => None,
+        OuterKind::Headless => None,
     }
 }
 
-fn past_head(head: &[u8], more: &[Datum]) -> Option<u32>
-    ensures { result ≡ past_head head.now (map datum_of more.now) }
+fn past_kind(kind: DeclarationKind, more: &[Datum]) -> Option<u32>
+    ensures { result ≡ past_kind kind (map datum_of more.now) }
 {
-    if head == b"define-record".as_slice() {
-        past(MOST_NAMES, more)
-    } else if head == b"define-function".as_slice() {
-        past_parameters(more)
-    } else if head == b"define-display".as_slice() {
-        past_parameters(more)
-    } else if head == b"define-application-frame".as_slice() {
-        past_sections(more)
-    } else {
-        None
+    match kind {
+        DeclarationKind::Record => past(MOST_NAMES, more),
+        DeclarationKind::Function => past_parameters(more),
+        DeclarationKind::Display => past_parameters(more),
+        DeclarationKind::Command => None,
+        DeclarationKind::Frame => past_sections(more),
     }
 }
 
@@ -118,22 +117,7 @@ fn past_sections(sections: &[Datum]) -> Option<u32>
 {
     let mut first = None;
     for section in sections {
-        first = earlier(first, past_section(section.parts()));
+        first = earlier(first, past(MOST_SLOTS, section_values(Key::Slots, section)));
     }
     first
-}
-
-fn past_section(parts: &[Datum]) -> Option<u32>
-    ensures { result ≡ past_section (map datum_of parts.now) }
-{
-    match parts {
-        [] => None,
-        [key, slots @ ..] => {
-            if symbol_of(key) == b":slots".as_slice() {
-                past(MOST_SLOTS, slots)
-            } else {
-                None
-            }
-        }
-    }
 }

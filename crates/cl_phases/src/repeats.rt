@@ -1,7 +1,7 @@
 //! Names that stand twice among names.
-ghost use Rattle.std.specs.Prelude.{◌≡◌, ◌∷◌, ◌++◌, [], None, IfOk, OnOk, is_some};
+ghost use Rattle.std.specs.Prelude.{◌≡◌, IfOk, OnOk, is_some};
 ghost use Rattle.cl_table.specs.Names.{named};
-ghost use Rattle.cl_phases.specs.Repeats.{first_repeated};
+ghost use Rattle.cl_phases.specs.Repeats.{first_repeated, with_met};
 
 use cl_table::{Declared, Table};
 use cl_value::Text;
@@ -45,13 +45,12 @@ pub fn first_repeated(alloc: Global, names: &[NameAt]) -> Result<Option<u32>, Al
 fn was_met(met: &Table<Met>, name: &Text) -> bool
     ensures { result ≡ is_some (named name.now met.now) }
 {
-    met.get(name).is_some()
+    met.get(name.as_slice()).is_some()
 }
 
 fn add_met(met: &mut Table<Met>, name: &Text) -> Result<(), AllocError>
-    requires { named name.now met.old ≡ None }
-    ensures { OnOk result (met.new ≡ met.old ++ (name.now, record { name = name.now }) ∷ []) }
+    ensures { OnOk result (met.new ≡ with_met met.old name.now) }
 {
     let name = name.copy()?;
-    met.add(Met { name }).map_err(|_| AllocError)
+    met.add_first(Met { name })
 }

@@ -79,7 +79,7 @@ fn body_at<'a>(functions: &'a Functions, reached: &Table<Reached>, place: usize)
     ensures { option_map (λ e. e.now) result ≡ body_at functions.now reached.now place }
 {
     match reached.at(place) {
-        Some(one) => match functions.get(&one.name) {
+        Some(one) => match functions.get(one.name.as_slice()) {
             Some(function) => Some(&function.body),
             None => None,
         },
@@ -111,14 +111,11 @@ fn add_reached(
 ) -> Result<(), AllocError>
     ensures { OnOk result (reached.new ≡ with_call functions.now name.now reached.old) }
 {
-    if functions.get(name).is_none() {
-        return Ok(());
-    }
-    if reached.get(name).is_some() {
+    if functions.get(name.as_slice()).is_none() {
         return Ok(());
     }
     let name = name.copy()?;
-    reached.add(Reached { name }).map_err(|_| AllocError)
+    reached.add_first(Reached { name })
 }
 
 /// Whether a slot stands in the expression.

@@ -1,52 +1,53 @@
 //! Names that are declared twice, or are reserved.
 ghost use Rattle.std.specs.Prelude.{◌≡◌, IfOk, map};
 ghost use Rattle.cl_forms.specs.DatumView.{datum_of};
+ghost use Rattle.cl_forms.specs.OuterView.{outer_of};
 ghost use Rattle.cl_phases.specs.DeclaredNames.{declared_in, names_at};
 ghost use Rattle.cl_phases.specs.Repeats as repeats;
-ghost use Rattle.cl_phases.specs.Twice.{commands_twice, declaration_twice, declarations_twice, first_reserved, first_twice, names_twice, parameters_twice, parts_twice, section_twice, sections_twice, spaces_twice};
+ghost use Rattle.cl_phases.specs.Twice.{commands_twice, declaration_twice, declarations_twice, first_reserved, first_twice, names_twice, parameters_twice, parts_twice, sections_twice, spaces_twice};
 ghost use Rattle.cl_phases.specs.declared.declared_names.Space.TheVariants.{Commands};
 
-use crate::declared_names::{Space, declared_in, is_in, is_reserved, line_names, names_at};
+use crate::declared_names::{Space, declared_in, is_reserved, line_names, names_at};
 use crate::earlier::{at_if, earlier};
 use crate::repeats::{NameAt, first_repeated};
-use cl_forms::{Datum, symbol_of};
+use cl_forms::{Datum, DeclarationKind, Key, Outer, OuterKind, section_values};
 use std::alloc::{AllocError, Global};
 
 /// The least offset of a name that is declared twice, in its space or within one declaration, of a
 /// command whose command-line name stands twice, or of a declared name that is reserved.
-pub fn first_twice(alloc: Global, forms: &[Datum]) -> Result<Option<u32>, AllocError>
-    ensures { IfOk result (λ r. r ≡ first_twice (map datum_of forms.now)) }
+pub fn first_twice(alloc: Global, outers: &[Outer<'_>]) -> Result<Option<u32>, AllocError>
+    ensures { IfOk result (λ r. r ≡ first_twice (map outer_of outers.now)) }
 {
-    let outside = spaces_twice(alloc, forms)?;
-    let within = declarations_twice(alloc, forms)?;
+    let outside = spaces_twice(alloc, outers)?;
+    let within = declarations_twice(alloc, outers)?;
     Ok(earlier(outside, within))
 }
 
-fn spaces_twice(alloc: Global, forms: &[Datum]) -> Result<Option<u32>, AllocError>
-    ensures { IfOk result (λ r. r ≡ spaces_twice (map datum_of forms.now)) }
+fn spaces_twice(alloc: Global, outers: &[Outer<'_>]) -> Result<Option<u32>, AllocError>
+    ensures { IfOk result (λ r. r ≡ spaces_twice (map outer_of outers.now)) }
 {
-    let callees = space_twice(alloc, Space::Callees, forms)?;
-    let records = space_twice(alloc, Space::Records, forms)?;
-    let commands = commands_twice(alloc, forms)?;
-    let frames = space_twice(alloc, Space::Frames, forms)?;
+    let callees = space_twice(alloc, Space::Callees, outers)?;
+    let records = space_twice(alloc, Space::Records, outers)?;
+    let commands = commands_twice(alloc, outers)?;
+    let frames = space_twice(alloc, Space::Frames, outers)?;
     Ok(earlier(earlier(callees, records), earlier(commands, frames)))
 }
 
-fn space_twice(alloc: Global, space: Space, forms: &[Datum]) -> Result<Option<u32>, AllocError>
+fn space_twice(alloc: Global, space: Space, outers: &[Outer<'_>]) -> Result<Option<u32>, AllocError>
     ensures { IfOk result
-        (λ r. r ≡ names_twice space (declared_in space (map datum_of forms.now))) }
+        (λ r. r ≡ names_twice space (declared_in space (map outer_of outers.now))) }
 {
-    let names = declared_in(alloc, space, forms)?;
+    let names = declared_in(alloc, space, outers)?;
     let repeated = first_repeated(alloc, names.as_slice())?;
     let reserved = first_reserved(space, names.as_slice());
     Ok(earlier(repeated, reserved))
 }
 
-fn commands_twice(alloc: Global, forms: &[Datum]) -> Result<Option<u32>, AllocError>
+fn commands_twice(alloc: Global, outers: &[Outer<'_>]) -> Result<Option<u32>, AllocError>
     ensures { IfOk result
-        (λ r. r ≡ commands_twice (declared_in Commands (map datum_of forms.now))) }
+        (λ r. r ≡ commands_twice (declared_in Commands (map outer_of outers.now))) }
 {
-    let names = declared_in(alloc, Space::Commands, forms)?;
+    let names = declared_in(alloc, Space::Commands, outers)?;
     let repeated = first_repeated(alloc, names.as_slice())?;
     let lines = line_names(alloc, names.as_slice())?;
     let line = first_repeated(alloc, lines.as_slice())?;
@@ -67,40 +68,42 @@ fn first_reserved(space: Space, names: &[NameAt]) -> Option<u32>
 
 /// What stands twice within one declaration: fields, parameters or slots.
 #[tactic(auto, using(crate::proofs::EarlierLemmas::earlier_assoc, crate::proofs::EarlierLemmas::earlier_none))]
-fn declarations_twice(alloc: Global, forms: &[Datum]) -> Result<Option<u32>, AllocError>
-    ensures { IfOk result (λ r. r ≡ declarations_twice (map datum_of forms.now)) }
+fn declarations_twice(alloc: Global, outers: &[Outer<'_>]) -> Result<Option<u32>, AllocError>
+    ensures { IfOk result (λ r. r ≡ declarations_twice (map outer_of outers.now)) }
 {
     let mut first = None;
-    for form in forms {
-        let within = declaration_twice(alloc, form.parts())?;
+    for outer in outers {
+        let within = declaration_twice(alloc, outer)?;
         first = earlier(first, within);
     }
     Ok(first)
 }
 
-fn declaration_twice(alloc: Global, parts: &[Datum]) -> Result<Option<u32>, AllocError>
-    ensures { IfOk result (λ r. r ≡ declaration_twice (map datum_of parts.now)) }
+fn declaration_twice(alloc: Global, outer: &Outer<'_>) -> Result<Option<u32>, AllocError>
+    ensures { IfOk result (λ r. r ≡ declaration_twice (outer_of outer.now)) }
 {
-    match parts {
-        [] => Ok(None),
-        [_] => Ok(None),
-        [head, _, more @ ..] => parts_twice(alloc, symbol_of(head), more),
+    match outer.kind {
+        OuterKind::Declared(kind) => parts_twice(alloc, kind, outer.behind_name()),
+        OuterKind::Planned(_) => Ok(None),
+        OuterKind::Unknown(_) => Ok(None),
+        OuterKind::Headless => Ok(None),
     }
 }
 
-fn parts_twice(alloc: Global, head: &[u8], more: &[Datum]) -> Result<Option<u32>, AllocError>
-    ensures { IfOk result (λ r. r ≡ parts_twice head.now (map datum_of more.now)) }
+fn parts_twice(
+    alloc: Global,
+    kind: DeclarationKind,
+    more: &[Datum],
+) -> Result<Option<u32>, AllocError>
+    ensures { IfOk result (λ r. r ≡ parts_twice kind (map datum_of more.now)) }
 {
-    if is_in(Space::Records, head) {
-        return all_twice(alloc, more);
+    match kind {
+        DeclarationKind::Record => all_twice(alloc, more),
+        DeclarationKind::Function => parameters_twice(alloc, more),
+        DeclarationKind::Display => parameters_twice(alloc, more),
+        DeclarationKind::Command => parameters_twice(alloc, more),
+        DeclarationKind::Frame => sections_twice(alloc, more),
     }
-    if is_in(Space::Callees, head) || is_in(Space::Commands, head) {
-        return parameters_twice(alloc, more);
-    }
-    if is_in(Space::Frames, head) {
-        return sections_twice(alloc, more);
-    }
-    Ok(None)
 }
 
 fn all_twice(alloc: Global, parts: &[Datum]) -> Result<Option<u32>, AllocError>
@@ -125,23 +128,8 @@ fn sections_twice(alloc: Global, sections: &[Datum]) -> Result<Option<u32>, Allo
 {
     let mut first = None;
     for section in sections {
-        let within = section_twice(alloc, section.parts())?;
+        let within = all_twice(alloc, section_values(Key::Slots, section))?;
         first = earlier(first, within);
     }
     Ok(first)
-}
-
-fn section_twice(alloc: Global, parts: &[Datum]) -> Result<Option<u32>, AllocError>
-    ensures { IfOk result (λ r. r ≡ section_twice (map datum_of parts.now)) }
-{
-    match parts {
-        [] => Ok(None),
-        [key, slots @ ..] => {
-            if symbol_of(key) == b":slots".as_slice() {
-                all_twice(alloc, slots)
-            } else {
-                Ok(None)
-            }
-        }
-    }
 }
