@@ -51,13 +51,15 @@ takes_symbol (More first) said s at h = record { later = h.later; form = Some (n
 ends : (w : Waiting) (said : List Lexeme) → Waits w said → AreWritten (datums_of (left_over w)) said
 ends Nothing said h = h
 ends (One first) said h = record {
-  first = said; rest = [];
+  first = said;
+  rest = [];
   is_first = record { later = []; form = None; written = h };
   is_rest = refl;
   joined = sym (append-nil said);
 }
 ends (More first) said h = record {
-  first = said; rest = [];
+  first = said;
+  rest = [];
   is_first = record { later = h.later; form = None; written = h.written ∙ ap (λ ls. quote_at first ∷ ls) (sym (append-nil (quotes h.later))) };
   is_rest = refl;
   joined = sym (append-nil said);
@@ -67,7 +69,10 @@ ends (More first) said h = record {
 joins : (d : Datum) (ds : List Datum) (said now more : List Lexeme) → IsWritten d (said ++ now) → AreWritten (datums_of ds) more
     → AreWritten (datums_of (d ∷ ds)) (said ++ (now ++ more))
 joins d ds said now more h i = record {
-  first = said ++ now; rest = more; is_first = h; is_rest = i;
+  first = said ++ now;
+  rest = more;
+  is_first = h;
+  is_rest = i;
   joined = sym (append_assoc said now more);
 }
 

@@ -1,11 +1,10 @@
 -- An expression reads a slot exactly where it uses one.
-use Rattle.std.proofs.Common.{◌≡◌, ◌++◌, ℕ, zero, suc, Bool, true, false, ◌||◌, ◌⊎◌, inl, inr, ⊎_elim, List, [], ◌∷◌, Option, Some, None, refl, sym, ap, ◌∙◌, subst, arith}
+use Rattle.std.proofs.Common.{◌≡◌, ◌++◌, ℕ, zero, suc, Bool, true, false, ◌||◌, ◌⊎◌, inl, inr, ⊎_elim, List, [], ◌∷◌, Option, Some, None, refl, sym, subst, arith}
 use Rattle.std.specs.Prelude.{Contains}
 use Rattle.std.proofs.lemmas.List.Elements.{Contains-append_left, Contains-append_right, Contains-append_cases, Contains-push, Contains-push_cases}
 use Rattle.cl_table.specs.Names.{named}
 use Rattle.cl_syntax.specs.ExprTree as expr
 use Rattle.cl_syntax.specs.ExprTree.{ExprTree, ExprTrees, Bindings, none, part, unbound, binding}
-use Rattle.cl_application.specs.declared.applications.App.{App}
 use Rattle.cl_application.specs.declared.declarations.FunctionDecl.{FunctionDecl}
 use Rattle.cl_eval.specs.Uses.{slot, variable, Names, NamesAmong, NamesBound, InBody, Within, Uses}
 use Rattle.cl_phases.specs.SlotReads.{Functions, Reaches, itself, calling, ReadsSlot, names_slot, names_slot_among, names_slot_bound, calls, calls_among, calls_bound}
@@ -90,16 +89,16 @@ in_body : (has : List ℕ → Type 0) (x : List ℕ) (o : Option FunctionDecl) �
 in_body has x None p = absurd p
 in_body has x (Some f) p = (f, (refl, p))
 
-reads_within : (n : ℕ) (app : App) (x : List ℕ) (t : ExprTree) → Names (Within n app (slot x)) (slot x) t → ReadsSlot app.functions t
-reads_within zero app x t p =
-    ⊎_elim (λ h. record { reached = t; reaches = itself app.functions t; names = h }) (λ k. absurd k.1.1) (split (Within zero app (slot x)) x t p)
-reads_within (suc n) app x t p =
-    ⊎_elim (λ h. record { reached = t; reaches = itself app.functions t; names = h })
-    (λ k. let one = in_body (Within n app (slot x)) x (named k.0 app.functions) k.1.1 in
-    through app.functions t k.0 one.0 k.1.0 one.1.0 (reads_within n app x one.0.body one.1.1)) (split (Within (suc n) app (slot x)) x t p)
+reads_within : (n : ℕ) (fs : Functions) (x : List ℕ) (t : ExprTree) → Names (Within n fs (slot x)) (slot x) t → ReadsSlot fs t
+reads_within zero fs x t p =
+    ⊎_elim (λ h. record { reached = t; reaches = itself fs t; names = h }) (λ k. absurd k.1.1) (split (Within zero fs (slot x)) x t p)
+reads_within (suc n) fs x t p =
+    ⊎_elim (λ h. record { reached = t; reaches = itself fs t; names = h })
+    (λ k. let one = in_body (Within n fs (slot x)) x (named k.0 fs) k.1.1 in
+    through fs t k.0 one.0 k.1.0 one.1.0 (reads_within n fs x one.0.body one.1.1)) (split (Within (suc n) fs (slot x)) x t p)
 
-pub used_is_read : (app : App) (t : ExprTree) (x : List ℕ) → Uses app (slot x) t → ReadsSlot app.functions t
-used_is_read app t x u = reads_within u.calls app x t u.named
+pub used_is_read : (fs : Functions) (t : ExprTree) (x : List ℕ) → Uses fs (slot x) t → ReadsSlot fs t
+used_is_read fs t x u = reads_within u.calls fs x t u.named
 
 -- ---- what is read is used
 
@@ -183,16 +182,14 @@ module _ (has : List ℕ → Type 0) (x : List ℕ) where
     called_bound (binding y t bs) f c p u =
         ⊎_elim (λ a. inl (called_use t f a p)) (λ a. inr (tt, called_bound bs f a p u)) (Contains-append_cases (calls t) (calls_bound bs) f c)
 
-used_through : (app : App) (fs : Functions) (t u : ExprTree) → fs ≡ app.functions → Reaches fs t u → names_slot u ≡ true
-    → (x : List ℕ) × ((n : ℕ) × Names (Within n app (slot x)) (slot x) t)
-used_through app _ _ _ e (itself fs t) h = let n = named_use t h in (n.0, (0, n.1 (Within 0 app (slot n.0))))
-used_through app _ _ _ e (calling fs t u y f c d r) h =
-    let one = used_through app fs f.body u e r h in
-    let declared : named y app.functions ≡ Some f = ap (λ (gs : Functions). named y gs) (sym e) ∙ d in
-    let inside : Within (suc one.1.0) app (slot one.0) y = subst (InBody (Within one.1.0 app (slot one.0)) (slot one.0)) (sym declared) one.1.1 in
-    (one.0, (suc one.1.0, called_use (Within (suc one.1.0) app (slot one.0)) one.0 t y c inside))
+used_through : (fs : Functions) (t u : ExprTree) → Reaches fs t u → names_slot u ≡ true → (x : List ℕ) × ((n : ℕ) × Names (Within n fs (slot x)) (slot x) t)
+used_through _ _ _ (itself fs t) h = let n = named_use t h in (n.0, (0, n.1 (Within 0 fs (slot n.0))))
+used_through _ _ _ (calling fs t u y f c d r) h =
+    let one = used_through fs f.body u r h in
+    let inside : Within (suc one.1.0) fs (slot one.0) y = subst (InBody (Within one.1.0 fs (slot one.0)) (slot one.0)) (sym d) one.1.1 in
+    (one.0, (suc one.1.0, called_use (Within (suc one.1.0) fs (slot one.0)) one.0 t y c inside))
 
-pub read_is_used : (app : App) (t : ExprTree) → ReadsSlot app.functions t → (x : List ℕ) × Uses app (slot x) t
-read_is_used app t r =
-    let one = used_through app app.functions t r.reached refl r.reaches r.names in
+pub read_is_used : (fs : Functions) (t : ExprTree) → ReadsSlot fs t → (x : List ℕ) × Uses fs (slot x) t
+read_is_used fs t r =
+    let one = used_through fs t r.reached r.reaches r.names in
     (one.0, record { calls = one.1.0; named = one.1.1 })
