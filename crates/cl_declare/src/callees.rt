@@ -1,5 +1,5 @@
 //! Records, functions and displays, as forms declare them.
-ghost use Rattle.std.specs.Prelude.{◌≡◌, map};
+ghost use Rattle.std.specs.Prelude.{map};
 ghost use Rattle.cl_forms.specs.DatumView.{datum_of};
 ghost use Rattle.cl_expressions.specs.Load.{Gives, Notes as Noted, itself};
 ghost use Rattle.cl_declare.specs.Callees.{parse_record, parse_function, parse_display};
@@ -48,8 +48,9 @@ pub fn parse_function(
                 return Err(LoadRefusal::Refused(6, at));
             }
             let parameters = names_in(reader.alloc, parameters.parts())?;
-            let variables = Scope::Names(parameters.as_slice(), &Scope::Empty);
-            let body = parse_expression(&reader.seeing(&variables), body, notes)?;
+            let outside = reader.seeing(&Scope::Empty);
+            let variables = Scope::Names(parameters.as_slice(), outside.scope);
+            let body = parse_expression(&outside.seeing(&variables), body, notes)?;
             Ok(FunctionDecl {
                 name: symbol_text(reader.alloc, name)?,
                 parameters,
@@ -82,8 +83,9 @@ pub fn parse_display(
                 return Err(LoadRefusal::Refused(6, at));
             }
             let parameters = names_in(reader.alloc, parameters.parts())?;
-            let variables = Scope::Names(parameters.as_slice(), &Scope::Empty);
-            let body = parse_shapes(&reader.seeing(&variables), body, notes)?;
+            let outside = reader.seeing(&Scope::Empty);
+            let variables = Scope::Names(parameters.as_slice(), outside.scope);
+            let body = parse_shapes(&outside.seeing(&variables), body, notes)?;
             Ok(DisplayDecl {
                 name: symbol_text(reader.alloc, name)?,
                 parameters,

@@ -8,7 +8,7 @@ ghost use Rattle.cl_declare.specs.Leaves.{Leaves};
 
 use crate::callees::{parse_display, parse_function, parse_record};
 use crate::commands::parse_command;
-use crate::frame_forms::FrameForms;
+use crate::in_order::FrameForms;
 use crate::sections::parse_frame;
 use cl_application::{Commands, Displays, Functions, Records};
 use cl_expressions::{Notes, Reader};

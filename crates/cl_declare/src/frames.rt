@@ -202,8 +202,8 @@ fn pane_of(
     place: Option<Place>,
     display: Option<&Text>,
 ) -> Result<Option<PaneForm>, AllocError>
-    ensures { IfOk result (λ p. p ≡ pane_of signatures.now at (option_map (λ n. n.now) name) place
-        (option_map (λ n. n.now) display)) }
+    ensures { IfOk result (λ p. p ≡ pane_of signatures.now at (option_map (λ n. n.now) name.entry) place
+        (option_map (λ n. n.now) display.entry)) }
 {
     let Some(name) = name else {
         return Ok(None);

@@ -5,11 +5,11 @@
 mod callees;
 mod commands;
 mod declarations;
-mod frame_forms;
 mod frames;
+mod in_order;
 mod names;
 mod sections;
 
 pub use declarations::{Declarations, parse_declarations};
-pub use frame_forms::FrameForms;
 pub use frames::{FrameForm, PaneForm};
+pub use in_order::{FrameForms, InOrder};
