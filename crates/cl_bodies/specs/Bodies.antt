@@ -109,13 +109,7 @@ parse_head l w c None x head_at at parts env = l.call w x head_at at (subs_of pa
 parse_head l w c (Some head.If) x head_at at parts env = parse_if l c at parts env
 parse_head l w c (Some head.Let) x head_at at parts env = parse_let l c at parts env
 parse_head l w c (Some (head.Control k)) x head_at at parts env = parse_control l w c k at parts env
-parse_head l w c (Some (head.Special s)) x head_at at parts env = parse_own l w c (head.Special s) head_at at parts env
-parse_head l w c (Some (head.Operator o)) x head_at at parts env = parse_own l w c (head.Operator o) head_at at parts env
-parse_head l w c (Some (head.Figure f)) x head_at at parts env = parse_own l w c (head.Figure f) head_at at parts env
-parse_head l w c (Some (head.Setting s)) x head_at at parts env = parse_own l w c (head.Setting s) head_at at parts env
-parse_head l w c (Some (head.Writing k)) x head_at at parts env = parse_own l w c (head.Writing k) head_at at parts env
-parse_head l w c (Some (head.Change k)) x head_at at parts env = parse_own l w c (head.Change k) head_at at parts env
-parse_head l w c (Some (head.Planned p)) x head_at at parts env = parse_own l w c (head.Planned p) head_at at parts env
+parse_head l w c (Some other) x head_at at parts env = parse_own l w c other head_at at parts env
 
 -- a form begins with a symbol
 abbrev pub parse_headed : {F O C : Type 0} → Language F O C → Signatures → C → Datum → ℕ → List (Part F C) → Names → Load F

@@ -87,14 +87,7 @@ parse_own c (head.Figure f) head_at at subs env = parse_draw f at subs env >>= �
 parse_own c (head.Setting s) head_at at subs env = parse_setting c s at subs env
 parse_own c (head.Writing k) head_at at subs env = parse_writing k at subs env >>= λ s. give (Whole s)
 parse_own c (head.Planned planned.Display) head_at at subs env = refuse 0 head_at
-parse_own c (head.Planned planned.Statement) head_at at subs env = refuse 5 head_at
-parse_own c (head.Planned planned.Part) head_at at subs env = refuse 5 head_at
-parse_own c head.If head_at at subs env = refuse 5 head_at
-parse_own c head.Let head_at at subs env = refuse 5 head_at
-parse_own c (head.Special s) head_at at subs env = refuse 5 head_at
-parse_own c (head.Operator o) head_at at subs env = refuse 5 head_at
-parse_own c (head.Control k) head_at at subs env = refuse 5 head_at
-parse_own c (head.Change k) head_at at subs env = refuse 5 head_at
+parse_own c other head_at at subs env = refuse 5 head_at
 
 -- a form that sets something, with its body
 abbrev pub closed : Opening → List ShapeTree → ShapeTree

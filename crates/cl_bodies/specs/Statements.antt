@@ -48,16 +48,7 @@ parse_change w change.Reply at subs env = parse_reply at subs env
 abbrev pub parse_own : Signatures → Head → ℕ → ℕ → List Sub → Names → Load (Own ActTree (Unit {0}) (Unit {0}))
 parse_own w (head.Change k) head_at at subs env = parse_change w k at subs env >>= λ s. give (Whole s)
 parse_own w (head.Planned planned.Statement) head_at at subs env = refuse 0 head_at
-parse_own w (head.Planned planned.Display) head_at at subs env = refuse 5 head_at
-parse_own w (head.Planned planned.Part) head_at at subs env = refuse 5 head_at
-parse_own w head.If head_at at subs env = refuse 5 head_at
-parse_own w head.Let head_at at subs env = refuse 5 head_at
-parse_own w (head.Special s) head_at at subs env = refuse 5 head_at
-parse_own w (head.Operator o) head_at at subs env = refuse 5 head_at
-parse_own w (head.Control k) head_at at subs env = refuse 5 head_at
-parse_own w (head.Figure f) head_at at subs env = refuse 5 head_at
-parse_own w (head.Setting s) head_at at subs env = refuse 5 head_at
-parse_own w (head.Writing k) head_at at subs env = refuse 5 head_at
+parse_own w other head_at at subs env = refuse 5 head_at
 
 -- no statement has a body of its own, so nothing would stand before one
 abbrev pub closed : Unit {0} → List ActTree → ActTree

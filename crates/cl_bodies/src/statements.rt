@@ -120,16 +120,7 @@ fn parse_own(
     match head {
         Head::Change(change) => Ok(Own::Whole(parse_change(reader, change, at, parts, notes)?)),
         Head::Planned(Planned::Statement) => Err(LoadRefusal::Refused(0, head_at)),
-        Head::Planned(Planned::Display) => Err(LoadRefusal::Refused(5, head_at)),
-        Head::Planned(Planned::Part) => Err(LoadRefusal::Refused(5, head_at)),
-        Head::If => Err(LoadRefusal::Refused(5, head_at)),
-        Head::Let => Err(LoadRefusal::Refused(5, head_at)),
-        Head::Special(_) => Err(LoadRefusal::Refused(5, head_at)),
-        Head::Operator(_) => Err(LoadRefusal::Refused(5, head_at)),
-        Head::Control(_) => Err(LoadRefusal::Refused(5, head_at)),
-        Head::Figure(_) => Err(LoadRefusal::Refused(5, head_at)),
-        Head::Setting(_) => Err(LoadRefusal::Refused(5, head_at)),
-        Head::Writing(_) => Err(LoadRefusal::Refused(5, head_at)),
+        _ => Err(LoadRefusal::Refused(5, head_at)),
     }
 }
 

@@ -185,12 +185,7 @@ parse_head w (Some head.If) x head_at at parts env = parse_if at parts env
 parse_head w (Some head.Let) x head_at at parts env = parse_let at parts env
 parse_head w (Some (head.Special s)) x head_at at parts env = parse_special w s at parts env
 parse_head w (Some (head.Operator o)) x head_at at parts env = parse_operation o at parts env
-parse_head w (Some (head.Control k)) x head_at at parts env = refuse 5 head_at
-parse_head w (Some (head.Figure f)) x head_at at parts env = refuse 5 head_at
-parse_head w (Some (head.Setting s)) x head_at at parts env = refuse 5 head_at
-parse_head w (Some (head.Writing k)) x head_at at parts env = refuse 5 head_at
-parse_head w (Some (head.Change k)) x head_at at parts env = refuse 5 head_at
-parse_head w (Some (head.Planned p)) x head_at at parts env = refuse 5 head_at
+parse_head w (Some other) x head_at at parts env = refuse 5 head_at
 
 -- a form begins with a symbol
 abbrev pub parse_headed : Signatures → Datum → ℕ → List Sub → Names → Load ExprTree
