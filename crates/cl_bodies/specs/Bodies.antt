@@ -34,6 +34,7 @@ pub record Part (F C : Type 0) : Type 0 where
   pub sub : Sub
   pub form : C → Names → Load F
 
+-- the parts as an expression's parts
 abbrev pub subs_of : {F C : Type 0} → List (Part F C) → List Sub
 subs_of [] = []
 subs_of (p ∷ ps) = p.sub ∷ subs_of ps
@@ -43,9 +44,11 @@ abbrev pub parse_each : {F C : Type 0} → C → List (Part F C) → Names → L
 parse_each c [] env = give []
 parse_each c (p ∷ ps) env = p.form c env >>= λ f. parse_each c ps env >>= λ fs. give (f ∷ fs)
 
+-- behind the test and the first form of an `if`
 abbrev pub parse_else : {F O C : Type 0} → Language F O C → ExprTree → F → Load F → Load F
 parse_else l t f other = other >>= λ g. give (l.choice t f g)
 
+-- behind the test of an `if`
 abbrev pub parse_then : {F O C : Type 0} → Language F O C → ExprTree → Load F → Load F → Load F
 parse_then l t first other = first >>= λ f. parse_else l t f other
 
