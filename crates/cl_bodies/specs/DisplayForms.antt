@@ -1,10 +1,9 @@
 -- The display forms that statements do not have. Each row says first what makes the form itself wrong, and then its parts from left to right.
 use Rattle.std.specs.Prelude.{ℕ, ◌==◌, if◌then◌else◌, List, [], ◌∷◌, length, Option, Some, None}
 use Rattle.cl_syntax.specs.Expr.{bindings_of}
-use Rattle.cl_syntax.specs.ExprTree.{ExprTree, expr_trees_of}
+use Rattle.cl_syntax.specs.ExprTree.{expr_trees_of}
 use Rattle.cl_syntax.specs.ShapeTree as shape
 use Rattle.cl_syntax.specs.ShapeTree.{ShapeTree, shape_trees_of}
-use Rattle.cl_syntax.specs.declared.expressions.Binding.{Binding}
 use Rattle.cl_syntax.specs.declared.figures.Figure.{Figure}
 use Rattle.cl_forms.specs.Datum.{Datum, Datums}
 use Rattle.cl_expressions.specs.Load.{Load, ◌>>=◌, give, refuse}

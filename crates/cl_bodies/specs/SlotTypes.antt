@@ -1,6 +1,6 @@
 -- The type that a datum is where a slot asks for one: `NAME`, `(NAME)` or `((NAME))`. No parameters stand around it. Types with arguments or options are not built
 -- yet, and neither are the types that have no members or are made of others.
-use Rattle.std.specs.Prelude.{ℕ, Bool, true, false, ◌||◌, if◌then◌else◌, List, [], ◌∷◌, Option, Some, None, codes}
+use Rattle.std.specs.Prelude.{ℕ, Bool, false, ◌||◌, if◌then◌else◌, List, [], ◌∷◌, Option, Some, None, codes}
 use Rattle.std.specs.Str.{bytes_eq}
 use Rattle.cl_syntax.specs.declared.type_specs.TypeSpec.{TypeSpec}
 use Rattle.cl_forms.specs.Datum.{Datum, number, literal, word, quoted, stray, list, in_order, offset}
