@@ -1,5 +1,5 @@
 -- An `if` of any other number of parts is refused; and parts of a form as parts of an expression, and behind its first.
-use Rattle.std.proofs.Common.{◌≡◌, ◌≤◌, ◌+◌, ℕ, zero, suc, length, map, drop, List, [], ◌∷◌, refl, ap, arith}
+use Rattle.std.proofs.Common.{◌≡◌, ◌≤◌, ℕ, zero, suc, length, map, drop, List, [], ◌∷◌, refl, ap, arith}
 use Rattle.std.specs.Prelude.{Err}
 use Rattle.cl_forms.specs.Datum.{datums_of, weights}
 use Rattle.cl_forms.specs.DatumView.{datum_of}

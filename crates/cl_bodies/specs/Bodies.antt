@@ -34,6 +34,7 @@ pub record Part (F C : Type 0) : Type 0 where
   pub sub : Sub
   pub form : C → Names → Load F
 
+-- the parts as an expression's parts
 abbrev pub subs_of : {F C : Type 0} → List (Part F C) → List Sub
 subs_of [] = []
 subs_of (p ∷ ps) = p.sub ∷ subs_of ps
@@ -43,9 +44,11 @@ abbrev pub parse_each : {F C : Type 0} → C → List (Part F C) → Names → L
 parse_each c [] env = give []
 parse_each c (p ∷ ps) env = p.form c env >>= λ f. parse_each c ps env >>= λ fs. give (f ∷ fs)
 
+-- behind the test and the first form of an `if`
 abbrev pub parse_else : {F O C : Type 0} → Language F O C → ExprTree → F → Load F → Load F
 parse_else l t f other = other >>= λ g. give (l.choice t f g)
 
+-- behind the test of an `if`
 abbrev pub parse_then : {F O C : Type 0} → Language F O C → ExprTree → Load F → Load F → Load F
 parse_then l t first other = first >>= λ f. parse_else l t f other
 
@@ -109,13 +112,7 @@ parse_head l w c None x head_at at parts env = l.call w x head_at at (subs_of pa
 parse_head l w c (Some head.If) x head_at at parts env = parse_if l c at parts env
 parse_head l w c (Some head.Let) x head_at at parts env = parse_let l c at parts env
 parse_head l w c (Some (head.Control k)) x head_at at parts env = parse_control l w c k at parts env
-parse_head l w c (Some (head.Special s)) x head_at at parts env = parse_own l w c (head.Special s) head_at at parts env
-parse_head l w c (Some (head.Operator o)) x head_at at parts env = parse_own l w c (head.Operator o) head_at at parts env
-parse_head l w c (Some (head.Figure f)) x head_at at parts env = parse_own l w c (head.Figure f) head_at at parts env
-parse_head l w c (Some (head.Setting s)) x head_at at parts env = parse_own l w c (head.Setting s) head_at at parts env
-parse_head l w c (Some (head.Writing k)) x head_at at parts env = parse_own l w c (head.Writing k) head_at at parts env
-parse_head l w c (Some (head.Change k)) x head_at at parts env = parse_own l w c (head.Change k) head_at at parts env
-parse_head l w c (Some (head.Planned p)) x head_at at parts env = parse_own l w c (head.Planned p) head_at at parts env
+parse_head l w c (Some other) x head_at at parts env = parse_own l w c other head_at at parts env
 
 -- a form begins with a symbol
 abbrev pub parse_headed : {F O C : Type 0} → Language F O C → Signatures → C → Datum → ℕ → List (Part F C) → Names → Load F

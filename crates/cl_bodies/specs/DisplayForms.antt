@@ -1,10 +1,9 @@
 -- The display forms that statements do not have. Each row says first what makes the form itself wrong, and then its parts from left to right.
 use Rattle.std.specs.Prelude.{ℕ, ◌==◌, if◌then◌else◌, List, [], ◌∷◌, length, Option, Some, None}
 use Rattle.cl_syntax.specs.Expr.{bindings_of}
-use Rattle.cl_syntax.specs.ExprTree.{ExprTree, expr_trees_of}
+use Rattle.cl_syntax.specs.ExprTree.{expr_trees_of}
 use Rattle.cl_syntax.specs.ShapeTree as shape
 use Rattle.cl_syntax.specs.ShapeTree.{ShapeTree, shape_trees_of}
-use Rattle.cl_syntax.specs.declared.expressions.Binding.{Binding}
 use Rattle.cl_syntax.specs.declared.figures.Figure.{Figure}
 use Rattle.cl_forms.specs.Datum.{Datum, Datums}
 use Rattle.cl_expressions.specs.Load.{Load, ◌>>=◌, give, refuse}
@@ -87,14 +86,7 @@ parse_own c (head.Figure f) head_at at subs env = parse_draw f at subs env >>= �
 parse_own c (head.Setting s) head_at at subs env = parse_setting c s at subs env
 parse_own c (head.Writing k) head_at at subs env = parse_writing k at subs env >>= λ s. give (Whole s)
 parse_own c (head.Planned planned.Display) head_at at subs env = refuse 0 head_at
-parse_own c (head.Planned planned.Statement) head_at at subs env = refuse 5 head_at
-parse_own c (head.Planned planned.Part) head_at at subs env = refuse 5 head_at
-parse_own c head.If head_at at subs env = refuse 5 head_at
-parse_own c head.Let head_at at subs env = refuse 5 head_at
-parse_own c (head.Special s) head_at at subs env = refuse 5 head_at
-parse_own c (head.Operator o) head_at at subs env = refuse 5 head_at
-parse_own c (head.Control k) head_at at subs env = refuse 5 head_at
-parse_own c (head.Change k) head_at at subs env = refuse 5 head_at
+parse_own c other head_at at subs env = refuse 5 head_at
 
 -- a form that sets something, with its body
 abbrev pub closed : Opening → List ShapeTree → ShapeTree

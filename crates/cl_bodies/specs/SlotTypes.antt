@@ -1,6 +1,6 @@
 -- The type that a datum is where a slot asks for one: `NAME`, `(NAME)` or `((NAME))`. No parameters stand around it. Types with arguments or options are not built
 -- yet, and neither are the types that have no members or are made of others.
-use Rattle.std.specs.Prelude.{ℕ, Bool, true, false, ◌||◌, if◌then◌else◌, List, [], ◌∷◌, Option, Some, None, codes}
+use Rattle.std.specs.Prelude.{ℕ, Bool, false, ◌||◌, if◌then◌else◌, List, [], ◌∷◌, Option, Some, None, codes}
 use Rattle.std.specs.Str.{bytes_eq}
 use Rattle.cl_syntax.specs.declared.type_specs.TypeSpec.{TypeSpec}
 use Rattle.cl_forms.specs.Datum.{Datum, number, literal, word, quoted, stray, list, in_order, offset}
@@ -10,6 +10,7 @@ use Rattle.cl_forms.specs.Naming.{name_in, symbol_of}
 use Rattle.cl_words.specs.Signatures.{record_in}
 use Rattle.cl_words.specs.declared.signatures.Signatures.{Signatures}
 
+-- the type of this name
 abbrev pub type_named : List ℕ → TypeSpec
 type_named x = record { name = x }
 
@@ -28,12 +29,14 @@ abbrev pub parse_ranged_type : List ℕ → ℕ → List Datum → Load TypeSpec
 parse_ranged_type x name_at [] = give (type_named x)
 parse_ranged_type x name_at (a ∷ more) = refuse 0 name_at
 
+-- a type by its name
 abbrev pub parse_type_named : Signatures → List ℕ → ℕ → ℕ → List Datum → Load TypeSpec
 parse_type_named w x name_at at arguments =
     if is_plain_type x then parse_plain_type x at arguments
     else (if is_ranged_type x then parse_ranged_type x name_at arguments
     else (if is_later_type x then refuse 0 name_at else parse_record_type (record_in w x) x name_at at arguments))
 
+-- a type begins with its name
 abbrev pub parse_type_head : Signatures → ℕ → Datum → List Datum → Load TypeSpec
 parse_type_head w at h arguments = elim (name_in h) [ None ↦ refuse 6 at | Some x ↦ parse_type_named w x (offset h) at arguments ]
 
@@ -42,6 +45,7 @@ abbrev pub parse_type_parts : Signatures → ℕ → List Datum → Load TypeSpe
 parse_type_parts w at [] = refuse 6 at
 parse_type_parts w at (h ∷ arguments) = parse_type_head w at h arguments
 
+-- the keys of options
 abbrev pub is_option_key : List ℕ → Bool
 is_option_key x = bytes_eq x (codes ":description") || bytes_eq x (codes ":separator")
 
@@ -51,6 +55,7 @@ parse_type_options w at parts [] = parse_type_parts w at parts
 parse_type_options w at parts (o ∷ more) =
     if is_option_key (symbol_of o) then (parse_type_parts w at parts >>= λ t. refuse 0 (offset o)) else refuse 6 at
 
+-- a list by its first part: a name, or a list of a name and arguments
 abbrev pub parse_type_first : Signatures → ℕ → Datum → List Datum → Load TypeSpec
 parse_type_first w at (list ds list_at) more = parse_type_options w at (in_order ds) more
 parse_type_first w at (number z first_at) more = parse_type_head w at (number z first_at) more
@@ -59,10 +64,12 @@ parse_type_first w at (word x first_at) more = parse_type_head w at (word x firs
 parse_type_first w at (quoted x first_at name_at) more = parse_type_head w at (quoted x first_at name_at) more
 parse_type_first w at (stray first_at) more = parse_type_head w at (stray first_at) more
 
+-- a list that is a type
 abbrev pub parse_type_list : Signatures → ℕ → List Datum → Load TypeSpec
 parse_type_list w at [] = refuse 6 at
 parse_type_list w at (h ∷ more) = parse_type_first w at h more
 
+-- the type by itself
 abbrev pub parse_specifier : Signatures → Datum → Load TypeSpec
 parse_specifier w (list ds at) = parse_type_list w at (in_order ds)
 parse_specifier w (number z at) = parse_type_head w at (number z at) []

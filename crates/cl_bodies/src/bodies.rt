@@ -86,11 +86,7 @@ fn parse_listed<L: Language>(
     };
     match head {
         Datum::Word(head, head_at) => parse_head(reader, context, head, *head_at, at, parts, notes),
-        Datum::Number(_, _) => Err(LoadRefusal::Refused(6, at)),
-        Datum::Literal(_, _) => Err(LoadRefusal::Refused(6, at)),
-        Datum::Quoted(_, _, _) => Err(LoadRefusal::Refused(6, at)),
-        Datum::Stray(_) => Err(LoadRefusal::Refused(6, at)),
-        Datum::List(_, _) => Err(LoadRefusal::Refused(6, at)),
+        _ => Err(LoadRefusal::Refused(6, at)),
     }
 }
 

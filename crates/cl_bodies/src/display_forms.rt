@@ -147,14 +147,7 @@ fn parse_own(
         Head::Setting(setting) => parse_setting(reader, context, setting, at, parts, notes),
         Head::Writing(writing) => Ok(Own::Whole(parse_writing(reader, writing, at, parts, notes)?)),
         Head::Planned(Planned::Display) => Err(LoadRefusal::Refused(0, head_at)),
-        Head::Planned(Planned::Statement) => Err(LoadRefusal::Refused(5, head_at)),
-        Head::Planned(Planned::Part) => Err(LoadRefusal::Refused(5, head_at)),
-        Head::If => Err(LoadRefusal::Refused(5, head_at)),
-        Head::Let => Err(LoadRefusal::Refused(5, head_at)),
-        Head::Special(_) => Err(LoadRefusal::Refused(5, head_at)),
-        Head::Operator(_) => Err(LoadRefusal::Refused(5, head_at)),
-        Head::Control(_) => Err(LoadRefusal::Refused(5, head_at)),
-        Head::Change(_) => Err(LoadRefusal::Refused(5, head_at)),
+        _ => Err(LoadRefusal::Refused(5, head_at)),
     }
 }
 

@@ -76,11 +76,7 @@ fn parse_type_first(
 {
     match first {
         Datum::List(parts, _) => parse_type_options(reader, at, parts.as_slice(), more, notes),
-        Datum::Number(_, _) => parse_type_head(reader, at, first, more, notes),
-        Datum::Literal(_, _) => parse_type_head(reader, at, first, more, notes),
-        Datum::Word(_, _) => parse_type_head(reader, at, first, more, notes),
-        Datum::Quoted(_, _, _) => parse_type_head(reader, at, first, more, notes),
-        Datum::Stray(_) => parse_type_head(reader, at, first, more, notes),
+        _ => parse_type_head(reader, at, first, more, notes),
     }
 }
 

@@ -16,6 +16,7 @@ use cl_syntax::{Act, Acts, Binding, Expr};
 use cl_value::Text;
 use cl_words::{Change, Head, Planned};
 use std::alloc::{AllocError, Global};
+use std::convert::Infallible;
 
 /// The statement that a datum is. Where a name in it is not declared, the first such is noted.
 pub fn parse_act(reader: &Reader, datum: &Datum, notes: &mut Notes) -> Result<Act, LoadRefusal>
@@ -39,7 +40,7 @@ impl Language for Act {
 
     type Body = Acts;
 
-    type Opening = ();
+    type Opening = Infallible;
 
     type Context = ();
 
@@ -83,7 +84,7 @@ impl Language for Act {
         at: u32,
         parts: &[Datum],
         notes: &mut Notes,
-    ) -> Result<Own<Act, (), ()>, LoadRefusal> {
+    ) -> Result<Own<Act, Infallible, ()>, LoadRefusal> {
         parse_own(reader, head, head_at, at, parts, notes)
     }
 
@@ -98,8 +99,8 @@ impl Language for Act {
         Err(LoadRefusal::Refused(5, head_at))
     }
 
-    fn closed(_: (), body: Acts) -> Act {
-        Act::sequence(body)
+    fn closed(opening: Infallible, _: Acts) -> Act {
+        match opening {}
     }
 }
 
@@ -111,7 +112,7 @@ fn parse_own(
     at: u32,
     parts: &[Datum],
     notes: &mut Notes,
-) -> Result<Own<Act, (), ()>, LoadRefusal>
+) -> Result<Own<Act, Infallible, ()>, LoadRefusal>
     ensures { Gives itself result notes.new
         (parse_own reader.now.signatures.now head head_at at
         (subs reader.now.signatures.now (datums_of (map datum_of parts.now)))
@@ -120,16 +121,7 @@ fn parse_own(
     match head {
         Head::Change(change) => Ok(Own::Whole(parse_change(reader, change, at, parts, notes)?)),
         Head::Planned(Planned::Statement) => Err(LoadRefusal::Refused(0, head_at)),
-        Head::Planned(Planned::Display) => Err(LoadRefusal::Refused(5, head_at)),
-        Head::Planned(Planned::Part) => Err(LoadRefusal::Refused(5, head_at)),
-        Head::If => Err(LoadRefusal::Refused(5, head_at)),
-        Head::Let => Err(LoadRefusal::Refused(5, head_at)),
-        Head::Special(_) => Err(LoadRefusal::Refused(5, head_at)),
-        Head::Operator(_) => Err(LoadRefusal::Refused(5, head_at)),
-        Head::Control(_) => Err(LoadRefusal::Refused(5, head_at)),
-        Head::Figure(_) => Err(LoadRefusal::Refused(5, head_at)),
-        Head::Setting(_) => Err(LoadRefusal::Refused(5, head_at)),
-        Head::Writing(_) => Err(LoadRefusal::Refused(5, head_at)),
+        _ => Err(LoadRefusal::Refused(5, head_at)),
     }
 }
 

@@ -6,6 +6,7 @@ use Rattle.cl_expressions.specs.Expressions.{Bound}
 use Rattle.cl_expressions.specs.Scopes.{Names, in_sight}
 use Rattle.cl_expressions.specs.declared.bindings.Bindings.{Bindings}
 
+-- the expressions of a vector
 abbrev pub terms_in : Vec ExprTree Global → List ExprTree
 terms_in v = v.items
 

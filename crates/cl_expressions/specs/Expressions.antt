@@ -44,9 +44,11 @@ parse_each (p ∷ ps) env = p.expr env >>= λ t. parse_each ps env >>= λ ts. gi
 
 -- ---- atoms
 
+-- a word that is a name is a variable, which is noted where none of this name is seen
 abbrev pub parse_variable : List ℕ → ℕ → Names → Load ExprTree
 parse_variable x at env = if is_name x then (noted (among x env) at >>= λ u. give (expr.Variable x)) else refuse 6 at
 
+-- a word: one of the constants, or a variable
 abbrev pub parse_word : List ℕ → ℕ → Names → Load ExprTree
 parse_word x at env =
     if bytes_eq x (codes "true") then give (expr.Constant (value.bool true))
@@ -59,6 +61,7 @@ parse_word x at env =
 abbrev pub parse_slot_name : Signatures → ℕ → Datum → Load ExprTree
 parse_slot_name w at d = named_part at d >>= λ x. noted (slot_in w x) (offset d) >>= λ u. give (expr.Slot x)
 
+-- `(slot NAME)`
 abbrev pub parse_slot : Signatures → ℕ → List Sub → Load ExprTree
 parse_slot w at (a ∷ []) = parse_slot_name w at a.shape
 parse_slot w at parts = refuse 6 at
@@ -67,10 +70,12 @@ parse_slot w at parts = refuse 6 at
 abbrev pub parse_make_parts : List ℕ → List Sub → Names → Load ExprTree
 parse_make_parts x parts env = parse_each parts env >>= λ ts. give (expr.Operation (operator.Record (Make x)) (expr_trees_of ts))
 
+-- a record that is not declared is noted; one that is takes as many parts as it has fields
 abbrev pub parse_make_fields : Option (Option ℕ) → List ℕ → ℕ → ℕ → List Sub → Names → Load ExprTree
 parse_make_fields None x name_at at parts env = noted false name_at >>= λ u. parse_make_parts x parts env
 parse_make_fields (Some count) x name_at at parts env = if fits count (length parts) then parse_make_parts x parts env else refuse 6 at
 
+-- `(make RECORD E ...)`
 abbrev pub parse_make : Signatures → ℕ → List Sub → Names → Load ExprTree
 parse_make w at [] env = refuse 6 at
 parse_make w at (n ∷ parts) env = named_part at n.shape >>= λ x. parse_make_fields (record_in w x) x (offset n.shape) at parts env
@@ -95,16 +100,20 @@ abbrev pub parse_if : ℕ → List Sub → Names → Load ExprTree
 parse_if at (a ∷ b ∷ c ∷ []) env = a.expr env >>= λ t. b.expr env >>= λ u. c.expr env >>= λ v. give (expr.If t u v)
 parse_if at parts env = refuse 6 at
 
+-- `(and E ...)`
 abbrev pub parse_and : List Sub → Names → Load ExprTree
 parse_and parts env = parse_each parts env >>= λ ts. give (expr.And (expr_trees_of ts))
 
+-- `(or E ...)`
 abbrev pub parse_or : List Sub → Names → Load ExprTree
 parse_or parts env = parse_each parts env >>= λ ts. give (expr.Or (expr_trees_of ts))
 
+-- an operator over its number of parts
 abbrev pub parse_operation : Operator → ℕ → List Sub → Names → Load ExprTree
 parse_operation o at parts env =
     if fits (count_of o) (length parts) then (parse_each parts env >>= λ ts. give (expr.Operation o (expr_trees_of ts))) else refuse 6 at
 
+-- a call of what has this count of parameters, if a function
 abbrev pub parse_call_counted : Option (Option ℕ) → List ℕ → ℕ → ℕ → List Sub → Names → Load ExprTree
 parse_call_counted None x head_at at parts env = refuse 5 head_at
 parse_call_counted (Some count) x head_at at parts env =
@@ -140,10 +149,12 @@ abbrev pub is_binding : List Datum → Bool
 is_binding (n ∷ e ∷ []) = is_some (name_in n)
 is_binding parts = false
 
+-- parts that are bindings each
 abbrev pub are_bindings : List Datum → Bool
 are_bindings [] = true
 are_bindings (d ∷ ds) = is_binding (parts_of d) && are_bindings ds
 
+-- a list of bindings
 abbrev pub is_binding_list : Datum → Bool
 is_binding_list (list ds at) = are_bindings (in_order ds)
 is_binding_list (number z at) = false
@@ -152,6 +163,7 @@ is_binding_list (word s at) = false
 is_binding_list (quoted s at name_at) = false
 is_binding_list (stray at) = false
 
+-- the parts of `(NAME E)`
 abbrev pub parse_binding_parts : ℕ → List Sub → Names → Load Binding
 parse_binding_parts at (n ∷ e ∷ []) env = named_part at n.shape >>= λ x. e.expr env >>= λ t. give (record { name = x; value = t })
 parse_binding_parts at parts env = refuse 6 at
@@ -185,12 +197,7 @@ parse_head w (Some head.If) x head_at at parts env = parse_if at parts env
 parse_head w (Some head.Let) x head_at at parts env = parse_let at parts env
 parse_head w (Some (head.Special s)) x head_at at parts env = parse_special w s at parts env
 parse_head w (Some (head.Operator o)) x head_at at parts env = parse_operation o at parts env
-parse_head w (Some (head.Control k)) x head_at at parts env = refuse 5 head_at
-parse_head w (Some (head.Figure f)) x head_at at parts env = refuse 5 head_at
-parse_head w (Some (head.Setting s)) x head_at at parts env = refuse 5 head_at
-parse_head w (Some (head.Writing k)) x head_at at parts env = refuse 5 head_at
-parse_head w (Some (head.Change k)) x head_at at parts env = refuse 5 head_at
-parse_head w (Some (head.Planned p)) x head_at at parts env = refuse 5 head_at
+parse_head w (Some other) x head_at at parts env = refuse 5 head_at
 
 -- a form begins with a symbol
 abbrev pub parse_headed : Signatures → Datum → ℕ → List Sub → Names → Load ExprTree
@@ -201,6 +208,7 @@ parse_headed w (quoted s head_at name_at) at parts env = refuse 6 at
 parse_headed w (stray head_at) at parts env = refuse 6 at
 parse_headed w (list ds head_at) at parts env = refuse 6 at
 
+-- a list that is a form
 abbrev pub parse_form : Signatures → ℕ → List Sub → Names → Load ExprTree
 parse_form w at [] env = refuse 6 at
 parse_form w at (h ∷ parts) env = parse_headed w h.shape at parts env

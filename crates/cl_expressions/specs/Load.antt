@@ -22,17 +22,21 @@ nothing_noted = record { unknown = None; specifiers = [] }
 abbrev pub Load : Type 0 → Type 0
 Load A = Notes → Result (A × Notes) Fault
 
+-- what is read behind a reading, unless that failed
 abbrev pub after : {A B : Type 0} → Result (A × Notes) Fault → (A → Load B) → Result (B × Notes) Fault
 after (Ok x) f = f x.0 x.1
 after (Err fault) f = Err fault
 
+-- one reading behind another, which sees what the first read and noted
 infixl 10 ◌>>=◌
 abbrev pub ◌>>=◌ : {A B : Type 0} → Load A → (A → Load B) → Load B
 (m >>= f) notes = after (m notes) f
 
+-- what is read, with nothing more noted
 abbrev pub give : {A : Type 0} → A → Load A
 give x notes = Ok (x, notes)
 
+-- a fault
 abbrev pub refuse : {A : Type 0} → ℕ → ℕ → Load A
 refuse number at notes = Err (number, at)
 
@@ -41,6 +45,7 @@ abbrev pub first_of : Option ℕ → ℕ → Option ℕ
 first_of None at = Some at
 first_of (Some earlier) at = Some earlier
 
+-- a name is noted at this offset unless it is known
 abbrev pub unless : Bool → ℕ → Notes → Notes
 unless true at notes = notes
 unless false at notes = record notes { unknown = first_of notes.unknown at }
@@ -64,5 +69,6 @@ Gives f (Ok x) notes r = r ≡ Ok (f x, notes)
 Gives f (Err (Refused number at)) notes r = r ≡ Err (number, at)
 Gives f (Err Memory) notes r = Unit {0}
 
+-- where the program holds what is meant
 abbrev pub itself : {A : Type 0} → A → A
 itself x = x

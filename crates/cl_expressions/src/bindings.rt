@@ -35,11 +35,7 @@ pub fn parse_bindings(
 {
     match datum {
         Datum::List(parts, _) => parse_each_binding(reader, at, parts.as_slice(), notes),
-        Datum::Number(_, _) => Err(LoadRefusal::Refused(6, at)),
-        Datum::Literal(_, _) => Err(LoadRefusal::Refused(6, at)),
-        Datum::Word(_, _) => Err(LoadRefusal::Refused(6, at)),
-        Datum::Quoted(_, _, _) => Err(LoadRefusal::Refused(6, at)),
-        Datum::Stray(_) => Err(LoadRefusal::Refused(6, at)),
+        _ => Err(LoadRefusal::Refused(6, at)),
     }
 }
 
@@ -79,11 +75,7 @@ pub fn parse_binding(
 {
     match datum {
         Datum::List(parts, _) => parse_binding_parts(reader, at, parts.as_slice(), notes),
-        Datum::Number(_, _) => Err(LoadRefusal::Refused(6, at)),
-        Datum::Literal(_, _) => Err(LoadRefusal::Refused(6, at)),
-        Datum::Word(_, _) => Err(LoadRefusal::Refused(6, at)),
-        Datum::Quoted(_, _, _) => Err(LoadRefusal::Refused(6, at)),
-        Datum::Stray(_) => Err(LoadRefusal::Refused(6, at)),
+        _ => Err(LoadRefusal::Refused(6, at)),
     }
 }
 
@@ -236,11 +228,7 @@ pub fn is_binding_list(datum: &Datum) -> bool
 {
     match datum {
         Datum::List(parts, _) => are_bindings(parts.as_slice()),
-        Datum::Number(_, _) => false,
-        Datum::Literal(_, _) => false,
-        Datum::Word(_, _) => false,
-        Datum::Quoted(_, _, _) => false,
-        Datum::Stray(_) => false,
+        _ => false,
     }
 }
 

@@ -85,11 +85,7 @@ fn parse_form(
     };
     match head {
         Datum::Word(head, head_at) => parse_head(reader, head, *head_at, at, parts, notes),
-        Datum::Number(_, _) => Err(LoadRefusal::Refused(6, at)),
-        Datum::Literal(_, _) => Err(LoadRefusal::Refused(6, at)),
-        Datum::Quoted(_, _, _) => Err(LoadRefusal::Refused(6, at)),
-        Datum::Stray(_) => Err(LoadRefusal::Refused(6, at)),
-        Datum::List(_, _) => Err(LoadRefusal::Refused(6, at)),
+        _ => Err(LoadRefusal::Refused(6, at)),
     }
 }
 
@@ -113,12 +109,7 @@ fn parse_head(
         Some(Head::Let) => parse_let(reader, at, parts, notes),
         Some(Head::Special(special)) => parse_special(reader, special, at, parts, notes),
         Some(Head::Operator(operator)) => parse_operation(reader, operator, at, parts, notes),
-        Some(Head::Control(_)) => Err(LoadRefusal::Refused(5, head_at)),
-        Some(Head::Figure(_)) => Err(LoadRefusal::Refused(5, head_at)),
-        Some(Head::Setting(_)) => Err(LoadRefusal::Refused(5, head_at)),
-        Some(Head::Writing(_)) => Err(LoadRefusal::Refused(5, head_at)),
-        Some(Head::Change(_)) => Err(LoadRefusal::Refused(5, head_at)),
-        Some(Head::Planned(_)) => Err(LoadRefusal::Refused(5, head_at)),
+        Some(_) => Err(LoadRefusal::Refused(5, head_at)),
     }
 }
 
