@@ -1,3 +1,5 @@
 pub mod Endings
 pub mod Spelled
 pub mod Written
+pub mod Lying
+pub mod Bounds
