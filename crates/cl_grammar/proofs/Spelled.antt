@@ -16,7 +16,10 @@ use Rattle.cl_words.specs.Heads.{arithmetic, comparison, list_operator, text_ope
 use Rattle.cl_words.specs.declared.heads.Special.{Special}
 use Rattle.cl_words.specs.declared.heads.Special.TheVariants as special
 use Rattle.cl_expressions.specs.Scopes.{Names, among}
+use Rattle.cl_forms.specs.Datum.{Datum}
+use Rattle.cl_words.specs.declared.signatures.Signatures.{Signatures}
 use Rattle.cl_grammar.specs.Heads.{Counted, operators, fixed_heads}
+use Rattle.cl_grammar.specs.Sights.{Sight, slot_seen, if_seen, let_seen, and_seen, or_seen, make_seen, get_seen, with_seen, map_seen, filter_seen, fold_seen, rows}
 
 pub false_true : false ≡ true → ⊥
 false_true h = cc
@@ -143,7 +146,7 @@ either : (a b : Bool) → (a ≡ true → ⊥) → b ≡ false → (a || b) ≡ 
 either true b h k = absurd (h refl)
 either false b h k = k
 
-both_parts : (a b : Bool) → (a && b) ≡ true → (a ≡ true) × (b ≡ true)
+pub both_parts : (a b : Bool) → (a && b) ≡ true → (a ≡ true) × (b ≡ true)
 both_parts true b h = (refl, h)
 both_parts false b h = absurd (false_true h)
 
@@ -155,3 +158,60 @@ fixed_apart x (y ∷ ys) h k =
 
 pub not_fixed : (x : List ℕ) → is_operator x ≡ false → among x fixed_heads ≡ false
 not_fixed x h = fixed_apart x fixed_heads refl h
+
+-- ---- words that are none of a table's
+
+missed_one : {B : Type 0} (b : Bool) (v : B) (o : Option B) → (b ≡ true → ⊥) → o ≡ None → (if b then Some v else o) ≡ None
+missed_one true v o h k = absurd (h refl)
+missed_one false v o h k = k
+
+abbrev all_found : {A B : Type 0} → (List ℕ → Option A) → List (List ℕ × B) → Bool
+all_found f [] = true
+all_found f (e ∷ es) = is_some (f e.0) && all_found f es
+
+some_none : {A : Type 0} (o : Option A) → o ≡ None → is_some o ≡ true → ⊥
+some_none o e h = false_true (sym (ap is_some e) ∙ h)
+
+missed : {A B : Type 0} (f : List ℕ → Option A) (x : List ℕ) (es : List (List ℕ × B)) → all_found f es ≡ true → f x ≡ None → named x es ≡ None
+missed f x [] h k = refl
+missed f x (e ∷ es) h k =
+    let parts : (is_some (f e.0) ≡ true) × (all_found f es ≡ true) = both_parts (is_some (f e.0)) (all_found f es) h in
+    missed_one (bytes_eq x e.0) e.1 (named x es) (λ i. some_none (f e.0) (ap f (sym (same_word x e.0 i)) ∙ k) parts.0) (missed f x es parts.1 k)
+
+pub no_row : (w : Signatures) (x : List ℕ) → special_named x ≡ None → named x (rows w) ≡ None
+no_row w x e = missed special_named x (rows w) refl e
+
+pub no_operator : (x : List ℕ) → operator_named x ≡ None → named x operators ≡ None
+no_operator x e = missed operator_named x operators refl e
+
+-- ---- rows
+
+-- the row of a head
+abbrev pub row_of : Signatures → Special → Names → List Datum → Sight
+row_of w special.Slot = slot_seen
+row_of w special.If = if_seen
+row_of w special.Let = let_seen
+row_of w special.And = and_seen
+row_of w special.Or = or_seen
+row_of w special.Make = make_seen w
+row_of w special.Get = get_seen
+row_of w special.With = with_seen
+row_of w special.Map = map_seen
+row_of w special.Filter = filter_seen
+row_of w special.Fold = fold_seen
+
+row_under : (w : Signatures) (s : Special) → named (word_of s) (rows w) ≡ Some (row_of w s)
+row_under w special.Slot = refl
+row_under w special.If = refl
+row_under w special.Let = refl
+row_under w special.And = refl
+row_under w special.Or = refl
+row_under w special.Make = refl
+row_under w special.Get = refl
+row_under w special.With = refl
+row_under w special.Map = refl
+row_under w special.Filter = refl
+row_under w special.Fold = refl
+
+pub row_spelled : (w : Signatures) (x : List ℕ) (s : Special) → special_named x ≡ Some s → named x (rows w) ≡ Some (row_of w s)
+row_spelled w x s e = ap (λ y. named y (rows w)) (special_spelled x s e) ∙ row_under w s
