@@ -24,8 +24,8 @@ part_lies w env ds at from to s e h =
 
 -- a form with this sight is blamed so
 abbrev pub SightBlames : Signatures → Sight → ℕ → ℕ → ℕ → Type 0
-SightBlames w Misshapen at n o = o ≡ at
-SightBlames w (UnknownHead k) at n o = o ≡ k
+SightBlames w Misshapen at n o = (n ≡ 6) × (o ≡ at)
+SightBlames w (UnknownHead k) at n o = (n ≡ 5) × (o ≡ k)
 SightBlames w (Sees ps) at n o = BlamesAny w ps n o
 
 -- names in a form with this sight are not declared
@@ -149,19 +149,44 @@ module _ {w : Signatures} where
   pub record_blames : {x : List ℕ} {at n o : ℕ} → BlamesAny w (record_name x at ∷ []) n o → ⊥
   record_blames (in_a_later b) = none_blamed b
 
-  pub word_blamed : {env : Names} {x : List ℕ} {at n o : ℕ} → Blames w env (word x at) n o → (is_atom x ≡ false) × (o ≡ at)
-  word_blamed (no_atom e) = (e, refl)
+  pub word_blamed : {env : Names} {x : List ℕ} {at n o : ℕ} → Blames w env (word x at) n o → (is_atom x ≡ false) × (n ≡ 6) × (o ≡ at)
+  word_blamed (no_atom e) = (e, refl, refl)
 
   pub word_unnamed : {env : Names} {x : List ℕ} {at o : ℕ} → Unnamed w env (word x at) o → (is_name x ≡ true) × (among x env ≡ false) × (o ≡ at)
   word_unnamed (unnamed.a_variable e f) = (e, f, refl)
 
-  pub stray_blamed : {env : Names} {at n o : ℕ} → Blames w env (stray at) n o → o ≡ at
-  stray_blamed a_stray_quote = refl
+  pub stray_blamed : {env : Names} {at n o : ℕ} → Blames w env (stray at) n o → (n ≡ 6) × (o ≡ at)
+  stray_blamed a_stray_quote = (refl, refl)
 
   pub form_blamed : {env : Names} {ds : Datums} {at n o : ℕ} → Blames w env (list ds at) n o → SightBlames w (form_seen w env (in_order ds)) at n o
-  form_blamed (a_misshapen_form {env} {ds} {at} e) = subst (λ s. SightBlames w s at 6 at) (sym e) refl
-  form_blamed (an_unknown_head {env} {ds} {at} {head_at = k} e) = subst (λ s. SightBlames w s at 5 k) (sym e) refl
+  form_blamed (a_misshapen_form {env} {ds} {at} e) = subst (λ s. SightBlames w s at 6 at) (sym e) (refl, refl)
+  form_blamed (an_unknown_head {env} {ds} {at} {head_at = k} e) = subst (λ s. SightBlames w s at 5 k) (sym e) (refl, refl)
   form_blamed (in_a_part {env} {ds} {at} {ps} {number = n} {offset = o} e b) = subst (λ s. SightBlames w s at n o) (sym e) b
 
   pub form_unnamed : {env : Names} {ds : Datums} {at o : ℕ} → Unnamed w env (list ds at) o → SightUnnamed w (form_seen w env (in_order ds)) o
   form_unnamed (unnamed.in_a_part {env} {ds} {at} {ps} {offset = o} e b) = subst (λ s. SightUnnamed w s o) (sym e) b
+
+  -- ---- one number at one offset
+
+  mutual
+    pub one_number : {env : Names} {d : Datum} {n o : ℕ} → Blames w env d n o → (m from to : ℕ) → Lies from d to → Blames w env d m o → n ≡ m
+    one_number a_stray_quote m from to h b = sym (stray_blamed b).0
+    one_number (no_atom e) m from to h b = sym (word_blamed b).1
+    one_number (a_misshapen_form {env} {ds} {at} e) m from to h b = sym (subst (λ s. SightBlames w s at m at) e (form_blamed b)).0
+    one_number (an_unknown_head {env} {ds} {at} {head_at = k} e) m from to h b = sym (subst (λ s. SightBlames w s at m k) e (form_blamed b)).0
+    one_number (in_a_part {env} {ds} {at} {ps} {number = n} {offset = o} e a) m from to h b =
+        any_one_number a m (at + 1) to (part_lies w env ds at from to (Sees ps) e h) (subst (λ s. SightBlames w s at m o) e (form_blamed b))
+
+    any_one_number : {ps : List Seen} {n o : ℕ} → BlamesAny w ps n o → (m from to : ℕ) → LieSeen from ps to → BlamesAny w ps m o → n ≡ m
+    any_one_number (in_the_first a) m from to h (in_the_first b) = one_number a m from h.0 h.1 b
+    any_one_number (in_the_first {env} {d} {ps} {number = n} {offset = o} a) m from to h (in_a_later b) =
+        let left : Within from o h.0 = blames_within a from h.0 h.1 in
+        let right : Within h.0 o to = blames_any_within b h.0 to h.2 in
+        absurd (omega (arith, left.1, right.0))
+    any_one_number (in_a_later {p = expression env d} {ps} {number = n} {offset = o} a) m from to h (in_the_first b) =
+        let left : Within from o h.0 = blames_within b from h.0 h.1 in
+        let right : Within h.0 o to = blames_any_within a h.0 to h.2 in
+        absurd (omega (arith, left.1, right.0))
+    any_one_number (in_a_later {p = expression env d} a) m from to h (in_a_later b) = any_one_number a m h.0 to h.2 b
+    any_one_number (in_a_later {p = slot_name x at} a) m from to h (in_a_later b) = any_one_number a m (at + 1) to h.1 b
+    any_one_number (in_a_later {p = record_name x at} a) m from to h (in_a_later b) = any_one_number a m (at + 1) to h.1 b

@@ -54,7 +54,7 @@ module _ (w : Signatures) where
 
   refused_row : (env : Names) (x : List ℕ) (at : ℕ) → is_atom x ≡ false → Judges {A = ExprTree} w (expression env (word x at) ∷ []) Any (refuse 6 at)
   refused_row env x at e =
-      alone w env (word x at) Any (refuse 6 at) λ from to lie u. (no_atom e, λ n o b. at_least at o (word_blamed b).1)
+      alone w env (word x at) Any (refuse 6 at) λ from to lie u. (no_atom e, λ n o b. at_least at o (word_blamed b).2)
     where
       at_least : (at o : ℕ) → o ≡ at → at ≤ o
       at_least at o e = omega (arith, e)
@@ -89,7 +89,7 @@ module _ (w : Signatures) where
   word_row env x at = true_row env x at (bytes_eq x (codes "true")) refl refl
 
   stray_row : (env : Names) (at : ℕ) → Judges {A = ExprTree} w (expression env (stray at) ∷ []) Any (refuse 6 at)
-  stray_row env at = alone w env (stray at) Any (refuse 6 at) λ from to lie u. (a_stray_quote, λ n o b. omega (arith, stray_blamed b))
+  stray_row env at = alone w env (stray at) Any (refuse 6 at) λ from to lie u. (a_stray_quote, λ n o b. omega (arith, (stray_blamed b).1))
 
   -- ---- bindings
 
@@ -131,7 +131,7 @@ module _ (w : Signatures) where
   -- ---- every datum
 
   mutual
-    expression_judged : (d : Datum) (env : Names) → Judges w (expression env d ∷ []) Any (parse_expression w d env)
+    pub expression_judged : (d : Datum) (env : Names) → Judges w (expression env d ∷ []) Any (parse_expression w d env)
     expression_judged (number z at) env = unblamed env (number z at) _ (λ n o b. elim b [ ]) (λ o b. elim b [ ])
     expression_judged (literal s at) env = unblamed env (literal s at) _ (λ n o b. elim b [ ]) (λ o b. elim b [ ])
     expression_judged (quoted x at name_at) env = unblamed env (quoted x at name_at) _ (λ n o b. elim b [ ]) (λ o b. elim b [ ])
@@ -174,9 +174,3 @@ module _ (w : Signatures) where
     binding_judged (word s d_at) at env h = absurd (false_true h)
     binding_judged (quoted s d_at name_at) at env h = absurd (false_true h)
     binding_judged (stray d_at) at env h = absurd (false_true h)
-
-  -- ---- the laws
-
-  verdict_of : (d : Datum) (env : Names) (from to : ℕ) → Lies from d to → (u : Unknown)
-      → Verdict (BlamesAny w (expression env d ∷ [])) (UnnamedAny w (expression env d ∷ [])) Any u (parse_expression w d env u)
-  verdict_of d env from to h u = (expression_judged d env).judged from to (to, h, omega arith) u

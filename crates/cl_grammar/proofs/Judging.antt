@@ -165,6 +165,13 @@ alone w env d Q m h = record {
       (λ n o b. in_the_first b) (λ n o b. only_blamed b) (λ o b. unnamed.in_the_first b) (λ o b. only_unnamed b) u (m u) (h from lie.0 lie.1 u);
 }
 
+-- what is judged as the only part
+pub only_verdict : {A : Type 0} (w : Signatures) (env : Names) (d : Datum) (Q : A → Type 0) (u : Unknown) (s : Result (A × Unknown) Fault)
+    → Verdict (BlamesAny w (expression env d ∷ [])) (UnnamedAny w (expression env d ∷ [])) Q u s → Verdict (Blames w env d) (Unnamed w env d) Q u s
+only_verdict w env d Q u s h =
+    verdict_same (BlamesAny w (expression env d ∷ [])) (Blames w env d) (UnnamedAny w (expression env d ∷ [])) (Unnamed w env d) Q
+    (λ n o b. only_blamed b) (λ n o b. in_the_first b) (λ o b. only_unnamed b) (λ o b. unnamed.in_the_first b) u s h
+
 -- ---- a form
 
 -- the reading answers to what the form sees
@@ -192,12 +199,12 @@ module _ {A : Type 0} (w : Signatures) (env : Names) (ds : Datums) (at : ℕ) (m
   sight_judged Misshapen e h to lie u =
       subst (Verdict (Blames w env (list ds at)) (Unnamed w env (list ds at)) Any u) (sym (h u)) (
         a_misshapen_form e,
-        λ n o b. omega (arith, subst (λ s. SightBlames w s at n o) e (form_blamed b)),
+        λ n o b. omega (arith, (subst (λ s. SightBlames w s at n o) e (form_blamed b)).1),
       )
   sight_judged (UnknownHead k) e h to lie u =
       subst (Verdict (Blames w env (list ds at)) (Unnamed w env (list ds at)) Any u) (sym (h u)) (
         an_unknown_head e,
-        λ n o b. omega (arith, subst (λ s. SightBlames w s at n o) e (form_blamed b)),
+        λ n o b. omega (arith, (subst (λ s. SightBlames w s at n o) e (form_blamed b)).1),
       )
   sight_judged (Sees ps) e h to lie u =
       verdict_same (BlamesAny w ps) (Blames w env (list ds at)) (UnnamedAny w ps) (Unnamed w env (list ds at)) Any

@@ -6,3 +6,5 @@ pub mod Bounds
 pub mod Judging
 pub mod Rows
 pub mod Judged
+pub mod Verdicts
+pub mod Callable

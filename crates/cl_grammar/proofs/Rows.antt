@@ -107,7 +107,7 @@ module _ {w : Signatures} where
 
   fields_row : (c : Option (Option ℕ)) (x : List ℕ) (name_at at : ℕ) (ps : List Sub) (env : Names) → record_in w x ≡ c → JudgedParts w ps
       → Answers w at (fields_seen c x name_at env (shapes ps)) (parse_make_fields c x name_at at ps env)
-  fields_row None x name_at at ps env e k = 
+  fields_row None x name_at at ps env e k =
       sees (then_part (record_judged w x name_at e) λ u i. all_judged ps env (λ ts. expr.Operation (Record (Make x)) (expr_trees_of ts)) k)
   fields_row (Some count) x name_at at ps env e k = counted_judged count at ps env _ k
 

@@ -203,7 +203,7 @@ module _ (w : Signatures) (names : CallsNames w) where
   list_written ds at env k =
       record {
         ends = λ u. IfOk-weaker (parse_form w at (subs w ds) env u) _ _
-        (λ x i. a_form (subst (WritesForm x.0) (shapes_subs w ds) i)) ((form_written at (subs w ds) env k).ends u);
+            (λ x i. a_form (subst (WritesForm x.0) (shapes_subs w ds) i)) ((form_written at (subs w ds) env k).ends u);
       }
 
   binding_parts_written : (ds : Datums) (at list_at : ℕ) (env : Names) → WrittenParts (subs w ds)

@@ -1,5 +1,5 @@
 -- Which form is to blame where a datum is no expression, with the number of the refusal and the offset.
-use Rattle.std.specs.Prelude.{◌≡◌, ℕ, Bool, true, false, ◌||◌, List, [], ◌∷◌, codes}
+use Rattle.std.specs.Prelude.{◌≡◌, ℕ, ◌≤◌, Bool, true, false, ◌||◌, List, [], ◌∷◌, codes}
 use Rattle.std.specs.Str.{bytes_eq}
 use Rattle.cl_forms.specs.Datum.{Datum, Datums, word, stray, list, in_order}
 use Rattle.cl_forms.specs.Words.{is_name}
@@ -24,3 +24,8 @@ mutual
   pub data BlamesAny (w : Signatures) : List Seen → ℕ → ℕ → Type 0 where
     in_the_first : {env : Names} {d : Datum} {ps : List Seen} {number offset : ℕ} → Blames w env d number offset → BlamesAny w (expression env d ∷ ps) number offset
     in_a_later : {p : Seen} {ps : List Seen} {number offset : ℕ} → BlamesAny w ps number offset → BlamesAny w (p ∷ ps) number offset
+
+-- this form is blamed, and none of a smaller offset
+pub record IsLeastBlame (w : Signatures) (env : Names) (d : Datum) (number offset : ℕ) : Type 0 where
+  pub blamed : Blames w env d number offset
+  pub least : (m p : ℕ) → Blames w env d m p → offset ≤ p

@@ -64,8 +64,9 @@ fixed_heads =
     ∷ []
 
 -- a word that may head a call
-abbrev pub IsCallable : List ℕ → Type 0
-IsCallable x = (is_name x ≡ true) × (among x fixed_heads ≡ false)
+pub record IsCallable (x : List ℕ) : Type 0 where
+  pub is_a_name : is_name x ≡ true
+  pub is_not_fixed : among x fixed_heads ≡ false
 
 -- the functions that are declared may head calls
 abbrev pub CallsNames : Signatures → Type 0

@@ -4,4 +4,7 @@
 
 mod laws;
 
-pub use laws::parsed_is_written;
+pub use laws::{
+    blamed_is_refused, declared_is_callable, first_blame_is_told, first_unnamed_is_noted,
+    parsed_is_written,
+};
