@@ -1,8 +1,8 @@
 -- What is blamed and not declared stands within the datum; and what a datum of each kind is blamed for.
-use Rattle.std.proofs.Common.{◌≡◌, ℕ, ◌+◌, ◌≤◌, ◌<◌, ◌⊎◌, inl, inr, Bool, true, false, List, [], ◌∷◌, ◌++◌, refl, sym, arith}
-use Rattle.std.specs.Prelude.{Option, Some, None}
+use Rattle.std.proofs.Common.{◌≡◌, ℕ, ◌+◌, ◌≤◌, ◌<◌, ◌⊎◌, inl, inr, true, false, List, [], ◌∷◌, ◌++◌, refl, sym, arith}
+use Rattle.std.specs.Prelude.{None}
 use Rattle.std.proofs.Math.Path.{subst}
-use Rattle.cl_forms.specs.Datum.{Datum, Datums, number, literal, word, quoted, stray, list, in_order}
+use Rattle.cl_forms.specs.Datum.{Datum, Datums, word, stray, list, in_order}
 use Rattle.cl_forms.specs.Words.{is_name}
 use Rattle.cl_words.specs.Signatures.{record_in, slot_in}
 use Rattle.cl_words.specs.declared.signatures.Signatures.{Signatures}

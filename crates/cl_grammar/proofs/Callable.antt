@@ -1,5 +1,5 @@
 -- The functions that a text declares have names, which are no fixed heads.
-use Rattle.std.proofs.Common.{◌≡◌, ℕ, Bool, true, false, if◌then◌else◌, List, [], ◌∷◌, ◌++◌, refl, sym, ap, ◌∙◌}
+use Rattle.std.proofs.Common.{◌≡◌, ℕ, Bool, true, false, if◌then◌else◌, List, [], ◌∷◌, ◌++◌, refl, ap, ◌∙◌}
 use Rattle.std.specs.Prelude.{Option, Some, None, is_some, codes}
 use Rattle.std.specs.Option.{IfSome}
 use Rattle.std.specs.Str.{bytes_eq}
@@ -8,13 +8,13 @@ use Rattle.cl_forms.specs.Datum.{Datum, number, literal, word, quoted, stray, li
 use Rattle.cl_forms.specs.Naming.{name_in, symbol_of, some_if, names_counted}
 use Rattle.cl_forms.specs.Words.{is_name}
 use Rattle.cl_words.specs.Heads.{is_operator}
-use Rattle.cl_words.specs.Signatures.{parameters_counted, with_callee, with_record, with_slot, with_slot_of, with_slots, with_section, with_sections, with_declaration_head, with_declaration, with_declarations, signatures_of, nothing_declared, function_count, function_in}
+use Rattle.cl_words.specs.Signatures.{parameters_counted, with_callee, with_record, with_slot, with_slot_of, with_slots, with_section, with_sections, with_declaration_head, with_declaration, with_declarations, signatures_of, nothing_declared, function_count}
 use Rattle.cl_words.specs.declared.signatures.Signatures.{Signatures}
 use Rattle.cl_words.specs.declared.signatures.Callee.{Callee}
 use Rattle.cl_words.specs.declared.signatures.CalleeKind.{CalleeKind}
 use Rattle.cl_words.specs.declared.signatures.CalleeKind.TheVariants.{Function, Display}
 use Rattle.cl_grammar.specs.Heads.{IsCallable, CallsNames}
-use Rattle.cl_grammar.proofs.Spelled.{same_word, not_fixed, false_true}
+use Rattle.cl_grammar.proofs.Spelled.{same_word, not_fixed}
 
 -- each word of the table is a name
 abbrev AreNamed : {D : Type 0} → List (List ℕ × D) → Type 0

@@ -1,6 +1,6 @@
 -- Every datum is read as it is to be blamed.
-use Rattle.std.proofs.Common.{◌≡◌, ℕ, ◌≤◌, Bool, true, false, if◌then◌else◌, ◌&&◌, ◌||◌, List, [], ◌∷◌, ◌++◌, refl, sym, ap, arith, ◌∙◌}
-use Rattle.std.specs.Prelude.{Option, Some, None, Ok, Err, codes, is_some}
+use Rattle.std.proofs.Common.{◌≡◌, ℕ, ◌≤◌, Bool, true, false, if◌then◌else◌, ◌||◌, List, [], ◌∷◌, refl, sym, ap, arith, ◌∙◌}
+use Rattle.std.specs.Prelude.{Option, Some, None, codes, is_some}
 use Rattle.std.specs.Str.{bytes_eq}
 use Rattle.std.proofs.Math.Path.{subst}
 use Rattle.cl_value.specs.Data as value
@@ -11,19 +11,18 @@ use Rattle.cl_forms.specs.Datum.{Datum, Datums, number, literal, word, quoted, s
 use Rattle.cl_forms.specs.Naming.{name_in, symbol_of, some_if}
 use Rattle.cl_forms.specs.Words.{is_name}
 use Rattle.cl_words.specs.declared.signatures.Signatures.{Signatures}
-use Rattle.cl_expressions.specs.Load.{Load, Unknown, ◌>>=◌, give, refuse, noted, unless}
+use Rattle.cl_expressions.specs.Load.{Load, ◌>>=◌, give, refuse, noted}
 use Rattle.cl_expressions.specs.Scopes.{Names, among}
-use Rattle.cl_expressions.specs.Expressions.{Bound, Sub, named_part, parse_variable, parse_word, is_binding, are_bindings, is_binding_list, parse_binding_parts, parse_form, parse_expression, subs, parse_bindings, parse_each_binding, parse_binding}
-use Rattle.cl_grammar.specs.Lies.{Lies}
-use Rattle.cl_grammar.specs.Sights.{Seen, expression, names_behind, value_seen, names_bound, values_seen, form_seen}
-use Rattle.cl_grammar.specs.Blames.{Blames, BlamesAny, is_atom, a_stray_quote, no_atom}
+use Rattle.cl_expressions.specs.Expressions.{parse_variable, parse_word, is_binding, are_bindings, is_binding_list, parse_binding_parts, parse_form, parse_expression, subs, parse_bindings, parse_each_binding, parse_binding}
+use Rattle.cl_grammar.specs.Sights.{expression, names_behind, value_seen, names_bound, values_seen, form_seen}
+use Rattle.cl_grammar.specs.Blames.{Blames, is_atom, a_stray_quote, no_atom}
 use Rattle.cl_grammar.specs.Unnamed.{Unnamed, UnnamedAny, IsNoted}
 use Rattle.cl_grammar.specs.Unnamed as unnamed
 use Rattle.cl_grammar.proofs.Bounds.{word_blamed, word_unnamed, stray_blamed}
-use Rattle.cl_grammar.proofs.Judging.{Any, Verdict, Judges, joined, then_part, then_given, ended, alone, noted_none, noted_one, Answers, list_judged}
-use Rattle.cl_grammar.proofs.Rows.{JudgedPart, JudgedParts, form_row}
+use Rattle.cl_grammar.proofs.Judging.{Any, Judges, joined, then_given, ended, alone, noted_none, noted_one, Answers, list_judged}
+use Rattle.cl_grammar.proofs.Rows.{JudgedParts, form_row}
 use Rattle.cl_grammar.proofs.Spelled.{both_parts, false_true, same_word}
-use Rattle.cl_grammar.proofs.Written.{shapes, shapes_subs}
+use Rattle.cl_grammar.proofs.Written.{shapes_subs}
 
 module _ (w : Signatures) where
   -- ---- atoms

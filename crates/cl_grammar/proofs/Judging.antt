@@ -1,6 +1,6 @@
 -- Readings against what is to blame: a reading gives a value where nothing is blamed, and fails where something is, at the least offset.
-use Rattle.std.proofs.Common.{◌≡◌, ℕ, ◌+◌, ◌≤◌, ◌<◌, ◌⊎◌, inl, inr, Bool, true, false, List, [], ◌∷◌, ◌++◌, refl, sym, arith, ◌∙◌}
-use Rattle.std.specs.Prelude.{Result, Ok, Err, Option, Some, None}
+use Rattle.std.proofs.Common.{◌≡◌, ℕ, ◌+◌, ◌≤◌, ◌⊎◌, inl, inr, Bool, true, false, List, [], ◌∷◌, ◌++◌, refl, sym, arith, ◌∙◌}
+use Rattle.std.specs.Prelude.{Result, Ok, Err, Some, None}
 use Rattle.std.proofs.Math.Path.{subst}
 use Rattle.cl_forms.specs.Datum.{Datum, Datums, list, in_order}
 use Rattle.cl_words.specs.Signatures.{record_in, slot_in}

@@ -1,6 +1,6 @@
 -- What a form sees lies in it in order.
-use Rattle.std.proofs.Common.{◌≡◌, ℕ, ◌+◌, ◌≤◌, ◌<◌, Bool, true, false, if◌then◌else◌, List, [], ◌∷◌, ◌++◌, length, refl, sym, arith}
-use Rattle.std.specs.Prelude.{Option, Some, None, codes}
+use Rattle.std.proofs.Common.{ℕ, ◌+◌, ◌≤◌, ◌<◌, Bool, true, false, if◌then◌else◌, List, [], ◌∷◌, ◌++◌, length, arith}
+use Rattle.std.specs.Prelude.{Option, Some, None}
 use Rattle.std.specs.Option.{IfSome}
 use Rattle.std.specs.Str.{bytes_eq}
 use Rattle.cl_table.specs.Names.{named}
@@ -12,7 +12,7 @@ use Rattle.cl_expressions.specs.Scopes.{Names}
 use Rattle.cl_expressions.specs.Expressions.{is_binding_list}
 use Rattle.cl_grammar.specs.Heads.{Counted, operators}
 use Rattle.cl_grammar.specs.Lies.{Lies, LieAll}
-use Rattle.cl_grammar.specs.Sights.{Seen, expression, slot_name, record_name, Sight, Misshapen, UnknownHead, Sees, all_seen, counted_seen, where_named, slot_seen, if_seen, names_behind, value_seen, names_bound, values_seen, let_seen, and_seen, or_seen, fields_seen, make_seen, get_seen, with_seen, map_seen, filter_seen, fold_seen, call_seen, rows, operator_seen, row_seen, headed_seen, form_seen}
+use Rattle.cl_grammar.specs.Sights.{Seen, expression, slot_name, record_name, Sight, Misshapen, UnknownHead, Sees, all_seen, counted_seen, where_named, slot_seen, if_seen, names_behind, value_seen, names_bound, values_seen, let_seen, fields_seen, make_seen, get_seen, with_seen, map_seen, filter_seen, fold_seen, call_seen, rows, operator_seen, row_seen, form_seen}
 
 -- data lie one behind another, as those of a list do
 abbrev pub LieList : ℕ → List Datum → ℕ → Type 0

@@ -1,32 +1,29 @@
 -- An expression answers to what its form sees: a lemma for each row.
-use Rattle.std.proofs.Common.{◌≡◌, ℕ, Bool, true, false, if◌then◌else◌, ◌&&◌, ◌||◌, List, [], ◌∷◌, ◌++◌, length, refl, sym, ap, suc, ◌∙◌}
-use Rattle.std.specs.Prelude.{Option, Some, None, Ok, Err, codes, is_some}
-use Rattle.std.specs.Str.{bytes_eq}
+use Rattle.std.proofs.Common.{◌≡◌, ℕ, Bool, true, false, if◌then◌else◌, List, [], ◌∷◌, ◌++◌, length, refl, sym, ap, suc}
+use Rattle.std.specs.Prelude.{Option, Some, None}
 use Rattle.std.proofs.Math.Path.{subst}
 use Rattle.cl_syntax.specs.Expr.{bindings_of}
 use Rattle.cl_syntax.specs.ExprTree.{ExprTree, expr_trees_of}
 use Rattle.cl_syntax.specs.ExprTree as expr
-use Rattle.cl_syntax.specs.declared.expressions.Binding.{Binding}
 use Rattle.cl_syntax.specs.declared.operators.Operator.{Operator}
 use Rattle.cl_syntax.specs.declared.operators.Operator.TheVariants.{Record}
 use Rattle.cl_syntax.specs.declared.operators.RecordOperator.TheVariants.{Make}
 use Rattle.cl_table.specs.Names.{named}
-use Rattle.cl_forms.specs.Datum.{Datum, Datums, number, literal, word, quoted, stray, list, none, item, in_order, parts_of, offset}
-use Rattle.cl_forms.specs.Naming.{fits, name_in, symbol_of}
-use Rattle.cl_forms.specs.Words.{is_name}
+use Rattle.cl_forms.specs.Datum.{Datum, number, literal, word, quoted, stray, list, parts_of, offset}
+use Rattle.cl_forms.specs.Naming.{fits, name_in}
 use Rattle.cl_words.specs.Heads.{special_named, operator_named, count_of}
-use Rattle.cl_words.specs.Signatures.{function_in, record_in, slot_in}
+use Rattle.cl_words.specs.Signatures.{function_in, record_in}
 use Rattle.cl_words.specs.declared.heads.Special.{Special}
 use Rattle.cl_words.specs.declared.heads.Special.TheVariants as special
 use Rattle.cl_words.specs.declared.signatures.Signatures.{Signatures}
-use Rattle.cl_expressions.specs.Load.{Load, Unknown, ◌>>=◌, give, refuse, noted}
-use Rattle.cl_expressions.specs.Scopes.{Names, among}
-use Rattle.cl_expressions.specs.Expressions.{Bound, Sub, named_part, parse_each, parse_variable, parse_word, parse_slot, parse_make_parts, parse_make_fields, parse_make, parse_get, parse_with, parse_if, parse_and, parse_or, parse_operation, parse_call_counted, parse_map, parse_filter, parse_fold, is_binding, are_bindings, is_binding_list, parse_binding_parts, parse_let, parse_special, parse_operator, parse_head, parse_headed, parse_form, parse_expression, subs, parse_bindings, parse_each_binding, parse_binding}
-use Rattle.cl_grammar.specs.Heads.{Counted, operators}
-use Rattle.cl_grammar.specs.Sights.{Seen, expression, slot_name, record_name, Sight, Misshapen, UnknownHead, Sees, all_seen, counted_seen, where_named, slot_seen, if_seen, names_behind, value_seen, names_bound, values_seen, let_seen, and_seen, or_seen, fields_seen, make_seen, get_seen, with_seen, map_seen, filter_seen, fold_seen, call_seen, rows, operator_seen, row_seen, headed_seen, form_seen}
-use Rattle.cl_grammar.proofs.Judging.{Any, Judges, joined, then_part, then_given, ended, slot_judged, record_judged, Answers, misshapen, unknown_head, sees, list_judged}
+use Rattle.cl_expressions.specs.Load.{Load, ◌>>=◌, give, refuse}
+use Rattle.cl_expressions.specs.Scopes.{Names}
+use Rattle.cl_expressions.specs.Expressions.{Sub, named_part, parse_each, parse_slot, parse_make_fields, parse_make, parse_get, parse_with, parse_if, parse_and, parse_or, parse_operation, parse_call_counted, parse_map, parse_filter, parse_fold, is_binding_list, parse_let, parse_special, parse_operator, parse_head, parse_headed, parse_form}
+use Rattle.cl_grammar.specs.Heads.{operators}
+use Rattle.cl_grammar.specs.Sights.{Seen, expression, Sight, Misshapen, Sees, all_seen, counted_seen, where_named, slot_seen, if_seen, names_bound, values_seen, let_seen, and_seen, or_seen, fields_seen, make_seen, get_seen, with_seen, map_seen, filter_seen, fold_seen, call_seen, rows, operator_seen, row_seen, headed_seen, form_seen}
+use Rattle.cl_grammar.proofs.Judging.{Any, Judges, joined, then_part, then_given, ended, slot_judged, record_judged, Answers, misshapen, unknown_head, sees}
 use Rattle.cl_grammar.proofs.Spelled.{row_of, row_spelled, no_row, operator_spelled, no_operator}
-use Rattle.cl_grammar.proofs.Written.{shapes, shapes_subs}
+use Rattle.cl_grammar.proofs.Written.{shapes}
 
 -- a part answers as an expression and as bindings
 pub record JudgedPart (w : Signatures) (p : Sub) : Type 0 where

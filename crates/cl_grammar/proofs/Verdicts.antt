@@ -1,5 +1,5 @@
 -- What the readings of data that lie in order come to.
-use Rattle.std.proofs.Common.{◌≡◌, ◌↔◌, ℕ, ◌≤◌, refl, sym, ap, arith, ◌∙◌, List, [], ◌∷◌}
+use Rattle.std.proofs.Common.{◌≡◌, ◌↔◌, ℕ, refl, sym, ap, arith}
 use Rattle.std.specs.Prelude.{Result, Ok, Err}
 use Rattle.std.proofs.Math.Path.{subst}
 use Rattle.cl_syntax.specs.ExprTree.{ExprTree}
@@ -9,9 +9,8 @@ use Rattle.cl_expressions.specs.Load.{Unknown, Fault}
 use Rattle.cl_expressions.specs.Scopes.{Names}
 use Rattle.cl_expressions.specs.Expressions.{parse_expression}
 use Rattle.cl_grammar.specs.Lies.{Lies}
-use Rattle.cl_grammar.specs.Sights.{expression}
-use Rattle.cl_grammar.specs.Blames.{Blames, BlamesAny, IsLeastBlame, in_the_first}
-use Rattle.cl_grammar.specs.Unnamed.{Unnamed, UnnamedAny, IsNoted}
+use Rattle.cl_grammar.specs.Blames.{Blames, IsLeastBlame}
+use Rattle.cl_grammar.specs.Unnamed.{Unnamed, IsNoted}
 use Rattle.cl_grammar.proofs.Bounds.{one_number}
 use Rattle.cl_grammar.proofs.Judging.{Any, Verdict, only_verdict}
 use Rattle.cl_grammar.proofs.Judged.{expression_judged}

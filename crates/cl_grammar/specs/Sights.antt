@@ -1,5 +1,5 @@
 -- What a form sees of its parts: the expressions and names in it, in the order of the text; or what is wrong with the form itself.
-use Rattle.std.specs.Prelude.{ℕ, Bool, true, false, if◌then◌else◌, List, [], ◌∷◌, ◌++◌, length, Option, Some, None, codes}
+use Rattle.std.specs.Prelude.{ℕ, if◌then◌else◌, List, [], ◌∷◌, ◌++◌, length, Option, Some, None, codes}
 use Rattle.cl_table.specs.Names.{named}
 use Rattle.cl_forms.specs.Datum.{Datum, number, literal, word, quoted, stray, list, parts_of, offset}
 use Rattle.cl_forms.specs.Naming.{name_in, symbol_of, fits}

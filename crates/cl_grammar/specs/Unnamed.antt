@@ -1,5 +1,5 @@
 -- Which names of a datum, at which offsets, are not declared.
-use Rattle.std.specs.Prelude.{◌≡◌, ℕ, ◌≤◌, Bool, true, false, List, [], ◌∷◌, Option, Some, None}
+use Rattle.std.specs.Prelude.{◌≡◌, ℕ, ◌≤◌, true, false, List, ◌∷◌, Option, Some, None}
 use Rattle.cl_forms.specs.Datum.{Datum, Datums, word, list, in_order}
 use Rattle.cl_forms.specs.Words.{is_name}
 use Rattle.cl_words.specs.Signatures.{record_in, slot_in}
@@ -11,7 +11,8 @@ mutual
   -- in the datum, which sees these variables, a name at this offset is not declared
   pub data Unnamed (w : Signatures) : Names → Datum → ℕ → Type 0 where
     a_variable : {env : Names} {x : List ℕ} {at : ℕ} → is_name x ≡ true → among x env ≡ false → Unnamed w env (word x at) at
-    in_a_part : {env : Names} {ds : Datums} {at : ℕ} {ps : List Seen} {offset : ℕ} → form_seen w env (in_order ds) ≡ Sees ps → UnnamedAny w ps offset → Unnamed w env (list ds at) offset
+    in_a_part : {env : Names} {ds : Datums} {at : ℕ} {ps : List Seen} {offset : ℕ} → form_seen w env (in_order ds) ≡ Sees ps → UnnamedAny w ps offset
+        → Unnamed w env (list ds at) offset
 
   -- in one of the parts
   pub data UnnamedAny (w : Signatures) : List Seen → ℕ → Type 0 where

@@ -1,5 +1,5 @@
 -- How an expression is written: a row for each form of the language, with its offsets left out.
-use Rattle.std.specs.Prelude.{◌≡◌, ℕ, ℤ, Bool, true, false, List, [], ◌∷◌, length, Option, Some, codes}
+use Rattle.std.specs.Prelude.{◌≡◌, ℕ, ℤ, true, false, List, [], ◌∷◌, length, Option, Some, codes}
 use Rattle.cl_value.specs.Data as value
 use Rattle.cl_syntax.specs.ExprTree.{ExprTree, ExprTrees, Bindings, none, part, unbound, binding}
 use Rattle.cl_syntax.specs.ExprTree as expr
@@ -30,27 +30,36 @@ mutual
     -- (slot NAME)
     a_slot : {x : List ℕ} {n : Datum} {h : ℕ} → name_in n ≡ Some x → WritesForm (expr.Slot x) (word (codes "slot") h ∷ n ∷ [])
     -- (if TEST THEN ELSE)
-    an_if : {t u v : ExprTree} {a b c : Datum} {h : ℕ} → Writes t a → Writes u b → Writes v c → WritesForm (expr.If t u v) (word (codes "if") h ∷ a ∷ b ∷ c ∷ [])
+    an_if : {t u v : ExprTree} {a b c : Datum} {h : ℕ} → Writes t a → Writes u b → Writes v c
+        → WritesForm (expr.If t u v) (word (codes "if") h ∷ a ∷ b ∷ c ∷ [])
     -- (let ((NAME E) ...) BODY)
-    a_let : {bs : Bindings} {t : ExprTree} {ds : Datums} {b : Datum} {at h : ℕ} → WritesBindings bs (in_order ds) → Writes t b → WritesForm (expr.Let bs t) (word (codes "let") h ∷ list ds at ∷ b ∷ [])
+    a_let : {bs : Bindings} {t : ExprTree} {ds : Datums} {b : Datum} {at h : ℕ} → WritesBindings bs (in_order ds) → Writes t b
+        → WritesForm (expr.Let bs t) (word (codes "let") h ∷ list ds at ∷ b ∷ [])
     -- (and E ...)
     an_and : {ts : ExprTrees} {ds : List Datum} {h : ℕ} → WritesAll ts ds → WritesForm (expr.And ts) (word (codes "and") h ∷ ds)
     -- (or E ...)
     an_or : {ts : ExprTrees} {ds : List Datum} {h : ℕ} → WritesAll ts ds → WritesForm (expr.Or ts) (word (codes "or") h ∷ ds)
     -- (make RECORD E ...)
-    a_make : {x : List ℕ} {ts : ExprTrees} {n : Datum} {ds : List Datum} {h : ℕ} → name_in n ≡ Some x → WritesAll ts ds → WritesForm (expr.Operation (Record (Make x)) ts) (word (codes "make") h ∷ n ∷ ds)
+    a_make : {x : List ℕ} {ts : ExprTrees} {n : Datum} {ds : List Datum} {h : ℕ} → name_in n ≡ Some x → WritesAll ts ds
+        → WritesForm (expr.Operation (Record (Make x)) ts) (word (codes "make") h ∷ n ∷ ds)
     -- (get E FIELD)
-    a_get : {x : List ℕ} {t : ExprTree} {a n : Datum} {h : ℕ} → Writes t a → name_in n ≡ Some x → WritesForm (expr.Operation (Record (Get x)) (part t none)) (word (codes "get") h ∷ a ∷ n ∷ [])
+    a_get : {x : List ℕ} {t : ExprTree} {a n : Datum} {h : ℕ} → Writes t a → name_in n ≡ Some x
+        → WritesForm (expr.Operation (Record (Get x)) (part t none)) (word (codes "get") h ∷ a ∷ n ∷ [])
     -- (with E FIELD E)
-    a_with : {x : List ℕ} {t u : ExprTree} {a n b : Datum} {h : ℕ} → Writes t a → name_in n ≡ Some x → Writes u b → WritesForm (expr.Operation (Record (With x)) (part t (part u none))) (word (codes "with") h ∷ a ∷ n ∷ b ∷ [])
+    a_with : {x : List ℕ} {t u : ExprTree} {a n b : Datum} {h : ℕ} → Writes t a → name_in n ≡ Some x → Writes u b
+        → WritesForm (expr.Operation (Record (With x)) (part t (part u none))) (word (codes "with") h ∷ a ∷ n ∷ b ∷ [])
     -- (map NAME LIST BODY)
-    a_map : {x : List ℕ} {t u : ExprTree} {n a b : Datum} {h : ℕ} → name_in n ≡ Some x → Writes t a → Writes u b → WritesForm (expr.Map x t u) (word (codes "map") h ∷ n ∷ a ∷ b ∷ [])
+    a_map : {x : List ℕ} {t u : ExprTree} {n a b : Datum} {h : ℕ} → name_in n ≡ Some x → Writes t a → Writes u b
+        → WritesForm (expr.Map x t u) (word (codes "map") h ∷ n ∷ a ∷ b ∷ [])
     -- (filter NAME LIST BODY)
-    a_filter : {x : List ℕ} {t u : ExprTree} {n a b : Datum} {h : ℕ} → name_in n ≡ Some x → Writes t a → Writes u b → WritesForm (expr.Filter x t u) (word (codes "filter") h ∷ n ∷ a ∷ b ∷ [])
+    a_filter : {x : List ℕ} {t u : ExprTree} {n a b : Datum} {h : ℕ} → name_in n ≡ Some x → Writes t a → Writes u b
+        → WritesForm (expr.Filter x t u) (word (codes "filter") h ∷ n ∷ a ∷ b ∷ [])
     -- (fold NAME LIST ACCUMULATOR OPENING BODY)
-    a_fold : {x y : List ℕ} {t u v : ExprTree} {n a m b c : Datum} {h : ℕ} → name_in n ≡ Some x → Writes t a → name_in m ≡ Some y → Writes u b → Writes v c → WritesForm (expr.Fold x t y u v) (word (codes "fold") h ∷ n ∷ a ∷ m ∷ b ∷ c ∷ [])
+    a_fold : {x y : List ℕ} {t u v : ExprTree} {n a m b c : Datum} {h : ℕ} → name_in n ≡ Some x → Writes t a
+        → name_in m ≡ Some y → Writes u b → Writes v c → WritesForm (expr.Fold x t y u v) (word (codes "fold") h ∷ n ∷ a ∷ m ∷ b ∷ c ∷ [])
     -- (OPERATOR E ...)
-    an_operation : {x : List ℕ} {o : Operator} {count : Option ℕ} {ts : ExprTrees} {ds : List Datum} {h : ℕ} → named x operators ≡ Some (o, count) → fits count (length ds) ≡ true → WritesAll ts ds → WritesForm (expr.Operation o ts) (word x h ∷ ds)
+    an_operation : {x : List ℕ} {o : Operator} {count : Option ℕ} {ts : ExprTrees} {ds : List Datum} {h : ℕ}
+        → named x operators ≡ Some (o, count) → fits count (length ds) ≡ true → WritesAll ts ds → WritesForm (expr.Operation o ts) (word x h ∷ ds)
     -- (FUNCTION E ...)
     a_call : {x : List ℕ} {ts : ExprTrees} {ds : List Datum} {h : ℕ} → IsCallable x → WritesAll ts ds → WritesForm (expr.Call x ts) (word x h ∷ ds)
 
@@ -62,4 +71,5 @@ mutual
   -- bindings write data, one each: (NAME E)
   pub data WritesBindings : Bindings → List Datum → Type 0 where
     no_binding : WritesBindings unbound []
-    one_binding : {x : List ℕ} {t : ExprTree} {bs : Bindings} {n e : Datum} {ds : List Datum} {at : ℕ} → name_in n ≡ Some x → Writes t e → WritesBindings bs ds → WritesBindings (binding x t bs) (list (datum.item n (datum.item e datum.none)) at ∷ ds)
+    one_binding : {x : List ℕ} {t : ExprTree} {bs : Bindings} {n e : Datum} {ds : List Datum} {at : ℕ} → name_in n ≡ Some x → Writes t e
+        → WritesBindings bs ds → WritesBindings (binding x t bs) (list (datum.item n (datum.item e datum.none)) at ∷ ds)
