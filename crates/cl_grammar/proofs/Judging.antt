@@ -1,11 +1,11 @@
 -- Readings against what is to blame: a reading gives a value where nothing is blamed, and fails where something is, at the least offset.
 use Rattle.std.proofs.Common.{◌≡◌, ℕ, ◌+◌, ◌≤◌, ◌⊎◌, inl, inr, Bool, true, false, List, [], ◌∷◌, ◌++◌, refl, sym, arith, ◌∙◌}
-use Rattle.std.specs.Prelude.{Result, Ok, Err, Some, None}
+use Rattle.std.specs.Prelude.{Result, Ok, Err, Option, Some, None}
 use Rattle.std.proofs.Math.Path.{subst}
 use Rattle.cl_forms.specs.Datum.{Datum, Datums, list, in_order}
 use Rattle.cl_words.specs.Signatures.{record_in, slot_in}
 use Rattle.cl_words.specs.declared.signatures.Signatures.{Signatures}
-use Rattle.cl_expressions.specs.Load.{Load, Unknown, Fault, after, ◌>>=◌, give, refuse, noted, unless}
+use Rattle.cl_expressions.specs.Load.{Load, Unknown, Fault, after, ◌>>=◌, give, refuse, noted, first_of}
 use Rattle.cl_expressions.specs.Scopes.{Names}
 use Rattle.cl_grammar.specs.Lies.{Lies}
 use Rattle.cl_grammar.specs.Sights.{Seen, expression, slot_name, record_name, Sight, Misshapen, UnknownHead, Sees, form_seen}
@@ -31,15 +31,15 @@ pub record Judges {A : Type 0} (w : Signatures) (ps : List Seen) (Q : A → Type
 
 -- ---- notes
 
-pub noted_none : (N : ℕ → Type 0) (u : Unknown) → ((o : ℕ) → N o → ⊥) → IsNoted N u u
+pub noted_none : (N : ℕ → Type 0) (u : Option ℕ) → ((o : ℕ) → N o → ⊥) → IsNoted N u u
 noted_none N None h = h
 noted_none N (Some earlier) h = refl
 
-pub noted_one : (N : ℕ → Type 0) (u : Unknown) (at : ℕ) → N at → ((o : ℕ) → N o → o ≡ at) → IsNoted N u (unless false at u)
+pub noted_one : (N : ℕ → Type 0) (u : Option ℕ) (at : ℕ) → N at → ((o : ℕ) → N o → o ≡ at) → IsNoted N u (first_of u at)
 noted_one N None at h k = (h, λ o b. omega (arith, k o b))
 noted_one N (Some earlier) at h k = refl
 
-noted_same : (N M : ℕ → Type 0) → ((o : ℕ) → N o → M o) → ((o : ℕ) → M o → N o) → (u v : Unknown) → IsNoted N u v → IsNoted M u v
+noted_same : (N M : ℕ → Type 0) → ((o : ℕ) → N o → M o) → ((o : ℕ) → M o → N o) → (u v : Option ℕ) → IsNoted N u v → IsNoted M u v
 noted_same N M f g (Some earlier) v h = h
 noted_same N M f g None None h = λ o b. h o (g o b)
 noted_same N M f g None (Some first) h = (f first h.0, λ o b. h.1 o (g o b))
@@ -55,7 +55,7 @@ module _ (w : Signatures) (ps qs : List Seen) (from middle to : ℕ) (l : LieSee
       let right : Within middle o to = unnamed_any_within b middle to r in
       omega (arith, left.1, right.0)
 
-  noted_joined : (u v z : Unknown) → IsNoted (UnnamedAny w ps) u v → IsNoted (UnnamedAny w qs) v z → IsNoted (UnnamedAny w (ps ++ qs)) u z
+  noted_joined : (u v z : Option ℕ) → IsNoted (UnnamedAny w ps) u v → IsNoted (UnnamedAny w qs) v z → IsNoted (UnnamedAny w (ps ++ qs)) u z
   noted_joined (Some earlier) v z h k = subst (λ s. IsNoted (UnnamedAny w qs) s z) h k
   noted_joined None None None h k = λ o b. neither (h o) (k o) (unnamed_split ps qs o b)
   noted_joined None None (Some first) h k =

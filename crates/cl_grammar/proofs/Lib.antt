@@ -8,3 +8,4 @@ pub mod Rows
 pub mod Judged
 pub mod Verdicts
 pub mod Callable
+pub mod TextLies

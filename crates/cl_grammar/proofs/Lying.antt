@@ -12,7 +12,7 @@ use Rattle.cl_expressions.specs.Scopes.{Names}
 use Rattle.cl_expressions.specs.Expressions.{is_binding_list}
 use Rattle.cl_grammar.specs.Heads.{Counted, operators}
 use Rattle.cl_grammar.specs.Lies.{Lies, LieAll}
-use Rattle.cl_grammar.specs.Sights.{Seen, expression, slot_name, record_name, Sight, Misshapen, UnknownHead, Sees, all_seen, counted_seen, where_named, slot_seen, if_seen, names_behind, value_seen, names_bound, values_seen, let_seen, fields_seen, make_seen, get_seen, with_seen, map_seen, filter_seen, fold_seen, call_seen, rows, operator_seen, row_seen, form_seen}
+use Rattle.cl_grammar.specs.Sights.{Seen, expression, slot_name, record_name, Sight, Misshapen, UnknownHead, Sees, all_seen, counted_seen, slot_seen, if_seen, names_behind, value_seen, values_seen, let_seen, fields_seen, make_seen, get_seen, with_seen, map_seen, filter_seen, fold_seen, call_seen, rows, operator_seen, row_seen, form_seen}
 
 -- data lie one behind another, as those of a list do
 abbrev pub LieList : ℕ → List Datum → ℕ → Type 0
@@ -48,7 +48,7 @@ own_lies (list ds at) from to h = (h.0, h.1)
 pub datum_rises : (d : Datum) (from to : ℕ) → Lies from d to → from ≤ to
 datum_rises d from to h = let own : (from ≤ offset d) × (offset d < to) = own_lies d from to h in omega (arith, own.0, own.1)
 
-datum_earlier : (d : Datum) (before from to : ℕ) → before ≤ from → Lies from d to → Lies before d to
+pub datum_earlier : (d : Datum) (before from to : ℕ) → before ≤ from → Lies from d to → Lies before d to
 datum_earlier (number z at) before from to e h = (omega (arith, e, h.0), h.1)
 datum_earlier (literal s at) before from to e h = (omega (arith, e, h.0), h.1)
 datum_earlier (word s at) before from to e h = (omega (arith, e, h.0), h.1)
@@ -95,8 +95,8 @@ seen_split (record_name x at ∷ ps) qs from to h =
     let rest : LieApart (at + 1) ps qs to = seen_split ps qs (at + 1) to h.1 in (rest.0, (h.0, rest.1), rest.2)
 
 -- a name is passed over
-passed : (n : Datum) (ps : List Seen) (from next to : ℕ) → Lies from n next → LieSeen next ps to → LieSeen from ps to
-passed n ps from next to h k = seen_earlier ps from next to (datum_rises n from next h) k
+passed : (n d : Datum) (from next to : ℕ) → Lies from n next → Lies next d to → Lies from d to
+passed n d from next to h k = datum_earlier d from next to (datum_rises n from next h) k
 
 -- ---- rows
 
@@ -123,7 +123,7 @@ named_lies (Some x) seen from to h = h x
 slot_lies : LieRow slot_seen
 slot_lies env (n ∷ []) from to h =
     let own : (from ≤ offset n) × (offset n < h.0) = own_lies n from h.0 h.1 in
-    named_lies (name_in n) (λ x. Sees (slot_name x (offset n) ∷ [])) from to (λ x. (own.0, omega (arith, own.1, h.2)))
+    named_lies (name_in n) _ from to (λ x. (own.0, omega (arith, own.1, h.2)))
 slot_lies env ds from to h = tt
 
 if_lies : LieRow if_seen
@@ -132,8 +132,8 @@ if_lies env ds from to h = tt
 
 value_lies : (env : Names) (d : Datum) (from to : ℕ) → Lies from d to → LieSeen from (value_seen env (parts_of d)) to
 value_lies env (list (item n (item e none)) at) from to h =
-    let steps : LieSeen (at + 1) (expression env e ∷ []) to = passed n (expression env e ∷ []) (at + 1) h.2.0 to h.2.1 h.2.2 in
-    seen_earlier (expression env e ∷ []) from (at + 1) to (omega (arith, h.0)) steps
+    let value : Lies (at + 1) e h.2.2.0 = passed n e (at + 1) h.2.0 h.2.2.0 h.2.1 h.2.2.1 in
+    (h.2.2.0, datum_earlier e from (at + 1) h.2.2.0 (omega (arith, h.0)) value, h.2.2.2)
 value_lies env (list none at) from to h = omega (arith, h.0, h.1)
 value_lies env (list (item n none) at) from to h = omega (arith, h.0, h.1)
 value_lies env (list (item n (item e (item d ds))) at) from to h = omega (arith, h.0, h.1)
@@ -160,9 +160,7 @@ bound_lies env (stray at) from to h = omega (arith, h.0, h.1)
 
 let_lies : LieRow let_seen
 let_lies env (bs ∷ b ∷ []) from to h =
-    let body : List Seen = expression (names_bound env (parts_of bs)) b ∷ [] in
-    when_lies (is_binding_list bs) (values_seen env (parts_of bs) ++ body) from to
-    (seen_joined (values_seen env (parts_of bs)) body from h.0 to (bound_lies env bs from h.0 h.1) h.2)
+    when_lies (is_binding_list bs) _ from to (seen_joined (values_seen env (parts_of bs)) _ from h.0 to (bound_lies env bs from h.0 h.1) h.2)
 let_lies env ds from to h = tt
 
 fields_lie : (c : Option (Option ℕ)) (x : List ℕ) (n : Datum) (env : Names) (ds : List Datum) (from next to : ℕ) → Lies from n next → LieList next ds to
@@ -171,43 +169,39 @@ fields_lie None x n env ds from next to h k =
     let own : (from ≤ offset n) × (offset n < next) = own_lies n from next h in
     (own.0, seen_earlier (all_seen env ds) (offset n + 1) next to (omega (arith, own.1)) (all_lie env ds next to k))
 fields_lie (Some count) x n env ds from next to h k =
-    when_lies (fits count (length ds)) (all_seen env ds) from to (passed n (all_seen env ds) from next to h (all_lie env ds next to k))
+    when_lies (fits count (length ds)) (all_seen env ds) from to (seen_earlier (all_seen env ds) from next to (datum_rises n from next h) (all_lie env ds next to k))
 
 make_lies : (w : Signatures) → LieRow (make_seen w)
 make_lies w env [] from to h = tt
 make_lies w env (n ∷ ds) from to h =
-    named_lies (name_in n) (λ x. fields_seen (record_in w x) x (offset n) env ds) from to
-    (λ x. fields_lie (record_in w x) x n env ds from h.0 to h.1 h.2)
+    named_lies (name_in n) _ from to
+    (λ x. fields_lie (record_in w x) x n env _ from h.0 to h.1 h.2)
 
 get_lies : LieRow get_seen
 get_lies env (a ∷ f ∷ []) from to h =
-    named_lies (name_in f) (λ x. Sees (expression env a ∷ [])) from to (λ x. (h.0, h.1, passed f [] h.0 h.2.0 to h.2.1 h.2.2))
+    named_lies (name_in f) _ from to (λ x. (h.0, h.1, omega (arith, datum_rises f h.0 h.2.0 h.2.1, h.2.2)))
 get_lies env ds from to h = tt
 
 with_lies : LieRow with_seen
 with_lies env (a ∷ f ∷ b ∷ []) from to h =
-    named_lies (name_in f) (λ x. Sees (expression env a ∷ expression env b ∷ [])) from to
-    (λ x. (h.0, h.1, passed f (expression env b ∷ []) h.0 h.2.0 to h.2.1 h.2.2))
+    named_lies (name_in f) _ from to (λ x. (h.0, h.1, (h.2.2.0, passed f b h.0 h.2.0 h.2.2.0 h.2.1 h.2.2.1, h.2.2.2)))
 with_lies env ds from to h = tt
 
 map_lies : LieRow map_seen
-map_lies env (n ∷ a ∷ b ∷ []) from to h =
-    named_lies (name_in n) (λ x. Sees (expression env a ∷ expression (x ∷ env) b ∷ [])) from to
-    (λ x. passed n (expression env a ∷ expression (x ∷ env) b ∷ []) from h.0 to h.1 h.2)
+map_lies env (n ∷ a ∷ b ∷ []) from to h = named_lies (name_in n) _ from to (λ x. (h.2.0, passed n a from h.0 h.2.0 h.1 h.2.1, h.2.2))
 map_lies env ds from to h = tt
 
 filter_lies : LieRow filter_seen
-filter_lies env (n ∷ a ∷ b ∷ []) from to h =
-    named_lies (name_in n) (λ x. Sees (expression env a ∷ expression (x ∷ env) b ∷ [])) from to
-    (λ x. passed n (expression env a ∷ expression (x ∷ env) b ∷ []) from h.0 to h.1 h.2)
+filter_lies env (n ∷ a ∷ b ∷ []) from to h = named_lies (name_in n) _ from to (λ x. (h.2.0, passed n a from h.0 h.2.0 h.1 h.2.1, h.2.2))
 filter_lies env ds from to h = tt
 
 fold_lies : LieRow fold_seen
 fold_lies env (n ∷ a ∷ m ∷ b ∷ c ∷ []) from to h =
-    named_lies (name_in n) (λ x. where_named m λ y. Sees (expression env a ∷ expression env b ∷ expression (y ∷ x ∷ env) c ∷ [])) from to λ x.
-    named_lies (name_in m) (λ y. Sees (expression env a ∷ expression env b ∷ expression (y ∷ x ∷ env) c ∷ [])) from to λ y.
-    passed n (expression env a ∷ expression env b ∷ expression (y ∷ x ∷ env) c ∷ []) from h.0 to h.1
-    (h.2.0, h.2.1, passed m (expression env b ∷ expression (y ∷ x ∷ env) c ∷ []) h.2.0 h.2.2.0 to h.2.2.1 h.2.2.2)
+    named_lies (name_in n) _ from to λ x. named_lies (name_in m) _ from to λ y. (
+      h.2.0,
+      passed n a from h.0 h.2.0 h.1 h.2.1,
+      (h.2.2.2.0, passed m b h.2.0 h.2.2.0 h.2.2.2.0 h.2.2.1 h.2.2.2.1, h.2.2.2.2),
+    )
 fold_lies env ds from to h = tt
 
 -- ---- forms by their heads

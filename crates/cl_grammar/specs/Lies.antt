@@ -16,3 +16,8 @@ abbrev mutual
   pub LieAll : ℕ → Datums → ℕ → Type 0
   LieAll from none to = from ≤ to
   LieAll from (item d ds) to = (next : ℕ) × Lies from d next × LieAll next ds to
+
+-- data lie so in a text
+pub record LieInText (ds : Datums) : Type 0 where
+  pub end : ℕ
+  pub lie : LieAll 0 ds end

@@ -1,7 +1,13 @@
 //! What the definition of the expressions says of a datum. The contracts are the laws.
 ghost use Rattle.std.specs.Prelude.{◌≡◌, ◌↔◌, ℕ, List, Ok, Err};
 ghost use Rattle.cl_syntax.specs.ExprTree.{ExprTree};
-ghost use Rattle.cl_forms.specs.Datum.{Datum};
+ghost use Rattle.cl_sexp.specs.Tokens.{tokens_of};
+ghost use Rattle.cl_sexp.specs.declared.Token.{Token};
+ghost use Rattle.cl_forms.specs.Datum.{Datum, datums_of};
+ghost use Rattle.cl_forms.specs.Grouped.{grouped};
+ghost use Rattle.cl_forms.specs.Spelled.{lexemes};
+ghost use Rattle.cl_forms.specs.Tree.{Trees, spelled_all};
+ghost use Rattle.cl_forms.specs.declared.grouping.Waiting.TheVariants.{Nothing};
 ghost use Rattle.cl_words.specs.Signatures.{signatures_of};
 ghost use Rattle.cl_words.specs.declared.signatures.Signatures.{Signatures};
 ghost use Rattle.cl_expressions.specs.Load.{Unknown};
@@ -9,7 +15,7 @@ ghost use Rattle.cl_expressions.specs.Scopes.{Names};
 ghost use Rattle.cl_expressions.specs.Expressions.{parse_expression};
 ghost use Rattle.cl_grammar.specs.Heads.{CallsNames};
 ghost use Rattle.cl_grammar.specs.Writes.{Writes};
-ghost use Rattle.cl_grammar.specs.Lies.{Lies};
+ghost use Rattle.cl_grammar.specs.Lies.{Lies, LieInText};
 ghost use Rattle.cl_grammar.specs.Blames.{Blames, IsLeastBlame};
 ghost use Rattle.cl_grammar.specs.Unnamed.{Unnamed, IsNoted};
 
@@ -22,6 +28,13 @@ pub fn parsed_is_written()
 /// The functions that a text declares may head calls.
 pub fn declared_is_callable()
     ensures { (forms : List Datum) → CallsNames (signatures_of forms) }
+{}
+
+/// The data of a text lie in it in order, at every depth.
+#[tactic(auto, using(crate::proofs::TextLies::text_lies))]
+pub fn data_lie_in_order()
+    ensures { (text : List ℕ) (tokens : List Token) (forms : Trees) → tokens_of text ≡ Ok tokens → lexemes text tokens ≡ spelled_all forms
+        → LieInText (datums_of (grouped Nothing forms)) }
 {}
 
 /// A datum whose parts lie in order is refused exactly where a form in it is to blame, with the number and the offset of the first.
