@@ -1,4 +1,4 @@
-pub mod BodyRows
+pub mod BodyCounts
 pub mod BodySteps
-pub mod DisplayRows
-pub mod CommandRows
+pub mod DisplayFormCounts
+pub mod StatementCounts

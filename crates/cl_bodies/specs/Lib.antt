@@ -1,4 +1,4 @@
 pub mod Bodies
-pub mod Displays
-pub mod Commands
+pub mod DisplayForms
+pub mod Statements
 pub mod SlotTypes

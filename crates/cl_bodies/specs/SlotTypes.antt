@@ -1,10 +1,10 @@
--- The type that a datum is where a slot asks for one: `NAME`, `(NAME)` or `((NAME))`. Types with arguments or options are not built
--- yet, and neither are the types that have no members or are parse_make_parts of others.
+-- The type that a datum is where a slot asks for one: `NAME`, `(NAME)` or `((NAME))`. No parameters stand around it. Types with arguments or options are not built
+-- yet, and neither are the types that have no members or are made of others.
 use Rattle.std.specs.Prelude.{ℕ, Bool, true, false, ◌||◌, if◌then◌else◌, List, [], ◌∷◌, Option, Some, None, codes}
 use Rattle.std.specs.Str.{bytes_eq}
 use Rattle.cl_syntax.specs.declared.type_specs.TypeSpec.{TypeSpec}
 use Rattle.cl_forms.specs.Datum.{Datum, number, literal, word, quoted, stray, list, in_order, offset}
-use Rattle.cl_expressions.specs.Load.{Load, ◌>>=◌, give, refuse, noted}
+use Rattle.cl_expressions.specs.Load.{Load, ◌>>=◌, give, refuse, noted, placed}
 use Rattle.cl_words.specs.TypeNames.{is_plain_type, is_ranged_type, is_later_type}
 use Rattle.cl_forms.specs.Naming.{name_in, symbol_of}
 use Rattle.cl_words.specs.Signatures.{record_in}
@@ -63,10 +63,14 @@ abbrev pub parse_type_list : Signatures → ℕ → List Datum → Load TypeSpec
 parse_type_list w at [] = refuse 6 at
 parse_type_list w at (h ∷ more) = parse_type_first w at h more
 
+abbrev pub parse_specifier : Signatures → Datum → Load TypeSpec
+parse_specifier w (list ds at) = parse_type_list w at (in_order ds)
+parse_specifier w (number z at) = parse_type_head w at (number z at) []
+parse_specifier w (literal s at) = parse_type_head w at (literal s at) []
+parse_specifier w (word x at) = parse_type_head w at (word x at) []
+parse_specifier w (quoted x at name_at) = parse_type_head w at (quoted x at name_at) []
+parse_specifier w (stray at) = parse_type_head w at (stray at) []
+
+-- the type is noted where it stands
 abbrev pub parse_type : Signatures → Datum → Load TypeSpec
-parse_type w (list ds at) = parse_type_list w at (in_order ds)
-parse_type w (number z at) = parse_type_head w at (number z at) []
-parse_type w (literal s at) = parse_type_head w at (literal s at) []
-parse_type w (word x at) = parse_type_head w at (word x at) []
-parse_type w (quoted x at name_at) = parse_type_head w at (quoted x at name_at) []
-parse_type w (stray at) = parse_type_head w at (stray at) []
+parse_type w d = parse_specifier w d >>= λ t. placed t [] (offset d) >>= λ u. give t

@@ -9,11 +9,13 @@ ghost use Rattle.cl_bodies.specs.Bodies.{parse_form, parse_body, parts_in, parse
 
 use crate::languages::Language;
 use crate::own::Own;
-use cl_expressions::{Scope, parse_binding, parse_bindings, parse_expression, is_binding_list};
+use cl_expressions::{
+    Notes, Reader, Scope, is_binding_list, parse_binding, parse_bindings, parse_expression,
+};
 use cl_forms::{Datum, LoadRefusal};
-use cl_words::{Control, Signatures, control_named};
-use cl_syntax::Expr;
+use cl_syntax::{Binding, Expr};
 use cl_value::Text;
+use cl_words::{Control, control_named};
 use std::alloc::{AllocError, Global};
 
 /// The test of an `if` and the form where it holds.
@@ -26,17 +28,15 @@ struct Opening<F> {
 /// The form that a datum is. Where a name in it is not declared, the first such is noted.
 #[cycle(body)]
 pub fn parse_form<L: Language>(
-    alloc: Global,
-    signatures: &Signatures,
+    reader: &Reader,
     datum: &Datum,
-    scope: &Scope,
-    unknown: &mut Option<u32>,
+    notes: &mut Notes,
 ) -> Result<L, LoadRefusal>
-    ensures { Gives itself result unknown.new
-        (parse_form L.rows signatures.now (datum_of datum.now) (variables_of scope.now) unknown.old) }
+    ensures { Gives itself result notes.new
+        (parse_form L.rows reader.now.signatures.now (datum_of datum.now) (variables_of reader.now.scope.now) notes.old) }
 {
     match datum {
-        Datum::List(parts, at) => parse_listed(alloc, signatures, *at, parts.as_slice(), scope, unknown),
+        Datum::List(parts, at) => parse_listed(reader, *at, parts.as_slice(), notes),
         Datum::Number(_, at) => Err(LoadRefusal::Refused(6, *at)),
         Datum::Literal(_, at) => Err(LoadRefusal::Refused(6, *at)),
         Datum::Word(_, at) => Err(LoadRefusal::Refused(6, *at)),
@@ -49,19 +49,17 @@ pub fn parse_form<L: Language>(
 #[cycle(body)]
 #[tactic(auto, using(cl_forms::proofs::Data::datum_weighs))]
 pub fn parse_body<L: Language>(
-    alloc: Global,
-    signatures: &Signatures,
+    reader: &Reader,
     parts: &[Datum],
-    scope: &Scope,
-    unknown: &mut Option<u32>,
+    notes: &mut Notes,
 ) -> Result<L::Body, LoadRefusal>
-    ensures { Gives L.items result unknown.new
-        (parse_body L.rows signatures.now (datums_of (map datum_of parts.now)) (variables_of scope.now)
-        unknown.old) }
+    ensures { Gives L.items result notes.new
+        (parse_body L.rows reader.now.signatures.now (datums_of (map datum_of parts.now)) (variables_of reader.now.scope.now)
+        notes.old) }
 {
-    let mut body = L::empty(alloc);
+    let mut body = L::empty(reader.alloc);
     for part in parts {
-        let form = parse_form::<L>(alloc, signatures, part, scope, unknown)?;
+        let form = parse_form::<L>(reader, part, notes)?;
         L::push(&mut body, form)?;
     }
     Ok(body)
@@ -70,25 +68,21 @@ pub fn parse_body<L: Language>(
 /// A form: a list that begins with a symbol.
 #[cycle(body)]
 fn parse_listed<L: Language>(
-    alloc: Global,
-    signatures: &Signatures,
+    reader: &Reader,
     at: u32,
     parts: &[Datum],
-    scope: &Scope,
-    unknown: &mut Option<u32>,
+    notes: &mut Notes,
 ) -> Result<L, LoadRefusal>
-    ensures { Gives itself result unknown.new
-        (parse_listed L.rows signatures.now at
-        (parts_in L.rows signatures.now (datums_of (map datum_of parts.now)))
-        (variables_of scope.now) unknown.old) }
+    ensures { Gives itself result notes.new
+        (parse_listed L.rows reader.now.signatures.now at
+        (parts_in L.rows reader.now.signatures.now (datums_of (map datum_of parts.now)))
+        (variables_of reader.now.scope.now) notes.old) }
 {
     let Some((head, parts)) = parts.split_first() else {
         return Err(LoadRefusal::Refused(6, at));
     };
     match head {
-        Datum::Word(head, head_at) => parse_head(
-            alloc, signatures, head, *head_at, at, parts, scope, unknown,
-        ),
+        Datum::Word(head, head_at) => parse_head(reader, head, *head_at, at, parts, notes),
         Datum::Number(_, _) => Err(LoadRefusal::Refused(6, at)),
         Datum::Literal(_, _) => Err(LoadRefusal::Refused(6, at)),
         Datum::Quoted(_, _, _) => Err(LoadRefusal::Refused(6, at)),
@@ -99,69 +93,63 @@ fn parse_listed<L: Language>(
 
 #[cycle(body)]
 fn parse_head<L: Language>(
-    alloc: Global,
-    signatures: &Signatures,
+    reader: &Reader,
     head: &Text,
     head_at: u32,
     at: u32,
     parts: &[Datum],
-    scope: &Scope,
-    unknown: &mut Option<u32>,
+    notes: &mut Notes,
 ) -> Result<L, LoadRefusal>
-    ensures { Gives itself result unknown.new
-        (parse_headed L.rows signatures.now (word head.now head_at) at
-        (parts_in L.rows signatures.now (datums_of (map datum_of parts.now)))
-        (variables_of scope.now) unknown.old) }
+    ensures { Gives itself result notes.new
+        (parse_headed L.rows reader.now.signatures.now (word head.now head_at) at
+        (parts_in L.rows reader.now.signatures.now (datums_of (map datum_of parts.now)))
+        (variables_of reader.now.scope.now) notes.old) }
 {
     match control_named(head.as_slice()) {
-        Some(control) => parse_control(alloc, signatures, control, at, parts, scope, unknown),
-        None => parse_own(alloc, signatures, head, head_at, at, parts, scope, unknown),
+        Some(control) => parse_control(reader, control, at, parts, notes),
+        None => parse_own(reader, head, head_at, at, parts, notes),
     }
 }
 
 #[cycle(body)]
 fn parse_control<L: Language>(
-    alloc: Global,
-    signatures: &Signatures,
+    reader: &Reader,
     control: Control,
     at: u32,
     parts: &[Datum],
-    scope: &Scope,
-    unknown: &mut Option<u32>,
+    notes: &mut Notes,
 ) -> Result<L, LoadRefusal>
-    ensures { Gives itself result unknown.new
-        (parse_control L.rows signatures.now control at
-        (parts_in L.rows signatures.now (datums_of (map datum_of parts.now)))
-        (variables_of scope.now) unknown.old) }
+    ensures { Gives itself result notes.new
+        (parse_control L.rows reader.now.signatures.now control at
+        (parts_in L.rows reader.now.signatures.now (datums_of (map datum_of parts.now)))
+        (variables_of reader.now.scope.now) notes.old) }
 {
     match control {
-        Control::If => parse_if(alloc, signatures, at, parts, scope, unknown),
-        Control::When => parse_when(alloc, signatures, at, parts, scope, unknown),
-        Control::Let => parse_let(alloc, signatures, at, parts, scope, unknown),
-        Control::Dolist => parse_dolist(alloc, signatures, at, parts, scope, unknown),
-        Control::Progn => Ok(L::sequence(parse_body::<L>(alloc, signatures, parts, scope, unknown)?)),
+        Control::If => parse_if(reader, at, parts, notes),
+        Control::When => parse_when(reader, at, parts, notes),
+        Control::Let => parse_let(reader, at, parts, notes),
+        Control::Dolist => parse_dolist(reader, at, parts, notes),
+        Control::Progn => Ok(L::sequence(parse_body::<L>(reader, parts, notes)?)),
     }
 }
 
 /// `(if TEST THEN ELSE)`
 #[cycle(body)]
-#[tactic(auto, using(crate::proofs::BodyRows::if_counts))]
+#[tactic(auto, using(crate::proofs::BodyCounts::if_counts))]
 fn parse_if<L: Language>(
-    alloc: Global,
-    signatures: &Signatures,
+    reader: &Reader,
     at: u32,
     parts: &[Datum],
-    scope: &Scope,
-    unknown: &mut Option<u32>,
+    notes: &mut Notes,
 ) -> Result<L, LoadRefusal>
-    ensures { Gives itself result unknown.new
-        (parse_if L.rows at (parts_in L.rows signatures.now (datums_of (map datum_of parts.now)))
-        (variables_of scope.now) unknown.old) }
+    ensures { Gives itself result notes.new
+        (parse_if L.rows at (parts_in L.rows reader.now.signatures.now (datums_of (map datum_of parts.now)))
+        (variables_of reader.now.scope.now) notes.old) }
 {
     match parts {
         [test, first, other] => {
-            let test = parse_expression(alloc, signatures, test, scope, unknown)?;
-            parse_then(alloc, signatures, test, first, other, scope, unknown)
+            let test = parse_expression(reader, test, notes)?;
+            parse_then(reader, test, first, other, notes)
         }
         [] => Err(LoadRefusal::Refused(6, at)),
         [_] => Err(LoadRefusal::Refused(6, at)),
@@ -172,39 +160,35 @@ fn parse_if<L: Language>(
 
 #[cycle(body)]
 fn parse_then<L: Language>(
-    alloc: Global,
-    signatures: &Signatures,
+    reader: &Reader,
     test: Expr,
     first: &Datum,
     other: &Datum,
-    scope: &Scope,
-    unknown: &mut Option<u32>,
+    notes: &mut Notes,
 ) -> Result<L, LoadRefusal>
-    ensures { Gives itself result unknown.new
+    ensures { Gives itself result notes.new
         (parse_then L.rows test
-        (parse_form L.rows signatures.now (datum_of first.now) (variables_of scope.now))
-        (parse_form L.rows signatures.now (datum_of other.now) (variables_of scope.now)) unknown.old) }
+        (parse_form L.rows reader.now.signatures.now (datum_of first.now) (variables_of reader.now.scope.now))
+        (parse_form L.rows reader.now.signatures.now (datum_of other.now) (variables_of reader.now.scope.now)) notes.old) }
 {
-    let first = parse_form::<L>(alloc, signatures, first, scope, unknown)?;
+    let first = parse_form::<L>(reader, first, notes)?;
     let opening = Opening { test, first };
-    parse_else(alloc, signatures, opening, other, scope, unknown)
+    parse_else(reader, opening, other, notes)
 }
 
 #[cycle(body)]
 fn parse_else<L: Language>(
-    alloc: Global,
-    signatures: &Signatures,
+    reader: &Reader,
     opening: Opening<L>,
     other: &Datum,
-    scope: &Scope,
-    unknown: &mut Option<u32>,
+    notes: &mut Notes,
 ) -> Result<L, LoadRefusal>
-    ensures { Gives itself result unknown.new
+    ensures { Gives itself result notes.new
         (parse_else L.rows opening.test opening.first
-        (parse_form L.rows signatures.now (datum_of other.now) (variables_of scope.now)) unknown.old) }
+        (parse_form L.rows reader.now.signatures.now (datum_of other.now) (variables_of reader.now.scope.now)) notes.old) }
 {
-    let other = parse_form::<L>(alloc, signatures, other, scope, unknown)?;
-    Ok(choice_of(alloc, opening, other)?)
+    let other = parse_form::<L>(reader, other, notes)?;
+    Ok(choice_of(reader.alloc, opening, other)?)
 }
 
 fn choice_of<L: Language>(alloc: Global, opening: Opening<L>, other: L) -> Result<L, AllocError>
@@ -217,38 +201,34 @@ fn choice_of<L: Language>(alloc: Global, opening: Opening<L>, other: L) -> Resul
 /// `(when TEST FORM ...)`
 #[cycle(body)]
 fn parse_when<L: Language>(
-    alloc: Global,
-    signatures: &Signatures,
+    reader: &Reader,
     at: u32,
     parts: &[Datum],
-    scope: &Scope,
-    unknown: &mut Option<u32>,
+    notes: &mut Notes,
 ) -> Result<L, LoadRefusal>
-    ensures { Gives itself result unknown.new
-        (parse_when L.rows at (parts_in L.rows signatures.now (datums_of (map datum_of parts.now)))
-        (variables_of scope.now) unknown.old) }
+    ensures { Gives itself result notes.new
+        (parse_when L.rows at (parts_in L.rows reader.now.signatures.now (datums_of (map datum_of parts.now)))
+        (variables_of reader.now.scope.now) notes.old) }
 {
     let Some((test, body)) = parts.split_first() else {
         return Err(LoadRefusal::Refused(6, at));
     };
-    let test = parse_expression(alloc, signatures, test, scope, unknown)?;
-    let body = parse_body::<L>(alloc, signatures, body, scope, unknown)?;
+    let test = parse_expression(reader, test, notes)?;
+    let body = parse_body::<L>(reader, body, notes)?;
     Ok(L::when(test, body))
 }
 
 /// `(let ((NAME E) ...) FORM ...)`: each binding sees the earlier ones.
 #[cycle(body)]
 fn parse_let<L: Language>(
-    alloc: Global,
-    signatures: &Signatures,
+    reader: &Reader,
     at: u32,
     parts: &[Datum],
-    scope: &Scope,
-    unknown: &mut Option<u32>,
+    notes: &mut Notes,
 ) -> Result<L, LoadRefusal>
-    ensures { Gives itself result unknown.new
-        (parse_let L.rows at (parts_in L.rows signatures.now (datums_of (map datum_of parts.now)))
-        (variables_of scope.now) unknown.old) }
+    ensures { Gives itself result notes.new
+        (parse_let L.rows at (parts_in L.rows reader.now.signatures.now (datums_of (map datum_of parts.now)))
+        (variables_of reader.now.scope.now) notes.old) }
 {
     let Some((bindings, body)) = parts.split_first() else {
         return Err(LoadRefusal::Refused(6, at));
@@ -256,106 +236,94 @@ fn parse_let<L: Language>(
     if !is_binding_list(bindings) {
         return Err(LoadRefusal::Refused(6, at));
     }
-    let bound = parse_bindings(alloc, signatures, at, bindings, scope, unknown)?;
-    let inner = Scope::Names(bound.names.as_slice(), &*scope);
-    let body = parse_body::<L>(alloc, signatures, body, &inner, unknown)?;
+    let bound = parse_bindings(reader, at, bindings, notes)?;
+    let inner = Scope::Names(bound.names.as_slice(), reader.scope);
+    let inside = Reader {
+        alloc: reader.alloc,
+        signatures: reader.signatures,
+        scope: &inner,
+    };
+    let body = parse_body::<L>(&inside, body, notes)?;
     Ok(L::bind(bound.bindings, body))
 }
 
 /// `(dolist (NAME LIST) FORM ...)`
 #[cycle(body)]
 fn parse_dolist<L: Language>(
-    alloc: Global,
-    signatures: &Signatures,
+    reader: &Reader,
     at: u32,
     parts: &[Datum],
-    scope: &Scope,
-    unknown: &mut Option<u32>,
+    notes: &mut Notes,
 ) -> Result<L, LoadRefusal>
-    ensures { Gives itself result unknown.new
-        (parse_dolist L.rows signatures.now at
-        (parts_in L.rows signatures.now (datums_of (map datum_of parts.now)))
-        (variables_of scope.now) unknown.old) }
+    ensures { Gives itself result notes.new
+        (parse_dolist L.rows reader.now.signatures.now at
+        (parts_in L.rows reader.now.signatures.now (datums_of (map datum_of parts.now)))
+        (variables_of reader.now.scope.now) notes.old) }
 {
     let Some((binding, body)) = parts.split_first() else {
         return Err(LoadRefusal::Refused(6, at));
     };
-    let binding = parse_binding(alloc, signatures, at, binding, scope, unknown)?;
-    parse_dolist_body(
-        alloc,
-        signatures,
-        binding.name,
-        binding.value,
-        body,
-        scope,
-        unknown,
-    )
+    let binding = parse_binding(reader, at, binding, notes)?;
+    parse_dolist_body(reader, binding, body, notes)
 }
 
 #[cycle(body)]
 fn parse_dolist_body<L: Language>(
-    alloc: Global,
-    signatures: &Signatures,
-    name: Text,
-    list: Expr,
+    reader: &Reader,
+    binding: Binding,
     body: &[Datum],
-    scope: &Scope,
-    unknown: &mut Option<u32>,
+    notes: &mut Notes,
 ) -> Result<L, LoadRefusal>
-    ensures { Gives itself result unknown.new
-        (parse_dolist_body L.rows name list
-        (parts_in L.rows signatures.now (datums_of (map datum_of body.now))) (variables_of scope.now)
-        unknown.old) }
+    ensures { Gives itself result notes.new
+        (parse_dolist_body L.rows binding.name binding.value
+        (parts_in L.rows reader.now.signatures.now (datums_of (map datum_of body.now))) (variables_of reader.now.scope.now)
+        notes.old) }
 {
-    let body = parse_body::<L>(alloc, signatures, body, &Scope::One(&name, &*scope), unknown)?;
-    Ok(L::each(name, list, body))
+    let Binding { name, value } = binding;
+    let inner = Scope::One(&name, reader.scope);
+    let inside = Reader {
+        alloc: reader.alloc,
+        signatures: reader.signatures,
+        scope: &inner,
+    };
+    let body = parse_body::<L>(&inside, body, notes)?;
+    Ok(L::each(name, value, body))
 }
 
 /// A form of the language's own.
 #[cycle(body)]
-#[tactic(auto, using(crate::proofs::BodyRows::parts_subs, crate::proofs::BodyRows::parts_behind, crate::proofs::BodyRows::behind_weighs))]
+#[tactic(auto, using(crate::proofs::BodyCounts::parts_subs, crate::proofs::BodyCounts::parts_behind, crate::proofs::BodyCounts::behind_weighs))]
 fn parse_own<L: Language>(
-    alloc: Global,
-    signatures: &Signatures,
+    reader: &Reader,
     head: &Text,
     head_at: u32,
     at: u32,
     parts: &[Datum],
-    scope: &Scope,
-    unknown: &mut Option<u32>,
+    notes: &mut Notes,
 ) -> Result<L, LoadRefusal>
-    ensures { Gives itself result unknown.new
-        (parse_own L.rows signatures.now head.now head_at at
-        (parts_in L.rows signatures.now (datums_of (map datum_of parts.now)))
-        (variables_of scope.now) unknown.old) }
+    ensures { Gives itself result notes.new
+        (parse_own L.rows reader.now.signatures.now head.now head_at at
+        (parts_in L.rows reader.now.signatures.now (datums_of (map datum_of parts.now)))
+        (variables_of reader.now.scope.now) notes.old) }
 {
-    match L::parse_own(alloc, signatures, head, head_at, at, parts, scope, unknown)? {
+    match L::parse_own(reader, head, head_at, at, parts, notes)? {
         Own::Whole(form) => Ok(form),
-        Own::Before(opening, count) => parse_closed(
-            alloc,
-            signatures,
-            opening,
-            behind(parts, count),
-            scope,
-            unknown,
-        ),
+        Own::Before(opening, count) => parse_closed(reader, opening, behind(parts, count), notes),
     }
 }
 
 #[cycle(body)]
 fn parse_closed<L: Language>(
-    alloc: Global,
-    signatures: &Signatures,
+    reader: &Reader,
     opening: L::Opening,
     body: &[Datum],
-    scope: &Scope,
-    unknown: &mut Option<u32>,
+    notes: &mut Notes,
 ) -> Result<L, LoadRefusal>
-    ensures { Gives itself result unknown.new
-        (parse_closed L.rows opening (parts_in L.rows signatures.now (datums_of (map datum_of body.now)))
-        (variables_of scope.now) unknown.old) }
+    ensures { Gives itself result notes.new
+        (parse_closed L.rows opening (parts_in L.rows reader.now.signatures.now (datums_of (map datum_of body.now)))
+        (variables_of reader.now.scope.now) notes.old) }
 {
-    let body = parse_body::<L>(alloc, signatures, body, scope, unknown)?;
+    let body = parse_body::<L>(reader, body, notes)?;
     Ok(L::closed(opening, body))
 }
 

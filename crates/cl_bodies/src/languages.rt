@@ -7,9 +7,8 @@ ghost use Rattle.cl_expressions.specs.Scopes.{variables_of};
 ghost use Rattle.cl_expressions.specs.Expressions.{subs};
 
 use crate::own::Own;
-use cl_expressions::Scope;
+use cl_expressions::{Notes, Reader};
 use cl_forms::{Datum, LoadRefusal};
-use cl_words::Signatures;
 use cl_syntax::{Binding, Expr};
 use cl_value::Text;
 use std::alloc::{AllocError, Global};
@@ -24,7 +23,7 @@ pub trait Language: Sized + Drop {
     /// What stands before the body in a form of its own.
     type Opening: Drop;
 
-    /// How each form is parse_make_parts of its parts.
+    /// How each form is made of its parts.
     ghost rows: { Rows Self Self.Opening };
 
     ghost items: { Self.Body → List Self };
@@ -59,19 +58,17 @@ pub trait Language: Sized + Drop {
 
     /// A form whose head is none of those that all languages share.
     fn parse_own(
-        alloc: Global,
-        signatures: &Signatures,
+        reader: &Reader,
         head: &Text,
         head_at: u32,
         at: u32,
         parts: &[Datum],
-        scope: &Scope,
-        unknown: &mut Option<u32>,
+        notes: &mut Notes,
     ) -> Result<Own<Self, Self::Opening>, LoadRefusal>
-        ensures { Gives itself result unknown.new
-            (rows.own signatures.now head.now head_at at
-            (subs signatures.now (datums_of (map datum_of parts.now))) (variables_of scope.now)
-            unknown.old) };
+        ensures { Gives itself result notes.new
+            (rows.own reader.now.signatures.now head.now head_at at
+            (subs reader.now.signatures.now (datums_of (map datum_of parts.now))) (variables_of reader.now.scope.now)
+            notes.old) };
 
     /// A form of its own with its body.
     fn closed(opening: Self::Opening, body: Self::Body) -> Self

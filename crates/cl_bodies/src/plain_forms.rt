@@ -2,116 +2,108 @@
 ghost use Rattle.std.specs.Prelude.{map};
 ghost use Rattle.cl_forms.specs.Datum.{datums_of};
 ghost use Rattle.cl_forms.specs.DatumView.{datum_of};
-ghost use Rattle.cl_expressions.specs.Load.{Gives, Unknown, itself};
+ghost use Rattle.cl_expressions.specs.Load.{Gives, Notes, itself};
 ghost use Rattle.cl_words.specs.declared.signatures.Signatures.{Signatures};
 ghost use Rattle.cl_expressions.specs.Scopes.{variables_of};
 ghost use Rattle.cl_expressions.specs.Expressions.{subs};
-ghost use Rattle.cl_bodies.specs.Displays.{parse_plain, parse_written, parse_draw, parse_write, parse_newline, parse_call};
+ghost use Rattle.cl_bodies.specs.DisplayForms.{parse_plain, parse_written, parse_draw, parse_write, parse_newline, parse_call};
 
-use cl_expressions::{Scope, parse_each, parse_expression};
+use cl_expressions::{Notes, Reader, parse_each, parse_expression};
 use cl_forms::{Datum, LoadRefusal, fits};
-use cl_words::{Signatures, figure_count, figure_named, is_later_form};
 use cl_syntax::{Figure, Shape};
 use cl_value::Text;
+use cl_words::{figure_count, figure_named, is_later_form};
 use std::alloc::Global;
 
 /// A form whose parts are expressions.
 pub fn parse_plain(
-    alloc: Global,
-    signatures: &Signatures,
+    reader: &Reader,
     head: &Text,
     head_at: u32,
     at: u32,
     parts: &[Datum],
-    scope: &Scope,
-    unknown: &mut Option<u32>,
+    notes: &mut Notes,
 ) -> Result<Shape, LoadRefusal>
-    ensures { Gives itself result unknown.new
-        (parse_plain signatures.now head.now head_at at
-        (subs signatures.now (datums_of (map datum_of parts.now))) (variables_of scope.now)
-        unknown.old) }
+    ensures { Gives itself result notes.new
+        (parse_plain reader.now.signatures.now head.now head_at at
+        (subs reader.now.signatures.now (datums_of (map datum_of parts.now))) (variables_of reader.now.scope.now)
+        notes.old) }
 {
     match figure_named(head.as_slice()) {
-        Some(figure) => parse_draw(alloc, signatures, figure, at, parts, scope, unknown),
-        None => parse_written(alloc, signatures, head, head_at, at, parts, scope, unknown),
+        Some(figure) => parse_draw(reader, figure, at, parts, notes),
+        None => parse_written(reader, head, head_at, at, parts, notes),
     }
 }
 
 /// A drawing form, `(draw-point E E E)` or one of its kin.
 #[tactic(auto, using(cl_expressions::proofs::Subs::subs_counted))]
 fn parse_draw(
-    alloc: Global,
-    signatures: &Signatures,
+    reader: &Reader,
     figure: Figure,
     at: u32,
     parts: &[Datum],
-    scope: &Scope,
-    unknown: &mut Option<u32>,
+    notes: &mut Notes,
 ) -> Result<Shape, LoadRefusal>
-    ensures { Gives itself result unknown.new
-        (parse_draw figure at (subs signatures.now (datums_of (map datum_of parts.now)))
-        (variables_of scope.now) unknown.old) }
+    ensures { Gives itself result notes.new
+        (parse_draw figure at (subs reader.now.signatures.now (datums_of (map datum_of parts.now)))
+        (variables_of reader.now.scope.now) notes.old) }
 {
     if figure_count(figure) != parts.len() {
         return Err(LoadRefusal::Refused(6, at));
     }
-    let parts = parse_each(alloc, signatures, parts, scope, unknown)?;
+    let parts = parse_each(reader, parts, notes)?;
     Ok(Shape::draw(figure, parts))
 }
 
 fn parse_written(
-    alloc: Global,
-    signatures: &Signatures,
+    reader: &Reader,
     head: &Text,
     head_at: u32,
     at: u32,
     parts: &[Datum],
-    scope: &Scope,
-    unknown: &mut Option<u32>,
+    notes: &mut Notes,
 ) -> Result<Shape, LoadRefusal>
-    ensures { Gives itself result unknown.new
-        (parse_written signatures.now head.now head_at at
-        (subs signatures.now (datums_of (map datum_of parts.now))) (variables_of scope.now)
-        unknown.old) }
+    ensures { Gives itself result notes.new
+        (parse_written reader.now.signatures.now head.now head_at at
+        (subs reader.now.signatures.now (datums_of (map datum_of parts.now))) (variables_of reader.now.scope.now)
+        notes.old) }
 {
     if head.as_slice() == b"write-text".as_slice() {
-        parse_write(alloc, signatures, at, parts, scope, unknown)
+        parse_write(reader, at, parts, notes)
     } else if head.as_slice() == b"newline".as_slice() {
         parse_newline(at, parts)
     } else if is_later_form(head.as_slice()) {
         Err(LoadRefusal::Refused(0, head_at))
     } else {
-        parse_call(alloc, signatures, head, head_at, at, parts, scope, unknown)
+        parse_call(reader, head, head_at, at, parts, notes)
     }
 }
 
 /// `(write-text E)`
-#[tactic(auto, using(crate::proofs::DisplayRows::write_counts))]
+#[tactic(auto, using(crate::proofs::DisplayFormCounts::write_counts))]
 fn parse_write(
-    alloc: Global,
-    signatures: &Signatures,
+    reader: &Reader,
     at: u32,
     parts: &[Datum],
-    scope: &Scope,
-    unknown: &mut Option<u32>,
+    notes: &mut Notes,
 ) -> Result<Shape, LoadRefusal>
-    ensures { Gives itself result unknown.new
-        (parse_write at (subs signatures.now (datums_of (map datum_of parts.now))) (variables_of scope.now)
-        unknown.old) }
+    ensures { Gives itself result notes.new
+        (parse_write at (subs reader.now.signatures.now (datums_of (map datum_of parts.now))) (variables_of reader.now.scope.now)
+        notes.old) }
 {
     match parts {
-        [text] => Ok(Shape::write_text(parse_expression(alloc, signatures, text, scope, unknown)?)),
+        [text] => Ok(Shape::write_text(parse_expression(reader, text, notes)?)),
         [] => Err(LoadRefusal::Refused(6, at)),
         [_, _, ..] => Err(LoadRefusal::Refused(6, at)),
     }
 }
 
 /// `(newline)`
-#[tactic(auto, using(crate::proofs::DisplayRows::newline_counts))]
+#[tactic(auto, using(crate::proofs::DisplayFormCounts::newline_counts))]
 fn parse_newline(at: u32, parts: &[Datum]) -> Result<Shape, LoadRefusal>
-    ensures { (w : Signatures) (unknown : Unknown)
-        → Gives itself result unknown
-        (parse_newline at (subs w (datums_of (map datum_of parts.now))) unknown) }
+    ensures { (w : Signatures) (notes : Notes)
+        → Gives itself result notes
+        (parse_newline at (subs w (datums_of (map datum_of parts.now))) notes) }
 {
     match parts {
         [] => Ok(Shape::newline()),
@@ -122,26 +114,24 @@ fn parse_newline(at: u32, parts: &[Datum]) -> Result<Shape, LoadRefusal>
 /// `(DISPLAY E ...)`
 #[tactic(auto, using(cl_expressions::proofs::Subs::subs_counted))]
 fn parse_call(
-    alloc: Global,
-    signatures: &Signatures,
+    reader: &Reader,
     head: &Text,
     head_at: u32,
     at: u32,
     parts: &[Datum],
-    scope: &Scope,
-    unknown: &mut Option<u32>,
+    notes: &mut Notes,
 ) -> Result<Shape, LoadRefusal>
-    ensures { Gives itself result unknown.new
-        (parse_call signatures.now head.now head_at at
-        (subs signatures.now (datums_of (map datum_of parts.now))) (variables_of scope.now)
-        unknown.old) }
+    ensures { Gives itself result notes.new
+        (parse_call reader.now.signatures.now head.now head_at at
+        (subs reader.now.signatures.now (datums_of (map datum_of parts.now))) (variables_of reader.now.scope.now)
+        notes.old) }
 {
-    let Some(count) = signatures.display(head) else {
+    let Some(count) = reader.signatures.display(head) else {
         return Err(LoadRefusal::Refused(5, head_at));
     };
     if !fits(count, parts.len()) {
         return Err(LoadRefusal::Refused(6, at));
     }
-    let exprs = parse_each(alloc, signatures, parts, scope, unknown)?;
+    let exprs = parse_each(reader, parts, notes)?;
     Ok(Shape::call(head.copy()?, exprs))
 }

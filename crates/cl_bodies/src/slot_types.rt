@@ -1,137 +1,160 @@
 //! The type that a slot has.
 ghost use Rattle.std.specs.Prelude.{◌≡◌, ◌∷◌, [], map};
 ghost use Rattle.cl_forms.specs.DatumView.{datum_of};
-ghost use Rattle.cl_expressions.specs.Load.{Gives, Unknown, itself};
+ghost use Rattle.cl_expressions.specs.Load.{Gives, Notes, itself};
 ghost use Rattle.cl_words.specs.Signatures.{record_in};
-ghost use Rattle.cl_bodies.specs.SlotTypes.{parse_type, parse_type_list, parse_type_first, parse_type_options, parse_type_parts, parse_type_head, parse_type_named, parse_record_type, parse_plain_type, parse_ranged_type};
+ghost use Rattle.cl_bodies.specs.SlotTypes.{is_option_key, parse_specifier, parse_type, parse_type_list, parse_type_first, parse_type_options, parse_type_parts, parse_type_head, parse_type_named, parse_record_type, parse_plain_type, parse_ranged_type};
 
-use cl_declare::is_option_key;
-use cl_expressions::note;
+use cl_expressions::{Notes, Reader};
 use cl_forms::{Datum, LoadRefusal, name_in, symbol_of};
-use cl_words::{Signatures, is_later_type, is_plain_type, is_ranged_type};
 use cl_syntax::TypeSpec;
+use cl_table::Names;
 use cl_value::Text;
+use cl_words::{is_later_type, is_plain_type, is_ranged_type};
 
-/// The type that a datum is: `NAME`, `(NAME)` or `((NAME))`.
-#[tactic(auto, using(cl_declare::proofs::DatumLists::data_in_order))]
+/// The type that a datum is, which is noted with its offset. No parameters stand around it.
 pub fn parse_type(
-    signatures: &Signatures,
+    reader: &Reader,
     datum: &Datum,
-    unknown: &mut Option<u32>,
+    notes: &mut Notes,
 ) -> Result<TypeSpec, LoadRefusal>
-    ensures { Gives itself result unknown.new (parse_type signatures.now (datum_of datum.now) unknown.old) }
+    ensures { Gives itself result notes.new
+        (parse_type reader.now.signatures.now (datum_of datum.now) notes.old) }
+{
+    let spec = parse_specifier(reader, datum, notes)?;
+    let noted = TypeSpec {
+        name: spec.name.copy()?,
+    };
+    notes.place(noted, Names::new(reader.alloc), datum.offset())?;
+    Ok(spec)
+}
+
+/// `NAME`, `(NAME)` or `((NAME))`.
+#[tactic(auto, using(cl_forms::proofs::Data::data_in_order))]
+fn parse_specifier(
+    reader: &Reader,
+    datum: &Datum,
+    notes: &mut Notes,
+) -> Result<TypeSpec, LoadRefusal>
+    ensures { Gives itself result notes.new (parse_specifier reader.now.signatures.now (datum_of datum.now) notes.old) }
 {
     match datum {
-        Datum::List(parts, at) => parse_type_list(signatures, *at, parts.as_slice(), unknown),
-        Datum::Number(_, at) => parse_type_head(signatures, *at, datum, &[], unknown),
-        Datum::Literal(_, at) => parse_type_head(signatures, *at, datum, &[], unknown),
-        Datum::Word(_, at) => parse_type_head(signatures, *at, datum, &[], unknown),
-        Datum::Quoted(_, at, _) => parse_type_head(signatures, *at, datum, &[], unknown),
-        Datum::Stray(at) => parse_type_head(signatures, *at, datum, &[], unknown),
+        Datum::List(parts, at) => parse_type_list(reader, *at, parts.as_slice(), notes),
+        Datum::Number(_, at) => parse_type_head(reader, *at, datum, &[], notes),
+        Datum::Literal(_, at) => parse_type_head(reader, *at, datum, &[], notes),
+        Datum::Word(_, at) => parse_type_head(reader, *at, datum, &[], notes),
+        Datum::Quoted(_, at, _) => parse_type_head(reader, *at, datum, &[], notes),
+        Datum::Stray(at) => parse_type_head(reader, *at, datum, &[], notes),
     }
 }
 
 fn parse_type_list(
-    signatures: &Signatures,
+    reader: &Reader,
     at: u32,
     parts: &[Datum],
-    unknown: &mut Option<u32>,
+    notes: &mut Notes,
 ) -> Result<TypeSpec, LoadRefusal>
-    ensures { Gives itself result unknown.new
-        (parse_type_list signatures.now at (map datum_of parts.now) unknown.old) }
+    ensures { Gives itself result notes.new
+        (parse_type_list reader.now.signatures.now at (map datum_of parts.now) notes.old) }
 {
     match parts {
         [] => Err(LoadRefusal::Refused(6, at)),
-        [first, more @ ..] => parse_type_first(signatures, at, first, more, unknown),
+        [first, more @ ..] => parse_type_first(reader, at, first, more, notes),
     }
 }
 
-#[tactic(auto, using(cl_declare::proofs::DatumLists::data_in_order))]
+#[tactic(auto, using(cl_forms::proofs::Data::data_in_order))]
 fn parse_type_first(
-    signatures: &Signatures,
+    reader: &Reader,
     at: u32,
     first: &Datum,
     more: &[Datum],
-    unknown: &mut Option<u32>,
+    notes: &mut Notes,
 ) -> Result<TypeSpec, LoadRefusal>
-    ensures { Gives itself result unknown.new
-        (parse_type_first signatures.now at (datum_of first.now) (map datum_of more.now) unknown.old) }
+    ensures { Gives itself result notes.new
+        (parse_type_first reader.now.signatures.now at (datum_of first.now) (map datum_of more.now) notes.old) }
 {
     match first {
-        Datum::List(parts, _) => parse_type_options(signatures, at, parts.as_slice(), more, unknown),
-        Datum::Number(_, _) => parse_type_head(signatures, at, first, more, unknown),
-        Datum::Literal(_, _) => parse_type_head(signatures, at, first, more, unknown),
-        Datum::Word(_, _) => parse_type_head(signatures, at, first, more, unknown),
-        Datum::Quoted(_, _, _) => parse_type_head(signatures, at, first, more, unknown),
-        Datum::Stray(_) => parse_type_head(signatures, at, first, more, unknown),
+        Datum::List(parts, _) => parse_type_options(reader, at, parts.as_slice(), more, notes),
+        Datum::Number(_, _) => parse_type_head(reader, at, first, more, notes),
+        Datum::Literal(_, _) => parse_type_head(reader, at, first, more, notes),
+        Datum::Word(_, _) => parse_type_head(reader, at, first, more, notes),
+        Datum::Quoted(_, _, _) => parse_type_head(reader, at, first, more, notes),
+        Datum::Stray(_) => parse_type_head(reader, at, first, more, notes),
     }
+}
+
+fn is_option_key(word: &[u8]) -> bool
+    ensures { result ≡ is_option_key word.now }
+{
+    word == b":description".as_slice() || word == b":separator".as_slice()
 }
 
 /// Options behind the name and its arguments.
 fn parse_type_options(
-    signatures: &Signatures,
+    reader: &Reader,
     at: u32,
     parts: &[Datum],
     options: &[Datum],
-    unknown: &mut Option<u32>,
+    notes: &mut Notes,
 ) -> Result<TypeSpec, LoadRefusal>
-    ensures { Gives itself result unknown.new
-        (parse_type_options signatures.now at (map datum_of parts.now) (map datum_of options.now)
-        unknown.old) }
+    ensures { Gives itself result notes.new
+        (parse_type_options reader.now.signatures.now at (map datum_of parts.now) (map datum_of options.now)
+        notes.old) }
 {
     match options {
-        [] => parse_type_parts(signatures, at, parts, unknown),
+        [] => parse_type_parts(reader, at, parts, notes),
         [option, ..] => {
             if !is_option_key(symbol_of(option)) {
                 return Err(LoadRefusal::Refused(6, at));
             }
-            parse_type_parts(signatures, at, parts, unknown)?;
+            parse_type_parts(reader, at, parts, notes)?;
             Err(LoadRefusal::Refused(0, option.offset()))
         }
     }
 }
 
 fn parse_type_parts(
-    signatures: &Signatures,
+    reader: &Reader,
     at: u32,
     parts: &[Datum],
-    unknown: &mut Option<u32>,
+    notes: &mut Notes,
 ) -> Result<TypeSpec, LoadRefusal>
-    ensures { Gives itself result unknown.new
-        (parse_type_parts signatures.now at (map datum_of parts.now) unknown.old) }
+    ensures { Gives itself result notes.new
+        (parse_type_parts reader.now.signatures.now at (map datum_of parts.now) notes.old) }
 {
     match parts {
         [] => Err(LoadRefusal::Refused(6, at)),
-        [head, arguments @ ..] => parse_type_head(signatures, at, head, arguments, unknown),
+        [head, arguments @ ..] => parse_type_head(reader, at, head, arguments, notes),
     }
 }
 
 fn parse_type_head(
-    signatures: &Signatures,
+    reader: &Reader,
     at: u32,
     head: &Datum,
     arguments: &[Datum],
-    unknown: &mut Option<u32>,
+    notes: &mut Notes,
 ) -> Result<TypeSpec, LoadRefusal>
-    ensures { Gives itself result unknown.new
-        (parse_type_head signatures.now at (datum_of head.now) (map datum_of arguments.now) unknown.old) }
+    ensures { Gives itself result notes.new
+        (parse_type_head reader.now.signatures.now at (datum_of head.now) (map datum_of arguments.now) notes.old) }
 {
     match name_in(head) {
-        Some(name) => parse_type_named(signatures, name, head.offset(), at, arguments, unknown),
+        Some(name) => parse_type_named(reader, name, head.offset(), at, arguments, notes),
         None => Err(LoadRefusal::Refused(6, at)),
     }
 }
 
 fn parse_type_named(
-    signatures: &Signatures,
+    reader: &Reader,
     name: &Text,
     name_at: u32,
     at: u32,
     arguments: &[Datum],
-    unknown: &mut Option<u32>,
+    notes: &mut Notes,
 ) -> Result<TypeSpec, LoadRefusal>
-    ensures { Gives itself result unknown.new
-        (parse_type_named signatures.now name.now name_at at (map datum_of arguments.now) unknown.old) }
+    ensures { Gives itself result notes.new
+        (parse_type_named reader.now.signatures.now name.now name_at at (map datum_of arguments.now) notes.old) }
 {
     if is_plain_type(name.as_slice()) {
         parse_plain_type(name, at, arguments)
@@ -140,13 +163,13 @@ fn parse_type_named(
     } else if is_later_type(name.as_slice()) {
         Err(LoadRefusal::Refused(0, name_at))
     } else {
-        parse_record_type(signatures, name, name_at, at, arguments, unknown)
+        parse_record_type(reader, name, name_at, at, arguments, notes)
     }
 }
 
 fn parse_plain_type(name: &Text, at: u32, arguments: &[Datum]) -> Result<TypeSpec, LoadRefusal>
-    ensures { (u : Unknown)
-        → Gives itself result u (parse_plain_type name.now at (map datum_of arguments.now) u) }
+    ensures { (notes : Notes)
+        → Gives itself result notes (parse_plain_type name.now at (map datum_of arguments.now) notes) }
 {
     match arguments {
         [] => Ok(TypeSpec { name: name.copy()? }),
@@ -154,9 +177,13 @@ fn parse_plain_type(name: &Text, at: u32, arguments: &[Datum]) -> Result<TypeSpe
     }
 }
 
-fn parse_ranged_type(name: &Text, name_at: u32, arguments: &[Datum]) -> Result<TypeSpec, LoadRefusal>
-    ensures { (u : Unknown)
-        → Gives itself result u (parse_ranged_type name.now name_at (map datum_of arguments.now) u) }
+fn parse_ranged_type(
+    name: &Text,
+    name_at: u32,
+    arguments: &[Datum],
+) -> Result<TypeSpec, LoadRefusal>
+    ensures { (notes : Notes)
+        → Gives itself result notes (parse_ranged_type name.now name_at (map datum_of arguments.now) notes) }
 {
     match arguments {
         [] => Ok(TypeSpec { name: name.copy()? }),
@@ -166,22 +193,22 @@ fn parse_ranged_type(name: &Text, name_at: u32, arguments: &[Datum]) -> Result<T
 
 /// A record's type, which takes no arguments. A name that is not declared is noted.
 fn parse_record_type(
-    signatures: &Signatures,
+    reader: &Reader,
     name: &Text,
     name_at: u32,
     at: u32,
     arguments: &[Datum],
-    unknown: &mut Option<u32>,
+    notes: &mut Notes,
 ) -> Result<TypeSpec, LoadRefusal>
-    ensures { Gives itself result unknown.new
-        (parse_record_type (record_in signatures.now name.now) name.now name_at at (map datum_of arguments.now)
-        unknown.old) }
+    ensures { Gives itself result notes.new
+        (parse_record_type (record_in reader.now.signatures.now name.now) name.now name_at at (map datum_of arguments.now)
+        notes.old) }
 {
-    match signatures.record_fields(name) {
+    match reader.signatures.record_fields(name) {
         Some(_) => parse_plain_type(name, at, arguments),
         None => {
             let name = name.copy()?;
-            note(unknown, false, name_at);
+            notes.note(false, name_at);
             Ok(TypeSpec { name })
         }
     }

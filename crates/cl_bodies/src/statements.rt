@@ -5,55 +5,43 @@ ghost use Rattle.cl_forms.specs.DatumView.{datum_of};
 ghost use Rattle.cl_expressions.specs.Load.{Gives, itself};
 ghost use Rattle.cl_expressions.specs.Scopes.{variables_of};
 ghost use Rattle.cl_expressions.specs.Expressions.{subs};
-ghost use Rattle.cl_bodies.specs.Commands.{parse_act, parse_acts, parse_plain, parse_setf, parse_place, parse_place_name, parse_reply};
+ghost use Rattle.cl_bodies.specs.Statements.{parse_act, parse_acts, parse_plain, parse_setf, parse_place, parse_place_name, parse_reply};
 
 use crate::bodies::{parse_body, parse_form};
 use crate::languages::Language;
 use crate::own::Own;
-use cl_expressions::{Scope, parse_expression, note};
+use cl_expressions::{Notes, Reader, parse_expression};
 use cl_forms::{Datum, LoadRefusal, named_part, symbol_of};
-use cl_words::{Signatures, is_later_statement};
 use cl_syntax::{Act, Acts, Binding, Expr};
 use cl_value::Text;
+use cl_words::is_later_statement;
 use std::alloc::{AllocError, Global};
 
 /// The statement that a datum is. Where a name in it is not declared, the first such is noted.
-pub fn parse_act(
-    alloc: Global,
-    signatures: &Signatures,
-    datum: &Datum,
-    scope: &Scope,
-    unknown: &mut Option<u32>,
-) -> Result<Act, LoadRefusal>
-    ensures { Gives itself result unknown.new
-        (parse_act signatures.now (datum_of datum.now) (variables_of scope.now) unknown.old) }
+pub fn parse_act(reader: &Reader, datum: &Datum, notes: &mut Notes) -> Result<Act, LoadRefusal>
+    ensures { Gives itself result notes.new
+        (parse_act reader.now.signatures.now (datum_of datum.now) (variables_of reader.now.scope.now) notes.old) }
 {
-    parse_form(alloc, signatures, datum, scope, unknown)
+    parse_form(reader, datum, notes)
 }
 
 /// The statements of a body, in order.
-pub fn parse_acts(
-    alloc: Global,
-    signatures: &Signatures,
-    parts: &[Datum],
-    scope: &Scope,
-    unknown: &mut Option<u32>,
-) -> Result<Acts, LoadRefusal>
-    ensures { Gives itself result unknown.new
-        (parse_acts signatures.now (datums_of (map datum_of parts.now)) (variables_of scope.now)
-        unknown.old) }
+pub fn parse_acts(reader: &Reader, parts: &[Datum], notes: &mut Notes) -> Result<Acts, LoadRefusal>
+    ensures { Gives itself result notes.new
+        (parse_acts reader.now.signatures.now (datums_of (map datum_of parts.now)) (variables_of reader.now.scope.now)
+        notes.old) }
 {
-    parse_body::<Act>(alloc, signatures, parts, scope, unknown)
+    parse_body::<Act>(reader, parts, notes)
 }
 
 impl Language for Act {
-    ghost use Rattle.cl_bodies.specs.Commands.{commands};
+    ghost use Rattle.cl_bodies.specs.Statements.{statements};
 
     type Body = Acts;
 
     type Opening = ();
 
-    ghost rows = { commands };
+    ghost rows = { statements };
 
     ghost items = { λ body. body };
 
@@ -86,16 +74,14 @@ impl Language for Act {
     }
 
     fn parse_own(
-        alloc: Global,
-        signatures: &Signatures,
+        reader: &Reader,
         head: &Text,
         head_at: u32,
         at: u32,
         parts: &[Datum],
-        scope: &Scope,
-        unknown: &mut Option<u32>,
+        notes: &mut Notes,
     ) -> Result<Own<Act, ()>, LoadRefusal> {
-        Ok(Own::Whole(parse_plain(alloc, signatures, head, head_at, at, parts, scope, unknown)?))
+        Ok(Own::Whole(parse_plain(reader, head, head_at, at, parts, notes)?))
     }
 
     fn closed(_: (), body: Acts) -> Act {
@@ -105,24 +91,22 @@ impl Language for Act {
 
 /// A statement whose parts are expressions.
 fn parse_plain(
-    alloc: Global,
-    signatures: &Signatures,
+    reader: &Reader,
     head: &Text,
     head_at: u32,
     at: u32,
     parts: &[Datum],
-    scope: &Scope,
-    unknown: &mut Option<u32>,
+    notes: &mut Notes,
 ) -> Result<Act, LoadRefusal>
-    ensures { Gives itself result unknown.new
-        (parse_plain signatures.now head.now head_at at
-        (subs signatures.now (datums_of (map datum_of parts.now))) (variables_of scope.now)
-        unknown.old) }
+    ensures { Gives itself result notes.new
+        (parse_plain reader.now.signatures.now head.now head_at at
+        (subs reader.now.signatures.now (datums_of (map datum_of parts.now))) (variables_of reader.now.scope.now)
+        notes.old) }
 {
     if head.as_slice() == b"setf".as_slice() {
-        parse_setf(alloc, signatures, at, parts, scope, unknown)
+        parse_setf(reader, at, parts, notes)
     } else if head.as_slice() == b"reply".as_slice() {
-        parse_reply(alloc, signatures, at, parts, scope, unknown)
+        parse_reply(reader, at, parts, notes)
     } else if is_later_statement(head.as_slice()) {
         Err(LoadRefusal::Refused(0, head_at))
     } else {
@@ -131,23 +115,21 @@ fn parse_plain(
 }
 
 /// `(setf (slot NAME) E)`
-#[tactic(auto, using(crate::proofs::CommandRows::setf_counts))]
+#[tactic(auto, using(crate::proofs::StatementCounts::setf_counts))]
 fn parse_setf(
-    alloc: Global,
-    signatures: &Signatures,
+    reader: &Reader,
     at: u32,
     parts: &[Datum],
-    scope: &Scope,
-    unknown: &mut Option<u32>,
+    notes: &mut Notes,
 ) -> Result<Act, LoadRefusal>
-    ensures { Gives itself result unknown.new
-        (parse_setf signatures.now at (subs signatures.now (datums_of (map datum_of parts.now)))
-        (variables_of scope.now) unknown.old) }
+    ensures { Gives itself result notes.new
+        (parse_setf reader.now.signatures.now at (subs reader.now.signatures.now (datums_of (map datum_of parts.now)))
+        (variables_of reader.now.scope.now) notes.old) }
 {
     match parts {
         [place, value] => {
-            let name = parse_place(signatures, at, place.parts(), unknown)?;
-            let value = parse_expression(alloc, signatures, value, scope, unknown)?;
+            let name = parse_place(reader, at, place.parts(), notes)?;
+            let value = parse_expression(reader, value, notes)?;
             Ok(Act::setf(name, value))
         }
         [] => Err(LoadRefusal::Refused(6, at)),
@@ -157,22 +139,22 @@ fn parse_setf(
 }
 
 /// The name in the parts of `(slot NAME)`.
-#[tactic(auto, using(crate::proofs::CommandRows::place_counts))]
+#[tactic(auto, using(crate::proofs::StatementCounts::place_counts))]
 fn parse_place(
-    signatures: &Signatures,
+    reader: &Reader,
     at: u32,
     parts: &[Datum],
-    unknown: &mut Option<u32>,
+    notes: &mut Notes,
 ) -> Result<Text, LoadRefusal>
-    ensures { Gives itself result unknown.new
-        (parse_place signatures.now at (map datum_of parts.now) unknown.old) }
+    ensures { Gives itself result notes.new
+        (parse_place reader.now.signatures.now at (map datum_of parts.now) notes.old) }
 {
     match parts {
         [slot, name] => {
             if symbol_of(slot) != b"slot".as_slice() {
                 return Err(LoadRefusal::Refused(6, at));
             }
-            parse_place_name(signatures, at, name, unknown)
+            parse_place_name(reader, at, name, notes)
         }
         [] => Err(LoadRefusal::Refused(6, at)),
         [_] => Err(LoadRefusal::Refused(6, at)),
@@ -182,35 +164,33 @@ fn parse_place(
 
 /// The name of a slot. Where no such slot is declared, it is noted.
 fn parse_place_name(
-    signatures: &Signatures,
+    reader: &Reader,
     at: u32,
     datum: &Datum,
-    unknown: &mut Option<u32>,
+    notes: &mut Notes,
 ) -> Result<Text, LoadRefusal>
-    ensures { Gives itself result unknown.new
-        (parse_place_name signatures.now at (datum_of datum.now) unknown.old) }
+    ensures { Gives itself result notes.new
+        (parse_place_name reader.now.signatures.now at (datum_of datum.now) notes.old) }
 {
     let name = named_part(at, datum)?;
-    note(unknown, signatures.has_slot(&name), datum.offset());
+    notes.note(reader.signatures.has_slot(&name), datum.offset());
     Ok(name)
 }
 
 /// `(reply E)`
-#[tactic(auto, using(crate::proofs::CommandRows::reply_counts))]
+#[tactic(auto, using(crate::proofs::StatementCounts::reply_counts))]
 fn parse_reply(
-    alloc: Global,
-    signatures: &Signatures,
+    reader: &Reader,
     at: u32,
     parts: &[Datum],
-    scope: &Scope,
-    unknown: &mut Option<u32>,
+    notes: &mut Notes,
 ) -> Result<Act, LoadRefusal>
-    ensures { Gives itself result unknown.new
-        (parse_reply at (subs signatures.now (datums_of (map datum_of parts.now))) (variables_of scope.now)
-        unknown.old) }
+    ensures { Gives itself result notes.new
+        (parse_reply at (subs reader.now.signatures.now (datums_of (map datum_of parts.now))) (variables_of reader.now.scope.now)
+        notes.old) }
 {
     match parts {
-        [text] => Ok(Act::reply(parse_expression(alloc, signatures, text, scope, unknown)?)),
+        [text] => Ok(Act::reply(parse_expression(reader, text, notes)?)),
         [] => Err(LoadRefusal::Refused(6, at)),
         [_, _, ..] => Err(LoadRefusal::Refused(6, at)),
     }

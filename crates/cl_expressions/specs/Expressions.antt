@@ -1,5 +1,5 @@
 -- The expression that a form is. Each row says first what makes the form itself wrong, and then its parts from left to right.
-use Rattle.std.specs.Prelude.{ℕ, Bool, true, false, ◌==◌, ◌&&◌, is_some, if◌then◌else◌, List, [], ◌∷◌, ◌++◌, length, Option, Some, None, Result, Ok, Err, codes}
+use Rattle.std.specs.Prelude.{ℕ, Bool, true, false, ◌&&◌, is_some, if◌then◌else◌, List, [], ◌∷◌, length, Option, Some, None, codes}
 use Rattle.std.specs.Str.{bytes_eq}
 use Rattle.cl_value.specs.Data as value
 use Rattle.cl_syntax.specs.Expr.{bindings_of}
@@ -11,12 +11,14 @@ use Rattle.cl_syntax.specs.declared.operators.Operator.TheVariants as operator
 use Rattle.cl_syntax.specs.declared.operators.RecordOperator.TheVariants.{Make, Get, With}
 use Rattle.cl_forms.specs.Datum.{Datum, Datums, number, literal, word, quoted, stray, list, none, item, in_order, parts_of, offset}
 use Rattle.cl_forms.specs.Naming.{fits}
-use Rattle.cl_expressions.specs.Load.{Load, Unknown, Fault, ◌>>=◌, give, refuse, noted}
+use Rattle.cl_expressions.specs.Load.{Load, ◌>>=◌, give, refuse, noted}
 use Rattle.cl_expressions.specs.Scopes.{Names, among}
 use Rattle.cl_forms.specs.Words.{is_name}
-use Rattle.cl_words.specs.Heads.{special_named, operator_named, count_of}
+use Rattle.cl_words.specs.Heads.{head_named, count_of}
 use Rattle.cl_forms.specs.Naming.{name_in}
 use Rattle.cl_words.specs.Signatures.{function_in, record_in, slot_in}
+use Rattle.cl_words.specs.declared.heads.Head.{Head}
+use Rattle.cl_words.specs.declared.heads.Head.TheVariants as head
 use Rattle.cl_words.specs.declared.heads.Special.{Special}
 use Rattle.cl_words.specs.declared.heads.Special.TheVariants as special
 use Rattle.cl_words.specs.declared.signatures.Signatures.{Signatures}
@@ -164,30 +166,35 @@ parse_let at parts env = refuse 6 at
 
 -- ---- forms by their heads
 
+-- a form by its head, where this heads expressions alone and is no operator over the values of its parts
 abbrev pub parse_special : Signatures → Special → ℕ → List Sub → Names → Load ExprTree
 parse_special w special.Slot at parts env = parse_slot w at parts
-parse_special w special.If at parts env = parse_if at parts env
-parse_special w special.Let at parts env = parse_let at parts env
-parse_special w special.And at parts env = parse_and parts env
-parse_special w special.Or at parts env = parse_or parts env
 parse_special w special.Make at parts env = parse_make w at parts env
 parse_special w special.Get at parts env = parse_get at parts env
 parse_special w special.With at parts env = parse_with at parts env
+parse_special w special.And at parts env = parse_and parts env
+parse_special w special.Or at parts env = parse_or parts env
 parse_special w special.Map at parts env = parse_map at parts env
 parse_special w special.Filter at parts env = parse_filter at parts env
 parse_special w special.Fold at parts env = parse_fold at parts env
 
-abbrev pub parse_operator : Signatures → Option Operator → List ℕ → ℕ → ℕ → List Sub → Names → Load ExprTree
-parse_operator w (Some o) x head_at at parts env = parse_operation o at parts env
-parse_operator w None x head_at at parts env = parse_call w x head_at at parts env
-
-abbrev pub parse_head : Signatures → Option Special → List ℕ → ℕ → ℕ → List Sub → Names → Load ExprTree
-parse_head w (Some s) x head_at at parts env = parse_special w s at parts env
-parse_head w None x head_at at parts env = parse_operator w (operator_named x) x head_at at parts env
+-- a form by its head, as the table of heads has it; a head that is none of these calls a function
+abbrev pub parse_head : Signatures → Option Head → List ℕ → ℕ → ℕ → List Sub → Names → Load ExprTree
+parse_head w None x head_at at parts env = parse_call w x head_at at parts env
+parse_head w (Some head.If) x head_at at parts env = parse_if at parts env
+parse_head w (Some head.Let) x head_at at parts env = parse_let at parts env
+parse_head w (Some (head.Special s)) x head_at at parts env = parse_special w s at parts env
+parse_head w (Some (head.Operator o)) x head_at at parts env = parse_operation o at parts env
+parse_head w (Some (head.Control k)) x head_at at parts env = refuse 5 head_at
+parse_head w (Some (head.Figure f)) x head_at at parts env = refuse 5 head_at
+parse_head w (Some (head.Setting s)) x head_at at parts env = refuse 5 head_at
+parse_head w (Some (head.Writing k)) x head_at at parts env = refuse 5 head_at
+parse_head w (Some (head.Change k)) x head_at at parts env = refuse 5 head_at
+parse_head w (Some (head.Planned p)) x head_at at parts env = refuse 5 head_at
 
 -- a form begins with a symbol
 abbrev pub parse_headed : Signatures → Datum → ℕ → List Sub → Names → Load ExprTree
-parse_headed w (word x head_at) at parts env = parse_head w (special_named x) x head_at at parts env
+parse_headed w (word x head_at) at parts env = parse_head w (head_named x) x head_at at parts env
 parse_headed w (number z head_at) at parts env = refuse 6 at
 parse_headed w (literal s head_at) at parts env = refuse 6 at
 parse_headed w (quoted s head_at name_at) at parts env = refuse 6 at

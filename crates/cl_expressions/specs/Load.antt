@@ -1,5 +1,7 @@
--- The reading of a form: what it is, and the first name in it that is not declared; or its first fault.
-use Rattle.std.specs.Prelude.{◌≡◌, ℕ, Bool, true, false, Option, Some, None, Result, Ok, Err}
+-- The reading of a form: what it is, and what is noted of it; or its first fault.
+use Rattle.std.specs.Prelude.{◌≡◌, ℕ, Bool, true, false, List, [], ◌∷◌, ◌++◌, Option, Some, None, Result, Ok, Err}
+use Rattle.cl_syntax.specs.declared.type_specs.TypeSpec.{TypeSpec}
+use Rattle.cl_expressions.specs.declared.notes.PlacedSpec.{PlacedSpec}
 use Rattle.cl_forms.specs.declared.refusals.LoadRefusal.{LoadRefusal}
 use Rattle.cl_forms.specs.declared.refusals.LoadRefusal.TheVariants.{Refused, Memory}
 
@@ -7,45 +9,60 @@ use Rattle.cl_forms.specs.declared.refusals.LoadRefusal.TheVariants.{Refused, Me
 abbrev pub Fault : Type 0
 Fault = ℕ × ℕ
 
--- the offset of the first name that is not declared
-abbrev pub Unknown : Type 0
-Unknown = Option ℕ
+-- what is noted: the offset of the first name that is not declared, and the type specifiers in the order of the text
+pub record Notes : Type 0 where
+  pub unknown : Option ℕ
+  pub specifiers : List PlacedSpec
 
+-- before anything is read
+abbrev pub nothing_noted : Notes
+nothing_noted = record { unknown = None; specifiers = [] }
+
+-- a reading: what is read with what is noted then, or its first fault
 abbrev pub Load : Type 0 → Type 0
-Load A = Unknown → Result (A × Unknown) Fault
+Load A = Notes → Result (A × Notes) Fault
 
-abbrev pub after : {A B : Type 0} → Result (A × Unknown) Fault → (A → Load B) → Result (B × Unknown) Fault
+abbrev pub after : {A B : Type 0} → Result (A × Notes) Fault → (A → Load B) → Result (B × Notes) Fault
 after (Ok x) f = f x.0 x.1
 after (Err fault) f = Err fault
 
 infixl 10 ◌>>=◌
 abbrev pub ◌>>=◌ : {A B : Type 0} → Load A → (A → Load B) → Load B
-(m >>= f) unknown = after (m unknown) f
+(m >>= f) notes = after (m notes) f
 
 abbrev pub give : {A : Type 0} → A → Load A
-give x unknown = Ok (x, unknown)
+give x notes = Ok (x, notes)
 
 abbrev pub refuse : {A : Type 0} → ℕ → ℕ → Load A
-refuse number at unknown = Err (number, at)
+refuse number at notes = Err (number, at)
 
 -- the first one stays
-abbrev pub first_of : Unknown → ℕ → Unknown
+abbrev pub first_of : Option ℕ → ℕ → Option ℕ
 first_of None at = Some at
 first_of (Some earlier) at = Some earlier
 
-abbrev pub unless : Bool → ℕ → Unknown → Unknown
-unless true at unknown = unknown
-unless false at unknown = first_of unknown at
+abbrev pub unless : Bool → ℕ → Notes → Notes
+unless true at notes = notes
+unless false at notes = record notes { unknown = first_of notes.unknown at }
 
 -- a name that is known, or stands at this offset
 abbrev pub noted : Bool → ℕ → Load (Unit {0})
-noted known at unknown = Ok (tt, unless known at unknown)
+noted known at notes = Ok (tt, unless known at notes)
+
+-- a type specifier behind the others
+abbrev pub with_specifier : TypeSpec → List (List ℕ) → ℕ → Notes → Notes
+with_specifier spec parameters at notes =
+    record notes { specifiers = notes.specifiers ++ record { spec = spec; parameters = parameters; at = at } ∷ [] }
+
+-- a type specifier that was read, the parameters around it, and its offset
+abbrev pub placed : TypeSpec → List (List ℕ) → ℕ → Load (Unit {0})
+placed spec parameters at notes = Ok (tt, with_specifier spec parameters at notes)
 
 -- what the program answers
-abbrev pub Gives : {A B : Type 0} → (A → B) → Result A LoadRefusal → Unknown → Result (B × Unknown) Fault → Type 0
-Gives f (Ok x) unknown r = r ≡ Ok (f x, unknown)
-Gives f (Err (Refused number at)) unknown r = r ≡ Err (number, at)
-Gives f (Err Memory) unknown r = Unit {0}
+abbrev pub Gives : {A B : Type 0} → (A → B) → Result A LoadRefusal → Notes → Result (B × Notes) Fault → Type 0
+Gives f (Ok x) notes r = r ≡ Ok (f x, notes)
+Gives f (Err (Refused number at)) notes r = r ≡ Err (number, at)
+Gives f (Err Memory) notes r = Unit {0}
 
 abbrev pub itself : {A : Type 0} → A → A
 itself x = x

@@ -7,15 +7,13 @@ ghost use Rattle.cl_expressions.specs.Scopes.{variables_of};
 ghost use Rattle.cl_expressions.specs.Expressions.{are_bindings, parse_binding, parse_binding_parts, parse_each_binding, parse_bindings, parse_filter, parse_fold, is_binding, is_binding_list, parse_let, parse_map, subs};
 ghost use Rattle.cl_expressions.specs.ExpressionViews.{bound_of};
 
-use cl_forms::Datum;
-use cl_forms::{name_in, named_part};
-use cl_forms::LoadRefusal;
-use crate::scopes::Scope;
 use crate::expressions::parse_expression;
-use cl_words::Signatures;
+use crate::notes::Notes;
+use crate::readers::Reader;
+use crate::scopes::Scope;
+use cl_forms::{Datum, LoadRefusal, name_in, named_part};
 use cl_syntax::{Binding, Expr};
 use cl_value::Text;
-use std::alloc::Global;
 
 /// Bindings in order, and the names that they bind.
 #[derive(Drop)]
@@ -27,18 +25,16 @@ pub struct Bindings {
 /// The bindings that a datum is, in the form at this offset; each sees the earlier ones.
 #[cycle(expression)]
 pub fn parse_bindings(
-    alloc: Global,
-    signatures: &Signatures,
+    reader: &Reader,
     at: u32,
     datum: &Datum,
-    scope: &Scope,
-    unknown: &mut Option<u32>,
+    notes: &mut Notes,
 ) -> Result<Bindings, LoadRefusal>
-    ensures { Gives (bound_of (variables_of scope.now)) result unknown.new
-        (parse_bindings signatures.now (datum_of datum.now) at (variables_of scope.now) unknown.old) }
+    ensures { Gives (bound_of (variables_of reader.now.scope.now)) result notes.new
+        (parse_bindings reader.now.signatures.now (datum_of datum.now) at (variables_of reader.now.scope.now) notes.old) }
 {
     match datum {
-        Datum::List(parts, _) => parse_each_binding(alloc, signatures, at, parts.as_slice(), scope, unknown),
+        Datum::List(parts, _) => parse_each_binding(reader, at, parts.as_slice(), notes),
         Datum::Number(_, _) => Err(LoadRefusal::Refused(6, at)),
         Datum::Literal(_, _) => Err(LoadRefusal::Refused(6, at)),
         Datum::Word(_, _) => Err(LoadRefusal::Refused(6, at)),
@@ -50,22 +46,20 @@ pub fn parse_bindings(
 #[cycle(expression)]
 #[tactic(auto, using(cl_forms::proofs::Data::datum_weighs, crate::proofs::ScopeLemmas::sight_more))]
 fn parse_each_binding(
-    alloc: Global,
-    signatures: &Signatures,
+    reader: &Reader,
     at: u32,
     parts: &[Datum],
-    scope: &Scope,
-    unknown: &mut Option<u32>,
+    notes: &mut Notes,
 ) -> Result<Bindings, LoadRefusal>
-    ensures { Gives (bound_of (variables_of scope.now)) result unknown.new
-        (parse_each_binding signatures.now (datums_of (map datum_of parts.now)) at (variables_of scope.now)
-        unknown.old) }
+    ensures { Gives (bound_of (variables_of reader.now.scope.now)) result notes.new
+        (parse_each_binding reader.now.signatures.now (datums_of (map datum_of parts.now)) at (variables_of reader.now.scope.now)
+        notes.old) }
 {
-    let mut bindings = Vec::new(alloc);
-    let mut names = Vec::new(alloc);
+    let mut bindings = Vec::new(reader.alloc);
+    let mut names = Vec::new(reader.alloc);
     for part in parts {
-        let inner = Scope::Names(names.as_slice(), scope);
-        let binding = parse_binding(alloc, signatures, at, part, &inner, unknown)?;
+        let inner = Scope::Names(names.as_slice(), reader.scope);
+        let binding = parse_binding(&reader.seeing(&inner), at, part, notes)?;
         names.push(binding.name.copy()?)?;
         bindings.push(binding)?;
     }
@@ -75,18 +69,16 @@ fn parse_each_binding(
 /// `(NAME E)`
 #[cycle(expression)]
 pub fn parse_binding(
-    alloc: Global,
-    signatures: &Signatures,
+    reader: &Reader,
     at: u32,
     datum: &Datum,
-    scope: &Scope,
-    unknown: &mut Option<u32>,
+    notes: &mut Notes,
 ) -> Result<Binding, LoadRefusal>
-    ensures { Gives itself result unknown.new
-        (parse_binding signatures.now (datum_of datum.now) at (variables_of scope.now) unknown.old) }
+    ensures { Gives itself result notes.new
+        (parse_binding reader.now.signatures.now (datum_of datum.now) at (variables_of reader.now.scope.now) notes.old) }
 {
     match datum {
-        Datum::List(parts, _) => parse_binding_parts(alloc, signatures, at, parts.as_slice(), scope, unknown),
+        Datum::List(parts, _) => parse_binding_parts(reader, at, parts.as_slice(), notes),
         Datum::Number(_, _) => Err(LoadRefusal::Refused(6, at)),
         Datum::Literal(_, _) => Err(LoadRefusal::Refused(6, at)),
         Datum::Word(_, _) => Err(LoadRefusal::Refused(6, at)),
@@ -98,21 +90,19 @@ pub fn parse_binding(
 #[cycle(expression)]
 #[tactic(auto, using(crate::proofs::ExpressionCounts::binding_counts))]
 fn parse_binding_parts(
-    alloc: Global,
-    signatures: &Signatures,
+    reader: &Reader,
     at: u32,
     parts: &[Datum],
-    scope: &Scope,
-    unknown: &mut Option<u32>,
+    notes: &mut Notes,
 ) -> Result<Binding, LoadRefusal>
-    ensures { Gives itself result unknown.new
-        (parse_binding_parts at (subs signatures.now (datums_of (map datum_of parts.now)))
-        (variables_of scope.now) unknown.old) }
+    ensures { Gives itself result notes.new
+        (parse_binding_parts at (subs reader.now.signatures.now (datums_of (map datum_of parts.now)))
+        (variables_of reader.now.scope.now) notes.old) }
 {
     match parts {
         [name, value] => {
             let name = named_part(at, name)?;
-            let value = parse_expression(alloc, signatures, value, scope, unknown)?;
+            let value = parse_expression(reader, value, notes)?;
             Ok(Binding { name, value })
         }
         [] => Err(LoadRefusal::Refused(6, at)),
@@ -125,23 +115,22 @@ fn parse_binding_parts(
 #[cycle(expression)]
 #[tactic(auto, using(crate::proofs::ExpressionCounts::map_counts))]
 pub fn parse_map(
-    alloc: Global,
-    signatures: &Signatures,
+    reader: &Reader,
     at: u32,
     parts: &[Datum],
-    scope: &Scope,
-    unknown: &mut Option<u32>,
+    notes: &mut Notes,
 ) -> Result<Expr, LoadRefusal>
-    ensures { Gives itself result unknown.new
-        (parse_map at (subs signatures.now (datums_of (map datum_of parts.now))) (variables_of scope.now)
-        unknown.old) }
+    ensures { Gives itself result notes.new
+        (parse_map at (subs reader.now.signatures.now (datums_of (map datum_of parts.now))) (variables_of reader.now.scope.now)
+        notes.old) }
 {
     match parts {
         [name, list, body] => {
             let name = named_part(at, name)?;
-            let list = parse_expression(alloc, signatures, list, scope, unknown)?;
-            let body = parse_expression(alloc, signatures, body, &Scope::One(&name, scope), unknown)?;
-            Ok(Expr::map(alloc, name, list, body)?)
+            let list = parse_expression(reader, list, notes)?;
+            let inner = Scope::One(&name, reader.scope);
+            let body = parse_expression(&reader.seeing(&inner), body, notes)?;
+            Ok(Expr::map(reader.alloc, name, list, body)?)
         }
         [] => Err(LoadRefusal::Refused(6, at)),
         [_] => Err(LoadRefusal::Refused(6, at)),
@@ -154,23 +143,22 @@ pub fn parse_map(
 #[cycle(expression)]
 #[tactic(auto, using(crate::proofs::ExpressionCounts::filter_counts))]
 pub fn parse_filter(
-    alloc: Global,
-    signatures: &Signatures,
+    reader: &Reader,
     at: u32,
     parts: &[Datum],
-    scope: &Scope,
-    unknown: &mut Option<u32>,
+    notes: &mut Notes,
 ) -> Result<Expr, LoadRefusal>
-    ensures { Gives itself result unknown.new
-        (parse_filter at (subs signatures.now (datums_of (map datum_of parts.now)))
-        (variables_of scope.now) unknown.old) }
+    ensures { Gives itself result notes.new
+        (parse_filter at (subs reader.now.signatures.now (datums_of (map datum_of parts.now)))
+        (variables_of reader.now.scope.now) notes.old) }
 {
     match parts {
         [name, list, body] => {
             let name = named_part(at, name)?;
-            let list = parse_expression(alloc, signatures, list, scope, unknown)?;
-            let body = parse_expression(alloc, signatures, body, &Scope::One(&name, scope), unknown)?;
-            Ok(Expr::filter(alloc, name, list, body)?)
+            let list = parse_expression(reader, list, notes)?;
+            let inner = Scope::One(&name, reader.scope);
+            let body = parse_expression(&reader.seeing(&inner), body, notes)?;
+            Ok(Expr::filter(reader.alloc, name, list, body)?)
         }
         [] => Err(LoadRefusal::Refused(6, at)),
         [_] => Err(LoadRefusal::Refused(6, at)),
@@ -183,27 +171,25 @@ pub fn parse_filter(
 #[cycle(expression)]
 #[tactic(auto, using(crate::proofs::ExpressionCounts::fold_counts))]
 pub fn parse_fold(
-    alloc: Global,
-    signatures: &Signatures,
+    reader: &Reader,
     at: u32,
     parts: &[Datum],
-    scope: &Scope,
-    unknown: &mut Option<u32>,
+    notes: &mut Notes,
 ) -> Result<Expr, LoadRefusal>
-    ensures { Gives itself result unknown.new
-        (parse_fold at (subs signatures.now (datums_of (map datum_of parts.now))) (variables_of scope.now)
-        unknown.old) }
+    ensures { Gives itself result notes.new
+        (parse_fold at (subs reader.now.signatures.now (datums_of (map datum_of parts.now))) (variables_of reader.now.scope.now)
+        notes.old) }
 {
     match parts {
         [name, list, accumulator, opening, body] => {
             let name = named_part(at, name)?;
             let accumulator = named_part(at, accumulator)?;
-            let list = parse_expression(alloc, signatures, list, scope, unknown)?;
-            let opening = parse_expression(alloc, signatures, opening, scope, unknown)?;
-            let element = Scope::One(&name, scope);
+            let list = parse_expression(reader, list, notes)?;
+            let opening = parse_expression(reader, opening, notes)?;
+            let element = Scope::One(&name, reader.scope);
             let inner = Scope::One(&accumulator, &element);
-            let body = parse_expression(alloc, signatures, body, &inner, unknown)?;
-            Ok(Expr::fold(alloc, name, list, accumulator, opening, body)?)
+            let body = parse_expression(&reader.seeing(&inner), body, notes)?;
+            Ok(Expr::fold(reader.alloc, name, list, accumulator, opening, body)?)
         }
         [] => Err(LoadRefusal::Refused(6, at)),
         [_] => Err(LoadRefusal::Refused(6, at)),
@@ -218,26 +204,24 @@ pub fn parse_fold(
 #[cycle(expression)]
 #[tactic(auto, using(crate::proofs::ExpressionCounts::let_counts))]
 pub fn parse_let(
-    alloc: Global,
-    signatures: &Signatures,
+    reader: &Reader,
     at: u32,
     parts: &[Datum],
-    scope: &Scope,
-    unknown: &mut Option<u32>,
+    notes: &mut Notes,
 ) -> Result<Expr, LoadRefusal>
-    ensures { Gives itself result unknown.new
-        (parse_let at (subs signatures.now (datums_of (map datum_of parts.now))) (variables_of scope.now)
-        unknown.old) }
+    ensures { Gives itself result notes.new
+        (parse_let at (subs reader.now.signatures.now (datums_of (map datum_of parts.now))) (variables_of reader.now.scope.now)
+        notes.old) }
 {
     match parts {
         [bindings, body] => {
             if !is_binding_list(bindings) {
                 return Err(LoadRefusal::Refused(6, at));
             }
-            let bound = parse_bindings(alloc, signatures, at, bindings, scope, unknown)?;
-            let inner = Scope::Names(bound.names.as_slice(), scope);
-            let body = parse_expression(alloc, signatures, body, &inner, unknown)?;
-            Ok(Expr::bind(alloc, bound.bindings, body)?)
+            let bound = parse_bindings(reader, at, bindings, notes)?;
+            let inner = Scope::Names(bound.names.as_slice(), reader.scope);
+            let body = parse_expression(&reader.seeing(&inner), body, notes)?;
+            Ok(Expr::bind(reader.alloc, bound.bindings, body)?)
         }
         [] => Err(LoadRefusal::Refused(6, at)),
         [_] => Err(LoadRefusal::Refused(6, at)),

@@ -8,49 +8,37 @@ ghost use Rattle.cl_expressions.specs.Expressions.{parse_each, parse_expression,
 ghost use Rattle.cl_expressions.specs.ExpressionViews.{terms_in};
 
 use crate::bindings::{parse_filter, parse_fold, parse_let, parse_map};
-use cl_forms::Datum;
-use crate::notes::note;
-use cl_forms::{fits, named_part};
+use crate::notes::Notes;
+use crate::readers::Reader;
 use crate::records::{parse_get, parse_make, parse_with};
-use cl_forms::LoadRefusal;
-use crate::scopes::Scope;
-use cl_forms::is_name;
-use cl_words::{Special, count_of, operator_named, special_named};
-use cl_words::Signatures;
+use cl_forms::{Datum, LoadRefusal, fits, is_name, named_part};
 use cl_syntax::{Expr, Operator};
 use cl_value::{Text, Value};
-use std::alloc::Global;
+use cl_words::{Head, Special, count_of, head_named};
 
 /// The expression that a datum is. Where a name in it is not declared, the first such is noted.
 #[cycle(expression)]
 pub fn parse_expression(
-    alloc: Global,
-    signatures: &Signatures,
+    reader: &Reader,
     datum: &Datum,
-    scope: &Scope,
-    unknown: &mut Option<u32>,
+    notes: &mut Notes,
 ) -> Result<Expr, LoadRefusal>
-    ensures { Gives itself result unknown.new
-        (parse_expression signatures.now (datum_of datum.now) (variables_of scope.now) unknown.old) }
+    ensures { Gives itself result notes.new
+        (parse_expression reader.now.signatures.now (datum_of datum.now) (variables_of reader.now.scope.now) notes.old) }
 {
     match datum {
         Datum::Number(number, _) => Ok(Expr::constant(Value::Int(*number))),
         Datum::Literal(text, _) => Ok(Expr::constant(Value::Text(text.copy()?))),
         Datum::Quoted(name, _, _) => Ok(Expr::constant(Value::Symbol(name.copy()?))),
-        Datum::Word(word, at) => parse_word(word, *at, scope, unknown),
+        Datum::Word(word, at) => parse_word(reader, word, *at, notes),
         Datum::Stray(at) => Err(LoadRefusal::Refused(6, *at)),
-        Datum::List(parts, at) => parse_form(alloc, signatures, *at, parts.as_slice(), scope, unknown),
+        Datum::List(parts, at) => parse_form(reader, *at, parts.as_slice(), notes),
     }
 }
 
-fn parse_word(
-    word: &Text,
-    at: u32,
-    scope: &Scope,
-    unknown: &mut Option<u32>,
-) -> Result<Expr, LoadRefusal>
-    ensures { Gives itself result unknown.new
-        (parse_word word.now at (variables_of scope.now) unknown.old) }
+fn parse_word(reader: &Reader, word: &Text, at: u32, notes: &mut Notes) -> Result<Expr, LoadRefusal>
+    ensures { Gives itself result notes.new
+        (parse_word word.now at (variables_of reader.now.scope.now) notes.old) }
 {
     if word.as_slice() == b"true".as_slice() {
         Ok(Expr::constant(Value::Bool(true)))
@@ -59,48 +47,44 @@ fn parse_word(
     } else if word.as_slice() == b"null".as_slice() {
         Ok(Expr::constant(Value::Null))
     } else {
-        parse_variable(word, at, scope, unknown)
+        parse_variable(reader, word, at, notes)
     }
 }
 
 fn parse_variable(
+    reader: &Reader,
     word: &Text,
     at: u32,
-    scope: &Scope,
-    unknown: &mut Option<u32>,
+    notes: &mut Notes,
 ) -> Result<Expr, LoadRefusal>
-    ensures { Gives itself result unknown.new
-        (parse_variable word.now at (variables_of scope.now) unknown.old) }
+    ensures { Gives itself result notes.new
+        (parse_variable word.now at (variables_of reader.now.scope.now) notes.old) }
 {
     if !is_name(word.as_slice()) {
         return Err(LoadRefusal::Refused(6, at));
     }
     let name = word.copy()?;
-    note(unknown, scope.has(word.as_slice()), at);
+    notes.note(reader.scope.has(word.as_slice()), at);
     Ok(Expr::variable(name))
 }
 
 /// A form: a list that begins with a symbol.
 #[cycle(expression)]
 fn parse_form(
-    alloc: Global,
-    signatures: &Signatures,
+    reader: &Reader,
     at: u32,
     parts: &[Datum],
-    scope: &Scope,
-    unknown: &mut Option<u32>,
+    notes: &mut Notes,
 ) -> Result<Expr, LoadRefusal>
-    ensures { Gives itself result unknown.new
-        (parse_form signatures.now at (subs signatures.now (datums_of (map datum_of parts.now)))
-        (variables_of scope.now) unknown.old) }
+    ensures { Gives itself result notes.new
+        (parse_form reader.now.signatures.now at (subs reader.now.signatures.now (datums_of (map datum_of parts.now)))
+        (variables_of reader.now.scope.now) notes.old) }
 {
     let Some((head, parts)) = parts.split_first() else {
         return Err(LoadRefusal::Refused(6, at));
     };
     match head {
-        Datum::Word(head, head_at) => parse_head(
-            alloc, signatures, head, *head_at, at, parts, scope, unknown,
-        ),
+        Datum::Word(head, head_at) => parse_head(reader, head, *head_at, at, parts, notes),
         Datum::Number(_, _) => Err(LoadRefusal::Refused(6, at)),
         Datum::Literal(_, _) => Err(LoadRefusal::Refused(6, at)),
         Datum::Quoted(_, _, _) => Err(LoadRefusal::Refused(6, at)),
@@ -111,55 +95,55 @@ fn parse_form(
 
 #[cycle(expression)]
 fn parse_head(
-    alloc: Global,
-    signatures: &Signatures,
+    reader: &Reader,
     head: &Text,
     head_at: u32,
     at: u32,
     parts: &[Datum],
-    scope: &Scope,
-    unknown: &mut Option<u32>,
+    notes: &mut Notes,
 ) -> Result<Expr, LoadRefusal>
-    ensures { Gives itself result unknown.new
-        (parse_headed signatures.now (word head.now head_at) at
-        (subs signatures.now (datums_of (map datum_of parts.now))) (variables_of scope.now)
-        unknown.old) }
+    ensures { Gives itself result notes.new
+        (parse_headed reader.now.signatures.now (word head.now head_at) at
+        (subs reader.now.signatures.now (datums_of (map datum_of parts.now))) (variables_of reader.now.scope.now)
+        notes.old) }
 {
-    if let Some(special) = special_named(head.as_slice()) {
-        return parse_special(alloc, signatures, special, at, parts, scope, unknown);
-    }
-    match operator_named(head.as_slice()) {
-        Some(operator) => parse_operation(alloc, signatures, operator, at, parts, scope, unknown),
-        None => parse_call(alloc, signatures, head, head_at, at, parts, scope, unknown),
+    match head_named(head.as_slice()) {
+        None => parse_call(reader, head, head_at, at, parts, notes),
+        Some(Head::If) => parse_if(reader, at, parts, notes),
+        Some(Head::Let) => parse_let(reader, at, parts, notes),
+        Some(Head::Special(special)) => parse_special(reader, special, at, parts, notes),
+        Some(Head::Operator(operator)) => parse_operation(reader, operator, at, parts, notes),
+        Some(Head::Control(_)) => Err(LoadRefusal::Refused(5, head_at)),
+        Some(Head::Figure(_)) => Err(LoadRefusal::Refused(5, head_at)),
+        Some(Head::Setting(_)) => Err(LoadRefusal::Refused(5, head_at)),
+        Some(Head::Writing(_)) => Err(LoadRefusal::Refused(5, head_at)),
+        Some(Head::Change(_)) => Err(LoadRefusal::Refused(5, head_at)),
+        Some(Head::Planned(_)) => Err(LoadRefusal::Refused(5, head_at)),
     }
 }
 
 #[cycle(expression)]
 fn parse_special(
-    alloc: Global,
-    signatures: &Signatures,
+    reader: &Reader,
     special: Special,
     at: u32,
     parts: &[Datum],
-    scope: &Scope,
-    unknown: &mut Option<u32>,
+    notes: &mut Notes,
 ) -> Result<Expr, LoadRefusal>
-    ensures { Gives itself result unknown.new
-        (parse_special signatures.now special at (subs signatures.now (datums_of (map datum_of parts.now)))
-        (variables_of scope.now) unknown.old) }
+    ensures { Gives itself result notes.new
+        (parse_special reader.now.signatures.now special at (subs reader.now.signatures.now (datums_of (map datum_of parts.now)))
+        (variables_of reader.now.scope.now) notes.old) }
 {
     match special {
-        Special::Slot => parse_slot(signatures, at, parts, unknown),
-        Special::If => parse_if(alloc, signatures, at, parts, scope, unknown),
-        Special::Let => parse_let(alloc, signatures, at, parts, scope, unknown),
-        Special::And => Ok(Expr::every(parse_each(alloc, signatures, parts, scope, unknown)?)),
-        Special::Or => Ok(Expr::some(parse_each(alloc, signatures, parts, scope, unknown)?)),
-        Special::Make => parse_make(alloc, signatures, at, parts, scope, unknown),
-        Special::Get => parse_get(alloc, signatures, at, parts, scope, unknown),
-        Special::With => parse_with(alloc, signatures, at, parts, scope, unknown),
-        Special::Map => parse_map(alloc, signatures, at, parts, scope, unknown),
-        Special::Filter => parse_filter(alloc, signatures, at, parts, scope, unknown),
-        Special::Fold => parse_fold(alloc, signatures, at, parts, scope, unknown),
+        Special::Slot => parse_slot(reader, at, parts, notes),
+        Special::And => Ok(Expr::every(parse_each(reader, parts, notes)?)),
+        Special::Or => Ok(Expr::some(parse_each(reader, parts, notes)?)),
+        Special::Make => parse_make(reader, at, parts, notes),
+        Special::Get => parse_get(reader, at, parts, notes),
+        Special::With => parse_with(reader, at, parts, notes),
+        Special::Map => parse_map(reader, at, parts, notes),
+        Special::Filter => parse_filter(reader, at, parts, notes),
+        Special::Fold => parse_fold(reader, at, parts, notes),
     }
 }
 
@@ -167,19 +151,17 @@ fn parse_special(
 #[cycle(expression)]
 #[tactic(auto, using(cl_forms::proofs::Data::datum_weighs))]
 pub fn parse_each(
-    alloc: Global,
-    signatures: &Signatures,
+    reader: &Reader,
     parts: &[Datum],
-    scope: &Scope,
-    unknown: &mut Option<u32>,
+    notes: &mut Notes,
 ) -> Result<Vec<Expr>, LoadRefusal>
-    ensures { Gives terms_in result unknown.new
-        (parse_each (subs signatures.now (datums_of (map datum_of parts.now))) (variables_of scope.now)
-        unknown.old) }
+    ensures { Gives terms_in result notes.new
+        (parse_each (subs reader.now.signatures.now (datums_of (map datum_of parts.now))) (variables_of reader.now.scope.now)
+        notes.old) }
 {
-    let mut exprs = Vec::new(alloc);
+    let mut exprs = Vec::new(reader.alloc);
     for part in parts {
-        let expr = parse_expression(alloc, signatures, part, scope, unknown)?;
+        let expr = parse_expression(reader, part, notes)?;
         exprs.push(expr)?;
     }
     Ok(exprs)
@@ -189,23 +171,21 @@ pub fn parse_each(
 #[cycle(expression)]
 #[tactic(auto, using(crate::proofs::ExpressionCounts::if_counts))]
 fn parse_if(
-    alloc: Global,
-    signatures: &Signatures,
+    reader: &Reader,
     at: u32,
     parts: &[Datum],
-    scope: &Scope,
-    unknown: &mut Option<u32>,
+    notes: &mut Notes,
 ) -> Result<Expr, LoadRefusal>
-    ensures { Gives itself result unknown.new
-        (parse_if at (subs signatures.now (datums_of (map datum_of parts.now))) (variables_of scope.now)
-        unknown.old) }
+    ensures { Gives itself result notes.new
+        (parse_if at (subs reader.now.signatures.now (datums_of (map datum_of parts.now))) (variables_of reader.now.scope.now)
+        notes.old) }
 {
     match parts {
         [test, then, other] => {
-            let test = parse_expression(alloc, signatures, test, scope, unknown)?;
-            let then = parse_expression(alloc, signatures, then, scope, unknown)?;
-            let other = parse_expression(alloc, signatures, other, scope, unknown)?;
-            Ok(Expr::choice(alloc, test, then, other)?)
+            let test = parse_expression(reader, test, notes)?;
+            let then = parse_expression(reader, then, notes)?;
+            let other = parse_expression(reader, other, notes)?;
+            Ok(Expr::choice(reader.alloc, test, then, other)?)
         }
         [] => Err(LoadRefusal::Refused(6, at)),
         [_] => Err(LoadRefusal::Refused(6, at)),
@@ -217,32 +197,32 @@ fn parse_if(
 /// `(slot NAME)`
 #[tactic(auto, using(crate::proofs::ExpressionCounts::slot_counts))]
 fn parse_slot(
-    signatures: &Signatures,
+    reader: &Reader,
     at: u32,
     parts: &[Datum],
-    unknown: &mut Option<u32>,
+    notes: &mut Notes,
 ) -> Result<Expr, LoadRefusal>
-    ensures { Gives itself result unknown.new
-        (parse_slot signatures.now at (subs signatures.now (datums_of (map datum_of parts.now))) unknown.old) }
+    ensures { Gives itself result notes.new
+        (parse_slot reader.now.signatures.now at (subs reader.now.signatures.now (datums_of (map datum_of parts.now))) notes.old) }
 {
     match parts {
-        [name] => parse_slot_name(signatures, at, name, unknown),
+        [name] => parse_slot_name(reader, at, name, notes),
         [] => Err(LoadRefusal::Refused(6, at)),
         [_, _, ..] => Err(LoadRefusal::Refused(6, at)),
     }
 }
 
 fn parse_slot_name(
-    signatures: &Signatures,
+    reader: &Reader,
     at: u32,
     datum: &Datum,
-    unknown: &mut Option<u32>,
+    notes: &mut Notes,
 ) -> Result<Expr, LoadRefusal>
-    ensures { Gives itself result unknown.new
-        (parse_slot_name signatures.now at (datum_of datum.now) unknown.old) }
+    ensures { Gives itself result notes.new
+        (parse_slot_name reader.now.signatures.now at (datum_of datum.now) notes.old) }
 {
     let name = named_part(at, datum)?;
-    note(unknown, signatures.has_slot(&name), datum.offset());
+    notes.note(reader.signatures.has_slot(name.as_slice()), datum.offset());
     Ok(Expr::slot(name))
 }
 
@@ -250,22 +230,20 @@ fn parse_slot_name(
 #[cycle(expression)]
 #[tactic(auto, using(crate::proofs::Subs::subs_counted))]
 fn parse_operation(
-    alloc: Global,
-    signatures: &Signatures,
+    reader: &Reader,
     operator: Operator,
     at: u32,
     parts: &[Datum],
-    scope: &Scope,
-    unknown: &mut Option<u32>,
+    notes: &mut Notes,
 ) -> Result<Expr, LoadRefusal>
-    ensures { Gives itself result unknown.new
-        (parse_operation operator at (subs signatures.now (datums_of (map datum_of parts.now)))
-        (variables_of scope.now) unknown.old) }
+    ensures { Gives itself result notes.new
+        (parse_operation operator at (subs reader.now.signatures.now (datums_of (map datum_of parts.now)))
+        (variables_of reader.now.scope.now) notes.old) }
 {
     if !fits(count_of(&operator), parts.len()) {
         return Err(LoadRefusal::Refused(6, at));
     }
-    let exprs = parse_each(alloc, signatures, parts, scope, unknown)?;
+    let exprs = parse_each(reader, parts, notes)?;
     Ok(Expr::operation(operator, exprs))
 }
 
@@ -273,26 +251,24 @@ fn parse_operation(
 #[cycle(expression)]
 #[tactic(auto, using(crate::proofs::Subs::subs_counted))]
 fn parse_call(
-    alloc: Global,
-    signatures: &Signatures,
+    reader: &Reader,
     head: &Text,
     head_at: u32,
     at: u32,
     parts: &[Datum],
-    scope: &Scope,
-    unknown: &mut Option<u32>,
+    notes: &mut Notes,
 ) -> Result<Expr, LoadRefusal>
-    ensures { Gives itself result unknown.new
-        (parse_call signatures.now head.now head_at at
-        (subs signatures.now (datums_of (map datum_of parts.now))) (variables_of scope.now)
-        unknown.old) }
+    ensures { Gives itself result notes.new
+        (parse_call reader.now.signatures.now head.now head_at at
+        (subs reader.now.signatures.now (datums_of (map datum_of parts.now))) (variables_of reader.now.scope.now)
+        notes.old) }
 {
-    let Some(count) = signatures.function(head) else {
+    let Some(count) = reader.signatures.function(head.as_slice()) else {
         return Err(LoadRefusal::Refused(5, head_at));
     };
     if !fits(count, parts.len()) {
         return Err(LoadRefusal::Refused(6, at));
     }
-    let exprs = parse_each(alloc, signatures, parts, scope, unknown)?;
+    let exprs = parse_each(reader, parts, notes)?;
     Ok(Expr::call(head.copy()?, exprs))
 }

@@ -4,10 +4,12 @@
 mod bindings;
 mod expressions;
 mod notes;
+mod readers;
 mod records;
 mod scopes;
 
 pub use bindings::{Bindings, is_binding_list, parse_binding, parse_bindings};
 pub use expressions::{parse_each, parse_expression};
-pub use notes::note;
+pub use notes::{Notes, PlacedSpec};
+pub use readers::Reader;
 pub use scopes::Scope;

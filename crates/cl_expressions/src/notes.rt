@@ -1,12 +1,80 @@
 //! What is noted while forms are read.
-ghost use Rattle.std.specs.Prelude.{◌≡◌};
-ghost use Rattle.cl_expressions.specs.Load.{unless};
+ghost use Rattle.std.specs.Prelude.{◌≡◌, ◌++◌, ◌∷◌, [], OnOk};
+ghost use Rattle.cl_expressions.specs.Load.{nothing_noted, unless, with_specifier};
 
-/// Notes a name at this offset, where it is not known and no earlier one was noted.
-pub fn note(unknown: &mut Option<u32>, known: bool, at: u32)
-    ensures { unknown.new ≡ unless known at unknown.old }
-{
-    if !known && unknown.is_none() {
-        *unknown = Some(at);
+use cl_syntax::TypeSpec;
+use cl_table::Names;
+use std::alloc::{AllocError, Global};
+use std::marker::Model;
+
+/// A type specifier that was read, the parameters of the declaration around it, and its offset.
+#[derive(Drop)]
+pub struct PlacedSpec {
+    pub spec: TypeSpec,
+    pub parameters: Names,
+    pub at: u32,
+}
+
+/// What is noted: where the first name stands that is not declared, and the type specifiers in the order
+/// of the text.
+#[derive(Drop)]
+pub struct Notes {
+    unknown: Option<u32>,
+    specifiers: Vec<PlacedSpec>,
+}
+
+impl Model for Notes {
+    ghost use Rattle.cl_expressions.specs.Load.{Notes as Noted};
+
+    ghost Value = { Noted };
+
+    ghost view = { λ n. record { unknown = n.unknown; specifiers = n.specifiers.items } };
+}
+
+impl Notes {
+    /// Nothing noted, which takes no memory.
+    pub fn new(alloc: Global) -> Notes
+        ensures { result ≡ nothing_noted }
+    {
+        Notes {
+            unknown: None,
+            specifiers: Vec::new(alloc),
+        }
+    }
+
+    /// The offset of the first name that is not declared.
+    pub fn unknown(&self) -> Option<u32>
+        ensures { result ≡ self.now.unknown }
+    {
+        self.unknown
+    }
+
+    /// The type specifiers, in the order of the text.
+    pub fn specifiers(&self) -> &[PlacedSpec]
+        ensures { result.now ≡ self.now.specifiers }
+    {
+        self.specifiers.as_slice()
+    }
+
+    /// Notes a name at this offset, where it is not known and no earlier one was noted.
+    pub fn note(&mut self, known: bool, at: u32)
+        ensures { self.new ≡ unless known at self.old }
+    {
+        if !known && self.unknown.is_none() {
+            self.unknown = Some(at);
+        }
+    }
+
+    /// Puts a type specifier behind the others.
+    pub fn place(&mut self, spec: TypeSpec, parameters: Names, at: u32) -> Result<(), AllocError>
+        ensures { OnOk result (self.new ≡ with_specifier spec parameters at self.old) }
+    {
+        let placed = PlacedSpec {
+            spec,
+            parameters,
+            at,
+        };
+        self.specifiers.push(placed)?;
+        Ok(())
     }
 }

@@ -10,13 +10,10 @@ ghost use Rattle.cl_expressions.specs.Load.{Gives, itself};
 ghost use Rattle.cl_expressions.specs.Scopes.{variables_of};
 ghost use Rattle.cl_expressions.specs.Expressions.{subs, parse_make, parse_make_fields, parse_make_parts, parse_get, parse_with};
 
-use cl_forms::Datum;
-use crate::notes::note;
-use cl_forms::{fits, named_part};
-use cl_forms::LoadRefusal;
-use crate::scopes::Scope;
 use crate::expressions::{parse_each, parse_expression};
-use cl_words::Signatures;
+use crate::notes::Notes;
+use crate::readers::Reader;
+use cl_forms::{Datum, LoadRefusal, fits, named_part};
 use cl_syntax::{Expr, Operator, RecordOperator};
 use cl_value::Text;
 use std::alloc::{AllocError, Global};
@@ -24,75 +21,60 @@ use std::alloc::{AllocError, Global};
 /// `(make RECORD E ...)`, one part for each field.
 #[cycle(expression)]
 pub fn parse_make(
-    alloc: Global,
-    signatures: &Signatures,
+    reader: &Reader,
     at: u32,
     parts: &[Datum],
-    scope: &Scope,
-    unknown: &mut Option<u32>,
+    notes: &mut Notes,
 ) -> Result<Expr, LoadRefusal>
-    ensures { Gives itself result unknown.new
-        (parse_make signatures.now at (subs signatures.now (datums_of (map datum_of parts.now)))
-        (variables_of scope.now) unknown.old) }
+    ensures { Gives itself result notes.new
+        (parse_make reader.now.signatures.now at (subs reader.now.signatures.now (datums_of (map datum_of parts.now)))
+        (variables_of reader.now.scope.now) notes.old) }
 {
     let Some((datum, parts)) = parts.split_first() else {
         return Err(LoadRefusal::Refused(6, at));
     };
     let name = named_part(at, datum)?;
-    parse_make_fields(
-        alloc,
-        signatures,
-        name,
-        datum.offset(),
-        at,
-        parts,
-        scope,
-        unknown,
-    )
+    parse_make_fields(reader, name, datum.offset(), at, parts, notes)
 }
 
 #[cycle(expression)]
 #[tactic(auto, using(crate::proofs::Subs::subs_counted))]
 fn parse_make_fields(
-    alloc: Global,
-    signatures: &Signatures,
+    reader: &Reader,
     name: Text,
     name_at: u32,
     at: u32,
     parts: &[Datum],
-    scope: &Scope,
-    unknown: &mut Option<u32>,
+    notes: &mut Notes,
 ) -> Result<Expr, LoadRefusal>
-    ensures { Gives itself result unknown.new
-        (parse_make_fields (record_in signatures.now name) name name_at at
-        (subs signatures.now (datums_of (map datum_of parts.now))) (variables_of scope.now)
-        unknown.old) }
+    ensures { Gives itself result notes.new
+        (parse_make_fields (record_in reader.now.signatures.now name) name name_at at
+        (subs reader.now.signatures.now (datums_of (map datum_of parts.now))) (variables_of reader.now.scope.now)
+        notes.old) }
 {
-    match signatures.record_fields(&name) {
+    match reader.signatures.record_fields(name.as_slice()) {
         Some(count) => {
             if !fits(count, parts.len()) {
                 return Err(LoadRefusal::Refused(6, at));
             }
         }
-        None => note(unknown, false, name_at),
+        None => notes.note(false, name_at),
     }
-    parse_make_parts(alloc, signatures, name, parts, scope, unknown)
+    parse_make_parts(reader, name, parts, notes)
 }
 
 #[cycle(expression)]
 fn parse_make_parts(
-    alloc: Global,
-    signatures: &Signatures,
+    reader: &Reader,
     name: Text,
     parts: &[Datum],
-    scope: &Scope,
-    unknown: &mut Option<u32>,
+    notes: &mut Notes,
 ) -> Result<Expr, LoadRefusal>
-    ensures { Gives itself result unknown.new
-        (parse_make_parts name (subs signatures.now (datums_of (map datum_of parts.now))) (variables_of scope.now)
-        unknown.old) }
+    ensures { Gives itself result notes.new
+        (parse_make_parts name (subs reader.now.signatures.now (datums_of (map datum_of parts.now))) (variables_of reader.now.scope.now)
+        notes.old) }
 {
-    let exprs = parse_each(alloc, signatures, parts, scope, unknown)?;
+    let exprs = parse_each(reader, parts, notes)?;
     Ok(Expr::operation(Operator::Record(RecordOperator::Make(name)), exprs))
 }
 
@@ -100,22 +82,20 @@ fn parse_make_parts(
 #[cycle(expression)]
 #[tactic(auto, using(crate::proofs::ExpressionCounts::get_counts))]
 pub fn parse_get(
-    alloc: Global,
-    signatures: &Signatures,
+    reader: &Reader,
     at: u32,
     parts: &[Datum],
-    scope: &Scope,
-    unknown: &mut Option<u32>,
+    notes: &mut Notes,
 ) -> Result<Expr, LoadRefusal>
-    ensures { Gives itself result unknown.new
-        (parse_get at (subs signatures.now (datums_of (map datum_of parts.now))) (variables_of scope.now)
-        unknown.old) }
+    ensures { Gives itself result notes.new
+        (parse_get at (subs reader.now.signatures.now (datums_of (map datum_of parts.now))) (variables_of reader.now.scope.now)
+        notes.old) }
 {
     match parts {
         [record, field] => {
             let field = named_part(at, field)?;
-            let record = parse_expression(alloc, signatures, record, scope, unknown)?;
-            Ok(get_of(alloc, field, record)?)
+            let record = parse_expression(reader, record, notes)?;
+            Ok(get_of(reader.alloc, field, record)?)
         }
         [] => Err(LoadRefusal::Refused(6, at)),
         [_] => Err(LoadRefusal::Refused(6, at)),
@@ -127,23 +107,21 @@ pub fn parse_get(
 #[cycle(expression)]
 #[tactic(auto, using(crate::proofs::ExpressionCounts::with_counts))]
 pub fn parse_with(
-    alloc: Global,
-    signatures: &Signatures,
+    reader: &Reader,
     at: u32,
     parts: &[Datum],
-    scope: &Scope,
-    unknown: &mut Option<u32>,
+    notes: &mut Notes,
 ) -> Result<Expr, LoadRefusal>
-    ensures { Gives itself result unknown.new
-        (parse_with at (subs signatures.now (datums_of (map datum_of parts.now))) (variables_of scope.now)
-        unknown.old) }
+    ensures { Gives itself result notes.new
+        (parse_with at (subs reader.now.signatures.now (datums_of (map datum_of parts.now))) (variables_of reader.now.scope.now)
+        notes.old) }
 {
     match parts {
         [record, field, value] => {
             let field = named_part(at, field)?;
-            let record = parse_expression(alloc, signatures, record, scope, unknown)?;
-            let value = parse_expression(alloc, signatures, value, scope, unknown)?;
-            Ok(with_of(alloc, field, record, value)?)
+            let record = parse_expression(reader, record, notes)?;
+            let value = parse_expression(reader, value, notes)?;
+            Ok(with_of(reader.alloc, field, record, value)?)
         }
         [] => Err(LoadRefusal::Refused(6, at)),
         [_] => Err(LoadRefusal::Refused(6, at)),

@@ -28,12 +28,14 @@ impl Scope<'_> {
     }
 }
 
-/// Whether a name is one of these.
+/// Whether a name is one of these. It looks from the last one on.
 fn is_one_of(names: &[Text], name: &[u8]) -> bool
     ensures { result ≡ among name.now names.now }
 {
-    for one in names {
-        if one.as_slice() == name {
+    let mut left = names.len();
+    while left > 0 {
+        left -= 1;
+        if names[left].as_slice() == name {
             return true;
         }
     }

@@ -1,3 +1,4 @@
 pub mod OneTree
 pub mod Reading
 pub mod Data
+pub mod KeyLemmas

@@ -1,6 +1,6 @@
 -- The data that the forms of a text are. A quote takes the form that follows it, whatever it is: a name behind one quote is
 -- quoted, and anything else makes the quote a stray one.
-use Rattle.std.specs.Prelude.{ℕ, Bool, true, false, not, ◌==◌, if◌then◌else◌, List, [], ◌∷◌, ◌++◌}
+use Rattle.std.specs.Prelude.{ℕ, if◌then◌else◌, List, [], ◌∷◌, ◌++◌}
 use Rattle.cl_forms.specs.Tree.{Tree, Trees}
 use Rattle.cl_forms.specs.Tree as tree
 use Rattle.cl_forms.specs.Datum.{Datum, number, literal, word, quoted, stray, list, datums_of}

@@ -10,3 +10,7 @@ pub mod Grouped
 pub mod Naming
 pub mod Named
 pub mod LineNames
+pub mod Outer
+pub mod OuterView
+pub mod Keys
+pub mod KeyedView

@@ -1,5 +1,5 @@
 -- What is answered where a form asks for a name.
-use Rattle.std.specs.Prelude.{◌≡◌, ℕ, List, Option, Some, None, Result, Ok, Err}
+use Rattle.std.specs.Prelude.{◌≡◌, ℕ, List, Some, None, Result, Ok, Err}
 use Rattle.cl_forms.specs.Datum.{Datum}
 use Rattle.cl_forms.specs.Naming.{name_in}
 use Rattle.cl_forms.specs.declared.refusals.LoadRefusal.{LoadRefusal}

@@ -5,9 +5,11 @@ mod atom;
 mod datum;
 mod form;
 mod grouping;
+mod keys;
 mod laws;
 mod line_names;
 mod naming;
+mod outer;
 mod parse;
 mod refusals;
 mod words;
@@ -15,9 +17,13 @@ mod words;
 pub use datum::{Datum, Datums};
 pub use form::{Form, Forms};
 pub use grouping::data_in;
+pub use keys::{Key, Keyed, key_named, keyed_pairs, keyed_sections, section_values, values_of};
 pub use laws::one_tree;
 pub use line_names::line_name_of;
-pub use naming::{are_names, fits, name_in, named_part, symbol_of, symbol_text};
+pub use naming::{
+    are_names, fits, list_counted, name_in, named_part, names_counted, symbol_of, symbol_text,
+};
+pub use outer::{DeclarationKind, Outer, OuterKind, behind_first, first_of, outer_in, outers_of};
 pub use parse::all_forms;
 pub use refusals::LoadRefusal;
 pub use words::{is_constant, is_key, is_name};

@@ -1,7 +1,7 @@
 //! Names and counts that forms ask for.
 ghost use Rattle.std.specs.Prelude.{◌≡◌, IfOk, map, option_map};
 ghost use Rattle.cl_forms.specs.DatumView.{datum_of};
-ghost use Rattle.cl_forms.specs.Naming.{are_names, name_in, symbol_of};
+ghost use Rattle.cl_forms.specs.Naming.{are_names, name_in, symbol_of, names_counted, list_counted};
 ghost use Rattle.cl_forms.specs.Naming.{fits};
 ghost use Rattle.cl_forms.specs.Named.{NamesPart};
 
@@ -69,6 +69,32 @@ pub fn are_names(parts: &[Datum]) -> bool
         }
     }
     true
+}
+
+/// How many names there are; None where a part is no name.
+pub fn names_counted(parts: &[Datum]) -> Option<usize>
+    ensures { result ≡ names_counted (map datum_of parts.now) }
+{
+    if are_names(parts) {
+        Some(parts.len())
+    } else {
+        None
+    }
+}
+
+/// How many names stand in a list of names; None of anything else.
+#[tactic(auto, using(crate::proofs::Data::data_in_order))]
+pub fn list_counted(datum: &Datum) -> Option<usize>
+    ensures { result ≡ list_counted (datum_of datum.now) }
+{
+    match datum {
+        Datum::List(parts, _) => names_counted(parts.as_slice()),
+        Datum::Number(_, _) => None,
+        Datum::Literal(_, _) => None,
+        Datum::Word(_, _) => None,
+        Datum::Quoted(_, _, _) => None,
+        Datum::Stray(_) => None,
+    }
 }
 
 /// The name that a datum is, where the form at this offset asks for one.

@@ -1,5 +1,5 @@
--- The words that head forms.
-use Rattle.std.specs.Prelude.{ℕ, Bool, ◌||◌, if◌then◌else◌, is_some, List, Option, Some, None, codes}
+-- The fixed words that head forms, in one table.
+use Rattle.std.specs.Prelude.{ℕ, Bool, if◌then◌else◌, is_some, option_map, List, Option, Some, None, codes}
 use Rattle.std.specs.Str.{bytes_eq}
 use Rattle.cl_syntax.specs.declared.operators.Operator.{Operator}
 use Rattle.cl_syntax.specs.declared.operators.Operator.TheVariants as operator
@@ -19,11 +19,24 @@ use Rattle.cl_words.specs.declared.heads.Control.{Control}
 use Rattle.cl_words.specs.declared.heads.Control.TheVariants as control
 use Rattle.cl_words.specs.declared.heads.Setting.{Setting}
 use Rattle.cl_words.specs.declared.heads.Setting.TheVariants as setting
+use Rattle.cl_words.specs.declared.heads.Writing.{Writing}
+use Rattle.cl_words.specs.declared.heads.Writing.TheVariants as writing
+use Rattle.cl_words.specs.declared.heads.Change.{Change}
+use Rattle.cl_words.specs.declared.heads.Change.TheVariants as change
+use Rattle.cl_words.specs.declared.heads.Planned.{Planned}
+use Rattle.cl_words.specs.declared.heads.Planned.TheVariants as planned
+use Rattle.cl_words.specs.declared.heads.Head.{Head}
+use Rattle.cl_words.specs.declared.heads.Head.TheVariants as head
+
+-- what the first names, as one of the second kind, else the other
+abbrev pub named_or : {A B : Type 0} → (A → B) → Option A → Option B → Option B
+named_or f (Some a) other = Some (f a)
+named_or f None other = other
 
 -- ---- operators over the values of their parts
 
-abbrev pub arithmetic : List ℕ → Option Arithmetic
-arithmetic word =
+abbrev pub arithmetic_named : List ℕ → Option Arithmetic
+arithmetic_named word =
     if bytes_eq word (codes "+") then Some Add
     else (if bytes_eq word (codes "-") then Some Subtract
     else (if bytes_eq word (codes "*") then Some Multiply
@@ -32,15 +45,15 @@ arithmetic word =
     else (if bytes_eq word (codes "div") then Some Quotient
     else (if bytes_eq word (codes "mod") then Some Remainder else None))))))
 
-abbrev pub comparison : List ℕ → Option Comparison
-comparison word =
+abbrev pub comparison_named : List ℕ → Option Comparison
+comparison_named word =
     if bytes_eq word (codes "<") then Some Less
     else (if bytes_eq word (codes "<=") then Some AtMost
     else (if bytes_eq word (codes ">") then Some Greater
     else (if bytes_eq word (codes ">=") then Some AtLeast else None)))
 
-abbrev pub list_operator : List ℕ → Option ListOperator
-list_operator word =
+abbrev pub list_operator_named : List ℕ → Option ListOperator
+list_operator_named word =
     if bytes_eq word (codes "list") then Some list.List
     else (if bytes_eq word (codes "nth") then Some list.Nth
     else (if bytes_eq word (codes "rest") then Some list.Rest
@@ -49,39 +62,25 @@ list_operator word =
     else (if bytes_eq word (codes "contains") then Some list.Contains
     else (if bytes_eq word (codes "range") then Some list.Range else None))))))
 
-abbrev pub text_operator : List ℕ → Option TextOperator
-text_operator word =
+abbrev pub text_operator_named : List ℕ → Option TextOperator
+text_operator_named word =
     if bytes_eq word (codes "concat") then Some text.Concat
     else (if bytes_eq word (codes "subtext") then Some text.Subtext
     else (if bytes_eq word (codes "pad") then Some text.Pad
     else (if bytes_eq word (codes "text") then Some text.Written else None)))
 
-abbrev pub other_operator : List ℕ → Option Operator
-other_operator word =
+abbrev pub other_operator_named : List ℕ → Option Operator
+other_operator_named word =
     if bytes_eq word (codes "not") then Some operator.Not
     else (if bytes_eq word (codes "=") then Some operator.Equal
     else (if bytes_eq word (codes "length") then Some operator.Length
     else (if bytes_eq word (codes "is-null") then Some operator.IsNull else None)))
 
-abbrev pub arithmetic_or : Option Arithmetic → Option Operator → Option Operator
-arithmetic_or (Some a) other = Some (operator.Arithmetic a)
-arithmetic_or None other = other
-
-abbrev pub comparison_or : Option Comparison → Option Operator → Option Operator
-comparison_or (Some c) other = Some (operator.Comparison c)
-comparison_or None other = other
-
-abbrev pub list_or : Option ListOperator → Option Operator → Option Operator
-list_or (Some l) other = Some (operator.List l)
-list_or None other = other
-
-abbrev pub text_or : Option TextOperator → Option Operator → Option Operator
-text_or (Some t) other = Some (operator.Text t)
-text_or None other = other
-
 abbrev pub operator_named : List ℕ → Option Operator
 operator_named word =
-    arithmetic_or (arithmetic word) (comparison_or (comparison word) (list_or (list_operator word) (text_or (text_operator word) (other_operator word))))
+    named_or (λ a. operator.Arithmetic a) (arithmetic_named word)
+    (named_or (λ c. operator.Comparison c) (comparison_named word)
+    (named_or (λ l. operator.List l) (list_operator_named word) (named_or (λ t. operator.Text t) (text_operator_named word) (other_operator_named word))))
 
 -- how many parts an operator takes; None where it takes any number
 abbrev pub list_count : ListOperator → Option ℕ
@@ -110,35 +109,36 @@ count_of operator.Equal = Some 2
 count_of operator.Length = Some 1
 count_of operator.IsNull = Some 1
 
--- ---- the other heads of expressions
+-- ---- the other heads that stand before expressions alone
 
-abbrev pub binder_named : List ℕ → Option Special
-binder_named word =
-    if bytes_eq word (codes "if") then Some special.If
-    else (if bytes_eq word (codes "let") then Some special.Let
-    else (if bytes_eq word (codes "and") then Some special.And
-    else (if bytes_eq word (codes "or") then Some special.Or
-    else (if bytes_eq word (codes "map") then Some special.Map
-    else (if bytes_eq word (codes "filter") then Some special.Filter
-    else (if bytes_eq word (codes "fold") then Some special.Fold else None))))))
-
-abbrev pub special_named : List ℕ → Option Special
-special_named word =
+-- slots and records
+abbrev pub access_named : List ℕ → Option Special
+access_named word =
     if bytes_eq word (codes "slot") then Some special.Slot
     else (if bytes_eq word (codes "make") then Some special.Make
     else (if bytes_eq word (codes "get") then Some special.Get
-    else (if bytes_eq word (codes "with") then Some special.With else binder_named word)))
+    else (if bytes_eq word (codes "with") then Some special.With else None)))
+
+-- what goes through its parts, or through a list
+abbrev pub walk_named : List ℕ → Option Special
+walk_named word =
+    if bytes_eq word (codes "and") then Some special.And
+    else (if bytes_eq word (codes "or") then Some special.Or
+    else (if bytes_eq word (codes "map") then Some special.Map
+    else (if bytes_eq word (codes "filter") then Some special.Filter
+    else (if bytes_eq word (codes "fold") then Some special.Fold else None))))
+
+abbrev pub special_named : List ℕ → Option Special
+special_named word = named_or (λ s. s) (access_named word) (walk_named word)
 
 -- ---- heads of display forms and statements
 
 -- what display forms and statements share
 abbrev pub control_named : List ℕ → Option Control
 control_named word =
-    if bytes_eq word (codes "if") then Some control.If
-    else (if bytes_eq word (codes "when") then Some control.When
-    else (if bytes_eq word (codes "let") then Some control.Let
+    if bytes_eq word (codes "when") then Some control.When
     else (if bytes_eq word (codes "dolist") then Some control.Dolist
-    else (if bytes_eq word (codes "progn") then Some control.Progn else None))))
+    else (if bytes_eq word (codes "progn") then Some control.Progn else None))
 
 -- what a drawing form draws
 abbrev pub figure_named : List ℕ → Option Figure
@@ -160,28 +160,64 @@ figure_count figure.Filled = 5
 -- what a display form sets for its body
 abbrev pub setting_named : List ℕ → Option Setting
 setting_named word =
-    if bytes_eq word (codes "indenting-output") then Some setting.Margin
+    if bytes_eq word (codes "indenting-output") then Some setting.Indent
     else (if bytes_eq word (codes "with-ink") then Some setting.Ink
-    else (if bytes_eq word (codes "with-room-for-graphics") then Some setting.Origin else None))
+    else (if bytes_eq word (codes "with-room-for-graphics") then Some setting.Room else None))
 
--- display forms of the language that are not built yet
-abbrev pub is_later_form : List ℕ → Bool
-is_later_form word =
-    bytes_eq word (codes "present") || bytes_eq word (codes "with-output-as-presentation") || bytes_eq word (codes "updating-output")
-    || bytes_eq word (codes "formatting-table")
+-- the display forms that write
+abbrev pub writing_named : List ℕ → Option Writing
+writing_named word =
+    if bytes_eq word (codes "write-text") then Some writing.WriteText
+    else (if bytes_eq word (codes "newline") then Some writing.Newline else None)
 
--- statements of the language that are not built yet
-abbrev pub is_later_statement : List ℕ → Bool
-is_later_statement word = bytes_eq word (codes "enable") || bytes_eq word (codes "disable") || bytes_eq word (codes "open-dialog")
+-- the statements that change or answer something
+abbrev pub change_named : List ℕ → Option Change
+change_named word =
+    if bytes_eq word (codes "setf") then Some change.Setf
+    else (if bytes_eq word (codes "reply") then Some change.Reply else None)
 
--- the heads that are left
-abbrev pub is_other_head : List ℕ → Bool
-is_other_head word =
-    bytes_eq word (codes "write-text") || bytes_eq word (codes "newline") || bytes_eq word (codes "formatting-row")
-    || bytes_eq word (codes "formatting-cell") || bytes_eq word (codes "setf") || bytes_eq word (codes "reply")
+-- what is not built yet
+abbrev pub planned_display : List ℕ → Option Planned
+planned_display word =
+    if bytes_eq word (codes "present") then Some planned.Display
+    else (if bytes_eq word (codes "with-output-as-presentation") then Some planned.Display
+    else (if bytes_eq word (codes "updating-output") then Some planned.Display
+    else (if bytes_eq word (codes "formatting-table") then Some planned.Display else None)))
 
--- the fixed heads of forms and statements, which are no names of functions and displays
+abbrev pub planned_other : List ℕ → Option Planned
+planned_other word =
+    if bytes_eq word (codes "enable") then Some planned.Statement
+    else (if bytes_eq word (codes "disable") then Some planned.Statement
+    else (if bytes_eq word (codes "open-dialog") then Some planned.Statement
+    else (if bytes_eq word (codes "formatting-row") then Some planned.Part
+    else (if bytes_eq word (codes "formatting-cell") then Some planned.Part else None))))
+
+abbrev pub planned_named : List ℕ → Option Planned
+planned_named word = named_or (λ p. p) (planned_display word) (planned_other word)
+
+-- ---- all heads
+
+-- what expressions, display forms and statements share
+abbrev pub shared_named : List ℕ → Option Head
+shared_named word =
+    if bytes_eq word (codes "if") then Some head.If
+    else (if bytes_eq word (codes "let") then Some head.Let else None)
+
+-- what heads a display form or a statement, and no expression
+abbrev pub form_head : List ℕ → Option Head
+form_head word =
+    named_or (λ c. head.Control c) (control_named word)
+    (named_or (λ f. head.Figure f) (figure_named word)
+    (named_or (λ s. head.Setting s) (setting_named word)
+    (named_or (λ w. head.Writing w) (writing_named word)
+    (named_or (λ c. head.Change c) (change_named word) (option_map (λ p. head.Planned p) (planned_named word))))))
+
+-- the fixed head that a word is
+abbrev pub head_named : List ℕ → Option Head
+head_named word =
+    named_or (λ h. h) (shared_named word)
+    (named_or (λ o. head.Operator o) (operator_named word) (named_or (λ s. head.Special s) (special_named word) (form_head word)))
+
+-- the fixed heads, which are no names of functions and displays
 abbrev pub is_operator : List ℕ → Bool
-is_operator word =
-    is_some (special_named word) || is_some (operator_named word) || is_some (control_named word)
-    || is_some (figure_named word) || is_some (setting_named word) || is_later_form word || is_later_statement word || is_other_head word
+is_operator word = is_some (head_named word)

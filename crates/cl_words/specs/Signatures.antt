@@ -1,10 +1,17 @@
 -- What the outermost forms of a text declare: functions, displays, records and slots by name, whether their forms are right or
--- not. Of two of one name in one space the first counts.
-use Rattle.std.specs.Prelude.{ℕ, Bool, true, false, ◌&&◌, is_some, if◌then◌else◌, List, [], ◌∷◌, ◌++◌, length, Option, Some, None, codes}
-use Rattle.std.specs.Str.{bytes_eq}
-use Rattle.cl_table.specs.Names.{named}
-use Rattle.cl_forms.specs.Datum.{Datum, word, list, number, literal, quoted, stray, in_order, parts_of}
-use Rattle.cl_forms.specs.Naming.{name_in, symbol_of, names_counted, list_counted}
+-- not. Of two of one name in one space the first counts, and a name that is reserved is none.
+use Rattle.std.specs.Prelude.{ℕ, Bool, is_some, if◌then◌else◌, List, [], ◌∷◌, Option, Some, None}
+use Rattle.cl_table.specs.Names.{named, with_first}
+use Rattle.cl_forms.specs.Datum.{Datum, parts_of}
+use Rattle.cl_forms.specs.Naming.{name_in, names_counted, list_counted}
+use Rattle.cl_forms.specs.Keys.{section_values}
+use Rattle.cl_forms.specs.declared.keys.Key.TheVariants.{Slots}
+use Rattle.cl_forms.specs.Outer.{Outer, declared_name, behind_name}
+use Rattle.cl_forms.specs.declared.outer.DeclarationKind.{DeclarationKind}
+use Rattle.cl_forms.specs.declared.outer.DeclarationKind.TheVariants.{Record, Command, Frame}
+use Rattle.cl_forms.specs.declared.outer.DeclarationKind.TheVariants as kind
+use Rattle.cl_forms.specs.declared.outer.OuterKind.{OuterKind}
+use Rattle.cl_forms.specs.declared.outer.OuterKind.TheVariants.{Declared, Planned, Unknown, Headless}
 use Rattle.cl_words.specs.Heads.{is_operator}
 use Rattle.cl_words.specs.TypeNames.{is_standard_type}
 use Rattle.cl_words.specs.declared.signatures.Signatures.{Signatures}
@@ -12,27 +19,27 @@ use Rattle.cl_words.specs.declared.signatures.Callee.{Callee}
 use Rattle.cl_words.specs.declared.signatures.CalleeKind.{CalleeKind}
 use Rattle.cl_words.specs.declared.signatures.CalleeKind.TheVariants.{Function, Display}
 use Rattle.cl_words.specs.declared.signatures.RecordHead.{RecordHead}
-use Rattle.cl_words.specs.declared.signatures.SlotHead.{SlotHead}
 
 -- how many parameters stand first
 abbrev pub parameters_counted : List Datum → Option ℕ
 parameters_counted [] = None
 parameters_counted (d ∷ ds) = list_counted d
 
+-- a function or a display that is named as an operator is none
 abbrev pub with_callee : Signatures → CalleeKind → Option (List ℕ) → Option ℕ → Signatures
 with_callee w kind None count = w
 with_callee w kind (Some x) count =
-    if is_some (named x w.callees) then w
-    else record w { callees = w.callees ++ (x, record { name = x; kind = kind; count = count }) ∷ [] }
+    if is_operator x then w else record w { callees = with_first (λ c. c.name) w.callees (record { name = x; kind = kind; count = count }) }
 
+-- a record that is named as a standard type is none
 abbrev pub with_record : Signatures → Option (List ℕ) → Option ℕ → Signatures
 with_record w None count = w
 with_record w (Some x) count =
-    if is_some (named x w.records) then w else record w { records = w.records ++ (x, record { name = x; count = count }) ∷ [] }
+    if is_standard_type x then w else record w { records = with_first (λ r. r.name) w.records (record { name = x; count = count }) }
 
 abbrev pub with_slot : Signatures → Option (List ℕ) → Signatures
 with_slot w None = w
-with_slot w (Some x) = if is_some (named x w.slots) then w else record w { slots = w.slots ++ (x, record { name = x }) ∷ [] }
+with_slot w (Some x) = record w { slots = with_first (λ s. s.name) w.slots (record { name = x }) }
 
 -- the slot of a part of `(:slots ..)`, which is a list that begins with its name
 abbrev pub with_slot_of : Signatures → List Datum → Signatures
@@ -43,37 +50,36 @@ abbrev pub with_slots : Signatures → List Datum → Signatures
 with_slots w [] = w
 with_slots w (d ∷ ds) = with_slots (with_slot_of w (parts_of d)) ds
 
--- the slots of a section of a frame
-abbrev pub with_section : Signatures → List Datum → Signatures
-with_section w [] = w
-with_section w (key ∷ slots) = if bytes_eq (symbol_of key) (codes ":slots") then with_slots w slots else w
-
+-- the slots of the sections of a frame
 abbrev pub with_sections : Signatures → List Datum → Signatures
 with_sections w [] = w
-with_sections w (d ∷ ds) = with_sections (with_section w (parts_of d)) ds
+with_sections w (d ∷ ds) = with_sections (with_slots w (section_values Slots d)) ds
 
--- a declaration of this head and name, with what follows
-abbrev pub with_declaration_head : Signatures → List ℕ → Datum → List Datum → Signatures
-with_declaration_head w head n more =
-    if bytes_eq head (codes "define-record") then with_record w (name_in n) (names_counted more)
-    else (if bytes_eq head (codes "define-function") then with_callee w Function (name_in n) (parameters_counted more)
-    else (if bytes_eq head (codes "define-display") then with_callee w Display (name_in n) (parameters_counted more)
-    else (if bytes_eq head (codes "define-application-frame") then with_sections w more else w)))
+abbrev pub with_declaration : Signatures → DeclarationKind → Outer → Signatures
+with_declaration w Record o = with_record w (declared_name o) (names_counted (behind_name o))
+with_declaration w kind.Function o = with_callee w Function (declared_name o) (parameters_counted (behind_name o))
+with_declaration w kind.Display o = with_callee w Display (declared_name o) (parameters_counted (behind_name o))
+with_declaration w Command o = w
+with_declaration w Frame o = with_sections w (behind_name o)
 
-abbrev pub with_declaration : Signatures → List Datum → Signatures
-with_declaration w [] = w
-with_declaration w (head ∷ []) = w
-with_declaration w (head ∷ n ∷ more) = with_declaration_head w (symbol_of head) n more
+abbrev pub with_outer_kind : Signatures → OuterKind → Outer → Signatures
+with_outer_kind w (Declared kind) o = with_declaration w kind o
+with_outer_kind w (Planned at) o = w
+with_outer_kind w (Unknown at) o = w
+with_outer_kind w Headless o = w
 
-abbrev pub with_declarations : Signatures → List Datum → Signatures
-with_declarations w [] = w
-with_declarations w (d ∷ ds) = with_declarations (with_declaration w (parts_of d)) ds
+abbrev pub with_outer : Signatures → Outer → Signatures
+with_outer w o = with_outer_kind w o.kind o
+
+abbrev pub with_outers : Signatures → List Outer → Signatures
+with_outers w [] = w
+with_outers w (o ∷ os) = with_outers (with_outer w o) os
 
 abbrev pub nothing_declared : Signatures
 nothing_declared = record { callees = []; records = []; slots = [] }
 
-abbrev pub signatures_of : List Datum → Signatures
-signatures_of ds = with_declarations nothing_declared ds
+abbrev pub signatures_of : List Outer → Signatures
+signatures_of os = with_outers nothing_declared os
 
 -- ---- what a name stands for
 
@@ -86,20 +92,18 @@ abbrev pub display_count : Option Callee → Option (Option ℕ)
 display_count None = None
 display_count (Some c) = elim c.kind [ Function ↦ None | Display ↦ Some c.count ]
 
--- an operator keeps its meaning
 abbrev pub function_in : Signatures → List ℕ → Option (Option ℕ)
-function_in w x = if is_operator x then None else function_count (named x w.callees)
+function_in w x = function_count (named x w.callees)
 
 abbrev pub display_in : Signatures → List ℕ → Option (Option ℕ)
-display_in w x = if is_operator x then None else display_count (named x w.callees)
+display_in w x = display_count (named x w.callees)
 
 abbrev pub record_count : Option RecordHead → Option (Option ℕ)
 record_count None = None
 record_count (Some r) = Some r.count
 
--- a standard type keeps its meaning
 abbrev pub record_in : Signatures → List ℕ → Option (Option ℕ)
-record_in w x = if is_standard_type x then None else record_count (named x w.records)
+record_in w x = record_count (named x w.records)
 
 abbrev pub slot_in : Signatures → List ℕ → Bool
 slot_in w x = is_some (named x w.slots)

@@ -1,20 +1,19 @@
-//! The words that head forms.
+//! The fixed words that head forms, in one table.
 ghost use Rattle.std.specs.Prelude.{◌≡◌};
-ghost use Rattle.cl_words.specs.Heads.{arithmetic, comparison, list_operator, text_operator, other_operator, operator_named, list_count, text_count, count_of, binder_named, special_named, control_named, figure_named, figure_count, setting_named, is_later_form, is_later_statement, is_other_head, is_operator};
+ghost use Rattle.cl_words.specs.Heads.{operator_named, access_named, walk_named, special_named, control_named, figure_named, figure_count, setting_named, writing_named, change_named, planned_display, planned_other, planned_named, shared_named, form_head, head_named, is_operator};
 
-use cl_syntax::{Arithmetic, Comparison, Figure, ListOperator, Operator, TextOperator};
+use crate::operators::operator_named;
+use cl_syntax::{Figure, Operator};
 
-/// The heads of expressions that are no operators over the values of their parts.
+/// The heads that stand before expressions alone, and are no operators over the values of their parts.
 #[derive(Clone, Copy)]
 pub enum Special {
     Slot,
-    If,
-    Let,
-    And,
-    Or,
     Make,
     Get,
     With,
+    And,
+    Or,
     Map,
     Filter,
     Fold,
@@ -23,9 +22,7 @@ pub enum Special {
 /// The heads that display forms and statements share.
 #[derive(Clone, Copy)]
 pub enum Control {
-    If,
     When,
-    Let,
     Dolist,
     Progn,
 }
@@ -34,174 +31,75 @@ pub enum Control {
 #[derive(Clone, Copy)]
 pub enum Setting {
     /// `(indenting-output E FORM ...)`
-    Margin,
+    Indent,
     /// `(with-ink E FORM ...)`
     Ink,
     /// `(with-room-for-graphics FORM ...)`
-    Origin,
+    Room,
 }
 
-fn arithmetic(word: &[u8]) -> Option<Arithmetic>
-    ensures { result ≡ arithmetic word.now }
+/// The heads of the display forms that write.
+#[derive(Clone, Copy)]
+pub enum Writing {
+    /// `(write-text E)`
+    WriteText,
+    /// `(newline)`
+    Newline,
+}
+
+/// The heads of the statements that change or answer something.
+#[derive(Clone, Copy)]
+pub enum Change {
+    /// `(setf PLACE E)`
+    Setf,
+    /// `(reply E)`
+    Reply,
+}
+
+/// What a head that is not built yet heads.
+#[derive(Clone, Copy)]
+pub enum Planned {
+    Display,
+    Statement,
+    /// A part of a table, which stands in a display form.
+    Part,
+}
+
+/// What a fixed word heads. `if` and `let` head expressions, display forms and statements alike.
+#[derive(Drop)]
+pub enum Head {
+    If,
+    Let,
+    Special(Special),
+    Operator(Operator),
+    Control(Control),
+    Figure(Figure),
+    Setting(Setting),
+    Writing(Writing),
+    Change(Change),
+    Planned(Planned),
+}
+
+fn access_named(word: &[u8]) -> Option<Special>
+    ensures { result ≡ access_named word.now }
 {
-    if word == b"+".as_slice() {
-        Some(Arithmetic::Add)
-    } else if word == b"-".as_slice() {
-        Some(Arithmetic::Subtract)
-    } else if word == b"*".as_slice() {
-        Some(Arithmetic::Multiply)
-    } else if word == b"min".as_slice() {
-        Some(Arithmetic::Least)
-    } else if word == b"max".as_slice() {
-        Some(Arithmetic::Greatest)
-    } else if word == b"div".as_slice() {
-        Some(Arithmetic::Quotient)
-    } else if word == b"mod".as_slice() {
-        Some(Arithmetic::Remainder)
+    if word == b"slot".as_slice() {
+        Some(Special::Slot)
+    } else if word == b"make".as_slice() {
+        Some(Special::Make)
+    } else if word == b"get".as_slice() {
+        Some(Special::Get)
+    } else if word == b"with".as_slice() {
+        Some(Special::With)
     } else {
         None
     }
 }
 
-fn comparison(word: &[u8]) -> Option<Comparison>
-    ensures { result ≡ comparison word.now }
+fn walk_named(word: &[u8]) -> Option<Special>
+    ensures { result ≡ walk_named word.now }
 {
-    if word == b"<".as_slice() {
-        Some(Comparison::Less)
-    } else if word == b"<=".as_slice() {
-        Some(Comparison::AtMost)
-    } else if word == b">".as_slice() {
-        Some(Comparison::Greater)
-    } else if word == b">=".as_slice() {
-        Some(Comparison::AtLeast)
-    } else {
-        None
-    }
-}
-
-fn list_operator(word: &[u8]) -> Option<ListOperator>
-    ensures { result ≡ list_operator word.now }
-{
-    if word == b"list".as_slice() {
-        Some(ListOperator::List)
-    } else if word == b"nth".as_slice() {
-        Some(ListOperator::Nth)
-    } else if word == b"rest".as_slice() {
-        Some(ListOperator::Rest)
-    } else if word == b"cons".as_slice() {
-        Some(ListOperator::Cons)
-    } else if word == b"append".as_slice() {
-        Some(ListOperator::Append)
-    } else if word == b"contains".as_slice() {
-        Some(ListOperator::Contains)
-    } else if word == b"range".as_slice() {
-        Some(ListOperator::Range)
-    } else {
-        None
-    }
-}
-
-fn text_operator(word: &[u8]) -> Option<TextOperator>
-    ensures { result ≡ text_operator word.now }
-{
-    if word == b"concat".as_slice() {
-        Some(TextOperator::Concat)
-    } else if word == b"subtext".as_slice() {
-        Some(TextOperator::Subtext)
-    } else if word == b"pad".as_slice() {
-        Some(TextOperator::Pad)
-    } else if word == b"text".as_slice() {
-        Some(TextOperator::Written)
-    } else {
-        None
-    }
-}
-
-fn other_operator(word: &[u8]) -> Option<Operator>
-    ensures { result ≡ other_operator word.now }
-{
-    if word == b"not".as_slice() {
-        Some(Operator::Not)
-    } else if word == b"=".as_slice() {
-        Some(Operator::Equal)
-    } else if word == b"length".as_slice() {
-        Some(Operator::Length)
-    } else if word == b"is-null".as_slice() {
-        Some(Operator::IsNull)
-    } else {
-        None
-    }
-}
-
-/// The operator over the values of its parts that a word names.
-pub fn operator_named(word: &[u8]) -> Option<Operator>
-    ensures { result ≡ operator_named word.now }
-{
-    if let Some(operator) = arithmetic(word) {
-        return Some(Operator::Arithmetic(operator));
-    }
-    if let Some(operator) = comparison(word) {
-        return Some(Operator::Comparison(operator));
-    }
-    if let Some(operator) = list_operator(word) {
-        return Some(Operator::List(operator));
-    }
-    if let Some(operator) = text_operator(word) {
-        return Some(Operator::Text(operator));
-    }
-    other_operator(word)
-}
-
-fn list_count(operator: ListOperator) -> Option<usize>
-    ensures { result ≡ list_count operator }
-{
-    match operator {
-        ListOperator::List => None,
-        ListOperator::Rest => Some(1),
-        ListOperator::Nth => Some(2),
-        ListOperator::Cons => Some(2),
-        ListOperator::Append => Some(2),
-        ListOperator::Contains => Some(2),
-        ListOperator::Range => Some(2),
-    }
-}
-
-fn text_count(operator: TextOperator) -> Option<usize>
-    ensures { result ≡ text_count operator }
-{
-    match operator {
-        TextOperator::Concat => Some(2),
-        TextOperator::Subtext => Some(3),
-        TextOperator::Pad => Some(2),
-        TextOperator::Written => Some(1),
-    }
-}
-
-/// How many parts an operator takes; None where it takes any number.
-pub fn count_of(operator: &Operator) -> Option<usize>
-    ensures { result ≡ count_of operator.now }
-{
-    match operator {
-        Operator::Arithmetic(_) => Some(2),
-        Operator::Comparison(_) => Some(2),
-        Operator::List(operator) => list_count(*operator),
-        Operator::Text(operator) => text_count(*operator),
-        Operator::Record(_) => None,
-        Operator::Not => Some(1),
-        Operator::Equal => Some(2),
-        Operator::Length => Some(1),
-        Operator::IsNull => Some(1),
-    }
-}
-
-fn binder_named(word: &[u8]) -> Option<Special>
-    ensures { result ≡ binder_named word.now }
-{
-    if word == b"if".as_slice() {
-        Some(Special::If)
-    } else if word == b"let".as_slice() {
-        Some(Special::Let)
-    } else if word == b"and".as_slice() {
+    if word == b"and".as_slice() {
         Some(Special::And)
     } else if word == b"or".as_slice() {
         Some(Special::Or)
@@ -216,33 +114,20 @@ fn binder_named(word: &[u8]) -> Option<Special>
     }
 }
 
-/// The head of an expression that a word is, if it is no operator over the values of its parts.
-pub fn special_named(word: &[u8]) -> Option<Special>
+fn special_named(word: &[u8]) -> Option<Special>
     ensures { result ≡ special_named word.now }
 {
-    if word == b"slot".as_slice() {
-        Some(Special::Slot)
-    } else if word == b"make".as_slice() {
-        Some(Special::Make)
-    } else if word == b"get".as_slice() {
-        Some(Special::Get)
-    } else if word == b"with".as_slice() {
-        Some(Special::With)
-    } else {
-        binder_named(word)
+    if let Some(special) = access_named(word) {
+        return Some(special);
     }
+    walk_named(word)
 }
 
-/// The head of a display form or a statement that both have.
-pub fn control_named(word: &[u8]) -> Option<Control>
+fn control_named(word: &[u8]) -> Option<Control>
     ensures { result ≡ control_named word.now }
 {
-    if word == b"if".as_slice() {
-        Some(Control::If)
-    } else if word == b"when".as_slice() {
+    if word == b"when".as_slice() {
         Some(Control::When)
-    } else if word == b"let".as_slice() {
-        Some(Control::Let)
     } else if word == b"dolist".as_slice() {
         Some(Control::Dolist)
     } else if word == b"progn".as_slice() {
@@ -252,8 +137,7 @@ pub fn control_named(word: &[u8]) -> Option<Control>
     }
 }
 
-/// What the drawing form that a word heads draws.
-pub fn figure_named(word: &[u8]) -> Option<Figure>
+fn figure_named(word: &[u8]) -> Option<Figure>
     ensures { result ≡ figure_named word.now }
 {
     if word == b"draw-point".as_slice() {
@@ -284,61 +168,140 @@ pub fn figure_count(figure: Figure) -> usize
     }
 }
 
-/// What the display form that a word heads sets for its body.
-pub fn setting_named(word: &[u8]) -> Option<Setting>
+fn setting_named(word: &[u8]) -> Option<Setting>
     ensures { result ≡ setting_named word.now }
 {
     if word == b"indenting-output".as_slice() {
-        Some(Setting::Margin)
+        Some(Setting::Indent)
     } else if word == b"with-ink".as_slice() {
         Some(Setting::Ink)
     } else if word == b"with-room-for-graphics".as_slice() {
-        Some(Setting::Origin)
+        Some(Setting::Room)
     } else {
         None
     }
 }
 
-/// Whether a word heads a display form that is not built yet.
-pub fn is_later_form(word: &[u8]) -> bool
-    ensures { result ≡ is_later_form word.now }
+fn writing_named(word: &[u8]) -> Option<Writing>
+    ensures { result ≡ writing_named word.now }
 {
-    word == b"present".as_slice()
-        || word == b"with-output-as-presentation".as_slice()
-        || word == b"updating-output".as_slice()
-        || word == b"formatting-table".as_slice()
+    if word == b"write-text".as_slice() {
+        Some(Writing::WriteText)
+    } else if word == b"newline".as_slice() {
+        Some(Writing::Newline)
+    } else {
+        None
+    }
 }
 
-/// Whether a word heads a statement that is not built yet.
-pub fn is_later_statement(word: &[u8]) -> bool
-    ensures { result ≡ is_later_statement word.now }
+fn change_named(word: &[u8]) -> Option<Change>
+    ensures { result ≡ change_named word.now }
 {
-    word == b"enable".as_slice()
-        || word == b"disable".as_slice()
-        || word == b"open-dialog".as_slice()
+    if word == b"setf".as_slice() {
+        Some(Change::Setf)
+    } else if word == b"reply".as_slice() {
+        Some(Change::Reply)
+    } else {
+        None
+    }
 }
 
-fn is_other_head(word: &[u8]) -> bool
-    ensures { result ≡ is_other_head word.now }
+fn planned_display(word: &[u8]) -> Option<Planned>
+    ensures { result ≡ planned_display word.now }
 {
-    word == b"write-text".as_slice()
-        || word == b"newline".as_slice()
-        || word == b"formatting-row".as_slice()
-        || word == b"formatting-cell".as_slice()
-        || word == b"setf".as_slice()
-        || word == b"reply".as_slice()
+    if word == b"present".as_slice() {
+        Some(Planned::Display)
+    } else if word == b"with-output-as-presentation".as_slice() {
+        Some(Planned::Display)
+    } else if word == b"updating-output".as_slice() {
+        Some(Planned::Display)
+    } else if word == b"formatting-table".as_slice() {
+        Some(Planned::Display)
+    } else {
+        None
+    }
 }
 
-/// Whether a word is an operator, a fixed head of a form or a statement.
+fn planned_other(word: &[u8]) -> Option<Planned>
+    ensures { result ≡ planned_other word.now }
+{
+    if word == b"enable".as_slice() {
+        Some(Planned::Statement)
+    } else if word == b"disable".as_slice() {
+        Some(Planned::Statement)
+    } else if word == b"open-dialog".as_slice() {
+        Some(Planned::Statement)
+    } else if word == b"formatting-row".as_slice() {
+        Some(Planned::Part)
+    } else if word == b"formatting-cell".as_slice() {
+        Some(Planned::Part)
+    } else {
+        None
+    }
+}
+
+fn planned_named(word: &[u8]) -> Option<Planned>
+    ensures { result ≡ planned_named word.now }
+{
+    if let Some(planned) = planned_display(word) {
+        return Some(planned);
+    }
+    planned_other(word)
+}
+
+fn shared_named(word: &[u8]) -> Option<Head>
+    ensures { result ≡ shared_named word.now }
+{
+    if word == b"if".as_slice() {
+        Some(Head::If)
+    } else if word == b"let".as_slice() {
+        Some(Head::Let)
+    } else {
+        None
+    }
+}
+
+/// The head of a display form or a statement that a word is, if it heads no expressions.
+fn form_head(word: &[u8]) -> Option<Head>
+    ensures { result ≡ form_head word.now }
+{
+    if let Some(control) = control_named(word) {
+        return Some(Head::Control(control));
+    }
+    if let Some(figure) = figure_named(word) {
+        return Some(Head::Figure(figure));
+    }
+    if let Some(setting) = setting_named(word) {
+        return Some(Head::Setting(setting));
+    }
+    if let Some(writing) = writing_named(word) {
+        return Some(Head::Writing(writing));
+    }
+    if let Some(change) = change_named(word) {
+        return Some(Head::Change(change));
+    }
+    planned_named(word).map(Head::Planned)
+}
+
+/// The fixed head that a word is.
+pub fn head_named(word: &[u8]) -> Option<Head>
+    ensures { result ≡ head_named word.now }
+{
+    if let Some(head) = shared_named(word) {
+        return Some(head);
+    }
+    if let Some(operator) = operator_named(word) {
+        return Some(Head::Operator(operator));
+    }
+    if let Some(special) = special_named(word) {
+        return Some(Head::Special(special));
+    }
+    form_head(word)
+}
+
+/// Whether a word is a fixed head, which names no function and no display.
 pub fn is_operator(word: &[u8]) -> bool
     ensures { result ≡ is_operator word.now }
 {
-    special_named(word).is_some()
-        || operator_named(word).is_some()
-        || control_named(word).is_some()
-        || figure_named(word).is_some()
-        || setting_named(word).is_some()
-        || is_later_form(word)
-        || is_later_statement(word)
-        || is_other_head(word)
+    head_named(word).is_some()
 }

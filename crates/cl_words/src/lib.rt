@@ -3,12 +3,14 @@
 #![tactic(auto)]
 
 mod heads;
+mod operators;
 mod signatures;
 mod type_names;
 
 pub use heads::{
-    Control, Setting, Special, control_named, count_of, figure_count, figure_named, is_later_form,
-    is_later_statement, is_operator, operator_named, setting_named, special_named,
+    Change, Control, Head, Planned, Setting, Special, Writing, figure_count, head_named,
+    is_operator,
 };
+pub use operators::count_of;
 pub use signatures::{Callee, CalleeKind, RecordHead, Signatures, SlotHead, signatures_of};
 pub use type_names::{is_later_type, is_plain_type, is_ranged_type, is_standard_type};

@@ -1,13 +1,16 @@
 //! What the outermost forms of a text declare, whether they are right or not.
-ghost use Rattle.std.specs.Prelude.{◌≡◌, ◌∷◌, [], IfOk, OnOk, map};
+ghost use Rattle.std.specs.Prelude.{◌≡◌, ◌∷◌, [], IfOk, OnOk, map, option_map};
 ghost use Rattle.cl_forms.specs.DatumView.{datum_of};
-ghost use Rattle.cl_forms.specs.Naming.{names_counted, name_in, list_counted};
-ghost use Rattle.cl_words.specs.Signatures.{parameters_counted, with_callee, with_record, with_slot, with_slot_of, with_slots, with_section, with_sections, with_declaration_head, with_declaration, with_declarations, signatures_of, nothing_declared, function_in, display_in, function_count, display_count, record_in, record_count, slot_in};
+ghost use Rattle.cl_forms.specs.OuterView.{outer_of};
+ghost use Rattle.cl_forms.specs.Naming.{name_in};
+ghost use Rattle.cl_words.specs.Signatures.{parameters_counted, with_callee, with_record, with_slot, with_slot_of, with_slots, with_sections, with_declaration, with_outer, with_outers, signatures_of, nothing_declared, function_in, display_in, function_count, display_count, record_in, record_count, slot_in};
 
-use cl_forms::Datum;
-use cl_forms::{are_names, name_in, symbol_of};
-use crate::type_names::is_standard_type;
 use crate::heads::is_operator;
+use crate::type_names::is_standard_type;
+use cl_forms::{
+    Datum, DeclarationKind, Key, Outer, OuterKind, list_counted, name_in, names_counted,
+    section_values,
+};
 use cl_table::{Declared, Table};
 use cl_value::Text;
 use std::alloc::{AllocError, Global};
@@ -71,79 +74,93 @@ impl Declared for SlotHead {
 }
 
 /// What the outermost forms declare.
-pub fn signatures_of(alloc: Global, forms: &[Datum]) -> Result<Signatures, AllocError>
-    ensures { IfOk result (λ w. w ≡ signatures_of (map datum_of forms.now)) }
+pub fn signatures_of(alloc: Global, outers: &[Outer<'_>]) -> Result<Signatures, AllocError>
+    ensures { IfOk result (λ w. w ≡ signatures_of (map outer_of outers.now)) }
 {
     let mut signatures = Signatures {
         callees: Table::new(alloc),
         records: Table::new(alloc),
         slots: Table::new(alloc),
     };
-    for form in forms {
-        add_declaration(&mut signatures, form.parts())?;
+    for outer in outers {
+        add_outer(&mut signatures, outer)?;
     }
     Ok(signatures)
 }
 
-fn add_declaration(signatures: &mut Signatures, parts: &[Datum]) -> Result<(), AllocError>
-    ensures { OnOk result (signatures.new ≡ with_declaration signatures.old (map datum_of parts.now)) }
+fn add_outer(signatures: &mut Signatures, outer: &Outer<'_>) -> Result<(), AllocError>
+    ensures { OnOk result (signatures.new ≡ with_outer signatures.old (outer_of outer.now)) }
 {
-    match parts {
-        [] => Ok(()),
-        [_] => Ok(()),
-        [head, name, more @ ..] => add_head(signatures, symbol_of(head), name, more),
+    match outer.kind {
+        OuterKind::Declared(kind) => add_declaration(signatures, kind, outer),
+        OuterKind::Planned(_) => Ok(()),
+        OuterKind::Unknown(_) => Ok(()),
+        OuterKind::Headless => Ok(()),
     }
 }
 
-fn add_head(signatures: &mut Signatures, head: &[u8], name: &Datum, more: &[Datum]) -> Result<(), AllocError>
-    ensures { OnOk result
-        (signatures.new ≡ with_declaration_head signatures.old head.now (datum_of name.now) (map datum_of more.now)) }
+fn add_declaration(
+    signatures: &mut Signatures,
+    kind: DeclarationKind,
+    outer: &Outer<'_>,
+) -> Result<(), AllocError>
+    ensures { OnOk result (signatures.new ≡ with_declaration signatures.old kind (outer_of outer.now)) }
 {
-    if head == b"define-record".as_slice() {
-        add_record(signatures, name, names_counted(more))
-    } else if head == b"define-function".as_slice() {
-        add_callee(signatures, CalleeKind::Function, name, parameters_counted(more))
-    } else if head == b"define-display".as_slice() {
-        add_callee(signatures, CalleeKind::Display, name, parameters_counted(more))
-    } else if head == b"define-application-frame".as_slice() {
-        add_sections(signatures, more)
-    } else {
-        Ok(())
+    let name = outer.declared_name();
+    let more = outer.behind_name();
+    match kind {
+        DeclarationKind::Record => add_record(signatures, name, names_counted(more)),
+        DeclarationKind::Function => add_callee(
+            signatures,
+            CalleeKind::Function,
+            name,
+            parameters_counted(more),
+        ),
+        DeclarationKind::Display => add_callee(
+            signatures,
+            CalleeKind::Display,
+            name,
+            parameters_counted(more),
+        ),
+        DeclarationKind::Command => Ok(()),
+        DeclarationKind::Frame => add_sections(signatures, more),
     }
 }
 
-fn add_record(signatures: &mut Signatures, name: &Datum, count: Option<usize>) -> Result<(), AllocError>
-    ensures { OnOk result (signatures.new ≡ with_record signatures.old (name_in (datum_of name.now)) count) }
+fn add_record(
+    signatures: &mut Signatures,
+    name: Option<&Text>,
+    count: Option<usize>,
+) -> Result<(), AllocError>
+    ensures { OnOk result (signatures.new ≡ with_record signatures.old (option_map (λ n. n.now) name.entry) count) }
 {
-    let Some(name) = name_in(name) else {
+    let Some(name) = name else {
         return Ok(());
     };
-    if signatures.records.get(name.as_slice()).is_some() {
+    if is_standard_type(name.as_slice()) {
         return Ok(());
     }
     let name = name.copy()?;
-    let record = RecordHead { name, count };
-    signatures.records.add(record).map_err(|_| AllocError)
+    signatures.records.add_first(RecordHead { name, count })
 }
 
 fn add_callee(
     signatures: &mut Signatures,
     kind: CalleeKind,
-    name: &Datum,
+    name: Option<&Text>,
     count: Option<usize>,
 ) -> Result<(), AllocError>
     ensures { OnOk result
-        (signatures.new ≡ with_callee signatures.old kind (name_in (datum_of name.now)) count) }
+        (signatures.new ≡ with_callee signatures.old kind (option_map (λ n. n.now) name.entry) count) }
 {
-    let Some(name) = name_in(name) else {
+    let Some(name) = name else {
         return Ok(());
     };
-    if signatures.callees.get(name.as_slice()).is_some() {
+    if is_operator(name.as_slice()) {
         return Ok(());
     }
     let name = name.copy()?;
-    let callee = Callee { name, kind, count };
-    signatures.callees.add(callee).map_err(|_| AllocError)
+    signatures.callees.add_first(Callee { name, kind, count })
 }
 
 fn add_slot(signatures: &mut Signatures, parts: &[Datum]) -> Result<(), AllocError>
@@ -161,11 +178,8 @@ fn add_slot_named(signatures: &mut Signatures, name: &Datum) -> Result<(), Alloc
     let Some(name) = name_in(name) else {
         return Ok(());
     };
-    if signatures.slots.get(name.as_slice()).is_some() {
-        return Ok(());
-    }
     let name = name.copy()?;
-    signatures.slots.add(SlotHead { name }).map_err(|_| AllocError)
+    signatures.slots.add_first(SlotHead { name })
 }
 
 fn add_slots(signatures: &mut Signatures, slots: &[Datum]) -> Result<(), AllocError>
@@ -177,52 +191,13 @@ fn add_slots(signatures: &mut Signatures, slots: &[Datum]) -> Result<(), AllocEr
     Ok(())
 }
 
-fn add_section(signatures: &mut Signatures, parts: &[Datum]) -> Result<(), AllocError>
-    ensures { OnOk result (signatures.new ≡ with_section signatures.old (map datum_of parts.now)) }
-{
-    match parts {
-        [] => Ok(()),
-        [key, slots @ ..] => {
-            if symbol_of(key) == b":slots".as_slice() {
-                add_slots(signatures, slots)
-            } else {
-                Ok(())
-            }
-        }
-    }
-}
-
 fn add_sections(signatures: &mut Signatures, sections: &[Datum]) -> Result<(), AllocError>
     ensures { OnOk result (signatures.new ≡ with_sections signatures.old (map datum_of sections.now)) }
 {
     for section in sections {
-        add_section(signatures, section.parts())?;
+        add_slots(signatures, section_values(Key::Slots, section))?;
     }
     Ok(())
-}
-
-fn names_counted(parts: &[Datum]) -> Option<usize>
-    ensures { result ≡ names_counted (map datum_of parts.now) }
-{
-    if are_names(parts) {
-        Some(parts.len())
-    } else {
-        None
-    }
-}
-
-#[tactic(auto, using(cl_forms::proofs::Data::data_in_order))]
-fn list_counted(datum: &Datum) -> Option<usize>
-    ensures { result ≡ list_counted (datum_of datum.now) }
-{
-    match datum {
-        Datum::List(parts, _) => names_counted(parts.as_slice()),
-        Datum::Number(_, _) => None,
-        Datum::Literal(_, _) => None,
-        Datum::Word(_, _) => None,
-        Datum::Quoted(_, _, _) => None,
-        Datum::Stray(_) => None,
-    }
 }
 
 fn parameters_counted(parts: &[Datum]) -> Option<usize>
@@ -237,13 +212,10 @@ fn parameters_counted(parts: &[Datum]) -> Option<usize>
 impl Signatures {
     /// The count of a function's parameters; None where there is no such function, and in it None
     /// where the count cannot be told.
-    pub fn function(&self, name: &Text) -> Option<Option<usize>>
+    pub fn function(&self, name: &[u8]) -> Option<Option<usize>>
         ensures { result ≡ function_in self.now name.now }
     {
-        if is_operator(name.as_slice()) {
-            return None;
-        }
-        match self.callees.get(name.as_slice()) {
+        match self.callees.get(name) {
             Some(callee) => match callee.kind {
                 CalleeKind::Function => Some(callee.count),
                 CalleeKind::Display => None,
@@ -253,13 +225,10 @@ impl Signatures {
     }
 
     /// The same of a display.
-    pub fn display(&self, name: &Text) -> Option<Option<usize>>
+    pub fn display(&self, name: &[u8]) -> Option<Option<usize>>
         ensures { result ≡ display_in self.now name.now }
     {
-        if is_operator(name.as_slice()) {
-            return None;
-        }
-        match self.callees.get(name.as_slice()) {
+        match self.callees.get(name) {
             Some(callee) => match callee.kind {
                 CalleeKind::Display => Some(callee.count),
                 CalleeKind::Function => None,
@@ -269,22 +238,19 @@ impl Signatures {
     }
 
     /// The same of a record and its fields.
-    pub fn record_fields(&self, name: &Text) -> Option<Option<usize>>
+    pub fn record_fields(&self, name: &[u8]) -> Option<Option<usize>>
         ensures { result ≡ record_in self.now name.now }
     {
-        if is_standard_type(name.as_slice()) {
-            return None;
-        }
-        match self.records.get(name.as_slice()) {
+        match self.records.get(name) {
             Some(head) => Some(head.count),
             None => None,
         }
     }
 
     /// Whether there is a slot of this name.
-    pub fn has_slot(&self, name: &Text) -> bool
+    pub fn has_slot(&self, name: &[u8]) -> bool
         ensures { result ≡ slot_in self.now name.now }
     {
-        self.slots.get(name.as_slice()).is_some()
+        self.slots.get(name).is_some()
     }
 }

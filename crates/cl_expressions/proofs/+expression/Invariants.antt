@@ -71,11 +71,11 @@ decreases-bindings::parse_binding_parts l = 8 * weights (datums_of (map datum_of
 
 abbrev pub invariant-expressions::parse_each-loop-part : goal.invariant-expressions::parse_each-loop-part
 invariant-expressions::parse_each-loop-part l =
-    onto l.exprs.items (parse_each (subs l.signatures (datums_of (map datum_of (drop l.part-index l.parts)))) (variables_of l.scope) l.unknown)
-    ≡ parse_each (subs l.signatures (datums_of (map datum_of l.parts))) (variables_of l.scope) l.initial.unknown
+    onto l.exprs.items (parse_each (subs l.reader.signatures.now (datums_of (map datum_of (drop l.part-index l.parts)))) (variables_of l.reader.scope.now) l.notes)
+    ≡ parse_each (subs l.reader.signatures.now (datums_of (map datum_of l.parts))) (variables_of l.reader.scope.now) l.initial.notes
 
 abbrev pub invariant-bindings::parse_each_binding-loop-part : goal.invariant-bindings::parse_each_binding-loop-part
 invariant-bindings::parse_each_binding-loop-part l =
     onto_bound l.bindings.items
-    (parse_each_binding l.signatures (datums_of (map datum_of (drop l.part-index l.parts))) l.at (in_sight l.names.items (variables_of l.scope)) l.unknown)
-    ≡ parse_each_binding l.signatures (datums_of (map datum_of l.parts)) l.at (variables_of l.scope) l.initial.unknown
+    (parse_each_binding l.reader.signatures.now (datums_of (map datum_of (drop l.part-index l.parts))) l.at (in_sight l.names.items (variables_of l.reader.scope.now)) l.notes)
+    ≡ parse_each_binding l.reader.signatures.now (datums_of (map datum_of l.parts)) l.at (variables_of l.reader.scope.now) l.initial.notes

@@ -49,8 +49,8 @@ parse_own w x head_at at subs env = parse_plain w x head_at at subs env >>= λ s
 abbrev pub closed : Unit {0} → List ActTree → ActTree
 closed o ss = act.Progn (act_trees_of ss)
 
-abbrev pub commands : Language ActTree (Unit {0})
-commands = record {
+abbrev pub statements : Language ActTree (Unit {0})
+statements = record {
   choice = act.If;
   when = λ t ss. act.When t (act_trees_of ss);
   bind = λ bs ss. act.Let (bindings_of bs) (act_trees_of ss);
@@ -62,8 +62,8 @@ commands = record {
 
 -- the statement that a datum is
 abbrev pub parse_act : Signatures → Datum → Names → Load ActTree
-parse_act w d env = parse_form commands w d env
+parse_act w d env = parse_form statements w d env
 
 -- the statements of a body
 abbrev pub parse_acts : Signatures → Datums → Names → Load (List ActTree)
-parse_acts w ds env = parse_body commands w ds env
+parse_acts w ds env = parse_body statements w ds env

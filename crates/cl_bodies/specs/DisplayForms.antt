@@ -64,7 +64,7 @@ parse_plain w x head_at at subs env =
 -- `(indenting-output E FORM ...)`
 abbrev pub parse_indent : ℕ → List Sub → Names → Load (Own ShapeTree Opening)
 parse_indent at [] env = refuse 6 at
-parse_indent at (a ∷ subs) env = a.expr env >>= λ t. give (Before (opening.Margin t) 1)
+parse_indent at (a ∷ subs) env = a.expr env >>= λ t. give (Before (opening.Indent t) 1)
 
 -- `(with-ink E FORM ...)`
 abbrev pub parse_ink : ℕ → List Sub → Names → Load (Own ShapeTree Opening)
@@ -75,7 +75,7 @@ parse_ink at (a ∷ subs) env = a.expr env >>= λ t. give (Before (opening.Ink t
 abbrev pub parse_setting : Setting → ℕ → List Sub → Names → Load (Own ShapeTree Opening)
 parse_setting setting.Margin at subs env = parse_indent at subs env
 parse_setting setting.Ink at subs env = parse_ink at subs env
-parse_setting setting.Origin at subs env = give (Before opening.Origin 0)
+parse_setting setting.Origin at subs env = give (Before opening.Room 0)
 
 abbrev pub parse_own : Signatures → List ℕ → ℕ → ℕ → List Sub → Names → Load (Own ShapeTree Opening)
 parse_own w x head_at at subs env = elim (setting_named x) [
@@ -84,12 +84,12 @@ parse_own w x head_at at subs env = elim (setting_named x) [
 ]
 
 abbrev pub closed : Opening → List ShapeTree → ShapeTree
-closed (opening.Margin t) fs = shape.Indent t (shape_trees_of fs)
+closed (opening.Indent t) fs = shape.Indent t (shape_trees_of fs)
 closed (opening.Ink t) fs = shape.Ink t (shape_trees_of fs)
-closed opening.Origin fs = shape.Room (shape_trees_of fs)
+closed opening.Room fs = shape.Room (shape_trees_of fs)
 
-abbrev pub displays : Language ShapeTree Opening
-displays = record {
+abbrev pub display_forms : Language ShapeTree Opening
+display_forms = record {
   choice = shape.If;
   when = λ t fs. shape.When t (shape_trees_of fs);
   bind = λ bs fs. shape.Let (bindings_of bs) (shape_trees_of fs);
@@ -101,8 +101,8 @@ displays = record {
 
 -- the display form that a datum is
 abbrev pub parse_shape : Signatures → Datum → Names → Load ShapeTree
-parse_shape w d env = parse_form displays w d env
+parse_shape w d env = parse_form display_forms w d env
 
 -- the display forms of a body
 abbrev pub parse_shapes : Signatures → Datums → Names → Load (List ShapeTree)
-parse_shapes w ds env = parse_body displays w ds env
+parse_shapes w ds env = parse_body display_forms w ds env

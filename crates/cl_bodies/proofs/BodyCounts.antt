@@ -3,14 +3,14 @@ use Rattle.std.proofs.Common.{◌≡◌, ◌≤◌, ◌+◌, ℕ, zero, suc, len
 use Rattle.std.specs.Prelude.{Err}
 use Rattle.cl_forms.specs.Datum.{datums_of, weights}
 use Rattle.cl_forms.specs.DatumView.{datum_of}
-use Rattle.cl_expressions.specs.Load.{Unknown}
+use Rattle.cl_expressions.specs.Load.{Notes}
 use Rattle.cl_expressions.specs.Scopes.{Names}
 use Rattle.cl_expressions.specs.Expressions.{subs, parse_expression, parse_bindings}
 use Rattle.cl_forms.specs.declared.datum.Datum.{Datum}
 use Rattle.cl_words.specs.declared.signatures.Signatures.{Signatures}
 use Rattle.cl_bodies.specs.Bodies.{Language, parts_in, subs_of, parse_if}
 
-pub if_counts : {F O : Type 0} → (l : Language F O) (w : Signatures) (at : ℕ) (ds : List Datum) (env : Names) (s : Unknown) → (length ds ≡ 3 → ⊥) → parse_if l at (parts_in l w (datums_of (map datum_of ds))) env s ≡ Err (6, at)
+pub if_counts : {F O : Type 0} → (l : Language F O) (w : Signatures) (at : ℕ) (ds : List Datum) (env : Names) (s : Notes) → (length ds ≡ 3 → ⊥) → parse_if l at (parts_in l w (datums_of (map datum_of ds))) env s ≡ Err (6, at)
 if_counts l w at [] env s h = refl
 if_counts l w at (a ∷ []) env s h = refl
 if_counts l w at (a ∷ b ∷ []) env s h = refl

@@ -1,0 +1,95 @@
+-- The keys that forms have, with what stands behind each.
+use Rattle.std.specs.Prelude.{ℕ, Bool, false, is_some, if◌then◌else◌, List, [], ◌∷◌, ◌++◌, Option, Some, None, option_and_then, codes}
+use Rattle.std.specs.List.{list_any}
+use Rattle.std.specs.Str.{bytes_eq}
+use denote.Enum.Bare.{sameb}
+use Rattle.cl_forms.specs.Datum.{Datum, offset, parts_of}
+use Rattle.cl_forms.specs.Naming.{symbol_of}
+use Rattle.cl_forms.specs.declared.keys.Key.{Key}
+use Rattle.cl_forms.specs.declared.keys.Key.TheVariants.{Size, Slots, Panes, CommandTable, Name, Keystroke, Description, Separator}
+use Rattle.cl_forms.specs.contracts.keys.Key.{the_type}
+
+-- a key with its offset and what stands behind it
+pub record Keyed : Type 0 where
+  pub key : Key
+  pub at : ℕ
+  pub values : List Datum
+
+abbrev pub key_named : List ℕ → Option Key
+key_named word =
+    if bytes_eq word (codes ":size") then Some Size
+    else (if bytes_eq word (codes ":slots") then Some Slots
+    else (if bytes_eq word (codes ":panes") then Some Panes
+    else (if bytes_eq word (codes ":command-table") then Some CommandTable
+    else (if bytes_eq word (codes ":name") then Some Name
+    else (if bytes_eq word (codes ":keystroke") then Some Keystroke
+    else (if bytes_eq word (codes ":description") then Some Description
+    else (if bytes_eq word (codes ":separator") then Some Separator else None)))))))
+
+abbrev pub same_key : Key → Key → Bool
+same_key a b = sameb the_type a b
+
+abbrev pub is_among : List Key → Key → Bool
+is_among keys key = list_any (same_key key) keys
+
+abbrev pub allowed : List Key → Option Key → Option Key
+allowed may_have None = None
+allowed may_have (Some key) = if is_among may_have key then Some key else None
+
+-- the key that a datum is, if the form may have it
+abbrev pub key_in : List Key → Datum → Option Key
+key_in may_have d = allowed may_have (key_named (symbol_of d))
+
+-- what stands behind this key
+abbrev pub values_of : Key → List Keyed → Option (List Datum)
+values_of key [] = None
+values_of key (k ∷ ks) = if same_key key k.key then Some k.values else values_of key ks
+
+abbrev pub has_key : Key → List Keyed → Bool
+has_key key ks = is_some (values_of key ks)
+
+abbrev pub keyed_as : Option Key → ℕ → List Datum → Option Keyed
+keyed_as None at ds = None
+keyed_as (Some key) at ds = Some (record { key = key; at = at; values = ds })
+
+-- ---- one section
+
+abbrev pub is_key : Key → Option Key → Bool
+is_key key None = false
+is_key key (Some found) = same_key key found
+
+abbrev pub values_behind : Key → List Datum → List Datum
+values_behind key [] = []
+values_behind key (d ∷ ds) = if is_key key (key_named (symbol_of d)) then ds else []
+
+-- what stands behind this key in a section; nothing where another begins it
+abbrev pub section_values : Key → Datum → List Datum
+section_values key d = values_behind key (parts_of d)
+
+-- ---- the keys of a form, in the order of the text; None where a part is no key that the form may have, or a key stands twice
+
+-- one more key behind those that stand so far
+abbrev pub with_keyed : Option Keyed → List Keyed → Option (List Keyed)
+with_keyed None so_far = None
+with_keyed (Some k) so_far = if has_key k.key so_far then None else Some (so_far ++ k ∷ [])
+
+abbrev pub section_of : List Key → List Datum → Option Keyed
+section_of may_have [] = None
+section_of may_have (d ∷ ds) = keyed_as (key_in may_have d) (offset d) ds
+
+-- `(KEY VALUE ...)`
+abbrev pub section_in : List Key → Datum → Option Keyed
+section_in may_have d = section_of may_have (parts_of d)
+
+abbrev pub keyed_sections : List Key → List Keyed → List Datum → Option (List Keyed)
+keyed_sections may_have so_far [] = Some so_far
+keyed_sections may_have so_far (d ∷ ds) = option_and_then (λ more. keyed_sections may_have more ds) (with_keyed (section_in may_have d) so_far)
+
+-- `KEY VALUE`
+abbrev pub pair_in : List Key → Datum → Datum → Option Keyed
+pair_in may_have k v = keyed_as (key_in may_have k) (offset k) (v ∷ [])
+
+abbrev pub keyed_pairs : List Key → List Keyed → List Datum → Option (List Keyed)
+keyed_pairs may_have so_far [] = Some so_far
+keyed_pairs may_have so_far (k ∷ []) = None
+keyed_pairs may_have so_far (k ∷ v ∷ ds) = option_and_then (λ more. keyed_pairs may_have more ds) (with_keyed (pair_in may_have k v) so_far)
