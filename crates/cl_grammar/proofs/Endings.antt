@@ -3,12 +3,12 @@ use Rattle.std.proofs.Common.{◌≡◌, ℕ, Bool, true, false, if◌then◌els
 use Rattle.std.specs.Prelude.{Result, Ok, Err, Option, Some, None}
 use Rattle.cl_forms.specs.Datum.{Datum}
 use Rattle.cl_forms.specs.Naming.{name_in}
-use Rattle.cl_expressions.specs.Load.{Load, Unknown, Fault, after, ◌>>=◌, give, refuse, noted}
+use Rattle.cl_expressions.specs.Load.{Load, Notes, Fault, after, ◌>>=◌, give, refuse, noted}
 use Rattle.cl_expressions.specs.Expressions.{named_part}
 
 -- Q holds of each value that the reading gives
 pub record Ends {A : Type 0} (Q : A → Type 0) (m : Load A) : Type 0 where
-  pub ends : (u : Unknown) → IfOk (m u) (λ x. Q x.0)
+  pub ends : (u : Notes) → IfOk (m u) (λ x. Q x.0)
 
 module _ {A : Type 0} {Q : A → Type 0} where
   pub gives : {x : A} → Q x → Ends Q (give x)
@@ -25,7 +25,7 @@ module _ {A : Type 0} {Q : A → Type 0} where
   notes_then true at h = record { ends = λ u. h.ends u }
   notes_then false at h = record { ends = λ u. h.ends _ }
 
-  after_ends : {B : Type 0} {P : B → Type 0} (f : B → Load A) → ((x : B) → P x → Ends Q (f x)) → (r : Result (B × Unknown) Fault)
+  after_ends : {B : Type 0} {P : B → Type 0} (f : B → Load A) → ((x : B) → P x → Ends Q (f x)) → (r : Result (B × Notes) Fault)
       → IfOk r (λ x. P x.0) → IfOk (after r f) (λ x. Q x.0)
   after_ends f g (Ok x) h = (g x.0 h).ends x.1
   after_ends f g (Err fault) h = tt

@@ -29,7 +29,7 @@ module _ (w : Signatures) where
 
   pub unblamed : {A : Type 0} (env : Names) (d : Datum) (x : A) → ((n o : ℕ) → Blames w env d n o → ⊥) → ((o : ℕ) → Unnamed w env d o → ⊥)
       → Judges w (expression env d ∷ []) Any (give x)
-  unblamed env d x h k = alone w env d Any (give x) λ from to lie u. (tt, h, noted_none (Unnamed w env d) u k)
+  unblamed env d x h k = alone w env d Any (give x) λ from to lie u. (tt, h, noted_none (Unnamed w env d) u.unknown k)
 
   constant_row : (env : Names) (x : List ℕ) (at : ℕ) (t : ExprTree) → is_atom x ≡ true → is_name x ≡ false
       → Judges w (expression env (word x at) ∷ []) Any (give t)
@@ -42,13 +42,13 @@ module _ (w : Signatures) where
       alone w env (word x at) Any (noted true at >>= λ u. give (expr.Variable x)) λ from to lie u. (
         tt,
         λ n o b. false_true (sym (word_blamed b).0 ∙ f),
-        noted_none (Unnamed w env (word x at)) u (λ o b. false_true (sym (word_unnamed b).1 ∙ e)),
+        noted_none (Unnamed w env (word x at)) u.unknown (λ o b. false_true (sym (word_unnamed b).1 ∙ e)),
       )
   known_row env x at false e f g =
       alone w env (word x at) Any (noted false at >>= λ u. give (expr.Variable x)) λ from to lie u. (
         tt,
         λ n o b. false_true (sym (word_blamed b).0 ∙ f),
-        noted_one (Unnamed w env (word x at)) u at (unnamed.a_variable g e) (λ o b. (word_unnamed b).2),
+        noted_one (Unnamed w env (word x at)) u.unknown at (unnamed.a_variable g e) (λ o b. (word_unnamed b).2),
       )
 
   refused_row : (env : Names) (x : List ℕ) (at : ℕ) → is_atom x ≡ false → Judges {A = ExprTree} w (expression env (word x at) ∷ []) Any (refuse 6 at)

@@ -5,7 +5,7 @@ use Rattle.std.proofs.Math.Path.{subst}
 use Rattle.cl_forms.specs.Datum.{Datum, Datums, list, in_order}
 use Rattle.cl_words.specs.Signatures.{record_in, slot_in}
 use Rattle.cl_words.specs.declared.signatures.Signatures.{Signatures}
-use Rattle.cl_expressions.specs.Load.{Load, Unknown, Fault, after, ◌>>=◌, give, refuse, noted, first_of}
+use Rattle.cl_expressions.specs.Load.{Load, Notes, Fault, after, ◌>>=◌, give, refuse, noted, first_of}
 use Rattle.cl_expressions.specs.Scopes.{Names}
 use Rattle.cl_grammar.specs.Lies.{Lies}
 use Rattle.cl_grammar.specs.Sights.{Seen, expression, slot_name, record_name, Sight, Misshapen, UnknownHead, Sees, form_seen}
@@ -21,13 +21,13 @@ abbrev pub Any : {A : Type 0} → A → Type 0
 Any x = Unit {0}
 
 -- a value of which Q holds, where nothing is blamed, with the least name that is not declared noted; or the fault of least offset
-abbrev pub Verdict : {A : Type 0} → (B : ℕ → ℕ → Type 0) → (N : ℕ → Type 0) → (Q : A → Type 0) → Unknown → Result (A × Unknown) Fault → Type 0
-Verdict B N Q u (Ok x) = Q x.0 × ((n o : ℕ) → B n o → ⊥) × IsNoted N u x.1
+abbrev pub Verdict : {A : Type 0} → (B : ℕ → ℕ → Type 0) → (N : ℕ → Type 0) → (Q : A → Type 0) → Notes → Result (A × Notes) Fault → Type 0
+Verdict B N Q u (Ok x) = Q x.0 × ((n o : ℕ) → B n o → ⊥) × IsNoted N u.unknown x.1.unknown
 Verdict B N Q u (Err fault) = B fault.0 fault.1 × ((n o : ℕ) → B n o → fault.1 ≤ o)
 
 -- what a reading of these parts comes to, where they lie in order
 pub record Judges {A : Type 0} (w : Signatures) (ps : List Seen) (Q : A → Type 0) (m : Load A) : Type 0 where
-  pub judged : (from to : ℕ) → LieSeen from ps to → (u : Unknown) → Verdict (BlamesAny w ps) (UnnamedAny w ps) Q u (m u)
+  pub judged : (from to : ℕ) → LieSeen from ps to → (u : Notes) → Verdict (BlamesAny w ps) (UnnamedAny w ps) Q u (m u)
 
 -- ---- notes
 
@@ -72,23 +72,23 @@ module _ (w : Signatures) (ps qs : List Seen) (from middle to : ℕ) (l : LieSee
       let right : Within middle p to = blames_any_within b middle to r in
       omega (arith, left.1, right.0)
 
-  second_judged : {B : Type 0} (Q : B → Type 0) (u v : Unknown) (s : Result (B × Unknown) Fault) → ((n o : ℕ) → BlamesAny w ps n o → ⊥)
-      → IsNoted (UnnamedAny w ps) u v → Verdict (BlamesAny w qs) (UnnamedAny w qs) Q v s
+  second_judged : {B : Type 0} (Q : B → Type 0) (u v : Notes) (s : Result (B × Notes) Fault) → ((n o : ℕ) → BlamesAny w ps n o → ⊥)
+      → IsNoted (UnnamedAny w ps) u.unknown v.unknown → Verdict (BlamesAny w qs) (UnnamedAny w qs) Q v s
       → Verdict (BlamesAny w (ps ++ qs)) (UnnamedAny w (ps ++ qs)) Q u s
   second_judged Q u v (Ok y) h i k =
-      (k.0, λ n o b. neither (h n o) (k.1 n o) (blames_split ps qs n o b), noted_joined u v y.1 i k.2)
+      (k.0, λ n o b. neither (h n o) (k.1 n o) (blames_split ps qs n o b), noted_joined u.unknown v.unknown y.1.unknown i k.2)
   second_judged Q u v (Err fault) h i k =
       (blames_right ps qs fault.0 fault.1 k.0, λ n o b. neither (λ c. absurd (h n o c)) (k.1 n o) (blames_split ps qs n o b))
 
-  both_judged : {A B : Type 0} (P : A → Type 0) (Q : B → Type 0) (f : A → Load B) → ((x : A) → P x → Judges w qs Q (f x)) → (u : Unknown)
-      → (s : Result (A × Unknown) Fault) → Verdict (BlamesAny w ps) (UnnamedAny w ps) P u s
+  both_judged : {A B : Type 0} (P : A → Type 0) (Q : B → Type 0) (f : A → Load B) → ((x : A) → P x → Judges w qs Q (f x)) → (u : Notes)
+      → (s : Result (A × Notes) Fault) → Verdict (BlamesAny w ps) (UnnamedAny w ps) P u s
       → Verdict (BlamesAny w (ps ++ qs)) (UnnamedAny w (ps ++ qs)) Q u (after s f)
   both_judged P Q f g u (Ok x) h = second_judged Q u x.1 (f x.0 x.1) h.1 h.2 ((g x.0 h.0).judged middle to r x.1)
   both_judged P Q f g u (Err fault) h =
       (blames_left ps qs fault.0 fault.1 h.0, λ n o b. neither (h.1 n o) (fault_before fault.0 fault.1 h.0 n o) (blames_split ps qs n o b))
 
-given_judged : {A B : Type 0} (w : Signatures) (ps : List Seen) (P : A → Type 0) (Q : B → Type 0) (g : A → B) → ((x : A) → P x → Q (g x)) → (u : Unknown)
-    → (s : Result (A × Unknown) Fault) → Verdict (BlamesAny w ps) (UnnamedAny w ps) P u s
+given_judged : {A B : Type 0} (w : Signatures) (ps : List Seen) (P : A → Type 0) (Q : B → Type 0) (g : A → B) → ((x : A) → P x → Q (g x)) → (u : Notes)
+    → (s : Result (A × Notes) Fault) → Verdict (BlamesAny w ps) (UnnamedAny w ps) P u s
     → Verdict (BlamesAny w ps) (UnnamedAny w ps) Q u (after s (λ x. give (g x)))
 given_judged w ps P Q g i u (Ok x) h = (i x.0 h.0, h.1, h.2)
 given_judged w ps P Q g i u (Err fault) h = h
@@ -114,7 +114,7 @@ module _ {w : Signatures} {B : Type 0} {Q : B → Type 0} where
   }
 
   pub ended : {x : B} → Q x → Judges w [] Q (give x)
-  ended h = record { judged = λ from to lie u. (h, λ n o b. none_blamed b, noted_none (UnnamedAny w []) u (λ o b. none_unnamed b)) }
+  ended h = record { judged = λ from to lie u. (h, λ n o b. none_blamed b, noted_none (UnnamedAny w []) u.unknown (λ o b. none_unnamed b)) }
 
 -- ---- names
 
@@ -124,14 +124,14 @@ module _ (w : Signatures) (x : List ℕ) (at : ℕ) where
     judged = λ from to lie u. (
       tt,
       λ n o b. slot_blames b,
-      noted_none (UnnamedAny w (slot_name x at ∷ [])) u (λ o b. false_true (sym (slot_unnamed b).0 ∙ e)),
+      noted_none (UnnamedAny w (slot_name x at ∷ [])) u.unknown (λ o b. false_true (sym (slot_unnamed b).0 ∙ e)),
     );
   }
   slot_known false e = record {
     judged = λ from to lie u. (
       tt,
       λ n o b. slot_blames b,
-      noted_one (UnnamedAny w (slot_name x at ∷ [])) u at (unnamed.a_slot e) (λ o b. (slot_unnamed b).1),
+      noted_one (UnnamedAny w (slot_name x at ∷ [])) u.unknown at (unnamed.a_slot e) (λ o b. (slot_unnamed b).1),
     );
   }
 
@@ -143,21 +143,21 @@ module _ (w : Signatures) (x : List ℕ) (at : ℕ) where
     judged = λ from to lie u. (
       tt,
       λ n o b. record_blames b,
-      noted_one (UnnamedAny w (record_name x at ∷ [])) u at (unnamed.a_record e) (λ o b. (record_unnamed b).1),
+      noted_one (UnnamedAny w (record_name x at ∷ [])) u.unknown at (unnamed.a_record e) (λ o b. (record_unnamed b).1),
     );
   }
 
 -- ---- one datum
 
 verdict_same : {A : Type 0} (B C : ℕ → ℕ → Type 0) (N M : ℕ → Type 0) (Q : A → Type 0) → ((n o : ℕ) → B n o → C n o)
-    → ((n o : ℕ) → C n o → B n o) → ((o : ℕ) → N o → M o) → ((o : ℕ) → M o → N o) → (u : Unknown) (s : Result (A × Unknown) Fault)
+    → ((n o : ℕ) → C n o → B n o) → ((o : ℕ) → N o → M o) → ((o : ℕ) → M o → N o) → (u : Notes) (s : Result (A × Notes) Fault)
     → Verdict B N Q u s → Verdict C M Q u s
-verdict_same B C N M Q f g i j u (Ok x) h = (h.0, λ n o b. h.1 n o (g n o b), noted_same N M i j u x.1 h.2)
+verdict_same B C N M Q f g i j u (Ok x) h = (h.0, λ n o b. h.1 n o (g n o b), noted_same N M i j u.unknown x.1.unknown h.2)
 verdict_same B C N M Q f g i j u (Err fault) h = (f fault.0 fault.1 h.0, λ n o b. h.1 n o (g n o b))
 
 -- a datum is judged where it lies
 pub alone : {A : Type 0} (w : Signatures) (env : Names) (d : Datum) (Q : A → Type 0) (m : Load A)
-    → ((from to : ℕ) → Lies from d to → (u : Unknown) → Verdict (Blames w env d) (Unnamed w env d) Q u (m u))
+    → ((from to : ℕ) → Lies from d to → (u : Notes) → Verdict (Blames w env d) (Unnamed w env d) Q u (m u))
     → Judges w (expression env d ∷ []) Q m
 alone w env d Q m h = record {
   judged = λ from to lie u.
@@ -166,7 +166,7 @@ alone w env d Q m h = record {
 }
 
 -- what is judged as the only part
-pub only_verdict : {A : Type 0} (w : Signatures) (env : Names) (d : Datum) (Q : A → Type 0) (u : Unknown) (s : Result (A × Unknown) Fault)
+pub only_verdict : {A : Type 0} (w : Signatures) (env : Names) (d : Datum) (Q : A → Type 0) (u : Notes) (s : Result (A × Notes) Fault)
     → Verdict (BlamesAny w (expression env d ∷ [])) (UnnamedAny w (expression env d ∷ [])) Q u s → Verdict (Blames w env d) (Unnamed w env d) Q u s
 only_verdict w env d Q u s h =
     verdict_same (BlamesAny w (expression env d ∷ [])) (Blames w env d) (UnnamedAny w (expression env d ∷ [])) (Unnamed w env d) Q
@@ -176,8 +176,8 @@ only_verdict w env d Q u s h =
 
 -- the reading answers to what the form sees
 abbrev AnswersTo : {A : Type 0} → Signatures → ℕ → Sight → Load A → Type 0
-AnswersTo w at Misshapen m = (u : Unknown) → m u ≡ Err (6, at)
-AnswersTo w at (UnknownHead head_at) m = (u : Unknown) → m u ≡ Err (5, head_at)
+AnswersTo w at Misshapen m = (u : Notes) → m u ≡ Err (6, at)
+AnswersTo w at (UnknownHead head_at) m = (u : Notes) → m u ≡ Err (5, head_at)
 AnswersTo w at (Sees ps) m = Judges w ps Any m
 
 pub record Answers {A : Type 0} (w : Signatures) (at : ℕ) (s : Sight) (m : Load A) : Type 0 where
@@ -194,7 +194,7 @@ module _ {w : Signatures} {A : Type 0} {at : ℕ} where
   sees h = record { answers = h }
 
 module _ {A : Type 0} (w : Signatures) (env : Names) (ds : Datums) (at : ℕ) (m : Load A) where
-  sight_judged : (s : Sight) → form_seen w env (in_order ds) ≡ s → AnswersTo w at s m → (to : ℕ) → LieSight (at + 1) s to → (u : Unknown)
+  sight_judged : (s : Sight) → form_seen w env (in_order ds) ≡ s → AnswersTo w at s m → (to : ℕ) → LieSight (at + 1) s to → (u : Notes)
       → Verdict (Blames w env (list ds at)) (Unnamed w env (list ds at)) Any u (m u)
   sight_judged Misshapen e h to lie u =
       subst (Verdict (Blames w env (list ds at)) (Unnamed w env (list ds at)) Any u) (sym (h u)) (

@@ -7,5 +7,5 @@ pub mod Judging
 pub mod Rows
 pub mod Judged
 pub mod Verdicts
-pub mod Callable
+pub mod Declared
 pub mod TextLies

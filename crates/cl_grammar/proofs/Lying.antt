@@ -8,9 +8,9 @@ use Rattle.cl_forms.specs.Datum.{Datum, Datums, number, literal, word, quoted, s
 use Rattle.cl_forms.specs.Naming.{name_in, fits}
 use Rattle.cl_words.specs.Signatures.{function_in, record_in}
 use Rattle.cl_words.specs.declared.signatures.Signatures.{Signatures}
-use Rattle.cl_expressions.specs.Scopes.{Names}
+use Rattle.cl_expressions.specs.Scopes.{Names, among}
 use Rattle.cl_expressions.specs.Expressions.{is_binding_list}
-use Rattle.cl_grammar.specs.Heads.{Counted, operators}
+use Rattle.cl_grammar.specs.Heads.{Counted, operators, fixed_heads}
 use Rattle.cl_grammar.specs.Lies.{Lies, LieAll}
 use Rattle.cl_grammar.specs.Sights.{Seen, expression, slot_name, record_name, Sight, Misshapen, UnknownHead, Sees, all_seen, counted_seen, slot_seen, if_seen, names_behind, value_seen, values_seen, let_seen, fields_seen, make_seen, get_seen, with_seen, map_seen, filter_seen, fold_seen, call_seen, rows, operator_seen, row_seen, form_seen}
 
@@ -226,11 +226,16 @@ module _ (w : Signatures) (x : List ℕ) (head_at from next to : ℕ) (l : from 
       when_lies (fits count (length ds)) (all_seen env ds) from to
       (seen_earlier (all_seen env ds) from next to (omega (arith, l, r)) (all_lie env ds next to h))
 
+  fixed_lies : (fixed : Bool) (env : Names) (ds : List Datum) → LieList next ds to
+      → LieSight from (if fixed then UnknownHead head_at else call_seen (function_in w x) head_at env ds) to
+  fixed_lies true env ds h = call_lies None env ds h
+  fixed_lies false env ds h = call_lies (function_in w x) env ds h
+
   operator_lies : (o : Option Counted) (env : Names) (ds : List Datum) → LieList next ds to → LieSight from (operator_seen w o x head_at env ds) to
   operator_lies (Some o) env ds h =
       when_lies (fits o.1 (length ds)) (all_seen env ds) from to
       (seen_earlier (all_seen env ds) from next to (omega (arith, l, r)) (all_lie env ds next to h))
-  operator_lies None env ds h = call_lies (function_in w x) env ds h
+  operator_lies None env ds h = fixed_lies (among x fixed_heads) env ds h
 
   sight_earlier : (s : Sight) → LieSight next s to → LieSight from s to
   sight_earlier Misshapen h = tt

@@ -5,24 +5,24 @@ use Rattle.std.proofs.Math.Path.{subst}
 use Rattle.cl_syntax.specs.Expr.{bindings_of}
 use Rattle.cl_syntax.specs.ExprTree.{ExprTree, expr_trees_of}
 use Rattle.cl_syntax.specs.ExprTree as expr
-use Rattle.cl_syntax.specs.declared.operators.Operator.{Operator}
 use Rattle.cl_syntax.specs.declared.operators.Operator.TheVariants.{Record}
 use Rattle.cl_syntax.specs.declared.operators.RecordOperator.TheVariants.{Make}
 use Rattle.cl_table.specs.Names.{named}
 use Rattle.cl_forms.specs.Datum.{Datum, number, literal, word, quoted, stray, list, parts_of, offset}
 use Rattle.cl_forms.specs.Naming.{fits, name_in}
-use Rattle.cl_words.specs.Heads.{special_named, operator_named, count_of}
+use Rattle.cl_words.specs.Heads.{head_named, count_of}
 use Rattle.cl_words.specs.Signatures.{function_in, record_in}
+use Rattle.cl_words.specs.declared.heads.Head.{Head}
+use Rattle.cl_words.specs.declared.heads.Head.TheVariants as head
 use Rattle.cl_words.specs.declared.heads.Special.{Special}
 use Rattle.cl_words.specs.declared.heads.Special.TheVariants as special
 use Rattle.cl_words.specs.declared.signatures.Signatures.{Signatures}
 use Rattle.cl_expressions.specs.Load.{Load, ◌>>=◌, give, refuse}
 use Rattle.cl_expressions.specs.Scopes.{Names}
-use Rattle.cl_expressions.specs.Expressions.{Sub, named_part, parse_each, parse_slot, parse_make_fields, parse_make, parse_get, parse_with, parse_if, parse_and, parse_or, parse_operation, parse_call_counted, parse_map, parse_filter, parse_fold, is_binding_list, parse_let, parse_special, parse_operator, parse_head, parse_headed, parse_form}
-use Rattle.cl_grammar.specs.Heads.{operators}
-use Rattle.cl_grammar.specs.Sights.{Seen, expression, Sight, Misshapen, Sees, all_seen, counted_seen, where_named, slot_seen, if_seen, names_bound, values_seen, let_seen, and_seen, or_seen, fields_seen, make_seen, get_seen, with_seen, map_seen, filter_seen, fold_seen, call_seen, rows, operator_seen, row_seen, headed_seen, form_seen}
+use Rattle.cl_expressions.specs.Expressions.{Sub, named_part, parse_each, parse_slot, parse_make_fields, parse_make, parse_get, parse_with, parse_if, parse_and, parse_or, parse_call_counted, parse_map, parse_filter, parse_fold, is_binding_list, parse_let, parse_special, parse_head, parse_headed, parse_form}
+use Rattle.cl_grammar.specs.Sights.{Seen, expression, Sight, Misshapen, Sees, all_seen, counted_seen, where_named, slot_seen, if_seen, names_bound, values_seen, let_seen, and_seen, or_seen, fields_seen, make_seen, get_seen, with_seen, map_seen, filter_seen, fold_seen, call_seen, rows, row_seen, headed_seen, form_seen}
 use Rattle.cl_grammar.proofs.Judging.{Any, Judges, joined, then_part, then_given, ended, slot_judged, record_judged, Answers, misshapen, unknown_head, sees}
-use Rattle.cl_grammar.proofs.Spelled.{row_of, row_spelled, no_row, operator_spelled, no_operator}
+use Rattle.cl_grammar.proofs.Spelled.{row_of, seen_under, head_stands, call_stands}
 use Rattle.cl_grammar.proofs.Written.{shapes}
 
 -- a part answers as an expression and as bindings
@@ -147,8 +147,6 @@ module _ {w : Signatures} where
   special_row : (s : Special) (at : ℕ) (ps : List Sub) (env : Names) → JudgedParts w ps
       → Answers w at (row_of w s env (shapes ps)) (parse_special w s at ps env)
   special_row special.Slot at ps env k = slot_row at ps env
-  special_row special.If at ps env k = if_row at ps env k
-  special_row special.Let at ps env k = let_row at ps env k
   special_row special.And at ps env k = and_row at ps env k
   special_row special.Or at ps env k = or_row at ps env k
   special_row special.Make at ps env k = make_row at ps env k
@@ -158,27 +156,31 @@ module _ {w : Signatures} where
   special_row special.Filter at ps env k = filter_row at ps env k
   special_row special.Fold at ps env k = fold_row at ps env k
 
-  operator_row : (o : Option Operator) (x : List ℕ) (head_at at : ℕ) (ps : List Sub) (env : Names) → operator_named x ≡ o → JudgedParts w ps
-      → Answers w at (operator_seen w (named x operators) x head_at env (shapes ps)) (parse_operator w o x head_at at ps env)
-  operator_row (Some o) x head_at at ps env e k =
-      subst (λ c. Answers w at (operator_seen w c x head_at env (shapes ps)) (parse_operation o at ps env)) (sym (operator_spelled x o e))
-      (counted_judged (count_of o) at ps env _ k)
-  operator_row None x head_at at ps env e k =
-      subst (λ c. Answers w at (operator_seen w c x head_at env (shapes ps)) (parse_call_counted (function_in w x) x head_at at ps env))
-      (sym (no_operator x e)) (call_row (function_in w x) x head_at at ps env k)
+  under_row : (h : Head) (x : List ℕ) (head_at at : ℕ) (ps : List Sub) (env : Names) → JudgedParts w ps
+      → Answers w at (seen_under w h head_at env (shapes ps)) (parse_head w (Some h) x head_at at ps env)
+  under_row head.If x head_at at ps env k = if_row at ps env k
+  under_row head.Let x head_at at ps env k = let_row at ps env k
+  under_row (head.Special s) x head_at at ps env k = special_row s at ps env k
+  under_row (head.Operator o) x head_at at ps env k = counted_judged (count_of o) at ps env _ k
+  under_row (head.Control c) x head_at at ps env k = unknown_head
+  under_row (head.Figure f) x head_at at ps env k = unknown_head
+  under_row (head.Setting s) x head_at at ps env k = unknown_head
+  under_row (head.Writing v) x head_at at ps env k = unknown_head
+  under_row (head.Change c) x head_at at ps env k = unknown_head
+  under_row (head.Planned p) x head_at at ps env k = unknown_head
 
-  head_row : (s : Option Special) (x : List ℕ) (head_at at : ℕ) (ps : List Sub) (env : Names) → special_named x ≡ s → JudgedParts w ps
-      → Answers w at (row_seen w (named x (rows w)) x head_at env (shapes ps)) (parse_head w s x head_at at ps env)
-  head_row (Some s) x head_at at ps env e k =
-      subst (λ r. Answers w at (row_seen w r x head_at env (shapes ps)) (parse_special w s at ps env)) (sym (row_spelled w x s e))
-      (special_row s at ps env k)
+  head_row : (h : Option Head) (x : List ℕ) (head_at at : ℕ) (ps : List Sub) (env : Names) → head_named x ≡ h → JudgedParts w ps
+      → Answers w at (row_seen w (named x (rows w)) x head_at env (shapes ps)) (parse_head w h x head_at at ps env)
+  head_row (Some h) x head_at at ps env e k =
+      subst (λ s. Answers w at s (parse_head w (Some h) x head_at at ps env)) (sym ((head_stands w x h e).seen head_at env (shapes ps)))
+      (under_row h x head_at at ps env k)
   head_row None x head_at at ps env e k =
-      subst (λ r. Answers w at (row_seen w r x head_at env (shapes ps)) (parse_operator w (operator_named x) x head_at at ps env)) (sym (no_row w x e))
-      (operator_row (operator_named x) x head_at at ps env refl k)
+      subst (λ s. Answers w at s (parse_call_counted (function_in w x) x head_at at ps env)) (sym (call_stands w x head_at env (shapes ps) e))
+      (call_row (function_in w x) x head_at at ps env k)
 
   headed_row : (d : Datum) (at : ℕ) (ps : List Sub) (env : Names) → JudgedParts w ps
       → Answers w at (headed_seen w env d (shapes ps)) (parse_headed w d at ps env)
-  headed_row (word x head_at) at ps env k = head_row (special_named x) x head_at at ps env refl k
+  headed_row (word x head_at) at ps env k = head_row (head_named x) x head_at at ps env refl k
   headed_row (number z head_at) at ps env k = misshapen
   headed_row (literal s head_at) at ps env k = misshapen
   headed_row (quoted s head_at name_at) at ps env k = misshapen

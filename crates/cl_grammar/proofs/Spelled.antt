@@ -1,25 +1,23 @@
 -- The words behind what the reader finds under them.
 use Rattle.std.proofs.Common.{◌≡◌, ℕ, Bool, true, false, if◌then◌else◌, List, [], ◌∷◌, refl, sym, ap, ◌∙◌}
-use Rattle.std.specs.Prelude.{Option, Some, None, is_some, codes, ◌&&◌, ◌||◌}
+use Rattle.std.specs.Prelude.{Option, Some, None, is_some, option_map, codes, ◌&&◌, ◌||◌}
 use Rattle.std.specs.Option.{IfSome}
 use Rattle.std.proofs.Math.Path.{subst}
 use Rattle.std.specs.Str.{bytes_eq}
 use Rattle.std.proofs.lemmas.Slice.Eq.{bytes_eq-Decides}
-use Rattle.cl_syntax.specs.declared.operators.Operator.{Operator}
 use Rattle.cl_syntax.specs.declared.operators.Operator.TheVariants as operator
-use Rattle.cl_syntax.specs.declared.operators.Arithmetic.{Arithmetic}
-use Rattle.cl_syntax.specs.declared.operators.Comparison.{Comparison}
-use Rattle.cl_syntax.specs.declared.operators.ListOperator.{ListOperator}
-use Rattle.cl_syntax.specs.declared.operators.TextOperator.{TextOperator}
 use Rattle.cl_table.specs.Names.{named}
-use Rattle.cl_words.specs.Heads.{arithmetic, comparison, list_operator, text_operator, other_operator, arithmetic_or, comparison_or, list_or, text_or, operator_named, count_of, binder_named, special_named, is_operator}
+use Rattle.cl_words.specs.Heads.{named_or, arithmetic_named, comparison_named, list_operator_named, text_operator_named, other_operator_named, operator_named, count_of, access_named, walk_named, special_named, control_named, figure_named, setting_named, writing_named, change_named, planned_display, planned_other, planned_named, shared_named, form_head, head_named, is_operator}
+use Rattle.cl_words.specs.Signatures.{function_in}
+use Rattle.cl_words.specs.declared.heads.Head.{Head}
+use Rattle.cl_words.specs.declared.heads.Head.TheVariants as head
 use Rattle.cl_words.specs.declared.heads.Special.{Special}
 use Rattle.cl_words.specs.declared.heads.Special.TheVariants as special
 use Rattle.cl_expressions.specs.Scopes.{Names, among}
 use Rattle.cl_forms.specs.Datum.{Datum}
 use Rattle.cl_words.specs.declared.signatures.Signatures.{Signatures}
-use Rattle.cl_grammar.specs.Heads.{Counted, operators, fixed_heads}
-use Rattle.cl_grammar.specs.Sights.{Sight, slot_seen, if_seen, let_seen, and_seen, or_seen, make_seen, get_seen, with_seen, map_seen, filter_seen, fold_seen, rows}
+use Rattle.cl_grammar.specs.Heads.{operators, fixed_heads}
+use Rattle.cl_grammar.specs.Sights.{Sight, UnknownHead, counted_seen, slot_seen, if_seen, let_seen, and_seen, or_seen, make_seen, get_seen, with_seen, map_seen, filter_seen, fold_seen, call_seen, rows, operator_seen, row_seen}
 
 pub false_true : false ≡ true → ⊥
 false_true h = cc
@@ -46,95 +44,182 @@ word_is a x w h k = chosen a (bytes_eq x w) (λ e. h (same_word x w e)) k
 of_some : {A : Type 0} {P : A → Type 0} (a : A) (o : Option A) → o ≡ Some a → Finds P o → P a
 of_some {P} a o e h = subst (λ (r : Option _). IfSome r P) e h.found
 
--- ---- heads of rows
+-- ---- heads
 
--- the word of a head
+-- the word of a head that stands before expressions alone
 abbrev pub word_of : Special → List ℕ
 word_of special.Slot = codes "slot"
-word_of special.If = codes "if"
-word_of special.Let = codes "let"
-word_of special.And = codes "and"
-word_of special.Or = codes "or"
 word_of special.Make = codes "make"
 word_of special.Get = codes "get"
 word_of special.With = codes "with"
+word_of special.And = codes "and"
+word_of special.Or = codes "or"
 word_of special.Map = codes "map"
 word_of special.Filter = codes "filter"
 word_of special.Fold = codes "fold"
 
-binder_word : (x : List ℕ) → Finds (λ s. x ≡ word_of s) (binder_named x)
-binder_word x =
-    word_is _ x (codes "if") (λ e. e) (word_is _ x (codes "let") (λ e. e) (word_is _ x (codes "and") (λ e. e) (word_is _ x (codes "or") (λ e. e)
-    (word_is _ x (codes "map") (λ e. e) (word_is _ x (codes "filter") (λ e. e) (word_is _ x (codes "fold") (λ e. e) nothing))))))
+-- the row of it
+abbrev pub row_of : Signatures → Special → Names → List Datum → Sight
+row_of w special.Slot = slot_seen
+row_of w special.Make = make_seen w
+row_of w special.Get = get_seen
+row_of w special.With = with_seen
+row_of w special.And = and_seen
+row_of w special.Or = or_seen
+row_of w special.Map = map_seen
+row_of w special.Filter = filter_seen
+row_of w special.Fold = fold_seen
 
-special_word : (x : List ℕ) → Finds (λ s. x ≡ word_of s) (special_named x)
-special_word x =
-    word_is _ x (codes "slot") (λ e. e) (word_is _ x (codes "make") (λ e. e) (word_is _ x (codes "get") (λ e. e)
-    (word_is _ x (codes "with") (λ e. e) (binder_word x))))
+-- what a form with this head sees
+abbrev pub seen_under : Signatures → Head → ℕ → Names → List Datum → Sight
+seen_under w head.If k env ds = if_seen env ds
+seen_under w head.Let k env ds = let_seen env ds
+seen_under w (head.Special s) k env ds = row_of w s env ds
+seen_under w (head.Operator o) k env ds = counted_seen (count_of o) env ds
+seen_under w (head.Control c) k env ds = UnknownHead k
+seen_under w (head.Figure f) k env ds = UnknownHead k
+seen_under w (head.Setting s) k env ds = UnknownHead k
+seen_under w (head.Writing v) k env ds = UnknownHead k
+seen_under w (head.Change c) k env ds = UnknownHead k
+seen_under w (head.Planned p) k env ds = UnknownHead k
 
-pub special_spelled : (x : List ℕ) (s : Special) → special_named x ≡ Some s → x ≡ word_of s
-special_spelled x s e = of_some s (special_named x) e (special_word x)
+-- the word spells the head of an expression
+abbrev pub IsSpelled : List ℕ → Head → Type 0
+IsSpelled x head.If = x ≡ codes "if"
+IsSpelled x head.Let = x ≡ codes "let"
+IsSpelled x (head.Special s) = x ≡ word_of s
+IsSpelled x (head.Operator o) = named x operators ≡ Some (o, count_of o)
+IsSpelled x (head.Control c) = Unit {0}
+IsSpelled x (head.Figure f) = Unit {0}
+IsSpelled x (head.Setting s) = Unit {0}
+IsSpelled x (head.Writing v) = Unit {0}
+IsSpelled x (head.Change c) = Unit {0}
+IsSpelled x (head.Planned p) = Unit {0}
 
--- ---- operators
+-- the word is that of the head
+pub record Stands (w : Signatures) (x : List ℕ) (h : Head) : Type 0 where
+  pub seen : (k : ℕ) (env : Names) (ds : List Datum) → row_seen w (named x (rows w)) x k env ds ≡ seen_under w h k env ds
+  pub spelled : IsSpelled x h
 
--- the operator stands under the word, with its count
-abbrev StandsUnder : List ℕ → Operator → Type 0
-StandsUnder x o = named x operators ≡ Some (o, count_of o)
+stands : {w : Signatures} {x y : List ℕ} {h : Head} → x ≡ y
+    → ((k : ℕ) (env : Names) (ds : List Datum) → row_seen w (named y (rows w)) y k env ds ≡ seen_under w h k env ds) → IsSpelled y h → Stands w x h
+stands {w} {h} e i j = subst (λ z. Stands w z h) (sym e) (record { seen = i; spelled = j })
 
-stands : {x w : List ℕ} {c : Counted} → x ≡ w → named w operators ≡ Some c → named x operators ≡ Some c
-stands e h = ap (λ y. named y operators) e ∙ h
+first : {A B : Type 0} {P : B → Type 0} {other : Option B} (f : A → B) (o : Option A) → Finds (λ a. P (f a)) o → Finds P other
+    → Finds P (named_or f o other)
+first f (Some a) h k = record { found = h.found }
+first f None h k = k
 
-arithmetic_word : (x : List ℕ) → Finds (λ a. StandsUnder x (operator.Arithmetic a)) (arithmetic x)
-arithmetic_word x =
-    word_is _ x (codes "+") (λ e. stands e refl) (word_is _ x (codes "-") (λ e. stands e refl) (word_is _ x (codes "*") (λ e. stands e refl)
-    (word_is _ x (codes "min") (λ e. stands e refl) (word_is _ x (codes "max") (λ e. stands e refl)
-    (word_is _ x (codes "div") (λ e. stands e refl) (word_is _ x (codes "mod") (λ e. stands e refl) nothing))))))
+last : {A B : Type 0} (P : B → Type 0) (f : A → B) (o : Option A) → Finds (λ a. P (f a)) o → Finds P (option_map f o)
+last P f (Some a) h = record { found = h.found }
+last P f None h = record { found = tt }
 
-comparison_word : (x : List ℕ) → Finds (λ c. StandsUnder x (operator.Comparison c)) (comparison x)
-comparison_word x =
-    word_is _ x (codes "<") (λ e. stands e refl) (word_is _ x (codes "<=") (λ e. stands e refl)
-    (word_is _ x (codes ">") (λ e. stands e refl) (word_is _ x (codes ">=") (λ e. stands e refl) nothing)))
+module _ (w : Signatures) (x : List ℕ) where
+  arithmetic_word : Finds (λ a. Stands w x (head.Operator (operator.Arithmetic a))) (arithmetic_named x)
+  arithmetic_word =
+      word_is _ x (codes "+") (λ e. stands e (λ k env ds. refl) refl) (word_is _ x (codes "-") (λ e. stands e (λ k env ds. refl) refl)
+      (word_is _ x (codes "*") (λ e. stands e (λ k env ds. refl) refl) (word_is _ x (codes "min") (λ e. stands e (λ k env ds. refl) refl)
+      (word_is _ x (codes "max") (λ e. stands e (λ k env ds. refl) refl) (word_is _ x (codes "div") (λ e. stands e (λ k env ds. refl) refl)
+      (word_is _ x (codes "mod") (λ e. stands e (λ k env ds. refl) refl) nothing))))))
 
-list_word : (x : List ℕ) → Finds (λ l. StandsUnder x (operator.List l)) (list_operator x)
-list_word x =
-    word_is _ x (codes "list") (λ e. stands e refl) (word_is _ x (codes "nth") (λ e. stands e refl) (word_is _ x (codes "rest") (λ e. stands e refl)
-    (word_is _ x (codes "cons") (λ e. stands e refl) (word_is _ x (codes "append") (λ e. stands e refl)
-    (word_is _ x (codes "contains") (λ e. stands e refl) (word_is _ x (codes "range") (λ e. stands e refl) nothing))))))
+  comparison_word : Finds (λ c. Stands w x (head.Operator (operator.Comparison c))) (comparison_named x)
+  comparison_word =
+      word_is _ x (codes "<") (λ e. stands e (λ k env ds. refl) refl) (word_is _ x (codes "<=") (λ e. stands e (λ k env ds. refl) refl)
+      (word_is _ x (codes ">") (λ e. stands e (λ k env ds. refl) refl) (word_is _ x (codes ">=") (λ e. stands e (λ k env ds. refl) refl) nothing)))
 
-text_word : (x : List ℕ) → Finds (λ t. StandsUnder x (operator.Text t)) (text_operator x)
-text_word x =
-    word_is _ x (codes "concat") (λ e. stands e refl) (word_is _ x (codes "subtext") (λ e. stands e refl)
-    (word_is _ x (codes "pad") (λ e. stands e refl) (word_is _ x (codes "text") (λ e. stands e refl) nothing)))
+  list_word : Finds (λ l. Stands w x (head.Operator (operator.List l))) (list_operator_named x)
+  list_word =
+      word_is _ x (codes "list") (λ e. stands e (λ k env ds. refl) refl) (word_is _ x (codes "nth") (λ e. stands e (λ k env ds. refl) refl)
+      (word_is _ x (codes "rest") (λ e. stands e (λ k env ds. refl) refl) (word_is _ x (codes "cons") (λ e. stands e (λ k env ds. refl) refl)
+      (word_is _ x (codes "append") (λ e. stands e (λ k env ds. refl) refl) (word_is _ x (codes "contains") (λ e. stands e (λ k env ds. refl) refl)
+      (word_is _ x (codes "range") (λ e. stands e (λ k env ds. refl) refl) nothing))))))
 
-other_word : (x : List ℕ) → Finds (StandsUnder x) (other_operator x)
-other_word x =
-    word_is _ x (codes "not") (λ e. stands e refl) (word_is _ x (codes "=") (λ e. stands e refl)
-    (word_is _ x (codes "length") (λ e. stands e refl) (word_is _ x (codes "is-null") (λ e. stands e refl) nothing)))
+  text_word : Finds (λ t. Stands w x (head.Operator (operator.Text t))) (text_operator_named x)
+  text_word =
+      word_is _ x (codes "concat") (λ e. stands e (λ k env ds. refl) refl) (word_is _ x (codes "subtext") (λ e. stands e (λ k env ds. refl) refl)
+      (word_is _ x (codes "pad") (λ e. stands e (λ k env ds. refl) refl) (word_is _ x (codes "text") (λ e. stands e (λ k env ds. refl) refl) nothing)))
 
-module _ {P : Operator → Type 0} {other : Option Operator} where
-  arithmetic_first : (a : Option Arithmetic) → Finds (λ b. P (operator.Arithmetic b)) a → Finds P other → Finds P (arithmetic_or a other)
-  arithmetic_first (Some a) h k = record { found = h.found }
-  arithmetic_first None h k = k
+  other_word : Finds (λ o. Stands w x (head.Operator o)) (other_operator_named x)
+  other_word =
+      word_is _ x (codes "not") (λ e. stands e (λ k env ds. refl) refl) (word_is _ x (codes "=") (λ e. stands e (λ k env ds. refl) refl)
+      (word_is _ x (codes "length") (λ e. stands e (λ k env ds. refl) refl) (word_is _ x (codes "is-null") (λ e. stands e (λ k env ds. refl) refl) nothing)))
 
-  comparison_first : (c : Option Comparison) → Finds (λ b. P (operator.Comparison b)) c → Finds P other → Finds P (comparison_or c other)
-  comparison_first (Some c) h k = record { found = h.found }
-  comparison_first None h k = k
+  access_word : Finds (λ s. Stands w x (head.Special s)) (access_named x)
+  access_word =
+      word_is _ x (codes "slot") (λ e. stands e (λ k env ds. refl) refl) (word_is _ x (codes "make") (λ e. stands e (λ k env ds. refl) refl)
+      (word_is _ x (codes "get") (λ e. stands e (λ k env ds. refl) refl) (word_is _ x (codes "with") (λ e. stands e (λ k env ds. refl) refl) nothing)))
 
-  list_first : (l : Option ListOperator) → Finds (λ b. P (operator.List b)) l → Finds P other → Finds P (list_or l other)
-  list_first (Some l) h k = record { found = h.found }
-  list_first None h k = k
+  walk_word : Finds (λ s. Stands w x (head.Special s)) (walk_named x)
+  walk_word =
+      word_is _ x (codes "and") (λ e. stands e (λ k env ds. refl) refl) (word_is _ x (codes "or") (λ e. stands e (λ k env ds. refl) refl)
+      (word_is _ x (codes "map") (λ e. stands e (λ k env ds. refl) refl) (word_is _ x (codes "filter") (λ e. stands e (λ k env ds. refl) refl)
+      (word_is _ x (codes "fold") (λ e. stands e (λ k env ds. refl) refl) nothing))))
 
-  text_first : (t : Option TextOperator) → Finds (λ b. P (operator.Text b)) t → Finds P other → Finds P (text_or t other)
-  text_first (Some t) h k = record { found = h.found }
-  text_first None h k = k
+  shared_word : Finds (Stands w x) (shared_named x)
+  shared_word =
+      word_is _ x (codes "if") (λ e. stands e (λ k env ds. refl) refl) (word_is _ x (codes "let") (λ e. stands e (λ k env ds. refl) refl) nothing)
 
-operator_word : (x : List ℕ) → Finds (StandsUnder x) (operator_named x)
-operator_word x =
-    arithmetic_first (arithmetic x) (arithmetic_word x) (comparison_first (comparison x) (comparison_word x)
-    (list_first (list_operator x) (list_word x) (text_first (text_operator x) (text_word x) (other_word x))))
+  control_word : Finds (λ c. Stands w x (head.Control c)) (control_named x)
+  control_word =
+      word_is _ x (codes "when") (λ e. stands e (λ k env ds. refl) tt) (word_is _ x (codes "dolist") (λ e. stands e (λ k env ds. refl) tt)
+      (word_is _ x (codes "progn") (λ e. stands e (λ k env ds. refl) tt) nothing))
 
-pub operator_spelled : (x : List ℕ) (o : Operator) → operator_named x ≡ Some o → named x operators ≡ Some (o, count_of o)
-operator_spelled x o e = of_some o (operator_named x) e (operator_word x)
+  figure_word : Finds (λ f. Stands w x (head.Figure f)) (figure_named x)
+  figure_word =
+      word_is _ x (codes "draw-point") (λ e. stands e (λ k env ds. refl) tt) (word_is _ x (codes "draw-hline") (λ e. stands e (λ k env ds. refl) tt)
+      (word_is _ x (codes "draw-vline") (λ e. stands e (λ k env ds. refl) tt) (word_is _ x (codes "draw-box") (λ e. stands e (λ k env ds. refl) tt)
+      (word_is _ x (codes "fill-box") (λ e. stands e (λ k env ds. refl) tt) nothing))))
+
+  setting_word : Finds (λ s. Stands w x (head.Setting s)) (setting_named x)
+  setting_word =
+      word_is _ x (codes "indenting-output") (λ e. stands e (λ k env ds. refl) tt) (word_is _ x (codes "with-ink") (λ e. stands e (λ k env ds. refl) tt)
+      (word_is _ x (codes "with-room-for-graphics") (λ e. stands e (λ k env ds. refl) tt) nothing))
+
+  writing_word : Finds (λ v. Stands w x (head.Writing v)) (writing_named x)
+  writing_word =
+      word_is _ x (codes "write-text") (λ e. stands e (λ k env ds. refl) tt) (word_is _ x (codes "newline") (λ e. stands e (λ k env ds. refl) tt) nothing)
+
+  change_word : Finds (λ c. Stands w x (head.Change c)) (change_named x)
+  change_word =
+      word_is _ x (codes "setf") (λ e. stands e (λ k env ds. refl) tt) (word_is _ x (codes "reply") (λ e. stands e (λ k env ds. refl) tt) nothing)
+
+  planned_display_word : Finds (λ p. Stands w x (head.Planned p)) (planned_display x)
+  planned_display_word =
+      word_is _ x (codes "present") (λ e. stands e (λ k env ds. refl) tt) (word_is _ x (codes "with-output-as-presentation") (λ e. stands e (λ k env ds. refl) tt)
+      (word_is _ x (codes "updating-output") (λ e. stands e (λ k env ds. refl) tt) (word_is _ x (codes "formatting-table") (λ e. stands e (λ k env ds. refl) tt) nothing)))
+
+  planned_other_word : Finds (λ p. Stands w x (head.Planned p)) (planned_other x)
+  planned_other_word =
+      word_is _ x (codes "enable") (λ e. stands e (λ k env ds. refl) tt) (word_is _ x (codes "disable") (λ e. stands e (λ k env ds. refl) tt)
+      (word_is _ x (codes "open-dialog") (λ e. stands e (λ k env ds. refl) tt) (word_is _ x (codes "formatting-row") (λ e. stands e (λ k env ds. refl) tt)
+      (word_is _ x (codes "formatting-cell") (λ e. stands e (λ k env ds. refl) tt) nothing))))
+
+  operator_word : Finds (λ o. Stands w x (head.Operator o)) (operator_named x)
+  operator_word =
+      first (λ a. operator.Arithmetic a) (arithmetic_named x) arithmetic_word
+      (first (λ c. operator.Comparison c) (comparison_named x) comparison_word
+      (first (λ l. operator.List l) (list_operator_named x) list_word
+      (first (λ t. operator.Text t) (text_operator_named x) text_word other_word)))
+
+  special_word : Finds (λ s. Stands w x (head.Special s)) (special_named x)
+  special_word = first (λ s. s) (access_named x) access_word walk_word
+
+  planned_word : Finds (λ p. Stands w x (head.Planned p)) (planned_named x)
+  planned_word = first (λ p. p) (planned_display x) planned_display_word planned_other_word
+
+  form_word : Finds (Stands w x) (form_head x)
+  form_word =
+      first (λ c. head.Control c) (control_named x) control_word (first (λ f. head.Figure f) (figure_named x) figure_word
+      (first (λ s. head.Setting s) (setting_named x) setting_word (first (λ v. head.Writing v) (writing_named x) writing_word
+      (first (λ c. head.Change c) (change_named x) change_word (last (Stands w x) (λ p. head.Planned p) (planned_named x) planned_word)))))
+
+  head_word : Finds (Stands w x) (head_named x)
+  head_word =
+      first (λ h. h) (shared_named x) shared_word (first (λ o. head.Operator o) (operator_named x) operator_word
+      (first (λ s. head.Special s) (special_named x) special_word form_word))
+
+  pub head_stands : (h : Head) → head_named x ≡ Some h → Stands w x h
+  head_stands h e = of_some h (head_named x) e head_word
 
 -- ---- heads that are fixed
 
@@ -156,8 +241,8 @@ fixed_apart x (y ∷ ys) h k =
     let parts : (is_operator y ≡ true) × (all_operators ys ≡ true) = both_parts (is_operator y) (all_operators ys) h in
     either (bytes_eq y x) (among x ys) (λ e. false_true (sym k ∙ ap is_operator (sym (same_word y x e)) ∙ parts.0)) (fixed_apart x ys parts.1 k)
 
-pub not_fixed : (x : List ℕ) → is_operator x ≡ false → among x fixed_heads ≡ false
-not_fixed x h = fixed_apart x fixed_heads refl h
+pub not_fixed : (x : List ℕ) → head_named x ≡ None → among x fixed_heads ≡ false
+not_fixed x e = fixed_apart x fixed_heads refl (ap is_some e)
 
 -- ---- words that are none of a table's
 
@@ -165,53 +250,21 @@ missed_one : {B : Type 0} (b : Bool) (v : B) (o : Option B) → (b ≡ true → 
 missed_one true v o h k = absurd (h refl)
 missed_one false v o h k = k
 
-abbrev all_found : {A B : Type 0} → (List ℕ → Option A) → List (List ℕ × B) → Bool
-all_found f [] = true
-all_found f (e ∷ es) = is_some (f e.0) && all_found f es
+abbrev all_heads : {B : Type 0} → List (List ℕ × B) → Bool
+all_heads [] = true
+all_heads (e ∷ es) = is_operator e.0 && all_heads es
 
-some_none : {A : Type 0} (o : Option A) → o ≡ None → is_some o ≡ true → ⊥
-some_none o e h = false_true (sym (ap is_some e) ∙ h)
+missed : {B : Type 0} (x : List ℕ) (es : List (List ℕ × B)) → all_heads es ≡ true → head_named x ≡ None → named x es ≡ None
+missed x [] h k = refl
+missed x (e ∷ es) h k =
+    let parts : (is_operator e.0 ≡ true) × (all_heads es ≡ true) = both_parts (is_operator e.0) (all_heads es) h in
+    missed_one (bytes_eq x e.0) e.1 (named x es)
+    (λ i. false_true (sym (ap is_some (ap head_named (sym (same_word x e.0 i)) ∙ k)) ∙ parts.0)) (missed x es parts.1 k)
 
-missed : {A B : Type 0} (f : List ℕ → Option A) (x : List ℕ) (es : List (List ℕ × B)) → all_found f es ≡ true → f x ≡ None → named x es ≡ None
-missed f x [] h k = refl
-missed f x (e ∷ es) h k =
-    let parts : (is_some (f e.0) ≡ true) × (all_found f es ≡ true) = both_parts (is_some (f e.0)) (all_found f es) h in
-    missed_one (bytes_eq x e.0) e.1 (named x es) (λ i. some_none (f e.0) (ap f (sym (same_word x e.0 i)) ∙ k) parts.0) (missed f x es parts.1 k)
-
-pub no_row : (w : Signatures) (x : List ℕ) → special_named x ≡ None → named x (rows w) ≡ None
-no_row w x e = missed special_named x (rows w) refl e
-
-pub no_operator : (x : List ℕ) → operator_named x ≡ None → named x operators ≡ None
-no_operator x e = missed operator_named x operators refl e
-
--- ---- rows
-
--- the row of a head
-abbrev pub row_of : Signatures → Special → Names → List Datum → Sight
-row_of w special.Slot = slot_seen
-row_of w special.If = if_seen
-row_of w special.Let = let_seen
-row_of w special.And = and_seen
-row_of w special.Or = or_seen
-row_of w special.Make = make_seen w
-row_of w special.Get = get_seen
-row_of w special.With = with_seen
-row_of w special.Map = map_seen
-row_of w special.Filter = filter_seen
-row_of w special.Fold = fold_seen
-
-row_under : (w : Signatures) (s : Special) → named (word_of s) (rows w) ≡ Some (row_of w s)
-row_under w special.Slot = refl
-row_under w special.If = refl
-row_under w special.Let = refl
-row_under w special.And = refl
-row_under w special.Or = refl
-row_under w special.Make = refl
-row_under w special.Get = refl
-row_under w special.With = refl
-row_under w special.Map = refl
-row_under w special.Filter = refl
-row_under w special.Fold = refl
-
-pub row_spelled : (w : Signatures) (x : List ℕ) (s : Special) → special_named x ≡ Some s → named x (rows w) ≡ Some (row_of w s)
-row_spelled w x s e = ap (λ y. named y (rows w)) (special_spelled x s e) ∙ row_under w s
+-- a word that is no head calls a function
+pub call_stands : (w : Signatures) (x : List ℕ) (k : ℕ) (env : Names) (ds : List Datum) → head_named x ≡ None
+    → row_seen w (named x (rows w)) x k env ds ≡ call_seen (function_in w x) k env ds
+call_stands w x k env ds e =
+    ap (λ o. row_seen w o x k env ds) (missed x (rows w) refl e)
+    ∙ (ap (λ o. operator_seen w o x k env ds) (missed x operators refl e)
+    ∙ ap (λ (b : Bool). if b then UnknownHead k else call_seen (function_in w x) k env ds) (not_fixed x e))

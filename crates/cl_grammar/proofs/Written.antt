@@ -12,18 +12,21 @@ use Rattle.cl_syntax.specs.declared.operators.Operator.{Operator}
 use Rattle.cl_forms.specs.Datum.{Datum, Datums, number, literal, word, quoted, stray, list, none, item, in_order, offset}
 use Rattle.cl_forms.specs.Naming.{fits, name_in}
 use Rattle.cl_forms.specs.Words.{is_name}
-use Rattle.cl_words.specs.Heads.{special_named, operator_named, count_of}
+use Rattle.cl_words.specs.Heads.{head_named, count_of}
 use Rattle.cl_words.specs.Signatures.{function_in, record_in, slot_in}
+use Rattle.cl_table.specs.Names.{named}
+use Rattle.cl_words.specs.declared.heads.Head.{Head}
+use Rattle.cl_words.specs.declared.heads.Head.TheVariants as head
 use Rattle.cl_words.specs.declared.heads.Special.{Special}
 use Rattle.cl_words.specs.declared.heads.Special.TheVariants as special
 use Rattle.cl_words.specs.declared.signatures.Signatures.{Signatures}
-use Rattle.cl_expressions.specs.Load.{Unknown}
+use Rattle.cl_expressions.specs.Load.{Load, Notes}
 use Rattle.cl_expressions.specs.Scopes.{Names, among}
-use Rattle.cl_expressions.specs.Expressions.{Sub, parse_each, parse_variable, parse_word, parse_slot, parse_make_fields, parse_make, parse_get, parse_with, parse_if, parse_and, parse_or, parse_operation, parse_call_counted, parse_map, parse_filter, parse_fold, is_binding_list, parse_binding_parts, parse_let, parse_special, parse_operator, parse_head, parse_headed, parse_form, parse_expression, subs, parse_bindings, parse_each_binding, parse_binding}
-use Rattle.cl_grammar.specs.Heads.{CallsNames}
+use Rattle.cl_expressions.specs.Expressions.{Sub, parse_each, parse_variable, parse_word, parse_slot, parse_make_fields, parse_make, parse_get, parse_with, parse_if, parse_and, parse_or, parse_operation, parse_call_counted, parse_map, parse_filter, parse_fold, is_binding_list, parse_binding_parts, parse_let, parse_special, parse_head, parse_headed, parse_form, parse_expression, subs, parse_bindings, parse_each_binding, parse_binding}
+use Rattle.cl_grammar.specs.Heads.{operators, CallsNames}
 use Rattle.cl_grammar.specs.Writes.{Writes, WritesForm, WritesAll, WritesBindings, a_number, a_text, a_quoted_name, the_true, the_false, the_null, a_variable, a_form, a_slot, an_if, a_let, an_and, an_or, a_make, a_get, a_with, a_map, a_filter, a_fold, an_operation, a_call, no_more, one_more, no_binding, one_binding}
 use Rattle.cl_grammar.proofs.Endings.{Ends, gives, refuses, chooses, notes_then, binds, asks_name}
-use Rattle.cl_grammar.proofs.Spelled.{same_word, word_of, special_spelled, operator_spelled}
+use Rattle.cl_grammar.proofs.Spelled.{same_word, word_of, IsSpelled, head_stands, not_fixed}
 
 -- the parts as they stand
 abbrev pub shapes : List Sub → List Datum
@@ -147,8 +150,6 @@ let_written h at ps env k = refuses
 special_written : (w : Signatures) (s : Special) (h at : ℕ) (ps : List Sub) (env : Names) → WrittenParts ps
     → Ends (RowEnds (word_of s) h ps) (parse_special w s at ps env)
 special_written w special.Slot h at ps env k = slot_written w h at ps
-special_written w special.If h at ps env k = if_written h at ps env k
-special_written w special.Let h at ps env k = let_written h at ps env k
 special_written w special.And h at ps env k = and_written h ps env k
 special_written w special.Or h at ps env k = or_written h ps env k
 special_written w special.Make h at ps env k = make_written w h at ps env k
@@ -165,33 +166,44 @@ length_shapes ps count e = subst (λ n. fits count n ≡ true) (counted ps) e
     counted [] = refl
     counted (q ∷ qs) = ap suc (counted qs)
 
-operation_written : (o : Operator) (x : List ℕ) (h at : ℕ) (ps : List Sub) (env : Names) → operator_named x ≡ Some o → WrittenParts ps
+operation_written : (o : Operator) (x : List ℕ) (h at : ℕ) (ps : List Sub) (env : Names) → named x operators ≡ Some (o, count_of o) → WrittenParts ps
     → Ends (RowEnds x h ps) (parse_operation o at ps env)
 operation_written o x h at ps env e k =
     chooses (fits (count_of o) (length ps))
-    (λ f. binds (each_written ps env k) λ ts b. gives (an_operation (operator_spelled x o e) (length_shapes ps (count_of o) f) b)) (λ f. refuses)
+    (λ f. binds (each_written ps env k) λ ts b. gives (an_operation e (length_shapes ps (count_of o) f) b)) (λ f. refuses)
 
 module _ (w : Signatures) (names : CallsNames w) where
-  call_written : (c : Option (Option ℕ)) (x : List ℕ) (h at : ℕ) (ps : List Sub) (env : Names) → function_in w x ≡ c → WrittenParts ps
+  call_written : (c : Option (Option ℕ)) (x : List ℕ) (h at : ℕ) (ps : List Sub) (env : Names) → function_in w x ≡ c → head_named x ≡ None → WrittenParts ps
       → Ends (RowEnds x h ps) (parse_call_counted c x h at ps env)
-  call_written None x h at ps env e k = refuses
-  call_written (Some count) x h at ps env e k =
-      chooses (fits count (length ps)) (λ f. binds (each_written ps env k) λ ts b. gives (a_call (names x count e) b)) (λ f. refuses)
+  call_written None x h at ps env e n k = refuses
+  call_written (Some count) x h at ps env e n k =
+      chooses (fits count (length ps))
+      (λ f. binds (each_written ps env k) λ ts b. gives (a_call (record { is_a_name = names x count e; is_not_fixed = not_fixed x n }) b)) (λ f. refuses)
 
-  operator_written : (o : Option Operator) (x : List ℕ) (h at : ℕ) (ps : List Sub) (env : Names) → operator_named x ≡ o → WrittenParts ps
-      → Ends (RowEnds x h ps) (parse_operator w o x h at ps env)
-  operator_written (Some o) x h at ps env e k = operation_written o x h at ps env e k
-  operator_written None x h at ps env e k = call_written (function_in w x) x h at ps env refl k
+  spelled_so : (y x : List ℕ) (h : ℕ) (ps : List Sub) (m : Load ExprTree) → x ≡ y → Ends (RowEnds y h ps) m → Ends (RowEnds x h ps) m
+  spelled_so y x h ps m e i = subst (λ z. Ends (RowEnds z h ps) m) (sym e) i
 
-  head_written : (s : Option Special) (x : List ℕ) (h at : ℕ) (ps : List Sub) (env : Names) → special_named x ≡ s → WrittenParts ps
-      → Ends (RowEnds x h ps) (parse_head w s x h at ps env)
-  head_written (Some s) x h at ps env e k =
-      subst (λ y. Ends (RowEnds y h ps) (parse_special w s at ps env)) (sym (special_spelled x s e)) (special_written w s h at ps env k)
-  head_written None x h at ps env e k = operator_written (operator_named x) x h at ps env refl k
+  under_written : (o : Head) (x : List ℕ) (h at : ℕ) (ps : List Sub) (env : Names) → IsSpelled x o → WrittenParts ps
+      → Ends (RowEnds x h ps) (parse_head w (Some o) x h at ps env)
+  under_written head.If x h at ps env e k = spelled_so (codes "if") x h ps (parse_if at ps env) e (if_written h at ps env k)
+  under_written head.Let x h at ps env e k = spelled_so (codes "let") x h ps (parse_let at ps env) e (let_written h at ps env k)
+  under_written (head.Special s) x h at ps env e k = spelled_so (word_of s) x h ps (parse_special w s at ps env) e (special_written w s h at ps env k)
+  under_written (head.Operator o) x h at ps env e k = operation_written o x h at ps env e k
+  under_written (head.Control c) x h at ps env e k = refuses
+  under_written (head.Figure f) x h at ps env e k = refuses
+  under_written (head.Setting s) x h at ps env e k = refuses
+  under_written (head.Writing v) x h at ps env e k = refuses
+  under_written (head.Change c) x h at ps env e k = refuses
+  under_written (head.Planned p) x h at ps env e k = refuses
+
+  head_written : (o : Option Head) (x : List ℕ) (h at : ℕ) (ps : List Sub) (env : Names) → head_named x ≡ o → WrittenParts ps
+      → Ends (RowEnds x h ps) (parse_head w o x h at ps env)
+  head_written (Some o) x h at ps env e k = under_written o x h at ps env (head_stands w x o e).spelled k
+  head_written None x h at ps env e k = call_written (function_in w x) x h at ps env refl e k
 
   headed_written : (d : Datum) (at : ℕ) (ps : List Sub) (env : Names) → WrittenParts ps
       → Ends (λ t. WritesForm t (d ∷ shapes ps)) (parse_headed w d at ps env)
-  headed_written (word x h) at ps env k = head_written (special_named x) x h at ps env refl k
+  headed_written (word x h) at ps env k = head_written (head_named x) x h at ps env refl k
   headed_written d at ps env k = refuses
 
   form_written : (at : ℕ) (ps : List Sub) (env : Names) → WrittenParts ps → Ends (λ t. WritesForm t (shapes ps)) (parse_form w at ps env)
@@ -249,5 +261,5 @@ module _ (w : Signatures) (names : CallsNames w) where
     binding_written (quoted s d_at name_at) at env = refuses
     binding_written (stray d_at) at env = refuses
 
-  pub expression_written : (d : Datum) (env : Names) (u v : Unknown) (t : ExprTree) → parse_expression w d env u ≡ Ok (t, v) → Writes t d
+  pub expression_written : (d : Datum) (env : Names) (u v : Notes) (t : ExprTree) → parse_expression w d env u ≡ Ok (t, v) → Writes t d
   expression_written d env u v t e = IfOk-at_ok (λ x. Writes x.0 d) e ((expression_ends d env).ends u)

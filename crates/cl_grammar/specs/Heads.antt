@@ -68,6 +68,6 @@ pub record IsCallable (x : List ℕ) : Type 0 where
   pub is_a_name : is_name x ≡ true
   pub is_not_fixed : among x fixed_heads ≡ false
 
--- the functions that are declared may head calls
+-- the functions that are declared have names
 abbrev pub CallsNames : Signatures → Type 0
-CallsNames w = (x : List ℕ) (count : Option ℕ) → function_in w x ≡ Some count → IsCallable x
+CallsNames w = (x : List ℕ) (count : Option ℕ) → function_in w x ≡ Some count → is_name x ≡ true

@@ -5,9 +5,9 @@ use Rattle.cl_forms.specs.Datum.{Datum, number, literal, word, quoted, stray, li
 use Rattle.cl_forms.specs.Naming.{name_in, symbol_of, fits}
 use Rattle.cl_words.specs.Signatures.{function_in, record_in}
 use Rattle.cl_words.specs.declared.signatures.Signatures.{Signatures}
-use Rattle.cl_expressions.specs.Scopes.{Names}
+use Rattle.cl_expressions.specs.Scopes.{Names, among}
 use Rattle.cl_expressions.specs.Expressions.{is_binding_list}
-use Rattle.cl_grammar.specs.Heads.{Counted, operators}
+use Rattle.cl_grammar.specs.Heads.{Counted, operators, fixed_heads}
 
 pub data Seen : Type 0 where
   -- an expression, with the variables that it sees
@@ -139,9 +139,11 @@ rows w =
     ∷ (codes "fold", fold_seen)
     ∷ []
 
+-- an operator, or the name of a function: no other fixed head stands before an expression
 abbrev pub operator_seen : Signatures → Option Counted → List ℕ → ℕ → Names → List Datum → Sight
 operator_seen w (Some o) x head_at env ds = counted_seen o.1 env ds
-operator_seen w None x head_at env ds = call_seen (function_in w x) head_at env ds
+operator_seen w None x head_at env ds =
+    if among x fixed_heads then UnknownHead head_at else call_seen (function_in w x) head_at env ds
 
 abbrev pub row_seen : Signatures → Option (Names → List Datum → Sight) → List ℕ → ℕ → Names → List Datum → Sight
 row_seen w (Some row) x head_at env ds = row env ds
