@@ -1,6 +1,7 @@
 -- What holds of each value that a reading gives.
 use Rattle.std.proofs.Common.{◌≡◌, ℕ, Bool, true, false, if◌then◌else◌, List, refl, IfOk}
 use Rattle.std.specs.Prelude.{Result, Ok, Err, Option, Some, None}
+use Rattle.std.proofs.lemmas.Result.{IfOk-weaker}
 use Rattle.cl_forms.specs.Datum.{Datum}
 use Rattle.cl_forms.specs.Naming.{name_in}
 use Rattle.cl_expressions.specs.Load.{Load, Notes, Fault, after, ◌>>=◌, give, refuse, noted}
@@ -32,6 +33,9 @@ module _ {A : Type 0} {Q : A → Type 0} where
 
   pub binds : {B : Type 0} {P : B → Type 0} {m : Load B} {f : B → Load A} → Ends P m → ((x : B) → P x → Ends Q (f x)) → Ends Q (m >>= f)
   binds {m} {f} h g = record { ends = λ u. after_ends f g (m u) (h.ends u) }
+
+  pub ends_weaker : {P : A → Type 0} {m : Load A} → ((x : A) → P x → Q x) → Ends P m → Ends Q m
+  ends_weaker {P} {m} f h = record { ends = λ u. IfOk-weaker (m u) (λ x. P x.0) (λ x. Q x.0) (λ x i. f x.0 i) (h.ends u) }
 
   name_found : (name : Option (List ℕ)) (at : ℕ) {f : List ℕ → Load A} → ((x : List ℕ) → name ≡ Some x → Ends Q (f x))
       → Ends Q (elim name [ None ↦ refuse 6 at | Some x ↦ give x ] >>= f)

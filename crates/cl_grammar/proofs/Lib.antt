@@ -9,3 +9,5 @@ pub mod Judged
 pub mod Verdicts
 pub mod Declared
 pub mod TextLies
+pub mod OnlyRows
+pub mod OnlyWritten

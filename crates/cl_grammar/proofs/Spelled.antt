@@ -254,7 +254,7 @@ abbrev all_heads : {B : Type 0} → List (List ℕ × B) → Bool
 all_heads [] = true
 all_heads (e ∷ es) = is_operator e.0 && all_heads es
 
-missed : {B : Type 0} (x : List ℕ) (es : List (List ℕ × B)) → all_heads es ≡ true → head_named x ≡ None → named x es ≡ None
+pub missed : {B : Type 0} (x : List ℕ) (es : List (List ℕ × B)) → all_heads es ≡ true → head_named x ≡ None → named x es ≡ None
 missed x [] h k = refl
 missed x (e ∷ es) h k =
     let parts : (is_operator e.0 ≡ true) × (all_heads es ≡ true) = both_parts (is_operator e.0) (all_heads es) h in

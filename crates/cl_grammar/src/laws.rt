@@ -26,6 +26,12 @@ pub fn parsed_is_written()
     ensures { (w : Signatures) (d : Datum) (env : Names) (u v : Notes) (t : ExprTree) → CallsNames w → parse_expression w d env u ≡ Ok (t, v) → Writes t d }
 {}
 
+/// No other expression writes a datum that is read.
+#[tactic(auto, using(crate::proofs::OnlyWritten::only_parsed))]
+pub fn parsed_alone_is_written()
+    ensures { (w : Signatures) (d : Datum) (env : Names) (u v : Notes) (s t : ExprTree) → parse_expression w d env u ≡ Ok (t, v) → Writes s d → s ≡ t }
+{}
+
 /// The functions that a text declares have names.
 pub fn declared_functions_have_names()
     ensures { (forms : List Outer) → CallsNames (signatures_of forms) }

@@ -6,5 +6,5 @@ mod laws;
 
 pub use laws::{
     blamed_is_refused, data_lie_in_order, declared_functions_have_names, first_blame_is_told,
-    first_unnamed_is_noted, parsed_is_written,
+    first_unnamed_is_noted, parsed_alone_is_written, parsed_is_written,
 };
