@@ -23,7 +23,7 @@ use Rattle.cl_words.specs.declared.signatures.Callee.{Callee}
 use Rattle.cl_words.specs.declared.signatures.CalleeKind.{CalleeKind}
 use Rattle.cl_words.specs.declared.signatures.CalleeKind.TheVariants.{Function, Display}
 use Rattle.cl_grammar.specs.Heads.{CallsNames}
-use Rattle.cl_grammar.proofs.Spelled.{same_word}
+use Rattle.cl_grammar.proofs.Spelled.{same_word, found_one}
 
 -- each word of the table is a name
 abbrev AreNamed : {D : Type 0} → List (List ℕ × D) → Type 0
@@ -33,10 +33,6 @@ AreNamed (e ∷ es) = (is_name e.0 ≡ true) × AreNamed es
 one_more : {D : Type 0} (es : List (List ℕ × D)) (x : List ℕ) (v : D) → AreNamed es → is_name x ≡ true → AreNamed (es ++ (x, v) ∷ [])
 one_more [] x v h k = (k, tt)
 one_more (e ∷ es) x v h k = (h.0, one_more es x v h.1 k)
-
-found_one : {D : Type 0} (b : Bool) (v : D) (o : Option D) (d : D) (P : Type 0) → (b ≡ true → P) → (o ≡ Some d → P) → (if b then Some v else o) ≡ Some d → P
-found_one true v o d P h k e = h refl
-found_one false v o d P h k e = k e
 
 found_named : {D : Type 0} (x : List ℕ) (es : List (List ℕ × D)) (d : D) → AreNamed es → named x es ≡ Some d → is_name x ≡ true
 found_named x [] d h e = cc

@@ -69,7 +69,8 @@ module _ (w : Signatures) where
   null_row env x at true e f = constant_row env x at (expr.Constant value.null) f (ap is_name (same_word x (codes "null") e))
   null_row env x at false e f = variable_row env x at (is_name x) refl f
 
-  false_row : (env : Names) (x : List ℕ) (at : ℕ) (b : Bool) → bytes_eq x (codes "false") ≡ b → is_atom x ≡ (b || (bytes_eq x (codes "null") || is_name x))
+  false_row : (env : Names) (x : List ℕ) (at : ℕ) (b : Bool) → bytes_eq x (codes "false") ≡ b
+      → is_atom x ≡ (b || (bytes_eq x (codes "null") || is_name x))
       → Judges w (expression env (word x at) ∷ []) Any
       (if b then give (expr.Constant (value.bool false)) else (if bytes_eq x (codes "null") then give (expr.Constant value.null) else parse_variable x at env))
   false_row env x at true e f = constant_row env x at (expr.Constant (value.bool false)) f (ap is_name (same_word x (codes "false") e))
@@ -160,7 +161,8 @@ module _ (w : Signatures) where
         → Judges w (values_seen env (in_order ds)) (λ r. r.1 ≡ names_bound env (in_order ds)) (parse_each_binding w ds at env)
     each_binding_judged none at env h = ended refl
     each_binding_judged (item d ds) at env h =
-        let parts : (is_binding (parts_of d) ≡ true) × (are_bindings (in_order ds) ≡ true) = both_parts (is_binding (parts_of d)) (are_bindings (in_order ds)) h in
+        let parts : (is_binding (parts_of d) ≡ true) × (are_bindings (in_order ds) ≡ true) =
+        both_parts (is_binding (parts_of d)) (are_bindings (in_order ds)) h in
         joined (value_seen env (parts_of d)) (values_seen (names_behind env (parts_of d)) (in_order ds)) (binding_judged d at env parts.0) λ b i.
         then_given (λ r. (b ∷ r.0, r.1))
         (subst (λ names. Judges w (values_seen names (in_order ds)) (λ r. r.1 ≡ names_bound names (in_order ds)) (parse_each_binding w ds at (b.name ∷ env))) i

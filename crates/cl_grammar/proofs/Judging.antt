@@ -214,4 +214,5 @@ module _ {A : Type 0} (w : Signatures) (env : Names) (ds : Datums) (at : ℕ) (m
   pub list_judged : Answers w at (form_seen w env (in_order ds)) m → Judges w (expression env (list ds at) ∷ []) Any m
   list_judged h =
       alone w env (list ds at) Any m
-      (λ from to lie u. sight_judged (form_seen w env (in_order ds)) refl h.answers to (form_lies w env (in_order ds) (at + 1) to (list_lies ds (at + 1) to lie.2)) u)
+      (λ from to lie u. sight_judged (form_seen w env (in_order ds)) refl h.answers to
+      (form_lies w env (in_order ds) (at + 1) to (list_lies ds (at + 1) to lie.2)) u)

@@ -1,5 +1,5 @@
 -- The one expression that can write a form: a lemma for each row.
-use Rattle.std.proofs.Common.{◌≡◌, ℕ, ℤ, Bool, true, false, if◌then◌else◌, List, [], ◌∷◌, refl, sym, ap, ◌∙◌}
+use Rattle.std.proofs.Common.{◌≡◌, ℕ, ℤ, Bool, true, List, [], ◌∷◌, refl, sym, ap, ◌∙◌}
 use Rattle.std.specs.Prelude.{Option, Some, None, codes, ◌&&◌}
 use Rattle.std.specs.Str.{bytes_eq}
 use Rattle.cl_syntax.specs.Expr.{bindings_of}
@@ -18,7 +18,7 @@ use Rattle.cl_words.specs.Heads.{head_named}
 use Rattle.cl_expressions.specs.Scopes.{among}
 use Rattle.cl_grammar.specs.Heads.{Counted, operators, fixed_heads}
 use Rattle.cl_grammar.specs.Writes.{Writes, WritesForm, WritesAll, WritesBindings, a_number, a_text, a_quoted_name, a_slot, an_if, a_let, an_and, an_or, a_make, a_get, a_with, a_map, a_filter, a_fold, an_operation, a_call, no_more, one_more, no_binding, one_binding}
-use Rattle.cl_grammar.proofs.Spelled.{false_true, both_parts, same_word, missed}
+use Rattle.cl_grammar.proofs.Spelled.{false_true, both_parts, same_word, missed, found_one}
 
 -- no other expression writes the datum
 abbrev pub Only : ExprTree → Datum → Type 0
@@ -142,8 +142,8 @@ only_filter x t u h n a b f g k s (a_filter {x = y} {t = v} {u = z} i j l) =
 only_filter x t u h n a b f g k s (an_operation e i j) = cc
 only_filter x t u h n a b f g k s (a_call e i) = absurd (false_true (sym e.is_not_fixed))
 
-pub only_fold : (x y : List ℕ) (t u v : ExprTree) (h : ℕ) (n a o b c : Datum) → name_in n ≡ Some x → Only t a → name_in o ≡ Some y → Only u b → Only v c
-    → OnlyForm (expr.Fold x t y u v) (word (codes "fold") h ∷ n ∷ a ∷ o ∷ b ∷ c ∷ [])
+pub only_fold : (x y : List ℕ) (t u v : ExprTree) (h : ℕ) (n a o b c : Datum) → name_in n ≡ Some x → Only t a → name_in o ≡ Some y
+    → Only u b → Only v c → OnlyForm (expr.Fold x t y u v) (word (codes "fold") h ∷ n ∷ a ∷ o ∷ b ∷ c ∷ [])
 only_fold x y t u v h n a o b c f g k l r s (a_fold {x = x'} {y = y'} {t = t'} {u = u'} {v = v'} i1 i2 i3 i4 i5) =
     let p1 : x' ≡ x = same_name n x x' f i1 in let p2 : t' ≡ t = g t' i2 in let p3 : y' ≡ y = same_name o y y' k i3 in
     let p4 : u' ≡ u = l u' i4 in let p5 : v' ≡ v = r v' i5 in λ m. expr.Fold (p1 m) (p2 m) (p3 m) (p4 m) (p5 m)
@@ -154,11 +154,6 @@ only_fold x y t u v h n a o b c f g k l r s (a_call e i) = absurd (false_true (s
 
 none_some : {A : Type 0} {a : A} → ◌≡◌ {A = Option A} None (Some a) → ⊥
 none_some e = cc
-
-found_one : {D : Type 0} (b : Bool) (v : D) (o : Option D) (d : D) (P : Type 0) → (b ≡ true → P) → (o ≡ Some d → P)
-    → (if b then Some v else o) ≡ Some d → P
-found_one true v o d P h k e = h refl
-found_one false v o d P h k e = k e
 
 abbrev all_fixed : List (List ℕ × Counted) → Bool
 all_fixed [] = true
@@ -177,7 +172,8 @@ same_count r c d e f = cc
 pub only_operation : (o : Operator) (count : Option ℕ) (ts : List ExprTree) (x : List ℕ) (h : ℕ) (ds : List Datum) → named x operators ≡ Some (o, count)
     → OnlyAll ts ds → OnlyForm (expr.Operation o (expr_trees_of ts)) (word x h ∷ ds)
 only_operation o count ts x h ds e f s (an_operation {o = p} {count = n} {ts = us} i j l) =
-    let q : p ≡ o = ap (λ (c : Counted). c.0) (same_count (named x operators) (o, count) (p, n) e i) in let r : us ≡ expr_trees_of ts = f us l in λ m. expr.Operation (q m) (r m)
+    let q : p ≡ o = ap (λ (c : Counted). c.0) (same_count (named x operators) (o, count) (p, n) e i) in
+    let r : us ≡ expr_trees_of ts = f us l in λ m. expr.Operation (q m) (r m)
 only_operation o count ts x h ds e f s (a_call i j) = absurd (false_true (sym i.is_not_fixed ∙ operator_fixed x operators (o, count) refl e))
 only_operation o count ts x h ds e f s (a_slot i) = cc
 only_operation o count ts x h ds e f s (an_if i j l) = cc

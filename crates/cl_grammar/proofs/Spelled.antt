@@ -36,6 +36,12 @@ chosen : {A : Type 0} {P : A → Type 0} {rest : Option A} (a : A) (b : Bool) �
 chosen a true h k = record { found = h refl }
 chosen a false h k = k
 
+-- what is found is one of two
+pub found_one : {D : Type 0} (b : Bool) (v : D) (o : Option D) (d : D) (P : Type 0) → (b ≡ true → P) → (o ≡ Some d → P)
+    → (if b then Some v else o) ≡ Some d → P
+found_one true v o d P h k e = h refl
+found_one false v o d P h k e = k e
+
 -- what stands under this word is a, and else it is among the rest
 word_is : {A : Type 0} {P : A → Type 0} {rest : Option A} (a : A) (x w : List ℕ) → (x ≡ w → P a) → Finds P rest
     → Finds P (if bytes_eq x w then Some a else rest)

@@ -28,7 +28,9 @@ module _ (w : Signatures) (d : Datum) (env : Names) (from to : ℕ) (lie : Lies 
   least_noted t v e = (judgement (Ok (t, v)) e).2
 
   refused_blamed : (n o : ℕ) → parse_expression w d env u ≡ Err (n, o) → IsLeastBlame w env d n o
-  refused_blamed n o e = let h : Verdict {A = ExprTree} (Blames w env d) (Unnamed w env d) Any u (Err (n, o)) = judgement (Err (n, o)) e in record { blamed = h.0; least = h.1 }
+  refused_blamed n o e =
+      let h : Verdict {A = ExprTree} (Blames w env d) (Unnamed w env d) Any u (Err (n, o)) = judgement (Err (n, o)) e in
+      record { blamed = h.0; least = h.1 }
 
   same_fault : (n o m p : ℕ) → IsLeastBlame w env d n o → IsLeastBlame w env d m p → ◌≡◌ {A = Fault} (m, p) (n, o)
   same_fault n o m p h k =

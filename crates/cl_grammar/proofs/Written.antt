@@ -173,8 +173,8 @@ operation_written o x h at ps env e k =
     (λ f. binds (each_written ps env k) λ ts b. gives (an_operation e (length_shapes ps (count_of o) f) b)) (λ f. refuses)
 
 module _ (w : Signatures) (names : CallsNames w) where
-  call_written : (c : Option (Option ℕ)) (x : List ℕ) (h at : ℕ) (ps : List Sub) (env : Names) → function_in w x ≡ c → head_named x ≡ None → WrittenParts ps
-      → Ends (RowEnds x h ps) (parse_call_counted c x h at ps env)
+  call_written : (c : Option (Option ℕ)) (x : List ℕ) (h at : ℕ) (ps : List Sub) (env : Names) → function_in w x ≡ c → head_named x ≡ None
+      → WrittenParts ps → Ends (RowEnds x h ps) (parse_call_counted c x h at ps env)
   call_written None x h at ps env e n k = refuses
   call_written (Some count) x h at ps env e n k =
       chooses (fits count (length ps))
@@ -218,8 +218,12 @@ module _ (w : Signatures) (names : CallsNames w) where
             (λ x i. a_form (subst (WritesForm x.0) (shapes_subs w ds) i)) ((form_written at (subs w ds) env k).ends u);
       }
 
+  -- in front of other bindings, the binding writes the datum
+  abbrev WritesBefore : Binding → Datum → Type 0
+  WritesBefore b d = (bs : List Binding) (es : List Datum) → WritesBindings (bindings_of bs) es → WritesBindings (bindings_of (b ∷ bs)) (d ∷ es)
+
   binding_parts_written : (ds : Datums) (at list_at : ℕ) (env : Names) → WrittenParts (subs w ds)
-      → Ends (λ b. (bs : List Binding) (es : List Datum) → WritesBindings (bindings_of bs) es → WritesBindings (bindings_of (b ∷ bs)) (list ds list_at ∷ es))
+      → Ends (λ b. WritesBefore b (list ds list_at))
       (parse_binding_parts at (subs w ds) env)
   binding_parts_written (item n (item e none)) at list_at env k =
       asks_name at n λ x i. binds (k.1.0.expr env) λ t j. gives (λ bs es l. one_binding i j l)
@@ -253,7 +257,7 @@ module _ (w : Signatures) (names : CallsNames w) where
         binds (binding_written d at env) λ b i. binds (each_binding_written ds at (b.name ∷ env)) λ r j. gives (i r.0 (in_order ds) j)
 
     binding_written : (d : Datum) (at : ℕ) (env : Names)
-        → Ends (λ b. (bs : List Binding) (es : List Datum) → WritesBindings (bindings_of bs) es → WritesBindings (bindings_of (b ∷ bs)) (d ∷ es)) (parse_binding w d at env)
+        → Ends (λ b. WritesBefore b d) (parse_binding w d at env)
     binding_written (list ds list_at) at env = binding_parts_written ds at list_at env (parts_written ds)
     binding_written (number z d_at) at env = refuses
     binding_written (literal s d_at) at env = refuses

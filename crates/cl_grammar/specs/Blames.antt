@@ -19,8 +19,8 @@ mutual
     a_misshapen_form : {env : Names} {ds : Datums} {at : ℕ} → form_seen w env (in_order ds) ≡ Misshapen → Blames w env (list ds at) 6 at
     an_unknown_head : {env : Names} {ds : Datums} {at head_at : ℕ} → form_seen w env (in_order ds) ≡ UnknownHead head_at
         → Blames w env (list ds at) 5 head_at
-    in_a_part : {env : Names} {ds : Datums} {at : ℕ} {ps : List Seen} {number offset : ℕ} → form_seen w env (in_order ds) ≡ Sees ps → BlamesAny w ps number offset
-        → Blames w env (list ds at) number offset
+    in_a_part : {env : Names} {ds : Datums} {at : ℕ} {ps : List Seen} {number offset : ℕ}
+        → form_seen w env (in_order ds) ≡ Sees ps → BlamesAny w ps number offset → Blames w env (list ds at) number offset
 
   -- in one of the parts
   pub data BlamesAny (w : Signatures) : List Seen → ℕ → ℕ → Type 0 where

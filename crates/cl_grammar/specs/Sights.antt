@@ -9,6 +9,7 @@ use Rattle.cl_expressions.specs.Scopes.{Names, among}
 use Rattle.cl_expressions.specs.Expressions.{is_binding_list}
 use Rattle.cl_grammar.specs.Heads.{Counted, operators, fixed_heads}
 
+-- a part of a form that is looked at
 pub data Seen : Type 0 where
   -- an expression, with the variables that it sees
   expression : Names → Datum → Seen
@@ -17,11 +18,13 @@ pub data Seen : Type 0 where
   -- the name of a record, with its offset
   record_name : List ℕ → ℕ → Seen
 
+-- what a form sees
 pub data Sight : Type 0 where
   -- the form has a number of parts that it may not have, or a part of the wrong kind
   Misshapen : Sight
   -- no function has the name that heads the form at this offset
   UnknownHead : ℕ → Sight
+  -- these parts, from left to right
   Sees : List Seen → Sight
 
 -- all parts are expressions
@@ -49,20 +52,22 @@ abbrev pub if_seen : Names → List Datum → Sight
 if_seen env (a ∷ b ∷ c ∷ []) = Sees (expression env a ∷ expression env b ∷ expression env c ∷ [])
 if_seen env ds = Misshapen
 
--- a binding of a `let`: its name in front of those before it, and its value
+-- behind a binding of a `let` its name is seen in front of those before it
 abbrev pub names_behind : Names → List Datum → Names
 names_behind env (n ∷ e ∷ []) = symbol_of n ∷ env
 names_behind env ds = env
 
+-- the value of a binding
 abbrev pub value_seen : Names → List Datum → List Seen
 value_seen env (n ∷ e ∷ []) = expression env e ∷ []
 value_seen env ds = []
 
--- all bindings: each value sees the names of the earlier ones
+-- the names that are seen behind all bindings
 abbrev pub names_bound : Names → List Datum → Names
 names_bound env [] = env
 names_bound env (d ∷ ds) = names_bound (names_behind env (parts_of d)) ds
 
+-- the values of all bindings: each sees the names of the earlier ones
 abbrev pub values_seen : Names → List Datum → List Seen
 values_seen env [] = []
 values_seen env (d ∷ ds) = value_seen env (parts_of d) ++ values_seen (names_behind env (parts_of d)) ds
@@ -81,11 +86,12 @@ and_seen env ds = Sees (all_seen env ds)
 abbrev pub or_seen : Names → List Datum → Sight
 or_seen env ds = Sees (all_seen env ds)
 
--- `(make RECORD E ...)`: as many parts as the record has fields, where it is declared
+-- the parts behind the name of a record: as many as it has fields, where it is declared
 abbrev pub fields_seen : Option (Option ℕ) → List ℕ → ℕ → Names → List Datum → Sight
 fields_seen None x at env ds = Sees (record_name x at ∷ all_seen env ds)
 fields_seen (Some count) x at env ds = counted_seen count env ds
 
+-- `(make RECORD E ...)`
 abbrev pub make_seen : Signatures → Names → List Datum → Sight
 make_seen w env [] = Misshapen
 make_seen w env (n ∷ ds) = where_named n λ x. fields_seen (record_in w x) x (offset n) env ds
@@ -145,6 +151,7 @@ operator_seen w (Some o) x head_at env ds = counted_seen o.1 env ds
 operator_seen w None x head_at env ds =
     if among x fixed_heads then UnknownHead head_at else call_seen (function_in w x) head_at env ds
 
+-- one of the rows, or an operator or the name of a function
 abbrev pub row_seen : Signatures → Option (Names → List Datum → Sight) → List ℕ → ℕ → Names → List Datum → Sight
 row_seen w (Some row) x head_at env ds = row env ds
 row_seen w None x head_at env ds = operator_seen w (named x operators) x head_at env ds
