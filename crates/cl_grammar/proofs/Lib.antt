@@ -1,0 +1,13 @@
+pub mod Endings
+pub mod Spelled
+pub mod Written
+pub mod Lying
+pub mod Bounds
+pub mod Judging
+pub mod Rows
+pub mod Judged
+pub mod Verdicts
+pub mod Declared
+pub mod TextLies
+pub mod OnlyRows
+pub mod OnlyWritten
