@@ -1,1 +1,2 @@
 pub mod DeclarationCounts
+pub mod DeclareSteps

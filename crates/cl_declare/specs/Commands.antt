@@ -1,5 +1,5 @@
 -- Commands, as forms declare them. Keys and arguments are not built yet.
-use Rattle.std.specs.Prelude.{ℕ, Bool, true, false, if◌then◌else◌, List, [], ◌∷◌, Option, Some, None}
+use Rattle.std.specs.Prelude.{ℕ, if◌then◌else◌, List, [], ◌∷◌, Option, Some, None}
 use Rattle.cl_forms.specs.Datum.{Datum, number, literal, word, quoted, stray, list, in_order, offset, parts_of, datums_of}
 use Rattle.cl_forms.specs.Keys.{Keyed, keyed_pairs}
 use Rattle.cl_forms.specs.LineNames.{line_name_of}

@@ -4,7 +4,6 @@ use Rattle.cl_table.specs.Names.{with_first}
 use Rattle.cl_forms.specs.Datum.{Datum, parts_of, offset}
 use Rattle.cl_forms.specs.Keys.{Keyed, keyed_sections}
 use Rattle.cl_forms.specs.Naming.{name_in, symbol_of}
-use Rattle.cl_forms.specs.declared.keys.Key.{Key}
 use Rattle.cl_forms.specs.declared.keys.Key.TheVariants as key
 use Rattle.cl_words.specs.Signatures.{display_in}
 use Rattle.cl_words.specs.declared.signatures.Signatures.{Signatures}
