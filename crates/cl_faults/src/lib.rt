@@ -1,0 +1,6 @@
+//! Which fault of a text is told: the first one in the order of the text, which stands in its form. The laws stand in `laws`.
+#![tactic(auto)]
+
+mod laws;
+
+pub use laws::{faults_stand_in_their_form, first_fault_has_least_offset};
