@@ -1,15 +1,15 @@
 -- The faults of a declaration stand in it.
-use Rattle.std.proofs.Common.{inl, inr, ℕ, Bool, true, false, ◌&&◌, is_some, if◌then◌else◌, List, [], ◌∷◌, refl}
+use Rattle.std.proofs.Common.{inr, ℕ, Bool, true, false, ◌&&◌, is_some, if◌then◌else◌, List, [], ◌∷◌, refl}
 use Rattle.std.specs.Prelude.{Option, Some, None}
 use Rattle.std.specs.Option.{IfSome}
 use Rattle.cl_forms.specs.Datum.{Datum, number, literal, word, quoted, stray, list, in_order, parts_of, offset, datums_of}
 use Rattle.cl_forms.specs.Keys.{Keyed, keyed_pairs}
 use Rattle.cl_forms.specs.Naming.{are_names, name_in}
-use Rattle.cl_forms.specs.Outer.{Outer, declaration_named, is_planned, kind_or, kind_named, outer_listed, outer_in}
+use Rattle.cl_forms.specs.Outer.{declaration_named, is_planned, kind_or, kind_named, outer_listed, outer_in}
 use Rattle.cl_forms.specs.declared.outer.DeclarationKind.{DeclarationKind}
 use Rattle.cl_forms.specs.declared.outer.DeclarationKind.TheVariants.{Record, Function, Display, Command, Frame}
 use Rattle.cl_forms.specs.declared.outer.OuterKind.{OuterKind}
-use Rattle.cl_forms.specs.declared.outer.OuterKind.TheVariants.{Declared, Planned, Unknown, Headless}
+use Rattle.cl_forms.specs.declared.outer.OuterKind.TheVariants.{Planned, Unknown}
 use Rattle.cl_words.specs.declared.signatures.Signatures.{Signatures}
 use Rattle.cl_declare.specs.Callees.{parse_record, parse_function, parse_display}
 use Rattle.cl_declare.specs.Commands.{CommandHead, command_keys, head_of, listed_head, command_head, no_keys, no_arguments, parse_headed, parse_command}

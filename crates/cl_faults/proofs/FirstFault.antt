@@ -1,5 +1,5 @@
 -- The fault that is found first in the forms of a text is the one of least offset.
-use Rattle.std.proofs.Common.{◌≡◌, ◌≤◌, ℕ, suc, arith, Bool, true, false, if◌then◌else◌, List, [], ◌∷◌, All, Contains, IfErr, refl, sym, ap, ◌∙◌, subst, le_of_eq, le_of_lt}
+use Rattle.std.proofs.Common.{◌≡◌, ◌≤◌, ℕ, suc, arith, List, [], ◌∷◌, All, Contains, IfErr, refl, sym, ap, ◌∙◌, subst, le_of_eq, le_of_lt}
 use Rattle.std.specs.Prelude.{Option, Some, None, Result, Ok, Err}
 use Rattle.std.proofs.lemmas.List.Elements.{All-nil, All-cons, All-contains, All-weaker}
 use Rattle.cl_forms.specs.Datum.{Datum}
@@ -8,12 +8,9 @@ use Rattle.cl_forms.specs.declared.outer.DeclarationKind.{DeclarationKind}
 use Rattle.cl_forms.specs.declared.outer.DeclarationKind.TheVariants.{Record, Function, Display, Command, Frame}
 use Rattle.cl_forms.specs.declared.outer.OuterKind.{OuterKind}
 use Rattle.cl_forms.specs.declared.outer.OuterKind.TheVariants.{Declared, Planned, Unknown, Headless}
-use Rattle.cl_expressions.specs.Load.{Load, Notes, Fault, after, ◌>>=◌, give, refuse}
+use Rattle.cl_expressions.specs.Load.{Load, Notes, Fault, after, ◌>>=◌, give}
 use Rattle.cl_words.specs.declared.signatures.Signatures.{Signatures}
-use Rattle.cl_declare.specs.Callees.{parse_record, parse_function, parse_display}
-use Rattle.cl_declare.specs.Commands.{parse_command}
 use Rattle.cl_declare.specs.Declarations.{parse_declared, parse_kind, parse_declaration, parse_each_declaration, parse_declarations, nothing_declared}
-use Rattle.cl_declare.specs.Sections.{parse_frame}
 use Rattle.cl_declare.specs.declared.declarations.Declarations.{Declarations}
 use Rattle.cl_faults.specs.Faults.{StandsIn, IsBefore, AreInOrder, HasFault, IsLeastFault}
 use Rattle.cl_faults.proofs.FaultLemmas.{FaultsAt, outcome}

@@ -9,3 +9,4 @@ pub mod KeyFaults
 pub mod FrameFaults
 pub mod DeclarationFaults
 pub mod FirstFault
+pub mod TextOrder

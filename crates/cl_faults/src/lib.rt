@@ -3,4 +3,7 @@
 
 mod laws;
 
-pub use laws::{faults_stand_in_their_form, first_fault_has_least_offset};
+pub use laws::{
+    data_stand_in_order, faults_stand_in_their_form, first_fault_has_least_offset,
+    first_fault_of_a_text_has_least_offset,
+};
