@@ -33,7 +33,8 @@ module _ {P : ℕ → Type 0} where
   pub notes : (known : Bool) (at : ℕ) → FaultsAt P (noted known at)
   notes known at = record { steady = λ u v. refl; stand = λ u. tt }
 
-  pub places_then : {A : Type 0} (spec : TypeSpec) (parameters : List (List ℕ)) (at : ℕ) (x : A) → FaultsAt P (placed spec parameters at >>= λ u. give x)
+  pub places_then : {A : Type 0} (spec : TypeSpec) (parameters : List (List ℕ)) (at : ℕ) (x : A)
+      → FaultsAt P (placed spec parameters at >>= λ u. give x)
   places_then spec parameters at x = record { steady = λ u v. refl; stand = λ u. tt }
 
   after_steady : {A B : Type 0} (f : A → Load B) → ((x : A) → FaultsAt P (f x)) → (r s : Result (A × Notes) Fault)

@@ -32,8 +32,8 @@ stands : (d : Datum) (r : Reading) (n o : ℕ) → IfErr r (λ fault. StandsIn f
     → StandsIn o d
 stands d r n o h e = subst (λ (q : Reading). IfErr q (λ fault. StandsIn fault.1 d)) e h
 
-pub faults_stand_in_their_form : (w : Signatures) (d : Datum) (s : Declarations) (u : Notes) (n o : ℕ) → parse_declaration w (outer_in d) s u ≡ Err (n, o)
-    → StandsIn o d
+pub faults_stand_in_their_form : (w : Signatures) (d : Datum) (s : Declarations) (u : Notes) (n o : ℕ)
+    → parse_declaration w (outer_in d) s u ≡ Err (n, o) → StandsIn o d
 faults_stand_in_their_form w d s u n o e =
     stands d (read w d s u) n o ((declaration_faults {P = λ p. StandsIn p d} w d s (λ p h. h)).stand u) e
 
