@@ -1,5 +1,6 @@
 use Rattle.std.proofs.Common.{◌≡◌, ◌+◌, [], ◌∷◌, ◌++◌, codes, length, length-append, ap, refl, arith, ◌∙◌, List, ℕ}
 use Rattle.cl_application.specs.App.{pane_of}
+use Rattle.cl_application.specs.declared.declarations.PaneDecl.{PaneDecl}
 use Rattle.cl_gesture.specs.Gesture.{bad, does}
 use Rattle.cl_gesture.specs.Reader.{progress_of}
 use Rattle.cl_session.specs.Session.{world_of}
@@ -14,7 +15,7 @@ returns-in-Gesture-clause-turns g c = λ going.
     let both : lines_of (pane_of c.args.loaded.now.app).name c.step-replies.result
     ≡ (next c.args.loaded.now.app c.args.self.now.limits (world_of c.args.self.now c.args.slots.now) c.in-Gesture.gesture (met_of c.step-replies.result)).lines =
     λ i. c.step-replies.ensures.steps.own i ++ c.step-replies.ensures.steps.report i in
-    let lines = ap (λ (name : List ℕ). lines_of name c.step-replies.result) c.as_slice-name.ensures ∙ both in
+    let lines = ap (λ (name : List ℕ). lines_of name c.step-replies.result) (c.as_slice-name.ensures ∙ ap (λ (p : PaneDecl). p.name) c.first_pane.ensures) ∙ both in
     rw c.goes_on.ensures
     (turn-said c.say_replies.result c.args.loaded.now.app c.args.self.now.limits (world_of c.args.self.now c.args.slots.now)
     (world_of c.step-replies.new.self c.step-replies.new.slots) (does c.in-Gesture.gesture) (stepped (met_of c.step-replies.result))
