@@ -1,0 +1,5 @@
+pub mod FormWords
+pub mod Bindings
+pub mod FormsWritten
+pub mod ShapesWritten
+pub mod ActsWritten
