@@ -133,7 +133,9 @@ module _ (w : Signatures) (names : CallsNames w) where
   act_written d env u v s e =
       IfOk-at_ok (λ x. WritesAct x.0 d) e ((form_ends statements w names WritesAct WritesActForm Body (rules w) tt d env).ends u)
 
+  pub acts_end : (ds : Datums) (env : Names) → Ends (λ ss. WritesActs (act_trees_of ss) (in_order ds)) (parse_acts w ds env)
+  acts_end ds env = body_ends statements w names WritesAct WritesActForm Body (rules w) tt ds env
+
   pub acts_written : (ds : Datums) (env : Names) (u v : Notes) (ss : List ActTree) → parse_acts w ds env u ≡ Ok (ss, v)
       → WritesActs (act_trees_of ss) (in_order ds)
-  acts_written ds env u v ss e =
-      IfOk-at_ok (λ x. Body x.0 (in_order ds)) e ((body_ends statements w names WritesAct WritesActForm Body (rules w) tt ds env).ends u)
+  acts_written ds env u v ss e = IfOk-at_ok (λ x. Body x.0 (in_order ds)) e ((acts_end ds env).ends u)

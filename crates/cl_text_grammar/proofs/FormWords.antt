@@ -53,10 +53,10 @@ Spells x (head.Change c) = x ≡ change_word c
 Spells x (head.Planned p) = Unit {0}
 
 -- P holds of what is found, if anything is
-record Finds {A : Type 0} (P : A → Type 0) (o : Option A) : Type 0 where
-  found : IfSome o P
+pub record Finds {A : Type 0} (P : A → Type 0) (o : Option A) : Type 0 where
+  pub found : IfSome o P
 
-nothing : {A : Type 0} {P : A → Type 0} → Finds P None
+pub nothing : {A : Type 0} {P : A → Type 0} → Finds P None
 nothing = record { found = tt }
 
 chosen : {A : Type 0} {P : A → Type 0} {rest : Option A} (a : A) (b : Bool) → (b ≡ true → P a) → Finds P rest → Finds P (if b then Some a else rest)
@@ -64,11 +64,11 @@ chosen a true h k = record { found = h refl }
 chosen a false h k = k
 
 -- what stands under this word is a, and else it is among the rest
-word_is : {A : Type 0} {P : A → Type 0} {rest : Option A} (a : A) (x w : List ℕ) → (x ≡ w → P a) → Finds P rest
+pub word_is : {A : Type 0} {P : A → Type 0} {rest : Option A} (a : A) (x w : List ℕ) → (x ≡ w → P a) → Finds P rest
     → Finds P (if bytes_eq x w then Some a else rest)
 word_is a x w h k = chosen a (bytes_eq x w) (λ e. h (same_word x w e)) k
 
-of_some : {A : Type 0} {P : A → Type 0} (a : A) (o : Option A) → o ≡ Some a → Finds P o → P a
+pub of_some : {A : Type 0} {P : A → Type 0} (a : A) (o : Option A) → o ≡ Some a → Finds P o → P a
 of_some {P} a o e h = subst (λ (r : Option _). IfSome r P) e h.found
 
 first : {A B : Type 0} {P : B → Type 0} {other : Option B} (f : A → B) (o : Option A) → Finds (λ a. P (f a)) o → Finds P other

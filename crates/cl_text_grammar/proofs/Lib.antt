@@ -3,3 +3,8 @@ pub mod Bindings
 pub mod FormsWritten
 pub mod ShapesWritten
 pub mod ActsWritten
+pub mod TypesWritten
+pub mod CalleesWritten
+pub mod KeyWords
+pub mod FramesWritten
+pub mod TextWritten

@@ -143,7 +143,9 @@ module _ (w : Signatures) (names : CallsNames w) (displays : CallsDisplays w) wh
   shape_written d env u v f e =
       IfOk-at_ok (λ x. WritesShape x.0 d) e ((form_ends display_forms w names WritesShape WritesShapeForm Body rules context.Display d env).ends u)
 
+  pub shapes_end : (ds : Datums) (env : Names) → Ends (λ fs. WritesShapes (shape_trees_of fs) (in_order ds)) (parse_shapes w ds env)
+  shapes_end ds env = body_ends display_forms w names WritesShape WritesShapeForm Body rules context.Display ds env
+
   pub shapes_written : (ds : Datums) (env : Names) (u v : Notes) (fs : List ShapeTree) → parse_shapes w ds env u ≡ Ok (fs, v)
       → WritesShapes (shape_trees_of fs) (in_order ds)
-  shapes_written ds env u v fs e =
-      IfOk-at_ok (λ x. Body x.0 (in_order ds)) e ((body_ends display_forms w names WritesShape WritesShapeForm Body rules context.Display ds env).ends u)
+  shapes_written ds env u v fs e = IfOk-at_ok (λ x. Body x.0 (in_order ds)) e ((shapes_end ds env).ends u)

@@ -1,3 +1,6 @@
 pub mod Displays
 pub mod WritesShapes
 pub mod WritesActs
+pub mod WritesTypes
+pub mod WritesFrames
+pub mod WritesDeclarations

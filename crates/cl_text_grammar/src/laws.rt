@@ -1,4 +1,4 @@
-//! What the definitions of display forms and statements say of a datum. The contracts are the laws.
+//! What the definitions of display forms, statements and declarations say of a datum. The contracts are the laws.
 ghost use Rattle.std.specs.Prelude.{◌≡◌, List, Ok};
 ghost use Rattle.cl_syntax.specs.ShapeTree.{ShapeTree, shape_trees_of};
 ghost use Rattle.cl_syntax.specs.ActTree.{ActTree, act_trees_of};
@@ -8,10 +8,14 @@ ghost use Rattle.cl_expressions.specs.Load.{Notes};
 ghost use Rattle.cl_expressions.specs.Scopes.{Names};
 ghost use Rattle.cl_bodies.specs.DisplayForms.{parse_shape, parse_shapes};
 ghost use Rattle.cl_bodies.specs.Statements.{parse_act, parse_acts};
+ghost use Rattle.cl_forms.specs.Outer.{outers_of};
+ghost use Rattle.cl_declare.specs.Declarations.{parse_declarations};
+ghost use Rattle.cl_declare.specs.declared.declarations.Declarations.{Declarations};
 ghost use Rattle.cl_grammar.specs.Heads.{CallsNames};
 ghost use Rattle.cl_text_grammar.specs.Displays.{CallsDisplays};
 ghost use Rattle.cl_text_grammar.specs.WritesShapes.{WritesShape, WritesShapes};
 ghost use Rattle.cl_text_grammar.specs.WritesActs.{WritesAct, WritesActs};
+ghost use Rattle.cl_text_grammar.specs.WritesDeclarations.{TextDeclares};
 
 /// What is read of a datum as a display form is written so.
 #[tactic(auto, using(crate::proofs::ShapesWritten::shape_written))]
@@ -39,4 +43,12 @@ pub fn read_act_is_written()
 pub fn read_acts_are_written()
     ensures { (w : Signatures) (ds : Datums) (env : Names) (u v : Notes) (ss : List ActTree) → CallsNames w
         → parse_acts w ds env u ≡ Ok (ss, v) → WritesActs (act_trees_of ss) (in_order ds) }
+{}
+
+/// What is read of the data of a text as its declarations is what its outermost forms write, in order: the first of a name in each
+/// table, and all frames.
+#[tactic(auto, using(crate::proofs::TextWritten::text_written))]
+pub fn read_declarations_are_written()
+    ensures { (w : Signatures) (ds : List Datum) (u v : Notes) (s : Declarations) → CallsNames w → CallsDisplays w
+        → parse_declarations w (outers_of ds) u ≡ Ok (s, v) → TextDeclares w ds s }
 {}
