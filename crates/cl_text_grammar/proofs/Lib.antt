@@ -8,3 +8,4 @@ pub mod CalleesWritten
 pub mod KeyWords
 pub mod FramesWritten
 pub mod TextWritten
+pub mod DisplaysNamed

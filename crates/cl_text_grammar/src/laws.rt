@@ -8,7 +8,8 @@ ghost use Rattle.cl_expressions.specs.Load.{Notes};
 ghost use Rattle.cl_expressions.specs.Scopes.{Names};
 ghost use Rattle.cl_bodies.specs.DisplayForms.{parse_shape, parse_shapes};
 ghost use Rattle.cl_bodies.specs.Statements.{parse_act, parse_acts};
-ghost use Rattle.cl_forms.specs.Outer.{outers_of};
+ghost use Rattle.cl_forms.specs.Outer.{Outer, outers_of};
+ghost use Rattle.cl_words.specs.Signatures.{signatures_of};
 ghost use Rattle.cl_declare.specs.Declarations.{parse_declarations};
 ghost use Rattle.cl_declare.specs.declared.declarations.Declarations.{Declarations};
 ghost use Rattle.cl_grammar.specs.Heads.{CallsNames};
@@ -16,6 +17,11 @@ ghost use Rattle.cl_text_grammar.specs.Displays.{CallsDisplays};
 ghost use Rattle.cl_text_grammar.specs.WritesShapes.{WritesShape, WritesShapes};
 ghost use Rattle.cl_text_grammar.specs.WritesActs.{WritesAct, WritesActs};
 ghost use Rattle.cl_text_grammar.specs.WritesDeclarations.{TextDeclares};
+
+/// The displays that a text declares have names.
+pub fn declared_displays_have_names()
+    ensures { (forms : List Outer) → CallsDisplays (signatures_of forms) }
+{}
 
 /// What is read of a datum as a display form is written so.
 #[tactic(auto, using(crate::proofs::ShapesWritten::shape_written))]

@@ -4,6 +4,6 @@
 mod laws;
 
 pub use laws::{
-    read_act_is_written, read_acts_are_written, read_declarations_are_written,
-    read_shape_is_written, read_shapes_are_written,
+    declared_displays_have_names, read_act_is_written, read_acts_are_written,
+    read_declarations_are_written, read_shape_is_written, read_shapes_are_written,
 };
