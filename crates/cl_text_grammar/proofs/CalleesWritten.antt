@@ -2,9 +2,9 @@
 use Rattle.std.proofs.Common.{◌≡◌, ℕ, Bool, true, false, if◌then◌else◌, List, [], ◌∷◌, ◌++◌, refl, ap}
 use Rattle.std.specs.Prelude.{Option, Some, None, ◌&&◌, is_some, option_and_then, codes}
 use Rattle.std.proofs.Math.Path.{subst}
-use Rattle.cl_syntax.specs.ShapeTree.{ShapeTree, shape_trees_of}
-use Rattle.cl_syntax.specs.ActTree.{ActTree, act_trees_of}
-use Rattle.cl_forms.specs.Datum.{Datum, Datums, number, literal, word, quoted, stray, list, none, item, in_order, parts_of, datums_of, offset}
+use Rattle.cl_syntax.specs.ShapeTree.{shape_trees_of}
+use Rattle.cl_syntax.specs.ActTree.{act_trees_of}
+use Rattle.cl_forms.specs.Datum.{Datum, Datums, number, literal, word, quoted, stray, list, none, item, in_order, parts_of, datums_of}
 use Rattle.cl_forms.specs.Keys.{Keyed, keyed_pairs, with_keyed, pair_in, has_key}
 use Rattle.cl_forms.specs.Naming.{name_in, some_if, symbol_of, are_names}
 use Rattle.cl_forms.specs.Words.{is_name}
@@ -13,14 +13,14 @@ use Rattle.cl_words.specs.declared.signatures.Signatures.{Signatures}
 use Rattle.cl_expressions.specs.Load.{give}
 use Rattle.cl_declare.specs.Names.{names_of, is_list, is_name_list, variables_in}
 use Rattle.cl_declare.specs.Callees.{parse_record, parse_function, parse_display}
-use Rattle.cl_declare.specs.Commands.{CommandHead, command_keys, head_of, listed_head, command_head, no_keys, no_arguments, parse_headed, parse_command}
+use Rattle.cl_declare.specs.Commands.{CommandHead, command_keys, head_of, command_head, parse_headed, parse_command}
 use Rattle.cl_grammar.specs.Heads.{CallsNames}
 use Rattle.cl_grammar.proofs.Endings.{Ends, gives, refuses, chooses, binds}
 use Rattle.cl_grammar.proofs.Spelled.{false_true, both_parts}
 use Rattle.cl_text_grammar.specs.Displays.{CallsDisplays}
 use Rattle.cl_text_grammar.specs.WritesShapes.{WritesShapes}
 use Rattle.cl_text_grammar.specs.WritesActs.{WritesActs}
-use Rattle.cl_text_grammar.specs.WritesDeclarations.{WritesNames, no_name, one_name, WritesNameList, a_name_list, WritesCommandName, alone, in_parentheses, Declaration, of_record, of_function, of_display, of_command, WritesDeclared, a_record, a_function, a_display, a_command}
+use Rattle.cl_text_grammar.specs.WritesDeclarations.{WritesNames, no_name, one_name, WritesNameList, a_name_list, WritesCommandName, alone, in_parentheses, of_record, of_function, of_display, of_command, WritesDeclared, a_record, a_function, a_display, a_command}
 use Rattle.cl_text_grammar.proofs.Bindings.{expression_ends}
 use Rattle.cl_text_grammar.proofs.ShapesWritten.{shapes_end}
 use Rattle.cl_text_grammar.proofs.ActsWritten.{acts_end}

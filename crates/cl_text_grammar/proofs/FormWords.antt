@@ -71,7 +71,7 @@ word_is a x w h k = chosen a (bytes_eq x w) (λ e. h (same_word x w e)) k
 pub of_some : {A : Type 0} {P : A → Type 0} (a : A) (o : Option A) → o ≡ Some a → Finds P o → P a
 of_some {P} a o e h = subst (λ (r : Option _). IfSome r P) e h.found
 
-first : {A B : Type 0} {P : B → Type 0} {other : Option B} (f : A → B) (o : Option A) → Finds (λ a. P (f a)) o → Finds P other
+pub first : {A B : Type 0} {P : B → Type 0} {other : Option B} (f : A → B) (o : Option A) → Finds (λ a. P (f a)) o → Finds P other
     → Finds P (named_or f o other)
 first f (Some a) h k = record { found = h.found }
 first f None h k = k
@@ -84,6 +84,10 @@ any_found h None = record { found = tt }
 last : {A B : Type 0} (P : B → Type 0) (f : A → B) (o : Option A) → ((a : A) → P (f a)) → Finds P (option_map f o)
 last P f (Some a) h = record { found = h a }
 last P f None h = record { found = tt }
+
+pub last_found : {A B : Type 0} (P : B → Type 0) (f : A → B) (o : Option A) → Finds (λ a. P (f a)) o → Finds P (option_map f o)
+last_found P f (Some a) h = record { found = h.found }
+last_found P f None h = record { found = tt }
 
 module _ (x : List ℕ) where
   drawn : {y : List ℕ} (f : Figure) → x ≡ y → Spells y (head.Figure f) → Spells x (head.Figure f)

@@ -1,20 +1,20 @@
 -- What is read of the sections of a frame writes them.
 use Rattle.std.proofs.Common.{◌≡◌, ℕ, ℤ, Bool, true, false, if◌then◌else◌, List, [], ◌∷◌, ◌++◌, refl, sym, ap, ◌∙◌, IfOk}
-use Rattle.std.specs.Prelude.{Result, Ok, Err, Option, Some, None, ◌&&◌, is_some, codes}
+use Rattle.std.specs.Prelude.{Result, Ok, Err, Option, Some, None, is_some, codes}
 use Rattle.std.specs.Option.{IfSome}
 use Rattle.std.proofs.Math.Path.{subst}
 use Rattle.cl_table.specs.Names.{with_first}
 use Rattle.cl_forms.specs.Datum.{Datum, Datums, number, literal, word, quoted, stray, list, none, item, in_order, parts_of, offset}
 use Rattle.cl_forms.specs.Keys.{Keyed, is_among, values_of, keyed_sections}
-use Rattle.cl_forms.specs.Naming.{name_in, symbol_of}
+use Rattle.cl_forms.specs.Naming.{name_in}
 use Rattle.cl_forms.specs.declared.keys.Key.{Key}
 use Rattle.cl_forms.specs.declared.keys.Key.TheVariants as key
 use Rattle.cl_words.specs.Signatures.{display_in}
 use Rattle.cl_words.specs.declared.signatures.Signatures.{Signatures}
-use Rattle.cl_expressions.specs.Load.{Load, Fault, ◌>>=◌, give}
+use Rattle.cl_expressions.specs.Load.{Load, Fault}
 use Rattle.cl_application.specs.declared.declarations.SlotDecl.{SlotDecl}
-use Rattle.cl_declare.specs.Frames.{frame_keys, number_in, size_of, size_in, is_slot, are_slots, place_of, place_in, takes_none, pane_of, pane_listed, first_pane, shape_of, or_nothing, behind, frame_shape}
-use Rattle.cl_declare.specs.Sections.{SlotTable, parse_slot, parse_slots, note_pane, parse_panes, parse_section, parse_sections, frame_of, parse_shaped, parse_keyed, parse_frame}
+use Rattle.cl_declare.specs.Frames.{frame_keys, number_in, size_of, size_in, is_slot, are_slots, place_of, takes_none, pane_of, pane_listed, first_pane, shape_of, or_nothing, behind, frame_shape}
+use Rattle.cl_declare.specs.Sections.{SlotTable, parse_slot, parse_slots, note_pane, parse_panes, parse_sections, frame_of, parse_shaped, parse_keyed, parse_frame}
 use Rattle.cl_declare.specs.declared.frames.FrameForm.{FrameForm}
 use Rattle.cl_declare.specs.declared.frames.FrameShape.{FrameShape}
 use Rattle.cl_declare.specs.declared.frames.PaneForm.{PaneForm}

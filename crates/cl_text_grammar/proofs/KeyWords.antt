@@ -2,11 +2,10 @@
 use Rattle.std.proofs.Common.{◌≡◌, ℕ, Bool, true, false, if◌then◌else◌, List, [], ◌∷◌, ◌++◌, refl, sym, ap, ◌∙◌}
 use Rattle.std.specs.Prelude.{Option, Some, None, is_some, option_and_then, codes}
 use Rattle.std.proofs.Math.Path.{subst}
-use Rattle.std.specs.Str.{bytes_eq}
 use denote.Enum.Bare.{same_true}
 use Rattle.cl_forms.specs.contracts.keys.Key.{the_type}
-use Rattle.cl_forms.specs.Datum.{Datum, Datums, number, literal, word, quoted, stray, list, none, item, in_order, parts_of, offset}
-use Rattle.cl_forms.specs.Keys.{Keyed, key_named, same_key, is_among, allowed, key_in, values_of, has_key, keyed_as, with_keyed, section_of, section_in, keyed_sections}
+use Rattle.cl_forms.specs.Datum.{Datum, Datums, number, literal, word, quoted, stray, list, none, item, in_order}
+use Rattle.cl_forms.specs.Keys.{Keyed, key_named, same_key, is_among, allowed, key_in, values_of, has_key, keyed_as, with_keyed, section_in, keyed_sections}
 use Rattle.cl_forms.specs.declared.keys.Key.{Key}
 use Rattle.cl_forms.specs.declared.keys.Key.TheVariants as key
 use Rattle.cl_grammar.proofs.Spelled.{false_true}

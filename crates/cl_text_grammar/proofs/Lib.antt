@@ -9,3 +9,11 @@ pub mod KeyWords
 pub mod FramesWritten
 pub mod TextWritten
 pub mod DisplaysNamed
+pub mod FormStands
+pub mod FormsLie
+pub mod FormJudging
+pub mod BindingsJudged
+pub mod FormsJudged
+pub mod ShapesJudged
+pub mod ActsJudged
+pub mod FormVerdicts

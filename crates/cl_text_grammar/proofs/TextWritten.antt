@@ -1,23 +1,21 @@
 -- What the declarations of a text give is what its outermost forms write.
 use Rattle.std.proofs.Common.{◌≡◌, ℕ, Bool, true, false, List, [], ◌∷◌, refl, sym, ap, ◌∙◌}
 use Rattle.std.specs.Prelude.{Option, Some, None, Ok, if◌then◌else◌, codes}
-use Rattle.std.specs.Str.{bytes_eq}
 use Rattle.std.proofs.lemmas.Result.{IfOk-at_ok}
 use Rattle.std.proofs.Math.Path.{subst}
-use Rattle.cl_forms.specs.Datum.{Datum, Datums, number, literal, word, quoted, stray, list, none, item, in_order, offset}
-use Rattle.cl_forms.specs.Outer.{Outer, declaration_named, is_planned, kind_or, outer_headed, outer_listed, outer_in, outers_of}
+use Rattle.cl_forms.specs.Datum.{Datum, number, literal, word, quoted, stray, list, in_order}
+use Rattle.cl_forms.specs.Outer.{declaration_named, is_planned, kind_or, outer_listed, outer_in, outers_of}
 use Rattle.cl_forms.specs.declared.outer.DeclarationKind.{DeclarationKind}
 use Rattle.cl_forms.specs.declared.outer.DeclarationKind.TheVariants as kind
-use Rattle.cl_forms.specs.declared.outer.OuterKind.{OuterKind}
-use Rattle.cl_forms.specs.declared.outer.OuterKind.TheVariants.{Declared, Planned, Unknown, Headless}
+use Rattle.cl_forms.specs.declared.outer.OuterKind.TheVariants.{Planned, Unknown}
 use Rattle.cl_words.specs.declared.signatures.Signatures.{Signatures}
-use Rattle.cl_expressions.specs.Load.{Load, Notes}
+use Rattle.cl_expressions.specs.Load.{Notes}
 use Rattle.cl_declare.specs.Declarations.{parse_declared, parse_kind, parse_declaration, parse_each_declaration, nothing_declared, parse_declarations}
 use Rattle.cl_declare.specs.declared.declarations.Declarations.{Declarations}
 use Rattle.cl_grammar.specs.Heads.{CallsNames}
 use Rattle.cl_grammar.proofs.Endings.{Ends, gives, refuses, binds, ends_weaker}
 use Rattle.cl_text_grammar.specs.Displays.{CallsDisplays}
-use Rattle.cl_text_grammar.specs.WritesDeclarations.{Declaration, of_record, of_function, of_display, of_command, of_frame, WritesDeclared, WritesDeclaration, a_declaration, WritesText, nothing, one_more, with_declaration, with_declarations, IsDeclaredIn, TextDeclares}
+use Rattle.cl_text_grammar.specs.WritesDeclarations.{Declaration, of_record, of_function, of_display, of_command, of_frame, WritesDeclared, WritesDeclaration, a_declaration, nothing, one_more, with_declaration, with_declarations, IsDeclaredIn, TextDeclares}
 use Rattle.cl_text_grammar.proofs.FormWords.{Finds, word_is, of_some}
 use Rattle.cl_text_grammar.proofs.FormWords as words
 use Rattle.cl_text_grammar.proofs.CalleesWritten.{record_ends, function_ends, command_ends, display_ends}

@@ -1,5 +1,5 @@
 -- What is read of a datum as a type writes it.
-use Rattle.std.proofs.Common.{◌≡◌, ℕ, Bool, true, false, List, [], ◌∷◌, refl, sym}
+use Rattle.std.proofs.Common.{◌≡◌, ℕ, false, List, [], ◌∷◌, refl}
 use Rattle.std.specs.Prelude.{Option, Some, None}
 use Rattle.cl_syntax.specs.declared.type_specs.TypeSpec.{TypeSpec}
 use Rattle.cl_forms.specs.Datum.{Datum, Datums, number, literal, word, quoted, stray, list, none, item, in_order, offset}
@@ -7,8 +7,8 @@ use Rattle.cl_forms.specs.Naming.{name_in, symbol_of}
 use Rattle.cl_words.specs.Signatures.{record_in}
 use Rattle.cl_words.specs.TypeNames.{is_plain_type, is_ranged_type, is_later_type}
 use Rattle.cl_words.specs.declared.signatures.Signatures.{Signatures}
-use Rattle.cl_expressions.specs.Load.{Load, ◌>>=◌, give, refuse, noted, placed}
-use Rattle.cl_bodies.specs.SlotTypes.{parse_plain_type, parse_record_type, parse_ranged_type, parse_type_named, parse_type_head, parse_type_parts, parse_type_options, is_option_key, parse_type_first, parse_type_list, parse_specifier, parse_type}
+use Rattle.cl_expressions.specs.Load.{Load, refuse, placed}
+use Rattle.cl_bodies.specs.SlotTypes.{parse_plain_type, parse_record_type, parse_ranged_type, parse_type_named, parse_type_head, parse_type_parts, is_option_key, parse_type_list, parse_specifier, parse_type}
 use Rattle.cl_grammar.proofs.Endings.{Ends, gives, refuses, chooses, notes_then, binds, ends_weaker}
 use Rattle.cl_text_grammar.specs.WritesTypes.{IsOwnType, WritesNamed, a_plain_type, a_ranged_type, a_record_type, an_unknown_type, WritesType, a_name, a_list, a_list_of_one}
 

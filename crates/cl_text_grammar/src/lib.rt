@@ -4,6 +4,8 @@
 mod laws;
 
 pub use laws::{
-    declared_displays_have_names, read_act_is_written, read_acts_are_written,
-    read_declarations_are_written, read_shape_is_written, read_shapes_are_written,
+    blamed_act_is_refused, blamed_shape_is_refused, declared_displays_have_names,
+    first_blame_of_a_shape_is_told, first_blame_of_an_act_is_told, read_act_is_written,
+    read_acts_are_written, read_declarations_are_written, read_shape_is_written,
+    read_shapes_are_written,
 };
