@@ -1,7 +1,6 @@
 -- The statements that display forms do not have. Each row says first what makes the form itself wrong, and then its parts from left to right.
 use Rattle.std.specs.Prelude.{ℕ, if◌then◌else◌, List, [], ◌∷◌, codes}
 use Rattle.std.specs.Str.{bytes_eq}
-use Rattle.std.specs.declared.convert.Infallible.{Infallible}
 use Rattle.cl_syntax.specs.Expr.{bindings_of}
 use Rattle.cl_syntax.specs.ActTree as act
 use Rattle.cl_syntax.specs.ActTree.{ActTree, act_trees_of}
@@ -46,17 +45,17 @@ parse_change w change.Setf at subs env = parse_setf w at subs env
 parse_change w change.Reply at subs env = parse_reply at subs env
 
 -- a statement that is not built yet is refused as such; what heads no statement, as a word that is not known
-abbrev pub parse_own : Signatures → Head → ℕ → ℕ → List Sub → Names → Load (Own ActTree Infallible (Unit {0}))
+abbrev pub parse_own : Signatures → Head → ℕ → ℕ → List Sub → Names → Load (Own ActTree (Unit {0}) (Unit {0}))
 parse_own w (head.Change k) head_at at subs env = parse_change w k at subs env >>= λ s. give (Whole s)
 parse_own w (head.Planned planned.Statement) head_at at subs env = refuse 0 head_at
 parse_own w other head_at at subs env = refuse 5 head_at
 
 -- no statement has a body of its own, so nothing stands before one
-abbrev pub closed : Infallible → List ActTree → ActTree
-closed o ss = elim o [ ]
+abbrev pub closed : Unit {0} → List ActTree → ActTree
+closed o ss = act.Progn (act_trees_of ss)
 
 -- the language of statements; nothing is called by its name
-abbrev pub statements : Language ActTree Infallible (Unit {0})
+abbrev pub statements : Language ActTree (Unit {0}) (Unit {0})
 statements = record {
   choice = act.If;
   when = λ t ss. act.When t (act_trees_of ss);

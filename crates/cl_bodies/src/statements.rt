@@ -16,7 +16,6 @@ use cl_syntax::{Act, Acts, Binding, Expr};
 use cl_value::Text;
 use cl_words::{Change, Head, Planned};
 use std::alloc::{AllocError, Global};
-use std::convert::Infallible;
 
 /// The statement that a datum is. Where a name in it is not declared, the first such is noted.
 pub fn parse_act(reader: &Reader, datum: &Datum, notes: &mut Notes) -> Result<Act, LoadRefusal>
@@ -40,7 +39,7 @@ impl Language for Act {
 
     type Body = Acts;
 
-    type Opening = Infallible;
+    type Opening = ();
 
     type Context = ();
 
@@ -84,7 +83,7 @@ impl Language for Act {
         at: u32,
         parts: &[Datum],
         notes: &mut Notes,
-    ) -> Result<Own<Act, Infallible, ()>, LoadRefusal> {
+    ) -> Result<Own<Act, (), ()>, LoadRefusal> {
         parse_own(reader, head, head_at, at, parts, notes)
     }
 
@@ -99,8 +98,8 @@ impl Language for Act {
         Err(LoadRefusal::Refused(5, head_at))
     }
 
-    fn closed(opening: Infallible, _: Acts) -> Act {
-        match opening {}
+    fn closed(_: (), body: Acts) -> Act {
+        Act::sequence(body)
     }
 }
 
@@ -112,7 +111,7 @@ fn parse_own(
     at: u32,
     parts: &[Datum],
     notes: &mut Notes,
-) -> Result<Own<Act, Infallible, ()>, LoadRefusal>
+) -> Result<Own<Act, (), ()>, LoadRefusal>
     ensures { Gives itself result notes.new
         (parse_own reader.now.signatures.now head head_at at
         (subs reader.now.signatures.now (datums_of (map datum_of parts.now)))

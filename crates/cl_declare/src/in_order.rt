@@ -1,5 +1,5 @@
 //! What a text declares of one kind, in a row.
-ghost use Rattle.std.specs.Prelude.{◌≡◌, ◌∷◌, ◌++◌, [], OnOk, OnErr, option_to_list};
+ghost use Rattle.std.specs.Prelude.{◌≡◌, ◌∷◌, ◌++◌, [], None, OnOk, OnErr, option_to_list};
 
 use crate::frames::FrameForm;
 use std::alloc::{AllocError, Global};
@@ -49,7 +49,8 @@ impl<T: Drop> InOrder<T> {
 
     /// Takes the last.
     pub fn pop(&mut self) -> Option<T>
-        ensures { self.old ≡ self.new ++ option_to_list result }
+        ensures taken { self.old ≡ self.new ++ option_to_list result }
+        ensures none { result ≡ None → self.old ≡ [] }
     {
         self.items.pop()
     }

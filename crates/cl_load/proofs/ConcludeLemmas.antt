@@ -1,5 +1,5 @@
 -- What the data of a text come to, by the answers of the steps.
-use Rattle.std.proofs.Common.{◌≡◌, ◌++◌, ◌∙◌, ℕ, List, [], ◌∷◌, refl, sym, subst}
+use Rattle.std.proofs.Common.{◌≡◌, ◌++◌, ℕ, List, [], ◌∷◌, refl, sym, subst}
 use Rattle.std.specs.Prelude.{Option, Some, None, Result, Ok, Err}
 use Rattle.cl_application.specs.declared.applications.App.{App}
 use Rattle.cl_expressions.specs.Load.{Fault, Notes, nothing_noted}
@@ -10,7 +10,7 @@ use Rattle.cl_declare.specs.declared.declarations.Declarations.{Declarations}
 use Rattle.cl_load.specs.Answers.{Passes}
 use Rattle.cl_load.specs.Loads.{Concludes}
 use Rattle.cl_load.specs.Outcome.{Comes, IsVerdict, Settled, parse}
-use Rattle.cl_load.specs.Refusals.{app_in, faults, first_fault, form_faults, frame_faults}
+use Rattle.cl_load.specs.Refusals.{app_in, first_fault, form_faults, frame_faults}
 use Rattle.cl_load.specs.Settling.{FrameSettled, Settles}
 use Rattle.cl_load.specs.declared.application.Opened.{Opened}
 

@@ -1,5 +1,5 @@
 -- A text has one outcome: it declares one application, or it has one first refusal.
-use Rattle.std.proofs.Common.{◌≡◌, ◌⊎◌, inl, inr, List, ℕ, [], ◌∷◌, length, subst, refl, sym, ap, ◌∙◌, arith}
+use Rattle.std.proofs.Common.{◌≡◌, inl, inr, List, ℕ, [], ◌∷◌, length, subst, refl, sym, ap, ◌∙◌, arith}
 use Rattle.std.specs.Prelude.{Result, Ok, Err}
 use Rattle.cl_sexp.specs.declared.Token.{Token}
 use Rattle.cl_sexp.specs.Tokens.{tokens_of}
@@ -13,7 +13,7 @@ use Rattle.cl_expressions.specs.Load.{Fault, Notes, nothing_noted}
 use Rattle.cl_declare.specs.declared.declarations.Declarations.{Declarations}
 use Rattle.cl_declare.specs.declared.frames.FrameForm.{FrameForm}
 use Rattle.cl_phases.specs.SlotReads.{Functions}
-use Rattle.cl_load.specs.Application.{AreForms, IsTooLong, IsUnread, IsUnreadable, ComesTo, HasOutcome, data_of}
+use Rattle.cl_load.specs.Application.{AreForms, IsUnreadable, ComesTo, HasOutcome, data_of}
 use Rattle.cl_load.specs.Outcome.{Comes, IsVerdict, Outcome, Settled, parse}
 use Rattle.cl_load.specs.Readings.{Finds, IsFirstReading, NoneReads}
 use Rattle.cl_load.specs.Refusals.{app_in, faults, first_fault, form_faults, frame_faults}

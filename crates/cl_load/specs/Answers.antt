@@ -1,5 +1,5 @@
 -- What the steps of the load answer. Want of memory answers nothing.
-use Rattle.std.specs.Prelude.{◌≡◌, ℕ, Option, Some, None, Result, Ok, Err}
+use Rattle.std.specs.Prelude.{◌≡◌, Option, Some, None, Result, Ok, Err}
 use Rattle.cl_expressions.specs.Load.{Fault}
 use Rattle.cl_forms.specs.declared.refusals.LoadRefusal.{LoadRefusal}
 use Rattle.cl_forms.specs.declared.refusals.LoadRefusal.TheVariants.{Refused, Memory}

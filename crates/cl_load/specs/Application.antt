@@ -51,3 +51,7 @@ IsApplication bytes app = HasOutcome bytes (Ok app)
 -- the first refusal of a text, and its offset
 abbrev pub IsRefusal : List ℕ → (number at : ℕ) → Type 0
 IsRefusal bytes number at = HasOutcome bytes (Err (number, at))
+
+-- an application of some text: it cannot be that no text declares it
+abbrev pub IsOfText : App → Type 0
+IsOfText app = ((bytes : List ℕ) → IsApplication bytes app → ⊥) → ⊥

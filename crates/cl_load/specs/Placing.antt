@@ -1,5 +1,5 @@
 -- The device of a frame, and its pane in it.
-use Rattle.std.specs.Prelude.{ℕ, ◌+◌, ◌≤◌, ◌<◌, List, [], ◌∷◌, length, ℤ, pos, negsuc, ◌&&◌, nat_le, Option, Some, None, Result, Ok, Err}
+use Rattle.std.specs.Prelude.{ℕ, ◌+◌, ◌≤◌, ◌<◌, [], ◌∷◌, length, ℤ, pos, negsuc, ◌&&◌, nat_le, Option, Some, None, Result, Ok, Err}
 use Rattle.cl_expressions.specs.Load.{Fault}
 use Rattle.cl_forms.specs.Naming.{some_if}
 use Rattle.cl_table.specs.Names.{declared_at}

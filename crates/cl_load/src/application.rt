@@ -1,7 +1,7 @@
 //! An application that loads.
-ghost use Rattle.std.specs.Prelude.{◌≡◌, ◌≤◌, ◌+◌, ℕ, List};
+ghost use Rattle.std.specs.Prelude.{◌≡◌, ◌≤◌, ◌+◌};
 ghost use Rattle.cl_application.specs.App.{HasPane, pane_of};
-ghost use Rattle.cl_load.specs.Application.{IsApplication};
+ghost use Rattle.cl_load.specs.Application.{IsOfText};
 ghost use Rattle.cl_load.specs.Opening.{opening_slots};
 
 use cl_application::App;
@@ -13,7 +13,7 @@ use cl_eval::Slots;
 pub struct Loaded {
     pub app: App,
     pub slots: Slots,
-    pub ghost of_text: { (bytes : List ℕ) × IsApplication bytes app },
+    pub ghost of_text: { IsOfText app },
     pub ghost columns: { (1 ≤ app.frame.width) × (app.frame.width ≤ 512) },
     pub ghost rows: { (1 ≤ app.frame.height) × (app.frame.height ≤ 256) },
     pub ghost has_pane: { HasPane app },

@@ -10,11 +10,11 @@ use cl_phases::{first_past, first_twice};
 use std::alloc::Global;
 
 /// Refusals 13, 7 and 8, in this order.
-pub fn pass_forms(alloc: Global, data: &[Datum], notes: &Notes) -> Result<(), LoadRefusal>
-    ensures { Passes result (first_fault (form_faults (map datum_of data.now) notes.now)) }
+pub fn pass_forms(alloc: Global, forms: &[Datum], notes: &Notes) -> Result<(), LoadRefusal>
+    ensures { Passes result (first_fault (form_faults (map datum_of forms.now) notes.now)) }
 {
-    pass(13, first_past(data))?;
-    let outers = outers_of(alloc, data)?;
+    pass(13, first_past(forms))?;
+    let outers = outers_of(alloc, forms)?;
     pass(7, first_twice(alloc, outers.as_slice())?)?;
     pass(8, notes.unknown())
 }

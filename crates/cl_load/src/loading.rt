@@ -48,21 +48,21 @@ fn read(alloc: Global, text: &[u8]) -> Result<Forms, LoadRefusal>
 }
 
 /// What the data of a text of this length come to.
-fn conclude(alloc: Global, length: u32, data: &[Datum]) -> Result<Opened, LoadRefusal>
-    ensures { Concludes result length (map datum_of data.now) }
+fn conclude(alloc: Global, length: u32, forms: &[Datum]) -> Result<Opened, LoadRefusal>
+    ensures { Concludes result length (map datum_of forms.now) }
 {
     let mut notes = Notes::new(alloc);
-    let declarations = parse(alloc, data, &mut notes)?;
-    pass_forms(alloc, data, &notes)?;
+    let declarations = parse(alloc, forms, &mut notes)?;
+    pass_forms(alloc, forms, &notes)?;
     settle(alloc, length, declarations)
 }
 
 /// What the data of a text declare, and what is noted while they are read; or the first of refusals
 /// 0, 5 and 6.
-fn parse(alloc: Global, data: &[Datum], notes: &mut Notes) -> Result<Declarations, LoadRefusal>
-    ensures { Gives itself result notes.new (parse (map datum_of data.now) notes.old) }
+fn parse(alloc: Global, forms: &[Datum], notes: &mut Notes) -> Result<Declarations, LoadRefusal>
+    ensures { Gives itself result notes.new (parse (map datum_of forms.now) notes.old) }
 {
-    let outers = outers_of(alloc, data)?;
+    let outers = outers_of(alloc, forms)?;
     let signatures = signatures_of(alloc, outers.as_slice())?;
     let reader = Reader {
         alloc,

@@ -1,5 +1,6 @@
 //! What is found in forms that no application has: they are refused before. Offsets are those of a separate reference.
 use super::reading::data_of;
+use cl_forms::outers_of;
 use cl_phases::{first_past, first_twice};
 use std::test::Fail;
 
@@ -17,7 +18,8 @@ const TWICE: [(&str, Option<u32>); 3] = [
 fn names_that_stand_twice_are_found(rt: HostRuntime) -> Result<(), Fail> {
     for (text, wanted) in TWICE {
         let data = data_of(rt.alloc(), text.as_bytes())?;
-        let found = first_twice(rt.alloc(), data.as_slice())?;
+        let outers = outers_of(rt.alloc(), data.as_slice())?;
+        let found = first_twice(rt.alloc(), outers.as_slice())?;
         assert_eq!(rt; found, wanted, "{text}");
     }
     Ok(())

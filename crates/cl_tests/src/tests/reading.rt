@@ -2,8 +2,8 @@
 //! dropped is long.
 use cl_bodies::{parse_acts, parse_shapes};
 use cl_eval::Env;
-use cl_expressions::{Scope, parse_expression};
-use cl_forms::{Datum, Datums, Form, all_forms, data_in};
+use cl_expressions::{Notes, Reader, Scope, parse_expression};
+use cl_forms::{Datum, Datums, Form, all_forms, data_in, outers_of};
 use cl_load::{Loaded, load};
 use cl_sexp::read_forms;
 use cl_syntax::{Acts, Expr, Shapes};
@@ -61,6 +61,12 @@ fn last_of(data: &[Datum]) -> Result<&Datum, Fail> {
     Ok(data.last().ok_or("no form")?)
 }
 
+/// What the outermost forms declare.
+fn signatures_in(alloc: Global, data: &[Datum]) -> Result<Signatures, Fail> {
+    let outers = outers_of(alloc, data)?;
+    Ok(signatures_of(alloc, outers.as_slice())?)
+}
+
 /// The expression of this text; a variable may have any name.
 pub fn expression(alloc: Global, text: &str) -> Result<Expr, Fail> {
     let data = data_behind(alloc, text)?;
@@ -69,12 +75,14 @@ pub fn expression(alloc: Global, text: &str) -> Result<Expr, Fail> {
 
 fn expression_in(alloc: Global, data: &[Datum]) -> Result<Expr, Fail> {
     let last = last_of(data)?;
-    let signatures = signatures_of(alloc, data)?;
-    expression_of(alloc, &signatures, last)
-}
-
-fn expression_of(alloc: Global, signatures: &Signatures, datum: &Datum) -> Result<Expr, Fail> {
-    Ok(parse_expression(alloc, signatures, datum, &Scope::Empty, &mut None)?)
+    let signatures = signatures_in(alloc, data)?;
+    let reader = Reader {
+        alloc,
+        signatures: &signatures,
+        scope: &Scope::Empty,
+    };
+    let mut notes = Notes::new(alloc);
+    Ok(parse_expression(&reader, last, &mut notes)?)
 }
 
 /// The statements in this form.
@@ -85,12 +93,14 @@ pub fn statements(alloc: Global, text: &str) -> Result<Acts, Fail> {
 
 fn statements_in(alloc: Global, data: &[Datum]) -> Result<Acts, Fail> {
     let last = last_of(data)?;
-    let signatures = signatures_of(alloc, data)?;
-    statements_of(alloc, &signatures, last)
-}
-
-fn statements_of(alloc: Global, signatures: &Signatures, datum: &Datum) -> Result<Acts, Fail> {
-    Ok(parse_acts(alloc, signatures, datum.parts(), &Scope::Empty, &mut None)?)
+    let signatures = signatures_in(alloc, data)?;
+    let reader = Reader {
+        alloc,
+        signatures: &signatures,
+        scope: &Scope::Empty,
+    };
+    let mut notes = Notes::new(alloc);
+    Ok(parse_acts(&reader, last.parts(), &mut notes)?)
 }
 
 /// The display forms in this form.
@@ -101,10 +111,12 @@ pub fn display_forms(alloc: Global, text: &str) -> Result<Shapes, Fail> {
 
 fn display_forms_in(alloc: Global, data: &[Datum]) -> Result<Shapes, Fail> {
     let last = last_of(data)?;
-    let signatures = signatures_of(alloc, data)?;
-    display_forms_of(alloc, &signatures, last)
-}
-
-fn display_forms_of(alloc: Global, signatures: &Signatures, datum: &Datum) -> Result<Shapes, Fail> {
-    Ok(parse_shapes(alloc, signatures, datum.parts(), &Scope::Empty, &mut None)?)
+    let signatures = signatures_in(alloc, data)?;
+    let reader = Reader {
+        alloc,
+        signatures: &signatures,
+        scope: &Scope::Empty,
+    };
+    let mut notes = Notes::new(alloc);
+    Ok(parse_shapes(&reader, last.parts(), &mut notes)?)
 }

@@ -1,0 +1,12 @@
+pub mod FaultLemmas
+pub mod ExpressionFaults
+pub mod DataFaults
+pub mod BodyFaults
+pub mod DisplayFaults
+pub mod StatementFaults
+pub mod TypeFaults
+pub mod KeyFaults
+pub mod FrameFaults
+pub mod DeclarationFaults
+pub mod FirstFault
+pub mod TextOrder
