@@ -2,7 +2,6 @@
 use Rattle.std.proofs.Common.{ℕ, Bool, true, false, if◌then◌else◌, List, [], ◌∷◌, refl, sym}
 use Rattle.std.specs.Prelude.{Option, Some, None, codes}
 use Rattle.std.specs.Str.{bytes_eq}
-use Rattle.std.specs.declared.convert.Infallible.{Infallible}
 use Rattle.std.proofs.Math.Path.{subst}
 use Rattle.cl_syntax.specs.ActTree.{ActTree}
 use Rattle.cl_syntax.specs.ActTree as act
@@ -34,7 +33,7 @@ use Rattle.cl_text_grammar.proofs.FormsJudged.{in_front, OwnAnswers, IsOwn, Sigh
 
 module _ (w : Signatures) where
   -- what is read of a statement's own answers to what it sees
-  abbrev OwnTells : Names → List Datum → ℕ → FormSight → Load (Own ActTree Infallible (Unit {0})) → Type 0
+  abbrev OwnTells : Names → List Datum → ℕ → FormSight → Load (Own ActTree (Unit {0}) (Unit {0})) → Type 0
   OwnTells env ds at s m = OwnAnswers w env ds at s m
 
   place_known : (x : List ℕ) (at : ℕ) → Judges w (slot_name x at ∷ []) Any (noted (slot_in w x) at >>= λ u. give x)

@@ -2,7 +2,6 @@
 use Rattle.std.proofs.Common.{◌≡◌, ℕ, true, List, [], ◌∷◌, sym}
 use Rattle.std.specs.Prelude.{Some, Ok, codes}
 use Rattle.std.specs.Str.{bytes_eq}
-use Rattle.std.specs.declared.convert.Infallible.{Infallible}
 use Rattle.std.proofs.lemmas.Result.{IfOk-at_ok}
 use Rattle.std.proofs.Math.Path.{subst}
 use Rattle.cl_syntax.specs.ExprTree.{ExprTree}
@@ -41,7 +40,7 @@ Body ss ds = WritesActs (act_trees_of ss) ds
 abbrev RowEnds : List ℕ → ℕ → List Sub → ActTree → Type 0
 RowEnds x h ps s = WritesActForm s (word x h ∷ shapes ps)
 
-abbrev OwnEnds : List ℕ → ℕ → List Sub → Own ActTree Infallible (Unit {0}) → Type 0
+abbrev OwnEnds : List ℕ → ℕ → List Sub → Own ActTree (Unit {0}) (Unit {0}) → Type 0
 OwnEnds x h ps own = OwnWrites statements WritesActForm Body (word x h) (shapes ps) own
 
 -- the datum is `(slot NAME)`
@@ -90,7 +89,7 @@ change_ends : (w : Signatures) (c : Change) (h at : ℕ) (ps : List Sub) (env : 
 change_ends w change.Setf h at ps env k = setf_ends w h at ps env k
 change_ends w change.Reply h at ps env k = reply_ends h at ps env k
 
-spelled_so : (y x : List ℕ) (h : ℕ) (ps : List Sub) (m : Load (Own ActTree Infallible (Unit {0}))) → x ≡ y → Ends (OwnEnds y h ps) m
+spelled_so : (y x : List ℕ) (h : ℕ) (ps : List Sub) (m : Load (Own ActTree (Unit {0}) (Unit {0}))) → x ≡ y → Ends (OwnEnds y h ps) m
     → Ends (OwnEnds x h ps) m
 spelled_so y x h ps m e i = subst (λ z. Ends (OwnEnds z h ps) m) (sym e) i
 
