@@ -1,0 +1,138 @@
+-- What the readings of display forms come to: a lemma for each row that statements do not have.
+use Rattle.std.proofs.Common.{◌≡◌, ℕ, Bool, true, false, if◌then◌else◌, List, [], ◌∷◌, length, refl, sym, ap, suc}
+use Rattle.std.specs.Prelude.{Option, Some, None, ◌==◌}
+use Rattle.std.proofs.Math.Path.{subst}
+use Rattle.cl_syntax.specs.ExprTree.{ExprTree, expr_trees_of}
+use Rattle.cl_syntax.specs.ShapeTree.{ShapeTree}
+use Rattle.cl_syntax.specs.ShapeTree as shape
+use Rattle.cl_syntax.specs.declared.figures.Figure.{Figure}
+use Rattle.cl_table.specs.Names.{named}
+use Rattle.cl_forms.specs.Datum.{Datum}
+use Rattle.cl_forms.specs.Naming.{fits}
+use Rattle.cl_words.specs.Heads.{figure_count}
+use Rattle.cl_words.specs.Signatures.{display_in}
+use Rattle.cl_words.specs.declared.heads.Head.{Head}
+use Rattle.cl_words.specs.declared.heads.Head.TheVariants as head
+use Rattle.cl_words.specs.declared.heads.Planned.TheVariants as planned
+use Rattle.cl_words.specs.declared.heads.Setting.{Setting}
+use Rattle.cl_words.specs.declared.heads.Setting.TheVariants as setting
+use Rattle.cl_words.specs.declared.heads.Writing.{Writing}
+use Rattle.cl_words.specs.declared.heads.Writing.TheVariants as writing
+use Rattle.cl_words.specs.declared.signatures.Signatures.{Signatures}
+use Rattle.cl_expressions.specs.Load.{Load, ◌>>=◌, give, refuse}
+use Rattle.cl_expressions.specs.Scopes.{Names}
+use Rattle.cl_expressions.specs.Expressions.{Sub, parse_each}
+use Rattle.cl_bodies.specs.declared.own.Own.{Own}
+use Rattle.cl_bodies.specs.declared.own.Own.TheVariants.{Whole, Before}
+use Rattle.cl_bodies.specs.declared.display_forms.Context.{Context}
+use Rattle.cl_bodies.specs.declared.display_forms.Context.TheVariants as context
+use Rattle.cl_bodies.specs.declared.display_forms.Opening.{Opening}
+use Rattle.cl_bodies.specs.declared.display_forms.Opening.TheVariants as opening
+use Rattle.cl_bodies.specs.DisplayForms.{parse_call_counted, parse_own, display_forms, parse_shape}
+use Rattle.cl_grammar.specs.Sights.{all_seen}
+use Rattle.cl_grammar.proofs.Judging.{Any, Judges, then_part, then_given, ended}
+use Rattle.cl_grammar.proofs.Rows.{JudgedParts}
+use Rattle.cl_grammar.proofs.Written.{shapes}
+use Rattle.cl_text_grammar.specs.FormSights.{expressions, FormSight, Misshapen, Sees, call_seen, shape_rows, shape_row_seen, shape_seen}
+use Rattle.cl_text_grammar.proofs.FormsLie.{shapes_lie}
+use Rattle.cl_text_grammar.proofs.FormStands.{setting_seen, writing_seen, shape_under, shape_stands, shape_called}
+use Rattle.cl_text_grammar.proofs.FormJudging.{FormJudged, FormJudges, Answers, then_expressions}
+use Rattle.cl_text_grammar.proofs.FormJudging as judging
+use Rattle.cl_text_grammar.proofs.FormsJudged.{in_front, at_once, OwnAnswers, IsOwn, SightRules, form_judged}
+
+length_shapes : (ps : List Sub) → length ps ≡ length (shapes ps)
+length_shapes [] = refl
+length_shapes (p ∷ ps) = ap suc (length_shapes ps)
+
+module _ (w : Signatures) where
+  each_judged : (ps : List Sub) (env : Names) → JudgedParts w ps → Judges w (all_seen env (shapes ps)) Any (parse_each ps env)
+  each_judged [] env k = ended tt
+  each_judged (p ∷ ps) env k = then_part (k.0.expr env) λ t i. then_given (λ ts. t ∷ ts) (each_judged ps env k.1) λ ts j. tt
+
+  -- what is read of a display form's own, up to its body, answers to what it sees
+  abbrev OwnTells : Names → List Sub → ℕ → FormSight → Load (Own ShapeTree Opening Context) → Type 0
+  OwnTells env ps at s m = OwnAnswers w env (shapes ps) at s m
+
+  drawn : (b : Bool) (at : ℕ) (ps : List Sub) (env : Names) (g : List ExprTree → ShapeTree) → JudgedParts w ps
+      → OwnTells env ps at (if b then Sees (expressions (all_seen env (shapes ps)) ∷ []) else Misshapen)
+      ((if b then (parse_each ps env >>= λ ts. give (g ts)) else refuse 6 at) >>= λ s. give (Whole s))
+  drawn true at ps env g k = in_front (then_given (λ s. Whole s) (then_given {Q = Any} g (each_judged ps env k) λ ts i. tt) λ s i. refl)
+  drawn false at ps env g k = λ u. refl
+
+  figure_row : (f : Figure) (h at : ℕ) (ps : List Sub) (env : Names) (c : Context) → JudgedParts w ps
+      → OwnTells env ps at (shape_under (head.Figure f) h env (shapes ps)) (parse_own c (head.Figure f) h at ps env)
+  figure_row f h at ps env c k =
+      subst
+      (λ n. OwnTells env ps at (shape_under (head.Figure f) h env (shapes ps))
+      ((if figure_count f == n then (parse_each ps env >>= λ ts. give (shape.Draw f (expr_trees_of ts))) else refuse 6 at) >>= λ s. give (Whole s)))
+      (sym (length_shapes ps)) (drawn (figure_count f == length (shapes ps)) at ps env (λ ts. shape.Draw f (expr_trees_of ts)) k)
+
+  setting_row : (s : Setting) (h at : ℕ) (ps : List Sub) (env : Names) (c : Context) → JudgedParts w ps
+      → OwnTells env ps at (setting_seen s h env (shapes ps)) (parse_own c (head.Setting s) h at ps env)
+  setting_row setting.Indent h at [] env c k = λ u. refl
+  setting_row setting.Indent h at (a ∷ ps) env c k = in_front (then_given (λ t. Before (opening.Indent t) 1 c) (k.0.expr env) λ t i. refl)
+  setting_row setting.Ink h at [] env c k = λ u. refl
+  setting_row setting.Ink h at (a ∷ ps) env c k = in_front (then_given (λ t. Before (opening.Ink t) 1 c) (k.0.expr env) λ t i. refl)
+  setting_row setting.Room h at ps env c k = at_once {own = Before opening.Room 0 c} refl
+
+  writing_row : (v : Writing) (h at : ℕ) (ps : List Sub) (env : Names) (c : Context) → JudgedParts w ps
+      → OwnTells env ps at (writing_seen v h env (shapes ps)) (parse_own c (head.Writing v) h at ps env)
+  writing_row writing.WriteText h at (a ∷ []) env c k =
+      in_front (then_given (λ s. Whole s) (then_given {Q = Any} (λ t. shape.WriteText t) (k.0.expr env) λ t i. tt) λ s i. refl)
+  writing_row writing.WriteText h at [] env c k = λ u. refl
+  writing_row writing.WriteText h at (a ∷ b ∷ ps) env c k = λ u. refl
+  writing_row writing.Newline h at [] env c k = at_once {own = Whole shape.Newline} refl
+  writing_row writing.Newline h at (a ∷ ps) env c k = λ u. refl
+
+  own_row : (c : Context) (j : Head) → IsOwn j → (h at : ℕ) (ps : List Sub) (env : Names) → JudgedParts w ps
+      → OwnTells env ps at (shape_under j h env (shapes ps)) (parse_own c j h at ps env)
+  own_row c (head.Figure f) i h at ps env k = figure_row f h at ps env c k
+  own_row c (head.Setting s) i h at ps env k = setting_row s h at ps env c k
+  own_row c (head.Writing v) i h at ps env k = writing_row v h at ps env c k
+  own_row c (head.Planned planned.Display) i h at ps env k = λ u. refl
+  own_row c (head.Planned planned.Statement) i h at ps env k = λ u. refl
+  own_row c (head.Planned planned.Part) i h at ps env k = λ u. refl
+  own_row c (head.Special s) i h at ps env k = λ u. refl
+  own_row c (head.Operator o) i h at ps env k = λ u. refl
+  own_row c (head.Change o) i h at ps env k = λ u. refl
+  own_row c head.If i h at ps env k = absurd i
+  own_row c head.Let i h at ps env k = absurd i
+  own_row c (head.Control o) i h at ps env k = absurd i
+
+  abbrev row : List ℕ → ℕ → Names → List Datum → FormSight
+  row x = shape_row_seen w (named x shape_rows) x
+
+  abbrev Tells : ℕ → FormSight → Load ShapeTree → Type 0
+  Tells at s m = Answers (shape_seen w) w (shapes_lie w) at s m
+
+  counted : (b : Bool) (at : ℕ) (ps : List Sub) (env : Names) (g : List ExprTree → ShapeTree) → JudgedParts w ps
+      → Tells at (if b then Sees (expressions (all_seen env (shapes ps)) ∷ []) else Misshapen)
+      (if b then (parse_each ps env >>= λ ts. give (g ts)) else refuse 6 at)
+  counted true at ps env g k =
+      then_expressions (shape_seen w) w (shapes_lie w) Any Any (all_seen env (shapes ps)) [] (parse_each ps env) _ (each_judged ps env k) λ ts i.
+      judging.ended (shape_seen w) w (shapes_lie w) (g ts)
+  counted false at ps env g k = λ u. refl
+
+  call_row : (o : Option (Option ℕ)) (x : List ℕ) (h at : ℕ) (ps : List Sub) (env : Names) → JudgedParts w ps
+      → Tells at (call_seen o h env (shapes ps)) (parse_call_counted o x h at ps env)
+  call_row None x h at ps env k = λ u. refl
+  call_row (Some count) x h at ps env k =
+      subst
+      (λ n. Tells at (call_seen (Some count) h env (shapes ps))
+      (if fits count n then (parse_each ps env >>= λ ts. give (shape.Call x (expr_trees_of ts))) else refuse 6 at))
+      (sym (length_shapes ps)) (counted (fits count (length (shapes ps))) at ps env (λ ts. shape.Call x (expr_trees_of ts)) k)
+
+  rules : SightRules display_forms w row shape_under (shapes_lie w)
+  rules = record {
+    stands = λ x k e h env ds. shape_stands w x k e h env ds;
+    an_if = λ h env ds. refl;
+    a_let = λ h env ds. refl;
+    a_control = λ c h env ds. refl;
+    an_own = own_row;
+    a_call = λ x h at ps env e k.
+        subst (λ s. Tells at s (parse_call_counted (display_in w x) x h at ps env)) (sym (shape_called w x e h env (shapes ps)))
+        (call_row (display_in w x) x h at ps env k);
+  }
+
+  pub shape_judged : (d : Datum) (env : Names) → FormJudged (shape_seen w) w (shapes_lie w) env d (parse_shape w d env)
+  shape_judged d env = form_judged display_forms w row shape_under (shapes_lie w) rules context.Display d env

@@ -1,0 +1,8 @@
+pub mod Displays
+pub mod WritesShapes
+pub mod WritesActs
+pub mod FormSights
+pub mod FormBlames
+pub mod WritesTypes
+pub mod WritesFrames
+pub mod WritesDeclarations

@@ -1,0 +1,105 @@
+-- How a declaration is written, and the declarations of a text.
+use Rattle.std.specs.Prelude.{◌≡◌, ℕ, List, [], ◌∷◌, ◌++◌, Option, Some, codes}
+use Rattle.cl_table.specs.Names.{with_first}
+use Rattle.cl_syntax.specs.ActTree.{ActTree, act_trees_of}
+use Rattle.cl_syntax.specs.ExprTree.{ExprTree}
+use Rattle.cl_syntax.specs.ShapeTree.{ShapeTree, shape_trees_of}
+use Rattle.cl_forms.specs.Datum.{Datum, Datums, word, list, none, item, in_order}
+use Rattle.cl_forms.specs.LineNames.{line_name_of}
+use Rattle.cl_forms.specs.Naming.{name_in}
+use Rattle.cl_words.specs.declared.signatures.Signatures.{Signatures}
+use Rattle.cl_expressions.specs.Scopes.{Names}
+use Rattle.cl_application.specs.declared.declarations.RecordDecl.{RecordDecl}
+use Rattle.cl_application.specs.declared.declarations.FunctionDecl.{FunctionDecl}
+use Rattle.cl_application.specs.declared.declarations.DisplayDecl.{DisplayDecl}
+use Rattle.cl_application.specs.declared.declarations.CommandDecl.{CommandDecl}
+use Rattle.cl_application.specs.declared.declarations.SlotDecl.{SlotDecl}
+use Rattle.cl_declare.specs.declared.declarations.Declarations.{Declarations}
+use Rattle.cl_declare.specs.declared.frames.FrameForm.{FrameForm}
+use Rattle.cl_declare.specs.declared.frames.PaneForm.{PaneForm}
+use Rattle.cl_declare.specs.declared.frames.Size.{Size}
+use Rattle.cl_declare.specs.Declarations.{nothing_declared}
+use Rattle.cl_grammar.specs.Writes.{Writes}
+use Rattle.cl_text_grammar.specs.WritesShapes.{WritesShapes}
+use Rattle.cl_text_grammar.specs.WritesActs.{WritesActs}
+use Rattle.cl_text_grammar.specs.WritesFrames.{WritesSections, slots_of}
+
+-- names write data, one each
+pub data WritesNames : Names → List Datum → Type 0 where
+  no_name : WritesNames [] []
+  one_name : {x : List ℕ} {xs : Names} {n : Datum} {ds : List Datum} → name_in n ≡ Some x → WritesNames xs ds → WritesNames (x ∷ xs) (n ∷ ds)
+
+-- names write a list of them
+pub data WritesNameList : Names → Datum → Type 0 where
+  a_name_list : {xs : Names} {ds : Datums} {at : ℕ} → WritesNames xs (in_order ds) → WritesNameList xs (list ds at)
+
+-- the name of a command writes a datum
+pub data WritesCommandName : List ℕ → Datum → Type 0 where
+  -- NAME
+  alone : {x s : List ℕ} {at : ℕ} → name_in (word s at) ≡ Some x → WritesCommandName x (word s at)
+  -- (NAME)
+  in_parentheses : {x : List ℕ} {n : Datum} {at : ℕ} → name_in n ≡ Some x → WritesCommandName x (list (item n none) at)
+
+-- what one outermost form declares
+pub data Declaration : Type 0 where
+  of_record : RecordDecl → Declaration
+  of_function : FunctionDecl → Declaration
+  of_display : DisplayDecl → Declaration
+  of_command : CommandDecl → Declaration
+  of_frame : FrameForm → Declaration
+
+-- a declaration at this offset writes the parts of a list
+pub data WritesDeclared (w : Signatures) (at : ℕ) : Declaration → List Datum → Type 0 where
+  -- (define-record NAME FIELD FIELD ...)
+  a_record : {x f : List ℕ} {fs : Names} {n : Datum} {ds : List Datum} {h : ℕ} → name_in n ≡ Some x → WritesNames (f ∷ fs) ds
+      → WritesDeclared w at (of_record (record { name = x; fields = f ∷ fs; at = at })) (word (codes "define-record") h ∷ n ∷ ds)
+  -- (define-function NAME (PARAMETER ...) BODY)
+  a_function : {x : List ℕ} {xs : Names} {t : ExprTree} {n ps e : Datum} {h : ℕ} → name_in n ≡ Some x → WritesNameList xs ps → Writes t e
+      → WritesDeclared w at (of_function (record { name = x; parameters = xs; body = t; at = at })) (word (codes "define-function") h ∷ n ∷ ps ∷ e ∷ [])
+  -- (define-display NAME (PARAMETER ...) FORM ...)
+  a_display : {x : List ℕ} {xs : Names} {fs : List ShapeTree} {n ps : Datum} {ds : List Datum} {h : ℕ} → name_in n ≡ Some x → WritesNameList xs ps
+      → WritesShapes (shape_trees_of fs) ds
+      → WritesDeclared w at (of_display (record { name = x; parameters = xs; body = fs; at = at })) (word (codes "define-display") h ∷ n ∷ ps ∷ ds)
+  -- (define-command NAME () STATEMENT ...)
+  a_command : {x : List ℕ} {ss : List ActTree} {n : Datum} {ds : List Datum} {list_at h : ℕ} → WritesCommandName x n → WritesActs (act_trees_of ss) ds
+      → WritesDeclared w at (of_command (record { name = x; line_name = line_name_of x; body = ss; at = at }))
+      (word (codes "define-command") h ∷ n ∷ list none list_at ∷ ds)
+  -- (define-application-frame NAME SECTION ...)
+  a_frame : {x : List ℕ} {z : Size} {ss : Option (List SlotDecl)} {p : PaneForm} {n : Datum} {ds : List Datum} {h : ℕ} → name_in n ≡ Some x
+      → WritesSections w (Some z) ss (Some p) ds
+      → WritesDeclared w at (of_frame (record { name = x; width = z.width; height = z.height; slots = slots_of ss; pane = p; at = at }))
+      (word (codes "define-application-frame") h ∷ n ∷ ds)
+
+-- a declaration writes a datum
+pub data WritesDeclaration (w : Signatures) : Declaration → Datum → Type 0 where
+  a_declaration : {e : Declaration} {ds : Datums} {at : ℕ} → WritesDeclared w at e (in_order ds) → WritesDeclaration w e (list ds at)
+
+-- declarations write the data of a text, one each
+pub data WritesText (w : Signatures) : List Declaration → List Datum → Type 0 where
+  nothing : WritesText w [] []
+  one_more : {e : Declaration} {es : List Declaration} {d : Datum} {ds : List Datum} → WritesDeclaration w e d → WritesText w es ds
+      → WritesText w (e ∷ es) (d ∷ ds)
+
+-- ---- tables
+
+-- behind others: of two of one name in one table the first counts, and all frames are kept
+abbrev pub with_declaration : Declarations → Declaration → Declarations
+with_declaration s (of_record d) = record s { records = with_first (λ e. e.name) s.records d }
+with_declaration s (of_function d) = record s { functions = with_first (λ e. e.name) s.functions d }
+with_declaration s (of_display d) = record s { displays = with_first (λ e. e.name) s.displays d }
+with_declaration s (of_command d) = record s { commands = with_first (λ e. e.name) s.commands d }
+with_declaration s (of_frame d) = record s { frames = s.frames ++ d ∷ [] }
+
+abbrev pub with_declarations : Declarations → List Declaration → Declarations
+with_declarations s [] = s
+with_declarations s (e ∷ es) = with_declarations (with_declaration s e) es
+
+-- the tables hold what declarations that write the data of a text declare
+pub record IsDeclaredIn (w : Signatures) (before : Declarations) (ds : List Datum) (tables : Declarations) : Type 0 where
+  pub declarations : List Declaration
+  pub written : WritesText w declarations ds
+  pub tabled : tables ≡ with_declarations before declarations
+
+-- the tables of a text
+abbrev pub TextDeclares : Signatures → List Datum → Declarations → Type 0
+TextDeclares w ds tables = IsDeclaredIn w nothing_declared ds tables
