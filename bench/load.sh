@@ -1,11 +1,13 @@
 #!/usr/bin/env bash
-# Four application texts of 1,048,576 bytes, the most that is read, through the built program: user and system processor time
+# Six application texts of 1,048,576 bytes, the most that is read, through the built program: user and system processor time
 # of each run, beside its bound. The program is built where it is not yet.
 #   lists: comments and long lists of words, numbers and texts, which declare nothing and so are refused; 200 ms
 #   brackets: empty lists, so that each byte is a token; refused as well; 200 ms
 #   counter: the counter, made as long by a comment; it opens; 200 ms
 #   functions: 4,096 declarations, the most that a text may have, of which 4,094 are functions that all call the one before; the
 #     opening value of a slot names the last, so that all are looked through for slots; it opens; 500 ms
+#   bindings: a `let` of 40,000 bindings, each of which names the one before; it opens; 200 ms
+#   frames: 300 frames, whose opening values all call the same long function; it is refused, since one frame is the most; 500 ms
 source "$(dirname "$0")/program.sh"
 length=1048576
 
@@ -57,7 +59,26 @@ awk 'BEGIN {
 }' >"$files/functions"
 pad "$files/functions"
 
+awk 'BEGIN {
+    print "(define-application-frame long (:size 12 1) (:panes (p 0 0 12 1 show)))(define-display show ())"
+    printf "(define-function many (x0) (let ("
+    for (i = 1; i <= 40000; i++) printf "(x%d x%d)", i, i - 1
+    print ") x40000))"
+}' >"$files/bindings"
+pad "$files/bindings"
+awk 'BEGIN {
+    for (i = 1; i <= 300; i++) print "(define-application-frame f" i " (:size 12 1) (:slots (n integer (many 1))) (:panes (p 0 0 12 1 show)))"
+    print "(define-display show ())"
+    printf "(define-function many (x) (max "
+    for (i = 1; i <= 60; i++) printf "(+ x (max "
+    printf "1 2"
+    for (i = 1; i <= 60; i++) printf "))"
+    print " 3))"
+}' >"$files/frames"
+
 measure lists 1 200
 measure brackets 1 200
 measure counter 0 200
 measure functions 0 500
+measure bindings 0 200
+measure frames 1 500
