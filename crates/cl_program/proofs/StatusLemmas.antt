@@ -5,7 +5,7 @@ use Rattle.std.specs.Io.KnownBytes.{Consumes}
 use Rattle.cl_application.specs.declared.applications.App.{App}
 use Rattle.cl_gesture.specs.Lines.{ended, pieces, held_from}
 use Rattle.cl_gesture.proofs.Cutting.{pieces-further}
-use Rattle.cl_load.specs.Loads.{IsApplication, IsRefusal}
+use Rattle.cl_load.specs.Application.{IsApplication, IsRefusal}
 use Rattle.cl_load.proofs.OneOutcome.{one_outcome}
 use Rattle.cl_session.specs.declared.serving.End.{End}
 use Rattle.cl_session.specs.declared.serving.End.TheVariants as end

@@ -8,7 +8,7 @@ use Rattle.cl_eval.specs.declared.metering.Limits.{Limits}
 use Rattle.cl_eval.specs.Outcome.{cost_of}
 use Rattle.cl_gesture.specs.Lines.{Piece, pieces, ended, held_from}
 use Rattle.cl_gesture.specs.Next.{most_lines}
-use Rattle.cl_load.specs.Loads.{IsApplication, IsRefusal}
+use Rattle.cl_load.specs.Application.{IsApplication, IsRefusal}
 use Rattle.cl_load.specs.Opening.{opening_slots}
 use Rattle.cl_session.specs.World.{World}
 use Rattle.cl_session.specs.Step.{opening}

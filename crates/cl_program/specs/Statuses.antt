@@ -3,7 +3,7 @@ use Rattle.std.specs.Prelude.{◌≡◌, ◌≤◌, ◌⊎◌, ℕ, List, length
 use Rattle.cl_application.specs.declared.applications.App.{App}
 use Rattle.cl_gesture.specs.Lines.{pieces}
 use Rattle.cl_gesture.specs.Next.{most_lines}
-use Rattle.cl_load.specs.Loads.{IsApplication, IsRefusal}
+use Rattle.cl_load.specs.Application.{IsApplication, IsRefusal}
 use Rattle.cl_session.specs.declared.serving.End.TheVariants as end
 use Rattle.cl_program.specs.Command.{IsNoCommand, usage_line}
 use Rattle.cl_program.specs.Texts.{first_bytes}
