@@ -7,7 +7,7 @@
 #   functions: 4,096 declarations, the most that a text may have, of which 4,094 are functions that all call the one before; the
 #     opening value of a slot names the last, so that all are looked through for slots; it opens; 500 ms
 #   bindings: a `let` of 40,000 bindings, each of which names the one before; it opens; 200 ms
-#   frames: 300 frames, whose opening values all call the same long function; it is refused, since one frame is the most; 500 ms
+#   frames: 300 frames, whose opening values all reach the same 2,000 functions; it is refused, since one frame is the most; 500 ms
 source "$(dirname "$0")/program.sh"
 length=1048576
 
@@ -67,13 +67,9 @@ awk 'BEGIN {
 }' >"$files/bindings"
 pad "$files/bindings"
 awk 'BEGIN {
-    for (i = 1; i <= 300; i++) print "(define-application-frame f" i " (:size 12 1) (:slots (n integer (many 1))) (:panes (p 0 0 12 1 show)))"
-    print "(define-display show ())"
-    printf "(define-function many (x) (max "
-    for (i = 1; i <= 60; i++) printf "(+ x (max "
-    printf "1 2"
-    for (i = 1; i <= 60; i++) printf "))"
-    print " 3))"
+    for (i = 1; i <= 300; i++) print "(define-application-frame f" i " (:size 12 1) (:slots (n integer (count-2000 1))) (:panes (p 0 0 12 1 show)))"
+    print "(define-display show ())(define-function count-1 (x) x)"
+    for (i = 2; i <= 2000; i++) print "(define-function count-" i " (x) (+ x (count-" i - 1 " x)))"
 }' >"$files/frames"
 
 measure lists 1 200
