@@ -1,4 +1,5 @@
 pub mod Bodies
 pub mod DisplayForms
 pub mod Statements
+pub mod PlannedKeys
 pub mod SlotTypes

@@ -1,12 +1,15 @@
--- The type that a datum is where a slot asks for one: `NAME`, `(NAME)` or `((NAME))`. No parameters stand around it. Types with arguments or options are not built
--- yet, and neither are the types that have no members or are made of others.
-use Rattle.std.specs.Prelude.{ℕ, Bool, false, ◌||◌, if◌then◌else◌, List, [], ◌∷◌, Option, Some, None, codes}
-use Rattle.std.specs.Str.{bytes_eq}
+-- The type that a datum is where a slot asks for one: `NAME`, `(NAME)` or `((NAME))`. No parameters stand around it. Types with arguments
+-- or options are not built yet, and neither are the types that have no members or are made of others.
+use Rattle.std.specs.Prelude.{ℕ, false, if◌then◌else◌, List, [], ◌∷◌, Option, Some, None}
 use Rattle.cl_syntax.specs.declared.type_specs.TypeSpec.{TypeSpec}
 use Rattle.cl_forms.specs.Datum.{Datum, number, literal, word, quoted, stray, list, in_order, offset}
 use Rattle.cl_expressions.specs.Load.{Load, ◌>>=◌, give, refuse, noted, placed}
 use Rattle.cl_words.specs.TypeNames.{is_plain_type, is_ranged_type, is_later_type}
-use Rattle.cl_forms.specs.Naming.{name_in, symbol_of}
+use Rattle.cl_forms.specs.Keys.{Keyed, keyed_pairs}
+use Rattle.cl_forms.specs.Naming.{name_in}
+use Rattle.cl_forms.specs.declared.keys.Key.{Key}
+use Rattle.cl_forms.specs.declared.keys.Key.TheVariants as key
+use Rattle.cl_bodies.specs.PlannedKeys.{no_keys}
 use Rattle.cl_words.specs.Signatures.{record_in}
 use Rattle.cl_words.specs.declared.signatures.Signatures.{Signatures}
 
@@ -45,19 +48,18 @@ abbrev pub parse_type_parts : Signatures → ℕ → List Datum → Load TypeSpe
 parse_type_parts w at [] = refuse 6 at
 parse_type_parts w at (h ∷ arguments) = parse_type_head w at h arguments
 
--- the keys of options
-abbrev pub is_option_key : List ℕ → Bool
-is_option_key x = bytes_eq x (codes ":description") || bytes_eq x (codes ":separator")
+-- the keys of the options that a type may have
+abbrev pub option_keys : List Key
+option_keys = key.Description ∷ key.Separator ∷ []
 
--- options behind the name and its arguments
-abbrev pub parse_type_options : Signatures → ℕ → List Datum → List Datum → Load TypeSpec
-parse_type_options w at parts [] = parse_type_parts w at parts
-parse_type_options w at parts (o ∷ more) =
-    if is_option_key (symbol_of o) then (parse_type_parts w at parts >>= λ t. refuse 0 (offset o)) else refuse 6 at
+-- options behind the name and its arguments: each known, once, with a value. None is built yet.
+abbrev pub parse_type_options : Signatures → ℕ → List Datum → Option (List Keyed) → Load TypeSpec
+parse_type_options w at parts None = refuse 6 at
+parse_type_options w at parts (Some ks) = parse_type_parts w at parts >>= λ t. no_keys ks >>= λ u. give t
 
 -- a list by its first part: a name, or a list of a name and arguments
 abbrev pub parse_type_first : Signatures → ℕ → Datum → List Datum → Load TypeSpec
-parse_type_first w at (list ds list_at) more = parse_type_options w at (in_order ds) more
+parse_type_first w at (list ds list_at) more = parse_type_options w at (in_order ds) (keyed_pairs option_keys [] more)
 parse_type_first w at (number z first_at) more = parse_type_head w at (number z first_at) more
 parse_type_first w at (literal s first_at) more = parse_type_head w at (literal s first_at) more
 parse_type_first w at (word x first_at) more = parse_type_head w at (word x first_at) more

@@ -6,9 +6,11 @@ mod display_forms;
 mod languages;
 mod own;
 mod plain_forms;
+mod planned_keys;
 mod slot_types;
 mod statements;
 
 pub use display_forms::{parse_shape, parse_shapes};
+pub use planned_keys::no_keys;
 pub use slot_types::parse_type;
 pub use statements::{parse_act, parse_acts};

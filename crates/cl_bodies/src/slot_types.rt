@@ -1,16 +1,21 @@
 //! The type that a slot has.
-ghost use Rattle.std.specs.Prelude.{◌≡◌, ◌∷◌, [], map};
+ghost use Rattle.std.specs.Prelude.{◌≡◌, ◌∷◌, [], map, Some};
 ghost use Rattle.cl_forms.specs.DatumView.{datum_of};
-ghost use Rattle.cl_expressions.specs.Load.{Gives, Notes, itself};
+ghost use Rattle.cl_forms.specs.KeyedView.{keyed_of};
+ghost use Rattle.cl_expressions.specs.Load.{Gives, Notes as Noted, itself};
 ghost use Rattle.cl_words.specs.Signatures.{record_in};
-ghost use Rattle.cl_bodies.specs.SlotTypes.{is_option_key, parse_specifier, parse_type, parse_type_list, parse_type_first, parse_type_options, parse_type_parts, parse_type_head, parse_type_named, parse_record_type, parse_plain_type, parse_ranged_type};
+ghost use Rattle.cl_bodies.specs.SlotTypes.{parse_specifier, parse_type, parse_type_list, parse_type_first, parse_type_options, parse_type_parts, parse_type_head, parse_type_named, parse_record_type, parse_plain_type, parse_ranged_type};
 
+use crate::planned_keys::no_keys;
 use cl_expressions::{Notes, Reader};
-use cl_forms::{Datum, LoadRefusal, name_in, symbol_of};
+use cl_forms::{Datum, Key, Keyed, LoadRefusal, keyed_pairs, name_in};
 use cl_syntax::TypeSpec;
 use cl_table::Names;
 use cl_value::Text;
 use cl_words::{is_later_type, is_plain_type, is_ranged_type};
+
+/// The keys of the options that a type may have.
+const OPTION_KEYS: [Key; 2] = [Key::Description, Key::Separator];
 
 /// The type that a datum is, which is noted with its offset. No parameters stand around it.
 pub fn parse_type(
@@ -75,39 +80,31 @@ fn parse_type_first(
         (parse_type_first reader.now.signatures.now at (datum_of first.now) (map datum_of more.now) notes.old) }
 {
     match first {
-        Datum::List(parts, _) => parse_type_options(reader, at, parts.as_slice(), more, notes),
+        Datum::List(parts, _) => match keyed_pairs(reader.alloc, &OPTION_KEYS, more)? {
+            Some(options) => {
+                parse_type_options(reader, at, parts.as_slice(), options.as_slice(), notes)
+            }
+            None => Err(LoadRefusal::Refused(6, at)),
+        },
         _ => parse_type_head(reader, at, first, more, notes),
     }
 }
 
-fn is_option_key(word: &[u8]) -> bool
-    ensures { result ≡ is_option_key word.now }
-{
-    word == b":description".as_slice() || word == b":separator".as_slice()
-}
-
-/// Options behind the name and its arguments.
+/// Options behind the name and its arguments: each known, once, with a value. They are not built yet.
 fn parse_type_options(
     reader: &Reader,
     at: u32,
     parts: &[Datum],
-    options: &[Datum],
+    options: &[Keyed],
     notes: &mut Notes,
 ) -> Result<TypeSpec, LoadRefusal>
     ensures { Gives itself result notes.new
-        (parse_type_options reader.now.signatures.now at (map datum_of parts.now) (map datum_of options.now)
+        (parse_type_options reader.now.signatures.now at (map datum_of parts.now) (Some (map keyed_of options.now))
         notes.old) }
 {
-    match options {
-        [] => parse_type_parts(reader, at, parts, notes),
-        [option, ..] => {
-            if !is_option_key(symbol_of(option)) {
-                return Err(LoadRefusal::Refused(6, at));
-            }
-            parse_type_parts(reader, at, parts, notes)?;
-            Err(LoadRefusal::Refused(0, option.offset()))
-        }
-    }
+    let spec = parse_type_parts(reader, at, parts, notes)?;
+    no_keys(options)?;
+    Ok(spec)
 }
 
 fn parse_type_parts(
@@ -164,7 +161,7 @@ fn parse_type_named(
 }
 
 fn parse_plain_type(name: &Text, at: u32, arguments: &[Datum]) -> Result<TypeSpec, LoadRefusal>
-    ensures { (notes : Notes)
+    ensures { (notes : Noted)
         → Gives itself result notes (parse_plain_type name.now at (map datum_of arguments.now) notes) }
 {
     match arguments {
@@ -178,7 +175,7 @@ fn parse_ranged_type(
     name_at: u32,
     arguments: &[Datum],
 ) -> Result<TypeSpec, LoadRefusal>
-    ensures { (notes : Notes)
+    ensures { (notes : Noted)
         → Gives itself result notes (parse_ranged_type name.now name_at (map datum_of arguments.now) notes) }
 {
     match arguments {

@@ -9,7 +9,7 @@ use Rattle.cl_forms.specs.declared.refusals.LoadRefusal.TheVariants.{Refused, Me
 use Rattle.cl_words.specs.declared.signatures.Signatures.{Signatures}
 use Rattle.cl_expressions.specs.Load.{Notes, Gives, itself}
 use Rattle.cl_declare.specs.Declarations.{parse_declaration, parse_each_declaration, parse_declarations}
-use Rattle.cl_declare.specs.Leaves.{Leaves}
+use Rattle.cl_expressions.specs.Leaves.{Leaves}
 use Rattle.cl_declare.specs.declared.declarations.Declarations.{Declarations}
 
 pub stopped : (B : Type 0) (e : LoadRefusal) (w : Signatures) (os : List Outer) (i : ℕ) (o : Outer) (s t : Declarations) (n m first : Notes)

@@ -8,6 +8,7 @@ use Rattle.cl_forms.specs.declared.keys.Key.{Key}
 use Rattle.cl_forms.specs.declared.keys.Key.TheVariants as key
 use Rattle.cl_words.specs.declared.signatures.Signatures.{Signatures}
 use Rattle.cl_expressions.specs.Load.{Load, ◌>>=◌, give, refuse}
+use Rattle.cl_bodies.specs.PlannedKeys.{no_keys}
 use Rattle.cl_bodies.specs.Statements.{parse_acts}
 use Rattle.cl_application.specs.declared.declarations.CommandDecl.{CommandDecl}
 use Rattle.cl_declare.specs.Names.{is_list}
@@ -40,11 +41,7 @@ command_head (literal s at) = None
 command_head (quoted x at name_at) = None
 command_head (stray at) = None
 
--- what is not built yet stands here
-abbrev pub no_keys : List Keyed → Load (Unit {0})
-no_keys [] = give tt
-no_keys (k ∷ ks) = refuse 0 k.at
-
+-- arguments are not built yet
 abbrev pub no_arguments : List Datum → Load (Unit {0})
 no_arguments [] = give tt
 no_arguments (d ∷ ds) = refuse 0 (offset d)

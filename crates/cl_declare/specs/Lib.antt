@@ -4,5 +4,4 @@ pub mod Commands
 pub mod CommandView
 pub mod Frames
 pub mod Sections
-pub mod Leaves
 pub mod Declarations

@@ -3,14 +3,14 @@ ghost use Rattle.std.specs.Prelude.{◌≡◌, Some, IfOk, map, option_map};
 ghost use Rattle.cl_forms.specs.Datum.{parts_of};
 ghost use Rattle.cl_forms.specs.DatumView.{datum_of};
 ghost use Rattle.cl_expressions.specs.Load.{Gives, Notes as Noted, itself};
-ghost use Rattle.cl_declare.specs.Commands.{command_head, listed_head, parse_headed, parse_command, no_keys, no_arguments};
+ghost use Rattle.cl_declare.specs.Commands.{command_head, listed_head, parse_headed, parse_command, no_arguments};
 ghost use Rattle.cl_declare.specs.CommandView.{head_of};
 ghost use Rattle.cl_forms.specs.KeyedView.{keyed_of};
-ghost use Rattle.cl_declare.specs.Leaves.{LeavesNotes};
+ghost use Rattle.cl_expressions.specs.Leaves.{LeavesNotes};
 
 use crate::names::is_list;
 use cl_application::CommandDecl;
-use cl_bodies::parse_acts;
+use cl_bodies::{no_keys, parse_acts};
 use cl_expressions::{Notes, Reader, Scope};
 use cl_forms::{Datum, Key, Keyed, LoadRefusal, keyed_pairs, line_name_of, name_in};
 use cl_value::Text;
@@ -108,15 +108,6 @@ fn listed_head(alloc: Global, parts: &[Datum]) -> Result<Option<CommandHead<'_>>
     match keyed_pairs(alloc, &COMMAND_KEYS, keys)? {
         Some(keys) => Ok(Some(CommandHead { name, keys })),
         None => Ok(None),
-    }
-}
-
-fn no_keys(keys: &[Keyed]) -> Result<(), LoadRefusal>
-    ensures { (n : Noted) → LeavesNotes result n (no_keys (map keyed_of keys.now) n) }
-{
-    match keys {
-        [] => Ok(()),
-        [key, ..] => Err(LoadRefusal::Refused(0, key.at)),
     }
 }
 

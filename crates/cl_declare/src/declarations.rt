@@ -4,7 +4,7 @@ ghost use Rattle.cl_forms.specs.DatumView.{datum_of};
 ghost use Rattle.cl_forms.specs.OuterView.{outer_of};
 ghost use Rattle.cl_expressions.specs.Load.{Gives, itself};
 ghost use Rattle.cl_declare.specs.Declarations.{parse_declared, parse_kind, parse_declaration, parse_declarations};
-ghost use Rattle.cl_declare.specs.Leaves.{Leaves};
+ghost use Rattle.cl_expressions.specs.Leaves.{Leaves};
 
 use crate::callees::{parse_display, parse_function, parse_record};
 use crate::commands::parse_command;

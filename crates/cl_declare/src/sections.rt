@@ -5,7 +5,7 @@ ghost use Rattle.cl_forms.specs.DatumView.{datum_of};
 ghost use Rattle.cl_forms.specs.KeyedView.{keyed_of};
 ghost use Rattle.cl_forms.specs.Naming.{name_in};
 ghost use Rattle.cl_expressions.specs.Load.{Gives, Notes as Noted, itself};
-ghost use Rattle.cl_declare.specs.Leaves.{Leaves, LeavesNotes};
+ghost use Rattle.cl_expressions.specs.Leaves.{Leaves, LeavesNotes};
 ghost use Rattle.cl_declare.specs.Sections.{parse_slot, parse_slots, note_display, note_pane, no_more, parse_panes, parse_section, parse_sections, parse_frame};
 
 use crate::frames::{FRAME_KEYS, FrameForm, frame_shape};

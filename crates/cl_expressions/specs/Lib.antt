@@ -1,4 +1,5 @@
 pub mod Load
+pub mod Leaves
 pub mod Scopes
 pub mod Expressions
 pub mod ExpressionViews

@@ -12,7 +12,7 @@ use Rattle.cl_forms.specs.declared.outer.OuterKind.{OuterKind}
 use Rattle.cl_forms.specs.declared.outer.OuterKind.TheVariants.{Planned, Unknown}
 use Rattle.cl_words.specs.declared.signatures.Signatures.{Signatures}
 use Rattle.cl_declare.specs.Callees.{parse_record, parse_function, parse_display}
-use Rattle.cl_declare.specs.Commands.{CommandHead, command_keys, head_of, listed_head, command_head, no_keys, no_arguments, parse_headed, parse_command}
+use Rattle.cl_declare.specs.Commands.{CommandHead, command_keys, head_of, listed_head, command_head, no_arguments, parse_headed, parse_command}
 use Rattle.cl_declare.specs.Declarations.{parse_declared, parse_kind, parse_declaration}
 use Rattle.cl_declare.specs.Names.{is_list, is_name_list, variables_in}
 use Rattle.cl_declare.specs.declared.declarations.Declarations.{Declarations}
@@ -21,7 +21,7 @@ use Rattle.cl_faults.proofs.ExpressionFaults.{Covers, covers_offset, expr_faults
 use Rattle.cl_faults.proofs.DataFaults.{CoversEach, covers_order, covers_parts, covers_datums}
 use Rattle.cl_faults.proofs.DisplayFaults.{shapes_faults}
 use Rattle.cl_faults.proofs.StatementFaults.{acts_faults}
-use Rattle.cl_faults.proofs.KeyFaults.{CoversKeys, pairs_covered}
+use Rattle.cl_faults.proofs.KeyFaults.{CoversKeys, pairs_covered, keys_faults}
 use Rattle.cl_faults.proofs.FrameFaults.{frame_faults}
 
 -- ---- the keys of a command
@@ -67,10 +67,6 @@ module _ {P : ℕ → Type 0} where
       (binds (shapes_faults w (datums_of body) (variables_in ps) (covers_datums P body c.1.1)) λ fs. gives) (refuses h)
 
   -- ---- commands
-
-  keys_faults : (ks : List Keyed) → CoversKeys P ks → FaultsAt P (no_keys ks)
-  keys_faults [] c = gives
-  keys_faults (k ∷ ks) c = refuses c.0.0
 
   arguments_faults : (ds : List Datum) → CoversEach P ds → FaultsAt P (no_arguments ds)
   arguments_faults [] c = gives

@@ -5,6 +5,8 @@ use Rattle.std.specs.Option.{IfSome}
 use Rattle.cl_forms.specs.Datum.{Datum, offset, parts_of}
 use Rattle.cl_forms.specs.Keys.{Keyed, has_key, key_in, keyed_as, section_of, section_in, pair_in, with_keyed, keyed_sections, keyed_pairs}
 use Rattle.cl_forms.specs.declared.keys.Key.{Key}
+use Rattle.cl_bodies.specs.PlannedKeys.{no_keys}
+use Rattle.cl_faults.proofs.FaultLemmas.{FaultsAt, gives, refuses}
 use Rattle.cl_faults.proofs.ExpressionFaults.{Covers, covers_offset}
 use Rattle.cl_faults.proofs.DataFaults.{CoversEach, covers_parts}
 
@@ -62,3 +64,8 @@ module _ (P : ℕ → Type 0) where
   pairs_covered may_have so_far (d ∷ e ∷ ds) h c =
       then_covered (λ more. keyed_pairs may_have more ds) (with_keyed (pair_in may_have d e) so_far)
       (with_covered (pair_in may_have d e) so_far (pair_covered may_have d e c.0 c.1.0) h) (λ more k. pairs_covered may_have more ds k c.1.1)
+
+-- keys that are not built yet
+pub keys_faults : {P : ℕ → Type 0} (ks : List Keyed) → CoversKeys P ks → FaultsAt P (no_keys ks)
+keys_faults [] c = gives
+keys_faults (k ∷ ks) c = refuses c.0.0

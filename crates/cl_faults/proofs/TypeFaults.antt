@@ -1,17 +1,20 @@
 -- The faults of a slot's type stand in it, or at the form that asks for it.
 use Rattle.std.proofs.Common.{inl, inr, ℕ, false, List, [], ◌∷◌, refl}
 use Rattle.std.specs.Prelude.{Option, Some, None}
+use Rattle.std.specs.Option.{IfSome}
 use Rattle.cl_syntax.specs.declared.type_specs.TypeSpec.{TypeSpec}
 use Rattle.cl_forms.specs.Datum.{Datum, number, literal, word, quoted, stray, list, in_order, offset}
 use Rattle.cl_expressions.specs.Load.{refuse}
 use Rattle.cl_words.specs.TypeNames.{is_plain_type, is_ranged_type, is_later_type}
-use Rattle.cl_forms.specs.Naming.{name_in, symbol_of}
+use Rattle.cl_forms.specs.Keys.{Keyed, keyed_pairs}
+use Rattle.cl_forms.specs.Naming.{name_in}
 use Rattle.cl_words.specs.Signatures.{record_in}
 use Rattle.cl_words.specs.declared.signatures.Signatures.{Signatures}
-use Rattle.cl_bodies.specs.SlotTypes.{type_named, parse_plain_type, parse_record_type, parse_ranged_type, parse_type_named, parse_type_head, parse_type_parts, is_option_key, parse_type_options, parse_type_first, parse_type_list, parse_specifier, parse_type}
+use Rattle.cl_bodies.specs.SlotTypes.{type_named, parse_plain_type, parse_record_type, parse_ranged_type, parse_type_named, parse_type_head, parse_type_parts, option_keys, parse_type_options, parse_type_first, parse_type_list, parse_specifier, parse_type}
 use Rattle.cl_faults.proofs.FaultLemmas.{FaultsAt, gives, refuses, notes_then, places_then, binds, chooses}
 use Rattle.cl_faults.proofs.ExpressionFaults.{Covers, covers_offset}
 use Rattle.cl_faults.proofs.DataFaults.{CoversEach, covers_order}
+use Rattle.cl_faults.proofs.KeyFaults.{CoversKeys, pairs_covered, keys_faults}
 
 module _ {P : ℕ → Type 0} where
   plain_faults : (x : List ℕ) (at : ℕ) (ds : List Datum) → P at → FaultsAt P (parse_plain_type x at ds)
@@ -45,15 +48,15 @@ module _ {P : ℕ → Type 0} where
   parts_faults w at [] h c = refuses h
   parts_faults w at (d ∷ ds) h c = headed_faults w at d ds h c.0
 
-  options_faults : (w : Signatures) (at : ℕ) (ds options : List Datum) → P at → CoversEach P ds → CoversEach P options
-      → FaultsAt P (parse_type_options w at ds options)
-  options_faults w at ds [] h c b = parts_faults w at ds h c
-  options_faults w at ds (o ∷ more) h c b =
-      chooses (is_option_key (symbol_of o)) (binds (parts_faults w at ds h c) λ t. refuses (covers_offset o b.0)) (refuses h)
+  options_faults : (w : Signatures) (at : ℕ) (ds : List Datum) (ks : Option (List Keyed)) → P at → CoversEach P ds
+      → IfSome ks (CoversKeys P) → FaultsAt P (parse_type_options w at ds ks)
+  options_faults w at ds None h c b = refuses h
+  options_faults w at ds (Some ks) h c b = binds (parts_faults w at ds h c) λ t. binds (keys_faults ks b) λ u. gives
 
   first_faults : (w : Signatures) (at : ℕ) (d : Datum) (ds : List Datum) → P at → Covers P d → CoversEach P ds
       → FaultsAt P (parse_type_first w at d ds)
-  first_faults w at (list es list_at) ds h c b = options_faults w at (in_order es) ds h (covers_order es (λ o s. c o (inr s))) b
+  first_faults w at (list es list_at) ds h c b = options_faults w at (in_order es) (keyed_pairs option_keys [] ds) h (covers_order es (λ o s. c o (inr s)))
+      (pairs_covered P option_keys [] ds tt b)
   first_faults w at (number z first_at) ds h c b = headed_faults w at (number z first_at) ds h c
   first_faults w at (literal s first_at) ds h c b = headed_faults w at (literal s first_at) ds h c
   first_faults w at (word x first_at) ds h c b = headed_faults w at (word x first_at) ds h c
