@@ -1,0 +1,131 @@
+-- The readings of declarations answer to what is looked at of them.
+use Rattle.std.proofs.Common.{◌≡◌, ℕ, Bool, true, false, ◌&&◌, ◌||◌, is_some, if◌then◌else◌, List, [], ◌∷◌, ◌++◌, refl}
+use Rattle.std.specs.Prelude.{Option, Some, None, map, codes}
+use Rattle.std.specs.Str.{bytes_eq}
+use Rattle.cl_table.specs.Names.{named}
+use Rattle.cl_forms.specs.Datum.{Datum, number, literal, word, quoted, stray, list, in_order, parts_of, offset, datums_of}
+use Rattle.cl_forms.specs.Naming.{are_names, name_in}
+use Rattle.cl_forms.specs.Outer.{kind_or, kind_named, outer_listed, outer_in}
+use Rattle.cl_forms.specs.declared.outer.DeclarationKind.{DeclarationKind}
+use Rattle.cl_forms.specs.declared.outer.DeclarationKind.TheVariants.{Record, Function, Display, Command, Frame}
+use Rattle.cl_forms.specs.declared.outer.OuterKind.{OuterKind}
+use Rattle.cl_forms.specs.declared.outer.OuterKind.TheVariants.{Declared, Planned, Unknown}
+use Rattle.cl_words.specs.declared.signatures.Signatures.{Signatures}
+use Rattle.cl_expressions.specs.Load.{Load, ◌>>=◌, give, refuse}
+use Rattle.cl_declare.specs.Callees.{parse_record, parse_function, parse_display}
+use Rattle.cl_declare.specs.Commands.{CommandHead, command_head, no_arguments, parse_headed, parse_command}
+use Rattle.cl_declare.specs.Declarations.{parse_declared, parse_kind, parse_declaration, parse_each_declaration}
+use Rattle.cl_declare.specs.Names.{is_list, is_name_list, variables_in}
+use Rattle.cl_declare.specs.declared.declarations.Declarations.{Declarations}
+use Rattle.cl_grammar.specs.Sights.{expression}
+use Rattle.cl_grammar.proofs.Judging.{Any}
+use Rattle.cl_text_grammar.specs.FormSights.{forms_seen}
+use Rattle.cl_declaration_grammar.specs.Parts.{Part, acts, wrong, planned_keys, planned_parts}
+use Rattle.cl_declaration_grammar.specs.Declarations.{Row, record_seen, function_seen, display_seen, headed_seen, command_seen, planned_seen, rows, row_seen, listed_seen, declaration_seen}
+use Rattle.cl_declaration_grammar.specs.Frames.{frame_seen}
+use Rattle.cl_declaration_grammar.specs.Texts.{text_seen}
+use Rattle.cl_declaration_grammar.proofs.Judging.{Judges, joined, then_given, ended, refused_first}
+use Rattle.cl_declaration_grammar.proofs.PartsJudged.{expression_part, shapes_part, acts_part}
+use Rattle.cl_declaration_grammar.proofs.TypesJudged.{chosen, is_wrong, keys_judged}
+use Rattle.cl_declaration_grammar.proofs.FramesJudged.{frame_judged}
+
+module _ (w : Signatures) where
+  record_judged : (at h : ℕ) (ds : List Datum) → Judges w (record_seen at h ds) Any (parse_record at ds)
+  record_judged at h (n ∷ f ∷ fs) = chosen w (are_names (n ∷ f ∷ fs)) (ended w) (is_wrong w at)
+  record_judged at h [] = is_wrong w at
+  record_judged at h (n ∷ []) = is_wrong w at
+
+  function_judged : (at h : ℕ) (ds : List Datum) → Judges w (function_seen at h ds) Any (parse_function w at ds)
+  function_judged at h (n ∷ ps ∷ e ∷ []) =
+      chosen w (is_some (name_in n) && is_name_list ps) (then_given w _ (expression_part w e (variables_in ps))) (is_wrong w at)
+  function_judged at h [] = is_wrong w at
+  function_judged at h (n ∷ []) = is_wrong w at
+  function_judged at h (n ∷ ps ∷ []) = is_wrong w at
+  function_judged at h (n ∷ ps ∷ e ∷ d ∷ ds) = is_wrong w at
+
+  display_judged : (at h : ℕ) (ds : List Datum) → Judges w (display_seen at h ds) Any (parse_display w at ds)
+  display_judged at h (n ∷ ps ∷ body) =
+      chosen w (is_some (name_in n) && is_name_list ps) (then_given w _ (shapes_part w body (variables_in ps))) (is_wrong w at)
+  display_judged at h [] = is_wrong w at
+  display_judged at h (n ∷ []) = is_wrong w at
+
+  arguments_judged : (ds : List Datum) → Judges w (planned_parts ds) Any (no_arguments ds)
+  arguments_judged [] = ended w
+  arguments_judged (d ∷ ds) = refused_first w 0 (offset d) (planned_parts ds)
+
+  headed_judged : (at : ℕ) (c : Option CommandHead) (arguments body : List Datum)
+      → Judges w (headed_seen at c arguments body) Any (parse_headed w at c arguments body)
+  headed_judged at None arguments body = is_wrong w at
+  headed_judged at (Some c) arguments body =
+      joined w (planned_keys c.keys) (planned_parts arguments ++ acts (forms_seen [] body) ∷ []) (keys_judged w c.keys) λ u i.
+      joined w (planned_parts arguments) (acts (forms_seen [] body) ∷ []) (arguments_judged arguments) λ v j.
+      then_given w _ (acts_part w body [])
+
+  command_judged : (at h : ℕ) (ds : List Datum) → Judges w (command_seen at h ds) Any (parse_command w at ds)
+  command_judged at h (c ∷ arguments ∷ body) =
+      chosen w (is_list arguments) (headed_judged at (command_head c) (parts_of arguments) body) (is_wrong w at)
+  command_judged at h [] = is_wrong w at
+  command_judged at h (c ∷ []) = is_wrong w at
+
+  -- ---- by their heads
+
+  module _ (at h : ℕ) (ds : List Datum) (s : Declarations) where
+    -- what the row sees, and what is read of a declaration of this kind
+    abbrev Answers : Option Row → OuterKind → Type 0
+    Answers row kind = Judges w (row_seen row at h ds) Any (parse_kind w kind at ds s)
+
+    -- heads of declarations that are not built yet, or of none
+    planned_answers : (a b c d e f g i j : Bool)
+        → Answers
+        (if a then Some planned_seen else (if b then Some planned_seen else (if c then Some planned_seen else (if d then Some planned_seen
+        else (if e then Some planned_seen else (if f then Some planned_seen else (if g then Some planned_seen else (if i then Some planned_seen
+        else (if j then Some planned_seen else None)))))))))
+        (if (a || b || c || d) || (e || f || g || i || j) then Planned h else Unknown h)
+    planned_answers true b c d e f g i j = refused_first w 0 h []
+    planned_answers false true c d e f g i j = refused_first w 0 h []
+    planned_answers false false true d e f g i j = refused_first w 0 h []
+    planned_answers false false false true e f g i j = refused_first w 0 h []
+    planned_answers false false false false true f g i j = refused_first w 0 h []
+    planned_answers false false false false false true g i j = refused_first w 0 h []
+    planned_answers false false false false false false true i j = refused_first w 0 h []
+    planned_answers false false false false false false false true j = refused_first w 0 h []
+    planned_answers false false false false false false false false true = refused_first w 0 h []
+    planned_answers false false false false false false false false false = refused_first w 5 h []
+
+    declared_answers : (a b c d e : Bool) (row : Option Row) (kind : OuterKind) → Answers row kind
+        → Answers
+        (if a then Some record_seen else (if b then Some function_seen else (if c then Some display_seen else (if d then Some command_seen
+        else (if e then Some (λ at h parts. frame_seen w at parts) else row)))))
+        (kind_or (if a then Some Record else (if b then Some Function else (if c then Some Display else (if d then Some Command
+        else (if e then Some Frame else None))))) kind)
+    declared_answers true b c d e row kind k = then_given w _ (record_judged at h ds)
+    declared_answers false true c d e row kind k = then_given w _ (function_judged at h ds)
+    declared_answers false false true d e row kind k = then_given w _ (display_judged at h ds)
+    declared_answers false false false true e row kind k = then_given w _ (command_judged at h ds)
+    declared_answers false false false false true row kind k = then_given w _ (frame_judged w at ds)
+    declared_answers false false false false false row kind k = k
+
+    word_answers : (x : List ℕ) → Answers (named x (rows w)) (kind_named x h)
+    word_answers x =
+        declared_answers (bytes_eq x (codes "define-record")) (bytes_eq x (codes "define-function")) (bytes_eq x (codes "define-display"))
+        (bytes_eq x (codes "define-command")) (bytes_eq x (codes "define-application-frame")) _ _
+        (planned_answers (bytes_eq x (codes "define-host-type")) (bytes_eq x (codes "define-presentation-type"))
+        (bytes_eq x (codes "define-present-method")) (bytes_eq x (codes "define-accept-method")) (bytes_eq x (codes "define-command-table"))
+        (bytes_eq x (codes "define-presentation-translator")) (bytes_eq x (codes "define-presentation-to-command-translator"))
+        (bytes_eq x (codes "define-drag-and-drop-translator")) (bytes_eq x (codes "define-dialog")))
+
+  listed_judged : (at : ℕ) (ds : List Datum) (s : Declarations) → Judges w (listed_seen w at ds) Any (parse_declaration w (outer_listed at ds) s)
+  listed_judged at [] s = is_wrong w at
+  listed_judged at (word x h ∷ ds) s = word_answers at h ds s x
+  listed_judged at (number z h ∷ ds) s = is_wrong w at
+  listed_judged at (literal z h ∷ ds) s = is_wrong w at
+  listed_judged at (quoted x h name_at ∷ ds) s = is_wrong w at
+  listed_judged at (stray h ∷ ds) s = is_wrong w at
+  listed_judged at (list es h ∷ ds) s = is_wrong w at
+
+  declaration_judged : (d : Datum) (s : Declarations) → Judges w (declaration_seen w d) Any (parse_declaration w (outer_in d) s)
+  declaration_judged d s = listed_judged (offset d) (parts_of d) s
+
+  pub text_judged : (ds : List Datum) (s : Declarations) → Judges w (text_seen w ds) Any (parse_each_declaration w (map outer_in ds) s)
+  text_judged [] s = ended w
+  text_judged (d ∷ ds) s = joined w (declaration_seen w d) (text_seen w ds) (declaration_judged d s) λ t i. text_judged ds t

@@ -1,0 +1,287 @@
+-- What is looked at of types, declarations and texts lies in them.
+use Rattle.std.proofs.Common.{ℕ, ◌+◌, ◌≤◌, ◌<◌, Bool, true, false, ◌&&◌, is_some, if◌then◌else◌, List, [], ◌∷◌, ◌++◌, arith}
+use Rattle.std.specs.Prelude.{Option, Some, None}
+use Rattle.std.specs.Option.{IfSome}
+use Rattle.std.specs.Str.{bytes_eq}
+use Rattle.cl_table.specs.Names.{named}
+use Rattle.cl_forms.specs.Datum.{Datum, Datums, number, literal, word, quoted, stray, list, none, item, in_order, parts_of, offset}
+use Rattle.cl_forms.specs.Keys.{Keyed, keyed_sections, keyed_pairs}
+use Rattle.cl_forms.specs.Naming.{are_names, name_in}
+use Rattle.cl_forms.specs.declared.keys.Key.{Key}
+use Rattle.cl_forms.specs.declared.keys.Key.TheVariants as key
+use Rattle.cl_words.specs.Signatures.{record_in}
+use Rattle.cl_words.specs.TypeNames.{is_plain_type, is_ranged_type, is_later_type}
+use Rattle.cl_words.specs.declared.signatures.Signatures.{Signatures}
+use Rattle.cl_bodies.specs.SlotTypes.{option_keys}
+use Rattle.cl_declare.specs.Commands.{CommandHead, command_keys, head_of, listed_head, command_head}
+use Rattle.cl_declare.specs.Frames.{frame_keys, frame_shape}
+use Rattle.cl_declare.specs.Names.{is_list, is_name_list, variables_in}
+use Rattle.cl_grammar.specs.Lies.{Lies}
+use Rattle.cl_grammar.specs.Sights.{expression}
+use Rattle.cl_grammar.proofs.Bounds.{Within}
+use Rattle.cl_grammar.proofs.Lying.{LieList, list_lies, own_lies, datum_rises, datum_earlier}
+use Rattle.cl_text_grammar.specs.FormSights.{forms_seen}
+use Rattle.cl_text_grammar.proofs.FormsLie.{forms_lie}
+use Rattle.cl_declaration_grammar.specs.Parts.{Part, refused, type_name, display_name, expressions, acts, wrong, planned, planned_keys, planned_parts}
+use Rattle.cl_declaration_grammar.specs.Types.{plain_type_seen, ranged_type_seen, own_type_seen, named_type_seen, headed_type_seen, type_parts_seen, type_options_seen, first_type_seen, listed_type_seen, type_seen}
+use Rattle.cl_declaration_grammar.specs.Frames.{slot_seen, slots_seen, display_seen, pane_seen, panes_seen, section_seen, sections_seen, keyed_frame_seen, frame_seen}
+use Rattle.cl_declaration_grammar.specs.Declarations.{Row, record_seen, function_seen, command_seen, headed_seen, planned_seen, rows, row_seen, listed_seen, declaration_seen}
+use Rattle.cl_declaration_grammar.specs.Declarations as declarations
+use Rattle.cl_declaration_grammar.specs.Texts.{text_seen}
+use Rattle.cl_declaration_grammar.proofs.PartsLie.{LieParts, parts_earlier, parts_later, parts_joined, one_lies, when_lies, list_rises, planned_lie}
+use Rattle.cl_declaration_grammar.proofs.KeysLie.{LieKey, LieKeys, list_earlier, planned_keys_lie, sections_lie, pairs_lie}
+
+head_lies : (name : Option (List ℕ)) (ks : Option (List Keyed)) (from to : ℕ) → IfSome ks (λ s. LieKeys from s to)
+    → IfSome (head_of name ks) (λ c. LieKeys from c.keys to)
+head_lies (Some x) (Some ks) from to h = h
+head_lies (Some x) None from to h = tt
+head_lies None ks from to h = tt
+
+-- ---- types
+
+module _ (w : Signatures) where
+  plain_lies : (at : ℕ) (ds : List Datum) (from to : ℕ) → Within from at to → LieParts from (plain_type_seen at ds) to
+  plain_lies at [] from to h = omega (arith, h.0, h.1)
+  plain_lies at (a ∷ more) from to h = one_lies (refused 6 at) from to h
+
+  ranged_lies : (at : ℕ) (ds : List Datum) (from to : ℕ) → Within from at to → LieParts from (ranged_type_seen at ds) to
+  ranged_lies at [] from to h = omega (arith, h.0, h.1)
+  ranged_lies at (a ∷ more) from to h = one_lies (planned at) from to h
+
+  own_lies_so : (o : Option (Option ℕ)) (x : List ℕ) (name_at at : ℕ) (ds : List Datum) (from to : ℕ) → Within from name_at to → Within from at to
+      → LieParts from (own_type_seen o x name_at at ds) to
+  own_lies_so None x name_at at ds from to h k = one_lies (type_name x name_at) from to h
+  own_lies_so (Some fields) x name_at at ds from to h k = plain_lies at ds from to k
+
+  named_lies : (x : List ℕ) (name_at at : ℕ) (ds : List Datum) (from to : ℕ) → Within from name_at to → Within from at to
+      → LieParts from (named_type_seen w x name_at at ds) to
+  named_lies x name_at at ds from to h k =
+      when_lies (is_plain_type x) _ _ from to (plain_lies at ds from to k)
+      (when_lies (is_ranged_type x) _ _ from to (ranged_lies name_at ds from to h)
+      (when_lies (is_later_type x) _ _ from to (one_lies (planned name_at) from to h) (own_lies_so (record_in w x) x name_at at ds from to h k)))
+
+  found_lies : (o : Option (List ℕ)) (name_at at : ℕ) (ds : List Datum) (from to : ℕ) → Within from name_at to → Within from at to
+      → LieParts from (elim o [ None ↦ wrong at | Some x ↦ named_type_seen w x name_at at ds ]) to
+  found_lies None name_at at ds from to h k = one_lies (refused 6 at) from to k
+  found_lies (Some x) name_at at ds from to h k = named_lies x name_at at ds from to h k
+
+  headed_lies : (at : ℕ) (d : Datum) (ds : List Datum) (from to : ℕ) → Lies from d to → Within from at to → LieParts from (headed_type_seen w at d ds) to
+  headed_lies at d ds from to h k = found_lies (name_in d) (offset d) at ds from to (own_lies d from to h) k
+
+  -- the name and its arguments stand behind the offset of the form
+  parts_lie : (at : ℕ) (ds : List Datum) (from to : ℕ) → Within from at to → LieList (at + 1) ds to → LieParts from (type_parts_seen w at ds) to
+  parts_lie at [] from to h k = one_lies (refused 6 at) from to h
+  parts_lie at (d ∷ ds) from to h k =
+      parts_later (headed_type_seen w at d ds) from k.0 to (list_rises ds k.0 to k.2)
+      (headed_lies at d ds from k.0 (datum_earlier d from (at + 1) k.0 (omega (arith, h.0)) k.1) (h.0, omega (arith, datum_rises d (at + 1) k.0 k.1)))
+
+  options_lie : (at : ℕ) (ds : List Datum) (o : Option (List Keyed)) (from middle to : ℕ) → Within from at middle → middle ≤ to
+      → LieParts from (type_parts_seen w at ds) middle → IfSome o (λ ks. LieKeys middle ks to) → LieParts from (type_options_seen w at ds o) to
+  options_lie at ds None from middle to h e k i = one_lies (refused 6 at) from to (h.0, omega (arith, h.1, e))
+  options_lie at ds (Some ks) from middle to h e k i =
+      parts_joined (type_parts_seen w at ds) (planned_keys ks) from middle to k (planned_keys_lie ks middle to i)
+
+  listed_lies : (at : ℕ) (ds : List Datum) (from to : ℕ) → Within from at to → LieList (at + 1) ds to → LieParts from (listed_type_seen w at ds) to
+  listed_lies at [] from to h k = one_lies (refused 6 at) from to h
+  listed_lies at (list es list_at ∷ more) from to h k =
+      let inner : LieList (list_at + 1) (in_order es) k.0 = list_lies es (list_at + 1) k.0 k.1.2 in
+      options_lie at (in_order es) (keyed_pairs option_keys [] more) from k.0 to (h.0, omega (arith, k.1.0, k.1.1)) (list_rises more k.0 to k.2)
+      (parts_lie at (in_order es) from k.0 (h.0, omega (arith, k.1.0, k.1.1)) (list_earlier (in_order es) (at + 1) (list_at + 1) k.0 (omega (arith, k.1.0)) inner))
+      (pairs_lie option_keys [] more k.0 k.0 to (omega arith) k.2)
+  listed_lies at (word x first_at ∷ more) from to h k = parts_lie at (word x first_at ∷ more) from to h k
+  listed_lies at (number z first_at ∷ more) from to h k = one_lies (refused 6 at) from to h
+  listed_lies at (literal s first_at ∷ more) from to h k = one_lies (refused 6 at) from to h
+  listed_lies at (quoted x first_at name_at ∷ more) from to h k = one_lies (refused 6 at) from to h
+  listed_lies at (stray first_at ∷ more) from to h k = one_lies (refused 6 at) from to h
+
+  pub type_lies : (d : Datum) (from to : ℕ) → Lies from d to → LieParts from (type_seen w d) to
+  type_lies (list ds at) from to h = listed_lies at (in_order ds) from to (h.0, h.1) (list_lies ds (at + 1) to h.2)
+  type_lies (word x at) from to h = headed_lies at (word x at) [] from to h h
+  type_lies (number z at) from to h = one_lies (refused 6 at) from to h
+  type_lies (literal s at) from to h = one_lies (refused 6 at) from to h
+  type_lies (quoted x at name_at) from to h = one_lies (refused 6 at) from to (h.0, omega (arith, h.1, h.2))
+  type_lies (stray at) from to h = one_lies (refused 6 at) from to h
+
+  -- ---- frames
+
+  -- parts of a datum stand in it
+  inside : (d : Datum) (from to : ℕ) → Lies from d to → LieList from (parts_of d) to
+  inside (list ds at) from to h = list_earlier (in_order ds) from (at + 1) to (omega (arith, h.0)) (list_lies ds (at + 1) to h.2)
+  inside (number z at) from to h = omega (arith, h.0, h.1)
+  inside (literal s at) from to h = omega (arith, h.0, h.1)
+  inside (word s at) from to h = omega (arith, h.0, h.1)
+  inside (quoted s at name_at) from to h = omega (arith, h.0, h.1, h.2)
+  inside (stray at) from to h = omega (arith, h.0, h.1)
+
+  slot_lies : (ds : List Datum) (from to : ℕ) → LieList from ds to → LieParts from (slot_seen w ds) to
+  slot_lies (n ∷ t ∷ e ∷ []) from to h =
+      parts_joined (type_seen w t) (expressions (expression [] e ∷ []) ∷ []) from h.2.0 to
+      (type_lies t from h.2.0 (datum_earlier t from h.0 h.2.0 (datum_rises n from h.0 h.1) h.2.1)) (to, h.2.2, omega arith)
+  slot_lies [] from to h = h
+  slot_lies (n ∷ []) from to h = list_rises (n ∷ []) from to h
+  slot_lies (n ∷ t ∷ []) from to h = list_rises (n ∷ t ∷ []) from to h
+  slot_lies (n ∷ t ∷ e ∷ d ∷ ds) from to h = list_rises (n ∷ t ∷ e ∷ d ∷ ds) from to h
+
+  slots_lie : (ds : List Datum) (from to : ℕ) → LieList from ds to → LieParts from (slots_seen w ds) to
+  slots_lie [] from to h = h
+  slots_lie (d ∷ ds) from to h =
+      parts_joined (slot_seen w (parts_of d)) (slots_seen w ds) from h.0 to (slot_lies (parts_of d) from h.0 (inside d from h.0 h.1)) (slots_lie ds h.0 to h.2)
+
+  shown_lies : (at : ℕ) (o : Option (List ℕ)) (from to : ℕ) → Within from at to → LieParts from (display_seen at o) to
+  shown_lies at None from to h = omega (arith, h.0, h.1)
+  shown_lies at (Some x) from to h = one_lies (display_name x at) from to h
+
+  pane_lies : (ds : List Datum) (from to : ℕ) → LieList from ds to → LieParts from (pane_seen ds) to
+  pane_lies (n ∷ x ∷ y ∷ a ∷ b ∷ d ∷ []) from to h =
+      let own : Within h.2.2.2.2.0 (offset d) h.2.2.2.2.2.0 = own_lies d h.2.2.2.2.0 h.2.2.2.2.2.0 h.2.2.2.2.2.1 in
+      let before : from ≤ h.2.2.2.2.0 = omega (arith, datum_rises n from h.0 h.1, datum_rises x h.0 h.2.0 h.2.1, datum_rises y h.2.0 h.2.2.0 h.2.2.1,
+      datum_rises a h.2.2.0 h.2.2.2.0 h.2.2.2.1, datum_rises b h.2.2.2.0 h.2.2.2.2.0 h.2.2.2.2.1) in
+      shown_lies (offset d) (name_in d) from to (omega (arith, before, own.0), omega (arith, own.1, h.2.2.2.2.2.2))
+  pane_lies [] from to h = h
+  pane_lies (n ∷ []) from to h = list_rises (n ∷ []) from to h
+  pane_lies (n ∷ x ∷ []) from to h = list_rises (n ∷ x ∷ []) from to h
+  pane_lies (n ∷ x ∷ y ∷ []) from to h = list_rises (n ∷ x ∷ y ∷ []) from to h
+  pane_lies (n ∷ x ∷ y ∷ a ∷ []) from to h = list_rises (n ∷ x ∷ y ∷ a ∷ []) from to h
+  pane_lies (n ∷ x ∷ y ∷ a ∷ b ∷ []) from to h = list_rises (n ∷ x ∷ y ∷ a ∷ b ∷ []) from to h
+  pane_lies (n ∷ x ∷ y ∷ a ∷ b ∷ d ∷ e ∷ ds) from to h = list_rises (n ∷ x ∷ y ∷ a ∷ b ∷ d ∷ e ∷ ds) from to h
+
+  panes_lie : (ds : List Datum) (from to : ℕ) → LieList from ds to → LieParts from (panes_seen ds) to
+  panes_lie [] from to h = h
+  panes_lie (p ∷ more) from to h =
+      parts_joined (pane_seen (parts_of p)) (planned_parts more) from h.0 to (pane_lies (parts_of p) from h.0 (inside p from h.0 h.1))
+      (planned_lie more h.0 to h.2)
+
+  section_lies : (k : Key) (at : ℕ) (ds : List Datum) (from to : ℕ) → LieKey from (record { key = k; at = at; values = ds }) to
+      → LieParts from (section_seen w (record { key = k; at = at; values = ds })) to
+  section_lies key.Slots at ds from to h = parts_earlier (slots_seen w ds) from (at + 1) to (omega (arith, h.0.0)) (slots_lie ds (at + 1) to h.1)
+  section_lies key.Panes at ds from to h = parts_earlier (panes_seen ds) from (at + 1) to (omega (arith, h.0.0)) (panes_lie ds (at + 1) to h.1)
+  section_lies key.CommandTable at ds from to h = one_lies (planned at) from to h.0
+  section_lies key.Size at ds from to h = omega (arith, h.0.0, h.0.1)
+  section_lies key.Name at ds from to h = omega (arith, h.0.0, h.0.1)
+  section_lies key.Keystroke at ds from to h = omega (arith, h.0.0, h.0.1)
+  section_lies key.Description at ds from to h = omega (arith, h.0.0, h.0.1)
+  section_lies key.Separator at ds from to h = omega (arith, h.0.0, h.0.1)
+
+  pub frame_sections_lie : (ks : List Keyed) (from to : ℕ) → LieKeys from ks to → LieParts from (sections_seen w ks) to
+  frame_sections_lie [] from to h = h
+  frame_sections_lie (k ∷ ks) from to h =
+      parts_joined (section_seen w k) (sections_seen w ks) from h.0 to (section_lies k.key k.at k.values from h.0 h.1) (frame_sections_lie ks h.0 to h.2)
+
+  keyed_frame_lies : (at : ℕ) (n : Datum) (o : Option (List Keyed)) (from to : ℕ) → Within from at to → IfSome o (λ ks. LieKeys from ks to)
+      → LieParts from (keyed_frame_seen w at n o) to
+  keyed_frame_lies at n None from to h k = one_lies (refused 6 at) from to h
+  keyed_frame_lies at n (Some ks) from to h k =
+      when_lies (is_some (frame_shape w n ks)) (sections_seen w ks) (wrong at) from to (frame_sections_lie ks from to k) (one_lies (refused 6 at) from to h)
+
+  -- ---- declarations
+
+  -- what the row sees stands in the declaration
+  abbrev LieRow : Row → Type 0
+  LieRow row = (at h : ℕ) (ds : List Datum) (from to : ℕ) → Within from at to → Within from h to → LieList from ds to → LieParts from (row at h ds) to
+
+  frame_lies : LieRow (λ at h ds. frame_seen w at ds)
+  frame_lies at h [] from to a b k = one_lies (refused 6 at) from to a
+  frame_lies at h (n ∷ ds) from to a b k =
+      keyed_frame_lies at n (keyed_sections frame_keys [] ds) from to a
+      (sections_lie frame_keys [] ds from k.0 to (datum_rises n from k.0 k.1) k.2)
+
+  record_lies : LieRow record_seen
+  record_lies at h (n ∷ f ∷ fs) from to a b k = when_lies (are_names (n ∷ f ∷ fs)) [] (wrong at) from to (omega (arith, a.0, a.1)) (one_lies (refused 6 at) from to a)
+  record_lies at h [] from to a b k = one_lies (refused 6 at) from to a
+  record_lies at h (n ∷ []) from to a b k = one_lies (refused 6 at) from to a
+
+  function_lies : LieRow function_seen
+  function_lies at h (n ∷ ps ∷ e ∷ []) from to a b k =
+      when_lies (is_some (name_in n) && is_name_list ps) (expressions (expression (variables_in ps) e ∷ []) ∷ []) (wrong at) from to
+      (to, (k.2.2.0, datum_earlier e from k.2.0 k.2.2.0 (omega (arith, datum_rises n from k.0 k.1, datum_rises ps k.0 k.2.0 k.2.1)) k.2.2.1, k.2.2.2), omega arith)
+      (one_lies (refused 6 at) from to a)
+  function_lies at h [] from to a b k = one_lies (refused 6 at) from to a
+  function_lies at h (n ∷ []) from to a b k = one_lies (refused 6 at) from to a
+  function_lies at h (n ∷ ps ∷ []) from to a b k = one_lies (refused 6 at) from to a
+  function_lies at h (n ∷ ps ∷ e ∷ d ∷ ds) from to a b k = one_lies (refused 6 at) from to a
+
+  display_lies : LieRow declarations.display_seen
+  display_lies at h (n ∷ ps ∷ body) from to a b k =
+      when_lies (is_some (name_in n) && is_name_list ps) _ (wrong at) from to
+      (parts_earlier _ from k.2.0 to (omega (arith, datum_rises n from k.0 k.1, datum_rises ps k.0 k.2.0 k.2.1))
+      (to, forms_lie (variables_in ps) body k.2.0 to k.2.2, omega arith))
+      (one_lies (refused 6 at) from to a)
+  display_lies at h [] from to a b k = one_lies (refused 6 at) from to a
+  display_lies at h (n ∷ []) from to a b k = one_lies (refused 6 at) from to a
+
+  -- the keys of a command's head
+  listed_head_lies : (ds : List Datum) (from to : ℕ) → LieList from ds to → IfSome (listed_head ds) (λ c. LieKeys from c.keys to)
+  listed_head_lies [] from to h = tt
+  listed_head_lies (n ∷ ks) from to h =
+      head_lies (name_in n) (keyed_pairs command_keys [] ks) from to (pairs_lie command_keys [] ks from h.0 to (datum_rises n from h.0 h.1) h.2)
+
+  command_head_lies : (d : Datum) (from to : ℕ) → Lies from d to → IfSome (command_head d) (λ c. LieKeys from c.keys to)
+  command_head_lies (list ds at) from to h = listed_head_lies (in_order ds) from to (inside (list ds at) from to h)
+  command_head_lies (word x at) from to h = head_lies (name_in (word x at)) (Some []) from to (omega (arith, h.0, h.1))
+  command_head_lies (number z at) from to h = tt
+  command_head_lies (literal s at) from to h = tt
+  command_head_lies (quoted x at name_at) from to h = tt
+  command_head_lies (stray at) from to h = tt
+
+  headed_command_lies : (at : ℕ) (c : Option CommandHead) (arguments : Datum) (body : List Datum) (from middle next to : ℕ) → Within from at to
+      → IfSome c (λ e. LieKeys from e.keys middle) → Lies middle arguments next → LieList next body to
+      → LieParts from (headed_seen at c (parts_of arguments) body) to
+  headed_command_lies at None arguments body from middle next to a h i k = one_lies (refused 6 at) from to a
+  headed_command_lies at (Some c) arguments body from middle next to a h i k =
+      parts_joined (planned_keys c.keys) (planned_parts (parts_of arguments) ++ acts (forms_seen [] body) ∷ []) from middle to
+      (planned_keys_lie c.keys from middle h)
+      (parts_joined (planned_parts (parts_of arguments)) (acts (forms_seen [] body) ∷ []) middle next to
+      (planned_lie (parts_of arguments) middle next (inside arguments middle next i)) (to, forms_lie [] body next to k, omega arith))
+
+  command_lies : LieRow command_seen
+  command_lies at h (c ∷ arguments ∷ body) from to a b k =
+      when_lies (is_list arguments) (headed_seen at (command_head c) (parts_of arguments) body) (wrong at) from to
+      (headed_command_lies at (command_head c) arguments body from k.0 k.2.0 to a (command_head_lies c from k.0 k.1) k.2.1 k.2.2)
+      (one_lies (refused 6 at) from to a)
+  command_lies at h [] from to a b k = one_lies (refused 6 at) from to a
+  command_lies at h (c ∷ []) from to a b k = one_lies (refused 6 at) from to a
+
+  planned_row_lies : LieRow planned_seen
+  planned_row_lies at h ds from to a b k = one_lies (planned h) from to b
+
+  abbrev LieRows : List (List ℕ × Row) → Type 0
+  LieRows [] = Unit {0}
+  LieRows (r ∷ rs) = LieRow r.1 × LieRows rs
+
+  chosen_lies : (row : Row) (b : Bool) (o : Option Row) → LieRow row → IfSome o LieRow → IfSome (if b then Some row else o) LieRow
+  chosen_lies row true o h k = h
+  chosen_lies row false o h k = k
+
+  rows_lie : (x : List ℕ) (rs : List (List ℕ × Row)) → LieRows rs → IfSome (named x rs) LieRow
+  rows_lie x [] h = tt
+  rows_lie x (r ∷ rs) h = chosen_lies r.1 (bytes_eq x r.0) (named x rs) h.0 (rows_lie x rs h.1)
+
+  row_lies : (o : Option Row) → IfSome o LieRow → LieRow (row_seen o)
+  row_lies (Some row) g at h ds from to a b k = g at h ds from to a b k
+  row_lies None g at h ds from to a b k = one_lies (refused 5 h) from to b
+
+  word_lies : (x : List ℕ) → LieRow (row_seen (named x (rows w)))
+  word_lies x =
+      row_lies (named x (rows w))
+      (rows_lie x (rows w)
+      (record_lies, (function_lies, (display_lies, (command_lies, (frame_lies, (planned_row_lies, (planned_row_lies, (planned_row_lies, (planned_row_lies,
+      (planned_row_lies, (planned_row_lies, (planned_row_lies, (planned_row_lies, (planned_row_lies, tt)))))))))))))))
+
+  listed_declaration_lies : (at : ℕ) (ds : List Datum) (from to : ℕ) → Within from at to → LieList from ds to → LieParts from (listed_seen w at ds) to
+  listed_declaration_lies at [] from to a k = one_lies (refused 6 at) from to a
+  listed_declaration_lies at (word x h ∷ ds) from to a k =
+      word_lies x at h ds from to a (k.1.0, omega (arith, k.1.1, list_rises ds k.0 to k.2))
+      (list_earlier ds from k.0 to (omega (arith, k.1.0, k.1.1)) k.2)
+  listed_declaration_lies at (number z h ∷ ds) from to a k = one_lies (refused 6 at) from to a
+  listed_declaration_lies at (literal s h ∷ ds) from to a k = one_lies (refused 6 at) from to a
+  listed_declaration_lies at (quoted s h name_at ∷ ds) from to a k = one_lies (refused 6 at) from to a
+  listed_declaration_lies at (stray h ∷ ds) from to a k = one_lies (refused 6 at) from to a
+  listed_declaration_lies at (list es h ∷ ds) from to a k = one_lies (refused 6 at) from to a
+
+  pub declaration_lies : (d : Datum) (from to : ℕ) → Lies from d to → LieParts from (declaration_seen w d) to
+  declaration_lies d from to h = listed_declaration_lies (offset d) (parts_of d) from to (own_lies d from to h) (inside d from to h)
+
+  pub text_lies : (ds : List Datum) (from to : ℕ) → LieList from ds to → LieParts from (text_seen w ds) to
+  text_lies [] from to h = h
+  text_lies (d ∷ ds) from to h =
+      parts_joined (declaration_seen w d) (text_seen w ds) from h.0 to (declaration_lies d from h.0 h.1) (text_lies ds h.0 to h.2)

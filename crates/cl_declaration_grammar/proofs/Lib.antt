@@ -1,0 +1,9 @@
+pub mod PartsLie
+pub mod KeysLie
+pub mod DeclarationsLie
+pub mod Judging
+pub mod PartsJudged
+pub mod TypesJudged
+pub mod FramesJudged
+pub mod DeclarationsJudged
+pub mod TextVerdicts

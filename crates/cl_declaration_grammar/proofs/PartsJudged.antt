@@ -1,0 +1,82 @@
+-- The readings of names, expressions and bodies answer to the part that they are.
+use Rattle.std.proofs.Common.{◌≡◌, ℕ, ◌≤◌, ◌⊎◌, inl, inr, Bool, true, false, List, [], ◌∷◌, refl, sym, arith, ◌∙◌}
+use Rattle.std.specs.Prelude.{Result, Ok, Err, Option, Some, None, is_some}
+use Rattle.std.proofs.Math.Path.{subst}
+use Rattle.cl_syntax.specs.ExprTree.{ExprTree}
+use Rattle.cl_forms.specs.Datum.{Datum, datums_of, in_order}
+use Rattle.cl_forms.proofs.Data.{data_in_order}
+use Rattle.cl_words.specs.Signatures.{record_in, display_in}
+use Rattle.cl_words.specs.declared.signatures.Signatures.{Signatures}
+use Rattle.cl_expressions.specs.Load.{Load, Notes, Fault, after, ◌>>=◌, give, refuse, noted, first_of}
+use Rattle.cl_expressions.specs.Scopes.{Names}
+use Rattle.cl_expressions.specs.Expressions.{parse_expression}
+use Rattle.cl_bodies.specs.DisplayForms.{parse_shapes}
+use Rattle.cl_bodies.specs.Statements.{parse_acts}
+use Rattle.cl_grammar.specs.Sights.{Seen, expression}
+use Rattle.cl_grammar.specs.Unnamed.{IsNoted}
+use Rattle.cl_grammar.proofs.Judging.{Any, Verdict, noted_none, noted_one, verdict_same}
+use Rattle.cl_grammar.proofs.Judged.{expression_judged}
+use Rattle.cl_text_grammar.specs.FormSights.{forms_seen}
+use Rattle.cl_text_grammar.proofs.ActsJudged.{acts_judged}
+use Rattle.cl_text_grammar.proofs.ShapesJudged.{shapes_judged}
+use Rattle.cl_declaration_grammar.specs.Parts.{Part, refused, type_name, display_name, expressions, shapes, acts, SomeOf, PartBlames, PartUnnamed}
+use Rattle.cl_declaration_grammar.proofs.PartsLie.{LiePart, LieParts, parts_later}
+use Rattle.cl_declaration_grammar.proofs.Judging.{Judges, Blamed, Missing}
+
+-- one part, or nothing behind it
+only : {A : Type 0} → A ⊎ ⊥ → A
+only (inl a) = a
+only (inr e) = absurd e
+
+module _ (w : Signatures) where
+  only_verdict : {A : Type 0} (p : Part) (Q : A → Type 0) (u : Notes) (r : Result (A × Notes) Fault)
+      → Verdict (λ n o. PartBlames w n o p) (λ o. PartUnnamed w o p) Q u r → Verdict (Blamed w (p ∷ [])) (Missing w (p ∷ [])) Q u r
+  only_verdict p Q u r h =
+      verdict_same (λ n o. PartBlames w n o p) (Blamed w (p ∷ [])) (λ o. PartUnnamed w o p) (Missing w (p ∷ [])) Q
+      (λ n o b. inl b) (λ n o b. only b) (λ o b. inl b) (λ o b. only b) u r h
+
+  -- a reading that answers to a part wherever that lies
+  pub part_judged : {A : Type 0} (p : Part) (Q : A → Type 0) (m : Load A)
+      → ((from to : ℕ) → LiePart from p to → (u : Notes) → Verdict (λ n o. PartBlames w n o p) (λ o. PartUnnamed w o p) Q u (m u)) → Judges w (p ∷ []) Q m
+  part_judged p Q m h = record { judged = λ from to lie u. only_verdict p Q u (m u) (h from lie.0 lie.1 u) }
+
+  pub expression_part : (d : Datum) (env : Names) → Judges w (expressions (expression env d ∷ []) ∷ []) Any (parse_expression w d env)
+  expression_part d env =
+      part_judged (expressions (expression env d ∷ [])) Any (parse_expression w d env) λ from to lie u.
+      (expression_judged w d env).judged from to lie u
+
+  -- ---- names
+
+  unnamed_type : (x : List ℕ) (at : ℕ) → record_in w x ≡ None → (u : Notes)
+      → Verdict {A = Unit {0}} (λ n o. PartBlames w n o (type_name x at)) (λ o. PartUnnamed w o (type_name x at)) Any u (noted false at u)
+  unnamed_type x at e u = (tt, λ n o b. b, noted_one (λ o. PartUnnamed w o (type_name x at)) u.unknown at (e, refl) (λ o b. b.1))
+
+  pub type_name_judged : (x : List ℕ) (at : ℕ) → record_in w x ≡ None → Judges w (type_name x at ∷ []) Any (noted false at)
+  type_name_judged x at e = part_judged (type_name x at) Any (noted false at) λ from to lie u. unnamed_type x at e u
+
+  none_some : {A : Type 0} {x : A} → ◌≡◌ {A = Option A} (Some x) None → ⊥
+  none_some e = cc
+
+  display_known : (o : Option (Option ℕ)) (x : List ℕ) (at : ℕ) → display_in w x ≡ o → (u : Notes)
+      → Verdict {A = Unit {0}} (λ n o. PartBlames w n o (display_name x at)) (λ o. PartUnnamed w o (display_name x at)) Any u (noted (is_some o) at u)
+  display_known None x at e u = (tt, λ n o b. b, noted_one (λ o. PartUnnamed w o (display_name x at)) u.unknown at (e, refl) (λ o b. b.1))
+  display_known (Some count) x at e u =
+      (tt, λ n o b. b, noted_none (λ o. PartUnnamed w o (display_name x at)) u.unknown (λ o b. none_some (sym e ∙ b.0)))
+
+  pub display_name_judged : (x : List ℕ) (at : ℕ) → Judges w (display_name x at ∷ []) Any (noted (is_some (display_in w x)) at)
+  display_name_judged x at =
+      part_judged (display_name x at) Any (noted (is_some (display_in w x)) at) λ from to lie u. display_known (display_in w x) x at refl u
+
+  -- ---- bodies
+
+  pub shapes_part : (ds : List Datum) (env : Names) → Judges w (shapes (forms_seen env ds) ∷ []) Any (parse_shapes w (datums_of ds) env)
+  shapes_part ds env =
+      subst (λ es. Judges w (shapes (forms_seen env es) ∷ []) Any (parse_shapes w (datums_of ds) env)) (data_in_order ds)
+      (part_judged (shapes (forms_seen env (in_order (datums_of ds)))) Any (parse_shapes w (datums_of ds) env) λ from to lie u.
+      (shapes_judged w (datums_of ds) env).judged from to lie u)
+
+  pub acts_part : (ds : List Datum) (env : Names) → Judges w (acts (forms_seen env ds) ∷ []) Any (parse_acts w (datums_of ds) env)
+  acts_part ds env =
+      subst (λ es. Judges w (acts (forms_seen env es) ∷ []) Any (parse_acts w (datums_of ds) env)) (data_in_order ds)
+      (part_judged (acts (forms_seen env (in_order (datums_of ds)))) Any (parse_acts w (datums_of ds) env) λ from to lie u.
+      (acts_judged w (datums_of ds) env).judged from to lie u)

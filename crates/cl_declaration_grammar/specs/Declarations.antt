@@ -1,0 +1,84 @@
+-- What is looked at of a declaration.
+use Rattle.std.specs.Prelude.{ℕ, ◌&&◌, is_some, if◌then◌else◌, List, [], ◌∷◌, ◌++◌, Option, Some, None, codes}
+use Rattle.cl_table.specs.Names.{named}
+use Rattle.cl_forms.specs.Datum.{Datum, number, literal, word, quoted, stray, list, parts_of, offset}
+use Rattle.cl_forms.specs.Naming.{are_names, name_in}
+use Rattle.cl_words.specs.declared.signatures.Signatures.{Signatures}
+use Rattle.cl_declare.specs.Commands.{CommandHead, command_head}
+use Rattle.cl_declare.specs.Names.{is_list, is_name_list, variables_in}
+use Rattle.cl_grammar.specs.Sights.{expression}
+use Rattle.cl_text_grammar.specs.FormSights.{forms_seen}
+use Rattle.cl_declaration_grammar.specs.Parts.{Part, refused, expressions, shapes, acts, wrong, planned, planned_keys, planned_parts}
+use Rattle.cl_declaration_grammar.specs.Frames.{frame_seen}
+
+-- what is looked at of a declaration, by its offset, the offset of its head, and its parts
+abbrev pub Row : Type 0
+Row = ℕ → ℕ → List Datum → List Part
+
+-- `(define-record NAME FIELD FIELD ...)`: nothing but names
+abbrev pub record_seen : Row
+record_seen at h (n ∷ f ∷ fs) = if are_names (n ∷ f ∷ fs) then [] else wrong at
+record_seen at h parts = wrong at
+
+-- `(define-function NAME (PARAMETER ...) BODY)`: the body sees the parameters
+abbrev pub function_seen : Row
+function_seen at h (n ∷ ps ∷ e ∷ []) =
+    if is_some (name_in n) && is_name_list ps then expressions (expression (variables_in ps) e ∷ []) ∷ [] else wrong at
+function_seen at h parts = wrong at
+
+-- `(define-display NAME (PARAMETER ...) FORM ...)`: the body sees the parameters
+abbrev pub display_seen : Row
+display_seen at h (n ∷ ps ∷ body) = if is_some (name_in n) && is_name_list ps then shapes (forms_seen (variables_in ps) body) ∷ [] else wrong at
+display_seen at h parts = wrong at
+
+-- the head of a command, its arguments and its body, which sees no variable
+abbrev pub headed_seen : ℕ → Option CommandHead → List Datum → List Datum → List Part
+headed_seen at None arguments body = wrong at
+headed_seen at (Some c) arguments body = planned_keys c.keys ++ planned_parts arguments ++ acts (forms_seen [] body) ∷ []
+
+-- `(define-command NAME () STATEMENT ...)`, where the name may be `(NAME KEY VALUE ...)`
+abbrev pub command_seen : Row
+command_seen at h (c ∷ arguments ∷ body) = if is_list arguments then headed_seen at (command_head c) (parts_of arguments) body else wrong at
+command_seen at h parts = wrong at
+
+-- what is not built yet
+abbrev pub planned_seen : Row
+planned_seen at h parts = planned h ∷ []
+
+-- the rows by their words
+abbrev pub rows : Signatures → List (List ℕ × Row)
+rows w =
+    (codes "define-record", record_seen)
+    ∷ (codes "define-function", function_seen)
+    ∷ (codes "define-display", display_seen)
+    ∷ (codes "define-command", command_seen)
+    ∷ (codes "define-application-frame", λ at h parts. frame_seen w at parts)
+    ∷ (codes "define-host-type", planned_seen)
+    ∷ (codes "define-presentation-type", planned_seen)
+    ∷ (codes "define-present-method", planned_seen)
+    ∷ (codes "define-accept-method", planned_seen)
+    ∷ (codes "define-command-table", planned_seen)
+    ∷ (codes "define-presentation-translator", planned_seen)
+    ∷ (codes "define-presentation-to-command-translator", planned_seen)
+    ∷ (codes "define-drag-and-drop-translator", planned_seen)
+    ∷ (codes "define-dialog", planned_seen)
+    ∷ []
+
+-- one of the rows: no other word heads a declaration
+abbrev pub row_seen : Option Row → Row
+row_seen (Some row) at h parts = row at h parts
+row_seen None at h parts = refused 5 h ∷ []
+
+-- a declaration begins with a symbol
+abbrev pub listed_seen : Signatures → ℕ → List Datum → List Part
+listed_seen w at (word x h ∷ parts) = row_seen (named x (rows w)) at h parts
+listed_seen w at [] = wrong at
+listed_seen w at (number z h ∷ parts) = wrong at
+listed_seen w at (literal s h ∷ parts) = wrong at
+listed_seen w at (quoted s h name_at ∷ parts) = wrong at
+listed_seen w at (stray h ∷ parts) = wrong at
+listed_seen w at (list es h ∷ parts) = wrong at
+
+-- a declaration is a list; an atom has no parts
+abbrev pub declaration_seen : Signatures → Datum → List Part
+declaration_seen w d = listed_seen w (offset d) (parts_of d)
