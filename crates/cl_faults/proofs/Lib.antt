@@ -10,3 +10,4 @@ pub mod FrameFaults
 pub mod DeclarationFaults
 pub mod FirstFault
 pub mod TextOrder
+pub mod LoadedText

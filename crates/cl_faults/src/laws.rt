@@ -1,4 +1,4 @@
-//! What the first fault of a text is. The contracts are the laws.
+//! What the first fault of a text is, and what a text has that loads. The contracts are the laws.
 ghost use Rattle.std.specs.Prelude.{◌≡◌, ℕ, List, Err};
 ghost use Rattle.cl_forms.specs.Datum.{Datum};
 ghost use Rattle.cl_forms.specs.Outer.{outer_in, outers_of};
@@ -7,8 +7,11 @@ ghost use Rattle.cl_expressions.specs.Load.{Notes};
 ghost use Rattle.cl_words.specs.declared.signatures.Signatures.{Signatures};
 ghost use Rattle.cl_declare.specs.Declarations.{parse_declaration, parse_declarations};
 ghost use Rattle.cl_declare.specs.declared.declarations.Declarations.{Declarations};
-ghost use Rattle.cl_load.specs.Application.{AreForms, data_of};
+ghost use Rattle.cl_load.specs.Application.{AreForms, IsApplication, IsRefusal, data_of};
+ghost use Rattle.cl_application.specs.declared.applications.App.{App};
+ghost use Rattle.cl_text_grammar.specs.FormBlames.{IsFirst};
 ghost use Rattle.cl_faults.specs.Faults.{StandsIn, AreInOrder, IsLeastFault};
+ghost use Rattle.cl_faults.specs.Loaded.{DataBlame, IsDeclared, IsFirstUnnamed};
 
 /// The fault of a form stands in it, whatever was read before.
 #[tactic(auto, using(crate::proofs::FirstFault::faults_stand_in_their_form))]
@@ -35,4 +38,26 @@ pub fn first_fault_of_a_text_has_least_offset()
     ensures { (bytes : List ℕ) (forms : List Tree) (w : Signatures) (notes : Notes) (n o : ℕ)
         → AreForms bytes forms → parse_declarations w (outers_of (data_of forms)) notes ≡ Err (n, o)
         → IsLeastFault w (data_of forms) n o }
+{}
+
+/// In a text that loads no form is to blame, and each name is declared: no call has a wrong count, and no name is without its
+/// declaration.
+#[tactic(auto, using(crate::proofs::LoadedText::loaded_declared))]
+pub fn what_loads_is_declared()
+    ensures { (bytes : List ℕ) (app : App) → IsApplication bytes app → IsDeclared bytes }
+{}
+
+/// The first form of a text that is to blame is its refusal.
+#[tactic(auto, using(crate::proofs::LoadedText::blame_refused))]
+pub fn first_blame_of_a_text_is_its_refusal()
+    ensures { (bytes : List ℕ) (forms : List Tree) (number at : ℕ) → AreForms bytes forms
+        → IsFirst (DataBlame (data_of forms)) number at → IsRefusal bytes number at }
+{}
+
+/// The first name of a text that is not declared is its refusal, by 8, where nothing in the text is to blame, past a limit or
+/// declared twice.
+#[tactic(auto, using(crate::proofs::LoadedText::unnamed_refused))]
+pub fn first_unnamed_of_a_text_is_its_refusal()
+    ensures { (bytes : List ℕ) (forms : List Tree) (at : ℕ) → AreForms bytes forms
+        → IsFirstUnnamed (data_of forms) at → IsRefusal bytes 8 at }
 {}
