@@ -21,7 +21,8 @@ use Rattle.cl_grammar.specs.Sights.{expression}
 use Rattle.cl_grammar.proofs.Judging.{Any}
 use Rattle.cl_text_grammar.specs.FormSights.{forms_seen}
 use Rattle.cl_declaration_grammar.specs.Parts.{Part, acts, wrong, planned_keys, planned_parts}
-use Rattle.cl_declaration_grammar.specs.Declarations.{Row, record_seen, function_seen, display_seen, headed_seen, command_seen, planned_seen, rows, row_seen, listed_seen, declaration_seen}
+use Rattle.cl_declaration_grammar.specs.Declarations.{Row, record_seen, function_seen, display_seen, headed_seen, command_seen, planned_seen, rows}
+use Rattle.cl_declaration_grammar.specs.Declarations.{row_seen, listed_seen, declaration_seen}
 use Rattle.cl_declaration_grammar.specs.Frames.{frame_seen}
 use Rattle.cl_declaration_grammar.specs.Texts.{text_seen}
 use Rattle.cl_declaration_grammar.proofs.Judging.{Judges, joined, then_given, ended, refused_first}

@@ -13,7 +13,8 @@ use Rattle.cl_expressions.specs.Load.{Load, ◌>>=◌, give, refuse}
 use Rattle.cl_expressions.specs.Expressions.{parse_expression}
 use Rattle.cl_bodies.specs.SlotTypes.{parse_type}
 use Rattle.cl_declare.specs.Frames.{frame_keys, frame_shape}
-use Rattle.cl_declare.specs.Sections.{SlotTable, parse_slot, parse_slots, note_display, note_pane, no_more, parse_panes, parse_section, parse_sections, frame_of, parse_shaped, parse_keyed, parse_frame}
+use Rattle.cl_declare.specs.Sections.{SlotTable, parse_slot, parse_slots, note_display, note_pane, no_more, parse_panes, parse_section}
+use Rattle.cl_declare.specs.Sections.{parse_sections, frame_of, parse_shaped, parse_keyed, parse_frame}
 use Rattle.cl_declare.specs.declared.frames.FrameShape.{FrameShape}
 use Rattle.cl_grammar.specs.Sights.{expression}
 use Rattle.cl_grammar.proofs.Judging.{Any}

@@ -63,7 +63,8 @@ section_lies may_have (list (item k ds) at) from to h =
     let own : Within (at + 1) (offset k) h.2.0 = own_lies k (at + 1) h.2.0 h.2.1 in
     let behind : LieList (offset k + 1) (in_order ds) to =
     list_earlier (in_order ds) (offset k + 1) h.2.0 to (omega (arith, own.1)) (list_lies ds h.2.0 to h.2.2) in
-    keyed_lies (key_in may_have k) (offset k) (in_order ds) from to (omega (arith, h.0, own.0), omega (arith, own.1, list_rises (in_order ds) h.2.0 to (list_lies ds h.2.0 to h.2.2))) behind
+    let rises : h.2.0 ≤ to = list_rises (in_order ds) h.2.0 to (list_lies ds h.2.0 to h.2.2) in
+    keyed_lies (key_in may_have k) (offset k) (in_order ds) from to (omega (arith, h.0, own.0), omega (arith, own.1, rises)) behind
 section_lies may_have (number z at) from to h = tt
 section_lies may_have (literal s at) from to h = tt
 section_lies may_have (word s at) from to h = tt

@@ -11,10 +11,13 @@ use Rattle.cl_words.specs.TypeNames.{is_plain_type, is_ranged_type, is_later_typ
 use Rattle.cl_words.specs.declared.signatures.Signatures.{Signatures}
 use Rattle.cl_expressions.specs.Load.{Load, ◌>>=◌, give, refuse, placed}
 use Rattle.cl_bodies.specs.PlannedKeys.{no_keys}
-use Rattle.cl_bodies.specs.SlotTypes.{type_named, parse_plain_type, parse_record_type, parse_ranged_type, parse_type_named, parse_type_head, parse_type_parts, option_keys, parse_type_options, parse_type_first, parse_type_list, parse_specifier, parse_type}
+use Rattle.cl_bodies.specs.SlotTypes.{type_named, parse_plain_type, parse_record_type, parse_ranged_type, parse_type_named, parse_type_head}
+use Rattle.cl_bodies.specs.SlotTypes.{parse_type_parts, option_keys, parse_type_options, parse_type_first, parse_type_list, parse_specifier}
+use Rattle.cl_bodies.specs.SlotTypes.{parse_type}
 use Rattle.cl_grammar.proofs.Judging.{Any, noted_none}
 use Rattle.cl_declaration_grammar.specs.Parts.{Part, refused, planned, wrong, planned_keys}
-use Rattle.cl_declaration_grammar.specs.Types.{plain_type_seen, ranged_type_seen, own_type_seen, named_type_seen, headed_type_seen, type_parts_seen, type_options_seen, first_type_seen, listed_type_seen, type_seen}
+use Rattle.cl_declaration_grammar.specs.Types.{plain_type_seen, ranged_type_seen, own_type_seen, named_type_seen, headed_type_seen, type_parts_seen}
+use Rattle.cl_declaration_grammar.specs.Types.{type_options_seen, first_type_seen, listed_type_seen, type_seen}
 use Rattle.cl_declaration_grammar.proofs.Judging.{Judges, Missing, joined, then_given, ended, refused_first}
 use Rattle.cl_declaration_grammar.proofs.PartsJudged.{type_name_judged}
 
