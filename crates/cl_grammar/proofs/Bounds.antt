@@ -17,6 +17,9 @@ use Rattle.cl_grammar.proofs.Lying.{LieSeen, LieSight, list_lies, form_lies, see
 abbrev pub Within : ℕ → ℕ → ℕ → Type 0
 Within from o to = (from ≤ o) × (o < to)
 
+pub before_within : (from middle to : ℕ) {o p : ℕ} → Within from o middle → Within middle p to → o ≤ p
+before_within from middle to {o} {p} l r = omega (arith, l.1, r.0)
+
 part_lies : (w : Signatures) (env : Names) (ds : Datums) (at from to : ℕ) (s : Sight) → form_seen w env (in_order ds) ≡ s → Lies from (list ds at) to
     → LieSight (at + 1) s to
 part_lies w env ds at from to s e h =
@@ -177,7 +180,7 @@ module _ {w : Signatures} where
     one_number (in_a_part {env} {ds} {at} {ps} {number = n} {offset = o} e a) m from to h b =
         any_one_number a m (at + 1) to (part_lies w env ds at from to (Sees ps) e h) (subst (λ s. SightBlames w s at m o) e (form_blamed b))
 
-    any_one_number : {ps : List Seen} {n o : ℕ} → BlamesAny w ps n o → (m from to : ℕ) → LieSeen from ps to → BlamesAny w ps m o → n ≡ m
+    pub any_one_number : {ps : List Seen} {n o : ℕ} → BlamesAny w ps n o → (m from to : ℕ) → LieSeen from ps to → BlamesAny w ps m o → n ≡ m
     any_one_number (in_the_first a) m from to h (in_the_first b) = one_number a m from h.0 h.1 b
     any_one_number (in_the_first {env} {d} {ps} {number = n} {offset = o} a) m from to h (in_a_later b) =
         let left : Within from o h.0 = blames_within a from h.0 h.1 in

@@ -1,4 +1,4 @@
--- The functions that a text declares have names.
+-- The functions and displays that a text declares have names.
 use Rattle.std.proofs.Common.{◌≡◌, ℕ, Bool, true, false, if◌then◌else◌, List, [], ◌∷◌, ◌++◌, refl, ap, ◌∙◌}
 use Rattle.std.specs.Prelude.{Option, Some, None, is_some, option_and_then}
 use Rattle.std.specs.Option.{IfSome}
@@ -26,7 +26,7 @@ use Rattle.cl_grammar.specs.Heads.{CallsNames}
 use Rattle.cl_grammar.proofs.Spelled.{same_word, found_one}
 
 -- each word of the table is a name
-abbrev AreNamed : {D : Type 0} → List (List ℕ × D) → Type 0
+abbrev pub AreNamed : {D : Type 0} → List (List ℕ × D) → Type 0
 AreNamed [] = Unit {0}
 AreNamed (e ∷ es) = (is_name e.0 ≡ true) × AreNamed es
 
@@ -34,7 +34,7 @@ one_more : {D : Type 0} (es : List (List ℕ × D)) (x : List ℕ) (v : D) → A
 one_more [] x v h k = (k, tt)
 one_more (e ∷ es) x v h k = (h.0, one_more es x v h.1 k)
 
-found_named : {D : Type 0} (x : List ℕ) (es : List (List ℕ × D)) (d : D) → AreNamed es → named x es ≡ Some d → is_name x ≡ true
+pub found_named : {D : Type 0} (x : List ℕ) (es : List (List ℕ × D)) (d : D) → AreNamed es → named x es ≡ Some d → is_name x ≡ true
 found_named x [] d h e = cc
 found_named x (f ∷ es) d h e =
     found_one (bytes_eq x f.0) f.1 (named x es) d (is_name x ≡ true) (λ i. ap is_name (same_word x f.0 i) ∙ h.0) (found_named x es d h.1) e
@@ -112,6 +112,9 @@ outers_named : (w : Signatures) (os : List Outer) → DeclaresNamed w → Declar
 outers_named w [] h = h
 outers_named w (o ∷ os) h = outers_named (with_outer w o) os (kind_named w o.kind o h)
 
+pub callees_named : (forms : List Outer) → AreNamed (signatures_of forms).callees
+callees_named forms = outers_named nothing_declared forms tt
+
 counted_named : (x : List ℕ) (es : List (List ℕ × Callee)) (o : Option Callee) (count : Option ℕ) → AreNamed es → named x es ≡ o
     → function_count o ≡ Some count → is_name x ≡ true
 counted_named x es (Some c) count h e i = found_named x es c h e
@@ -120,4 +123,4 @@ counted_named x es None count h e i = cc
 pub declared_named : (forms : List Outer) → CallsNames (signatures_of forms)
 declared_named forms x count e =
     let w : Signatures = signatures_of forms in
-    counted_named x w.callees (named x w.callees) count (outers_named nothing_declared forms tt) refl e
+    counted_named x w.callees (named x w.callees) count (callees_named forms) refl e

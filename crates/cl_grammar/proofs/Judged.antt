@@ -94,7 +94,7 @@ module _ (w : Signatures) where
   -- ---- bindings
 
   -- what a binding sees, and the names behind it
-  abbrev JudgedBinding : Names → List Datum → Load Binding → Type 0
+  abbrev pub JudgedBinding : Names → List Datum → Load Binding → Type 0
   JudgedBinding env ds m = Judges w (value_seen env ds) (λ b. b.name ∷ env ≡ names_behind env ds) m
 
   name_is : (n : Datum) (o : Option (List ℕ)) → name_in n ≡ o → is_some o ≡ true → (x : List ℕ) × (o ≡ Some x) × (x ≡ symbol_of n)
@@ -148,7 +148,7 @@ module _ (w : Signatures) where
       parts_judged ds,
     )
 
-    bindings_judged : (d : Datum) (at : ℕ) (env : Names) → is_binding_list d ≡ true
+    pub bindings_judged : (d : Datum) (at : ℕ) (env : Names) → is_binding_list d ≡ true
         → Judges w (values_seen env (parts_of d)) (λ r. r.1 ≡ names_bound env (parts_of d)) (parse_bindings w d at env)
     bindings_judged (list ds list_at) at env h = each_binding_judged ds at env h
     bindings_judged (number z d_at) at env h = absurd (false_true h)
@@ -168,7 +168,7 @@ module _ (w : Signatures) where
         (subst (λ names. Judges w (values_seen names (in_order ds)) (λ r. r.1 ≡ names_bound names (in_order ds)) (parse_each_binding w ds at (b.name ∷ env))) i
         (each_binding_judged ds at (b.name ∷ env) parts.1)) λ r j. j
 
-    binding_judged : (d : Datum) (at : ℕ) (env : Names) → is_binding (parts_of d) ≡ true → JudgedBinding env (parts_of d) (parse_binding w d at env)
+    pub binding_judged : (d : Datum) (at : ℕ) (env : Names) → is_binding (parts_of d) ≡ true → JudgedBinding env (parts_of d) (parse_binding w d at env)
     binding_judged (list ds list_at) at env h = binding_parts_judged ds at env h (parts_judged ds)
     binding_judged (number z d_at) at env h = absurd (false_true h)
     binding_judged (literal s d_at) at env h = absurd (false_true h)

@@ -13,7 +13,7 @@ use Rattle.cl_grammar.specs.Blames.{Blames, BlamesAny, a_misshapen_form, an_unkn
 use Rattle.cl_grammar.specs.Unnamed.{Unnamed, UnnamedAny, IsNoted}
 use Rattle.cl_grammar.specs.Unnamed as unnamed
 use Rattle.cl_grammar.proofs.Lying.{LieSeen, LieSight, LieApart, seen_split, list_lies, form_lies}
-use Rattle.cl_grammar.proofs.Bounds.{Within, blames_any_within, unnamed_any_within, none_blamed, none_unnamed, blames_left, blames_right, blames_split, unnamed_left, unnamed_right, unnamed_split, only_blamed, only_unnamed, slot_unnamed, record_unnamed, slot_blames, record_blames, SightBlames, SightUnnamed, form_blamed, form_unnamed}
+use Rattle.cl_grammar.proofs.Bounds.{before_within, blames_any_within, unnamed_any_within, none_blamed, none_unnamed, blames_left, blames_right, blames_split, unnamed_left, unnamed_right, unnamed_split, only_blamed, only_unnamed, slot_unnamed, record_unnamed, slot_blames, record_blames, SightBlames, SightUnnamed, form_blamed, form_unnamed}
 use Rattle.cl_grammar.proofs.Spelled.{false_true}
 
 -- no value asks for more
@@ -44,54 +44,73 @@ noted_same N M f g (Some earlier) v h = h
 noted_same N M f g None None h = λ o b. h o (g o b)
 noted_same N M f g None (Some first) h = (f first h.0, λ o b. h.1 o (g o b))
 
-neither : {A B C : Type 0} → (A → C) → (B → C) → A ⊎ B → C
+pub neither : {A B C : Type 0} → (A → C) → (B → C) → A ⊎ B → C
 neither f g (inl a) = f a
 neither f g (inr b) = g b
 
-module _ (w : Signatures) (ps qs : List Seen) (from middle to : ℕ) (l : LieSeen from ps middle) (r : LieSeen middle qs to) where
-  noted_before : (first : ℕ) → UnnamedAny w ps first → (o : ℕ) → UnnamedAny w qs o → first ≤ o
-  noted_before first a o b =
-      let left : Within from first middle = unnamed_any_within a from middle l in
-      let right : Within middle o to = unnamed_any_within b middle to r in
-      omega (arith, left.1, right.0)
+-- what is blamed and not declared in two together is so in the one or in the other, and all of the first stands before the second
+pub record Joins (B C D : ℕ → ℕ → Type 0) (L M N : ℕ → Type 0) : Type 0 where
+  pub blames_first : (n o : ℕ) → B n o → D n o
+  pub blames_second : (n o : ℕ) → C n o → D n o
+  pub blames_either : (n o : ℕ) → D n o → B n o ⊎ C n o
+  pub blames_rise : (n o m p : ℕ) → B n o → C m p → o ≤ p
+  pub unnamed_first : (o : ℕ) → L o → N o
+  pub unnamed_second : (o : ℕ) → M o → N o
+  pub unnamed_either : (o : ℕ) → N o → L o ⊎ M o
+  pub unnamed_rise : (o p : ℕ) → L o → M p → o ≤ p
 
-  noted_joined : (u v z : Option ℕ) → IsNoted (UnnamedAny w ps) u v → IsNoted (UnnamedAny w qs) v z → IsNoted (UnnamedAny w (ps ++ qs)) u z
-  noted_joined (Some earlier) v z h k = subst (λ s. IsNoted (UnnamedAny w qs) s z) h k
-  noted_joined None None None h k = λ o b. neither (h o) (k o) (unnamed_split ps qs o b)
-  noted_joined None None (Some first) h k =
-      (unnamed_right ps qs first k.0, λ o b. neither (λ c. absurd (h o c)) (k.1 o) (unnamed_split ps qs o b))
+-- ---- one reading behind another
+
+module _ {B C D : ℕ → ℕ → Type 0} {L M N : ℕ → Type 0} (j : Joins B C D L M N) where
+  noted_joined : (u v z : Option ℕ) → IsNoted L u v → IsNoted M v z → IsNoted N u z
+  noted_joined (Some earlier) v z h k = subst (λ s. IsNoted M s z) h k
+  noted_joined None None None h k = λ o b. neither (h o) (k o) (j.unnamed_either o b)
+  noted_joined None None (Some first) h k = (j.unnamed_second first k.0, λ o b. neither (λ c. absurd (h o c)) (k.1 o) (j.unnamed_either o b))
   noted_joined None (Some first) z h k =
-      subst (IsNoted (UnnamedAny w (ps ++ qs)) None) (sym k)
-      (unnamed_left ps qs first h.0, λ o b. neither (h.1 o) (noted_before first h.0 o) (unnamed_split ps qs o b))
+      subst (IsNoted N None) (sym k)
+      (j.unnamed_first first h.0, λ o b. neither (h.1 o) (λ c. j.unnamed_rise first o h.0 c) (j.unnamed_either o b))
 
-  -- ---- one reading behind another
-
-  fault_before : (n o : ℕ) → BlamesAny w ps n o → (m p : ℕ) → BlamesAny w qs m p → o ≤ p
-  fault_before n o a m p b =
-      let left : Within from o middle = blames_any_within a from middle l in
-      let right : Within middle p to = blames_any_within b middle to r in
-      omega (arith, left.1, right.0)
-
-  second_judged : {B : Type 0} (Q : B → Type 0) (u v : Notes) (s : Result (B × Notes) Fault) → ((n o : ℕ) → BlamesAny w ps n o → ⊥)
-      → IsNoted (UnnamedAny w ps) u.unknown v.unknown → Verdict (BlamesAny w qs) (UnnamedAny w qs) Q v s
-      → Verdict (BlamesAny w (ps ++ qs)) (UnnamedAny w (ps ++ qs)) Q u s
+  second_judged : {E : Type 0} (Q : E → Type 0) (u v : Notes) (s : Result (E × Notes) Fault) → ((n o : ℕ) → B n o → ⊥)
+      → IsNoted L u.unknown v.unknown → Verdict C M Q v s → Verdict D N Q u s
   second_judged Q u v (Ok y) h i k =
-      (k.0, λ n o b. neither (h n o) (k.1 n o) (blames_split ps qs n o b), noted_joined u.unknown v.unknown y.1.unknown i k.2)
+      (k.0, λ n o b. neither (h n o) (k.1 n o) (j.blames_either n o b), noted_joined u.unknown v.unknown y.1.unknown i k.2)
   second_judged Q u v (Err fault) h i k =
-      (blames_right ps qs fault.0 fault.1 k.0, λ n o b. neither (λ c. absurd (h n o c)) (k.1 n o) (blames_split ps qs n o b))
+      (j.blames_second fault.0 fault.1 k.0, λ n o b. neither (λ c. absurd (h n o c)) (k.1 n o) (j.blames_either n o b))
 
-  both_judged : {A B : Type 0} (P : A → Type 0) (Q : B → Type 0) (f : A → Load B) → ((x : A) → P x → Judges w qs Q (f x)) → (u : Notes)
-      → (s : Result (A × Notes) Fault) → Verdict (BlamesAny w ps) (UnnamedAny w ps) P u s
-      → Verdict (BlamesAny w (ps ++ qs)) (UnnamedAny w (ps ++ qs)) Q u (after s f)
-  both_judged P Q f g u (Ok x) h = second_judged Q u x.1 (f x.0 x.1) h.1 h.2 ((g x.0 h.0).judged middle to r x.1)
-  both_judged P Q f g u (Err fault) h =
-      (blames_left ps qs fault.0 fault.1 h.0, λ n o b. neither (h.1 n o) (fault_before fault.0 fault.1 h.0 n o) (blames_split ps qs n o b))
+  pub both_judged : {A E : Type 0} (P : A → Type 0) (Q : E → Type 0) (f : A → Load E)
+      → ((x : A) → P x → (v : Notes) → Verdict C M Q v (f x v)) → (u : Notes) → (s : Result (A × Notes) Fault) → Verdict B L P u s
+      → Verdict D N Q u (after s f)
+  both_judged P Q f g u (Ok x) h = second_judged Q u x.1 (f x.0 x.1) h.1 h.2 (g x.0 h.0 x.1)
+  both_judged P Q f g u (Err fault) h = (
+    j.blames_first fault.0 fault.1 h.0,
+    λ n o b. neither (h.1 n o) (λ c. j.blames_rise fault.0 fault.1 n o h.0 c) (j.blames_either n o b),
+  )
 
-given_judged : {A B : Type 0} (w : Signatures) (ps : List Seen) (P : A → Type 0) (Q : B → Type 0) (g : A → B) → ((x : A) → P x → Q (g x)) → (u : Notes)
-    → (s : Result (A × Notes) Fault) → Verdict (BlamesAny w ps) (UnnamedAny w ps) P u s
-    → Verdict (BlamesAny w ps) (UnnamedAny w ps) Q u (after s (λ x. give (g x)))
-given_judged w ps P Q g i u (Ok x) h = (i x.0 h.0, h.1, h.2)
-given_judged w ps P Q g i u (Err fault) h = h
+pub given_judged : {A E : Type 0} (B : ℕ → ℕ → Type 0) (N : ℕ → Type 0) (P : A → Type 0) (Q : E → Type 0) (g : A → E)
+    → ((x : A) → P x → Q (g x)) → (u : Notes) → (s : Result (A × Notes) Fault) → Verdict B N P u s
+    → Verdict B N Q u (after s (λ x. give (g x)))
+given_judged B N P Q g i u (Ok x) h = (i x.0 h.0, h.1, h.2)
+given_judged B N P Q g i u (Err fault) h = h
+
+pub verdict_same : {A : Type 0} (B C : ℕ → ℕ → Type 0) (N M : ℕ → Type 0) (Q : A → Type 0) → ((n o : ℕ) → B n o → C n o)
+    → ((n o : ℕ) → C n o → B n o) → ((o : ℕ) → N o → M o) → ((o : ℕ) → M o → N o) → (u : Notes) (s : Result (A × Notes) Fault)
+    → Verdict B N Q u s → Verdict C M Q u s
+verdict_same B C N M Q f g i j u (Ok x) h = (h.0, λ n o b. h.1 n o (g n o b), noted_same N M i j u.unknown x.1.unknown h.2)
+verdict_same B C N M Q f g i j u (Err fault) h = (f fault.0 fault.1 h.0, λ n o b. h.1 n o (g n o b))
+
+-- parts that lie one behind the other
+parts_join : (w : Signatures) (ps qs : List Seen) (from middle to : ℕ) → LieSeen from ps middle → LieSeen middle qs to
+    → Joins (BlamesAny w ps) (BlamesAny w qs) (BlamesAny w (ps ++ qs)) (UnnamedAny w ps) (UnnamedAny w qs) (UnnamedAny w (ps ++ qs))
+parts_join w ps qs from middle to l r = record {
+  blames_first = λ n o b. blames_left ps qs n o b;
+  blames_second = λ n o b. blames_right ps qs n o b;
+  blames_either = λ n o b. blames_split ps qs n o b;
+  blames_rise = λ n o m p a b. before_within from middle to (blames_any_within a from middle l) (blames_any_within b middle to r);
+  unnamed_first = λ o b. unnamed_left ps qs o b;
+  unnamed_second = λ o b. unnamed_right ps qs o b;
+  unnamed_either = λ o b. unnamed_split ps qs o b;
+  unnamed_rise = λ o p a b. before_within from middle to (unnamed_any_within a from middle l) (unnamed_any_within b middle to r);
+}
 
 module _ {w : Signatures} {B : Type 0} {Q : B → Type 0} where
   pub joined : {A : Type 0} {P : A → Type 0} (ps qs : List Seen) {m : Load A} {f : A → Load B} → Judges w ps P m
@@ -99,7 +118,8 @@ module _ {w : Signatures} {B : Type 0} {Q : B → Type 0} where
   joined {P} ps qs {m} {f} h g = record {
     judged = λ from to lie u.
         let apart : LieApart from ps qs to = seen_split ps qs from to lie in
-        both_judged w ps qs from apart.0 to apart.1 apart.2 P Q f g u (m u) (h.judged from apart.0 apart.1 u);
+        both_judged (parts_join w ps qs from apart.0 to apart.1 apart.2) P Q f (λ x i v. (g x i).judged apart.0 to apart.2 v) u (m u)
+        (h.judged from apart.0 apart.1 u);
   }
 
   -- one part, and then the others
@@ -110,7 +130,7 @@ module _ {w : Signatures} {B : Type 0} {Q : B → Type 0} where
   pub then_given : {A : Type 0} {P : A → Type 0} {ps : List Seen} {m : Load A} (g : A → B) → Judges w ps P m → ((x : A) → P x → Q (g x))
       → Judges w ps Q (m >>= λ x. give (g x))
   then_given {P} {ps} {m} g h i = record {
-    judged = λ from to lie u. given_judged w ps P Q g i u (m u) (h.judged from to lie u);
+    judged = λ from to lie u. given_judged (BlamesAny w ps) (UnnamedAny w ps) P Q g i u (m u) (h.judged from to lie u);
   }
 
   pub ended : {x : B} → Q x → Judges w [] Q (give x)
@@ -148,12 +168,6 @@ module _ (w : Signatures) (x : List ℕ) (at : ℕ) where
   }
 
 -- ---- one datum
-
-verdict_same : {A : Type 0} (B C : ℕ → ℕ → Type 0) (N M : ℕ → Type 0) (Q : A → Type 0) → ((n o : ℕ) → B n o → C n o)
-    → ((n o : ℕ) → C n o → B n o) → ((o : ℕ) → N o → M o) → ((o : ℕ) → M o → N o) → (u : Notes) (s : Result (A × Notes) Fault)
-    → Verdict B N Q u s → Verdict C M Q u s
-verdict_same B C N M Q f g i j u (Ok x) h = (h.0, λ n o b. h.1 n o (g n o b), noted_same N M i j u.unknown x.1.unknown h.2)
-verdict_same B C N M Q f g i j u (Err fault) h = (f fault.0 fault.1 h.0, λ n o b. h.1 n o (g n o b))
 
 -- a datum is judged where it lies
 pub alone : {A : Type 0} (w : Signatures) (env : Names) (d : Datum) (Q : A → Type 0) (m : Load A)

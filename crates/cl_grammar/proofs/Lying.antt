@@ -104,7 +104,7 @@ passed n d from next to h k = datum_earlier d from next to (datum_rises n from n
 abbrev LieRow : (Names → List Datum → Sight) → Type 0
 LieRow row = (env : Names) (ds : List Datum) (from to : ℕ) → LieList from ds to → LieSight from (row env ds) to
 
-all_lie : (env : Names) (ds : List Datum) (from to : ℕ) → LieList from ds to → LieSeen from (all_seen env ds) to
+pub all_lie : (env : Names) (ds : List Datum) (from to : ℕ) → LieList from ds to → LieSeen from (all_seen env ds) to
 all_lie env [] from to h = h
 all_lie env (d ∷ ds) from to h = (h.0, h.1, all_lie env ds h.0 to h.2)
 
@@ -130,7 +130,7 @@ if_lies : LieRow if_seen
 if_lies env (a ∷ b ∷ c ∷ []) from to h = h
 if_lies env ds from to h = tt
 
-value_lies : (env : Names) (d : Datum) (from to : ℕ) → Lies from d to → LieSeen from (value_seen env (parts_of d)) to
+pub value_lies : (env : Names) (d : Datum) (from to : ℕ) → Lies from d to → LieSeen from (value_seen env (parts_of d)) to
 value_lies env (list (item n (item e none)) at) from to h =
     let value : Lies (at + 1) e h.2.2.0 = passed n e (at + 1) h.2.0 h.2.2.0 h.2.1 h.2.2.1 in
     (h.2.2.0, datum_earlier e from (at + 1) h.2.2.0 (omega (arith, h.0)) value, h.2.2.2)
@@ -149,7 +149,7 @@ values_lie env (d ∷ ds) from to h =
     seen_joined (value_seen env (parts_of d)) (values_seen (names_behind env (parts_of d)) ds) from h.0 to (value_lies env d from h.0 h.1)
     (values_lie (names_behind env (parts_of d)) ds h.0 to h.2)
 
-bound_lies : (env : Names) (d : Datum) (from to : ℕ) → Lies from d to → LieSeen from (values_seen env (parts_of d)) to
+pub bound_lies : (env : Names) (d : Datum) (from to : ℕ) → Lies from d to → LieSeen from (values_seen env (parts_of d)) to
 bound_lies env (list ds at) from to h =
     seen_earlier (values_seen env (in_order ds)) from (at + 1) to (omega (arith, h.0)) (values_lie env (in_order ds) (at + 1) to (list_lies ds (at + 1) to h.2))
 bound_lies env (number z at) from to h = omega (arith, h.0, h.1)

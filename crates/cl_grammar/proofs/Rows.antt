@@ -35,12 +35,12 @@ abbrev pub JudgedParts : Signatures → List Sub → Type 0
 JudgedParts w [] = Unit {0}
 JudgedParts w (p ∷ ps) = JudgedPart w p × JudgedParts w ps
 
-length_shapes : (ps : List Sub) → length ps ≡ length (shapes ps)
+pub length_shapes : (ps : List Sub) → length ps ≡ length (shapes ps)
 length_shapes [] = refl
 length_shapes (p ∷ ps) = ap suc (length_shapes ps)
 
 module _ {w : Signatures} where
-  each_judged : (ps : List Sub) (env : Names) → JudgedParts w ps → Judges w (all_seen env (shapes ps)) Any (parse_each ps env)
+  pub each_judged : (ps : List Sub) (env : Names) → JudgedParts w ps → Judges w (all_seen env (shapes ps)) Any (parse_each ps env)
   each_judged [] env k = ended tt
   each_judged (p ∷ ps) env k = then_part (k.0.expr env) λ t i. then_given (λ ts. t ∷ ts) (each_judged ps env k.1) λ ts j. tt
 

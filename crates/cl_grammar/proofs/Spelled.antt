@@ -29,7 +29,7 @@ same_word x w h = (bytes_eq-Decides x w).0 h
 pub record Finds {A : Type 0} (P : A → Type 0) (o : Option A) : Type 0 where
   pub found : IfSome o P
 
-nothing : {A : Type 0} {P : A → Type 0} → Finds P None
+pub nothing : {A : Type 0} {P : A → Type 0} → Finds P None
 nothing = record { found = tt }
 
 chosen : {A : Type 0} {P : A → Type 0} {rest : Option A} (a : A) (b : Bool) → (b ≡ true → P a) → Finds P rest → Finds P (if b then Some a else rest)
@@ -43,11 +43,11 @@ found_one true v o d P h k e = h refl
 found_one false v o d P h k e = k e
 
 -- what stands under this word is a, and else it is among the rest
-word_is : {A : Type 0} {P : A → Type 0} {rest : Option A} (a : A) (x w : List ℕ) → (x ≡ w → P a) → Finds P rest
+pub word_is : {A : Type 0} {P : A → Type 0} {rest : Option A} (a : A) (x w : List ℕ) → (x ≡ w → P a) → Finds P rest
     → Finds P (if bytes_eq x w then Some a else rest)
 word_is a x w h k = chosen a (bytes_eq x w) (λ e. h (same_word x w e)) k
 
-of_some : {A : Type 0} {P : A → Type 0} (a : A) (o : Option A) → o ≡ Some a → Finds P o → P a
+pub of_some : {A : Type 0} {P : A → Type 0} (a : A) (o : Option A) → o ≡ Some a → Finds P o → P a
 of_some {P} a o e h = subst (λ (r : Option _). IfSome r P) e h.found
 
 -- ---- heads
@@ -111,14 +111,14 @@ stands : {w : Signatures} {x y : List ℕ} {h : Head} → x ≡ y
     → ((k : ℕ) (env : Names) (ds : List Datum) → row_seen w (named y (rows w)) y k env ds ≡ seen_under w h k env ds) → IsSpelled y h → Stands w x h
 stands {w} {h} e i j = subst (λ z. Stands w z h) (sym e) (record { seen = i; spelled = j })
 
-first : {A B : Type 0} {P : B → Type 0} {other : Option B} (f : A → B) (o : Option A) → Finds (λ a. P (f a)) o → Finds P other
+pub first : {A B : Type 0} {P : B → Type 0} {other : Option B} (f : A → B) (o : Option A) → Finds (λ a. P (f a)) o → Finds P other
     → Finds P (named_or f o other)
 first f (Some a) h k = record { found = h.found }
 first f None h k = k
 
-last : {A B : Type 0} (P : B → Type 0) (f : A → B) (o : Option A) → Finds (λ a. P (f a)) o → Finds P (option_map f o)
-last P f (Some a) h = record { found = h.found }
-last P f None h = record { found = tt }
+pub last_found : {A B : Type 0} (P : B → Type 0) (f : A → B) (o : Option A) → Finds (λ a. P (f a)) o → Finds P (option_map f o)
+last_found P f (Some a) h = record { found = h.found }
+last_found P f None h = record { found = tt }
 
 module _ (w : Signatures) (x : List ℕ) where
   arithmetic_word : Finds (λ a. Stands w x (head.Operator (operator.Arithmetic a))) (arithmetic_named x)
@@ -217,7 +217,7 @@ module _ (w : Signatures) (x : List ℕ) where
   form_word =
       first (λ c. head.Control c) (control_named x) control_word (first (λ f. head.Figure f) (figure_named x) figure_word
       (first (λ s. head.Setting s) (setting_named x) setting_word (first (λ v. head.Writing v) (writing_named x) writing_word
-      (first (λ c. head.Change c) (change_named x) change_word (last (Stands w x) (λ p. head.Planned p) (planned_named x) planned_word)))))
+      (first (λ c. head.Change c) (change_named x) change_word (last_found (Stands w x) (λ p. head.Planned p) (planned_named x) planned_word)))))
 
   head_word : Finds (Stands w x) (head_named x)
   head_word =

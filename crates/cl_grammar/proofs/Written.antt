@@ -55,7 +55,7 @@ abbrev pub WrittenParts : List Sub → Type 0
 WrittenParts [] = Unit {0}
 WrittenParts (p ∷ ps) = WrittenPart p × WrittenParts ps
 
-each_written : (ps : List Sub) (env : Names) → WrittenParts ps → Ends (λ ts. WritesAll (expr_trees_of ts) (shapes ps)) (parse_each ps env)
+pub each_written : (ps : List Sub) (env : Names) → WrittenParts ps → Ends (λ ts. WritesAll (expr_trees_of ts) (shapes ps)) (parse_each ps env)
 each_written [] env k = gives no_more
 each_written (p ∷ ps) env k = binds (k.0.expr env) λ t a. binds (each_written ps env k.1) λ ts b. gives (one_more a b)
 
@@ -230,7 +230,7 @@ module _ (w : Signatures) (names : CallsNames w) where
   binding_parts_written ds at list_at env k = refuses
 
   mutual
-    expression_ends : (d : Datum) (env : Names) → Ends (λ t. Writes t d) (parse_expression w d env)
+    pub expression_ends : (d : Datum) (env : Names) → Ends (λ t. Writes t d) (parse_expression w d env)
     expression_ends (number z at) env = gives a_number
     expression_ends (literal s at) env = gives a_text
     expression_ends (quoted x at name_at) env = gives a_quoted_name
@@ -243,7 +243,7 @@ module _ (w : Signatures) (names : CallsNames w) where
     parts_written (item d ds) =
         (record { expr = λ env. expression_ends d env; bound = λ at env. bindings_written d at env }, parts_written ds)
 
-    bindings_written : (d : Datum) (at : ℕ) (env : Names) → Ends (λ r. WritesList r.0 d) (parse_bindings w d at env)
+    pub bindings_written : (d : Datum) (at : ℕ) (env : Names) → Ends (λ r. WritesList r.0 d) (parse_bindings w d at env)
     bindings_written (list ds list_at) at env = each_binding_written ds at env
     bindings_written (number z d_at) at env = refuses
     bindings_written (literal s d_at) at env = refuses
