@@ -4,7 +4,7 @@ use Rattle.std.specs.Prelude.{is_some}
 use Rattle.std.specs.Cmp.Lexicographic.{pointwise}
 use Rattle.std.proofs.lemmas.Slice.Eq.{bytes_eq-Decides}
 use Rattle.cl_table.specs.Names.{named}
-use Rattle.cl_phases.specs.SlotReads.{has}
+use Rattle.cl_phases.specs.SlotSearch.{has}
 
 pub same_name : (x y : List ℕ) → pointwise ◌==◌ x y ≡ true → x ≡ y
 same_name x y h = (bytes_eq-Decides x y).0 h

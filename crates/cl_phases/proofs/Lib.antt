@@ -1,6 +1,6 @@
 pub mod Parts
 pub mod Entries
-pub mod SlotSearch
 pub mod UseLemmas
+pub mod SearchLemmas
 pub mod EarlierLemmas
 pub mod RepeatLemmas

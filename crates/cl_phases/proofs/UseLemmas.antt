@@ -1,4 +1,4 @@
--- An expression reads a slot exactly where it uses one.
+-- An expression reads a slot exactly where a slot stands in it, or in the body of a function that is reached from it through calls.
 use Rattle.std.proofs.Common.{◌≡◌, ◌++◌, ℕ, zero, suc, Bool, true, false, ◌||◌, ◌⊎◌, inl, inr, ⊎_elim, List, [], ◌∷◌, Option, Some, None, refl, sym, subst, arith}
 use Rattle.std.specs.Prelude.{Contains}
 use Rattle.std.proofs.lemmas.List.Elements.{Contains-append_left, Contains-append_right, Contains-append_cases, Contains-push, Contains-push_cases}
@@ -6,10 +6,21 @@ use Rattle.cl_table.specs.Names.{named}
 use Rattle.cl_syntax.specs.ExprTree as expr
 use Rattle.cl_syntax.specs.ExprTree.{ExprTree, ExprTrees, Bindings, none, part, unbound, binding}
 use Rattle.cl_application.specs.declared.declarations.FunctionDecl.{FunctionDecl}
-use Rattle.cl_eval.specs.Uses.{slot, variable, Names, NamesAmong, NamesBound, InBody, Within, Uses}
-use Rattle.cl_phases.specs.SlotReads.{Functions, Reaches, itself, calling, ReadsSlot, names_slot, names_slot_among, names_slot_bound, calls, calls_among, calls_bound}
+use Rattle.cl_eval.specs.Uses.{slot, variable, Names, NamesAmong, NamesBound, InBody, Functions, Within, ReadsSlot}
+use Rattle.cl_phases.specs.SlotSearch.{names_slot, names_slot_among, names_slot_bound, calls, calls_among, calls_bound}
 
--- ---- what is used is read
+-- an expression itself, and the body of each function that what is reached calls
+pub data Reaches : Functions → ExprTree → ExprTree → Type 0 where
+  itself : (fs : Functions) (t : ExprTree) → Reaches fs t t
+  calling : (fs : Functions) (t u : ExprTree) (x : List ℕ) (f : FunctionDecl) → Contains (calls t) x → named x fs ≡ Some f → Reaches fs f.body u → Reaches fs t u
+
+-- what is reached names a slot
+pub record ReachesSlot (fs : Functions) (t : ExprTree) : Type 0 where
+  pub reached : ExprTree
+  pub reaches : Reaches fs t reached
+  pub names : names_slot reached ≡ true
+
+-- ---- where one is read, it is reached
 
 -- a slot is named, or one of these functions has it
 abbrev Either : (List ℕ → Type 0) → Bool → List (List ℕ) → Type 0
@@ -82,25 +93,25 @@ module _ (has : List ℕ → Type 0) (x : List ℕ) where
         ⊎_elim (λ q. inl (left (names_slot t) (names_slot_bound bs) (calls t) (calls_bound bs) (split t q)))
         (λ q. ⊎_elim (λ r. inl (right (names_slot t) (names_slot_bound bs) (calls t) (calls_bound bs) r)) (λ r. inr r) (split_bound bs u q.1)) p
 
-through : (fs : Functions) (t : ExprTree) (x : List ℕ) (f : FunctionDecl) → Contains (calls t) x → named x fs ≡ Some f → ReadsSlot fs f.body → ReadsSlot fs t
+through : (fs : Functions) (t : ExprTree) (x : List ℕ) (f : FunctionDecl) → Contains (calls t) x → named x fs ≡ Some f → ReachesSlot fs f.body → ReachesSlot fs t
 through fs t x f c d r = record { reached = r.reached; reaches = calling fs t r.reached x f c d r.reaches; names = r.names }
 
 in_body : (has : List ℕ → Type 0) (x : List ℕ) (o : Option FunctionDecl) → InBody has (slot x) o → (f : FunctionDecl) × ((o ≡ Some f) × Names has (slot x) f.body)
 in_body has x None p = absurd p
 in_body has x (Some f) p = (f, (refl, p))
 
-reads_within : (n : ℕ) (fs : Functions) (x : List ℕ) (t : ExprTree) → Names (Within n fs (slot x)) (slot x) t → ReadsSlot fs t
-reads_within zero fs x t p =
+reaches_within : (n : ℕ) (fs : Functions) (x : List ℕ) (t : ExprTree) → Names (Within n fs (slot x)) (slot x) t → ReachesSlot fs t
+reaches_within zero fs x t p =
     ⊎_elim (λ h. record { reached = t; reaches = itself fs t; names = h }) (λ k. absurd k.1.1) (split (Within zero fs (slot x)) x t p)
-reads_within (suc n) fs x t p =
+reaches_within (suc n) fs x t p =
     ⊎_elim (λ h. record { reached = t; reaches = itself fs t; names = h })
     (λ k. let one = in_body (Within n fs (slot x)) x (named k.0 fs) k.1.1 in
-    through fs t k.0 one.0 k.1.0 one.1.0 (reads_within n fs x one.0.body one.1.1)) (split (Within (suc n) fs (slot x)) x t p)
+    through fs t k.0 one.0 k.1.0 one.1.0 (reaches_within n fs x one.0.body one.1.1)) (split (Within (suc n) fs (slot x)) x t p)
 
-pub used_is_read : (fs : Functions) (t : ExprTree) (x : List ℕ) → Uses fs (slot x) t → ReadsSlot fs t
-used_is_read fs t x u = reads_within u.calls fs x t u.named
+pub read_is_reached : (fs : Functions) (t : ExprTree) → ReadsSlot fs t → ReachesSlot fs t
+read_is_reached fs t r = reaches_within r.1.calls fs r.0 t r.1.named
 
--- ---- what is read is used
+-- ---- where one is reached, it is read
 
 or_cases : (a b : Bool) → (a || b) ≡ true → (a ≡ true) ⊎ (b ≡ true)
 or_cases true b h = inl refl
@@ -182,14 +193,14 @@ module _ (has : List ℕ → Type 0) (x : List ℕ) where
     called_bound (binding y t bs) f c p u =
         ⊎_elim (λ a. inl (called_use t f a p)) (λ a. inr (tt, called_bound bs f a p u)) (Contains-append_cases (calls t) (calls_bound bs) f c)
 
-used_through : (fs : Functions) (t u : ExprTree) → Reaches fs t u → names_slot u ≡ true → (x : List ℕ) × ((n : ℕ) × Names (Within n fs (slot x)) (slot x) t)
-used_through _ _ _ (itself fs t) h = let n = named_use t h in (n.0, (0, n.1 (Within 0 fs (slot n.0))))
-used_through _ _ _ (calling fs t u y f c d r) h =
-    let one = used_through fs f.body u r h in
+reached_use : (fs : Functions) (t u : ExprTree) → Reaches fs t u → names_slot u ≡ true → (x : List ℕ) × ((n : ℕ) × Names (Within n fs (slot x)) (slot x) t)
+reached_use _ _ _ (itself fs t) h = let n = named_use t h in (n.0, (0, n.1 (Within 0 fs (slot n.0))))
+reached_use _ _ _ (calling fs t u y f c d r) h =
+    let one = reached_use fs f.body u r h in
     let inside : Within (suc one.1.0) fs (slot one.0) y = subst (InBody (Within one.1.0 fs (slot one.0)) (slot one.0)) (sym d) one.1.1 in
     (one.0, (suc one.1.0, called_use (Within (suc one.1.0) fs (slot one.0)) one.0 t y c inside))
 
-pub read_is_used : (fs : Functions) (t : ExprTree) → ReadsSlot fs t → (x : List ℕ) × Uses fs (slot x) t
-read_is_used fs t r =
-    let one = used_through fs t r.reached r.reaches r.names in
+pub reached_is_read : (fs : Functions) (t : ExprTree) → ReachesSlot fs t → ReadsSlot fs t
+reached_is_read fs t r =
+    let one = reached_use fs t r.reached r.reaches r.names in
     (one.0, record { calls = one.1.0; named = one.1.1 })

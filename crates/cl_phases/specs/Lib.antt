@@ -1,4 +1,5 @@
 pub mod SlotReads
+pub mod SlotSearch
 pub mod Earlier
 pub mod Limits
 pub mod Repeats

@@ -3,13 +3,11 @@
 
 mod declared_names;
 mod earlier;
-mod laws;
 mod limits;
 mod repeats;
 mod slot_reads;
 mod twice;
 
-pub use laws::reads_are_uses;
 pub use limits::first_past;
-pub use slot_reads::any_reads_slot;
+pub use slot_reads::SlotSearch;
 pub use twice::first_twice;

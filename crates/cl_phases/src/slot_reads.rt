@@ -1,14 +1,18 @@
-//! Whether an opening value reads a slot, through calls too.
+//! Whether opening values read a slot, through calls too.
 ghost use Rattle.std.specs.Prelude.{◌≡◌, ◌↔◌, ◌++◌, IfOk, IsTrue, OnOk, option_map};
 ghost use Rattle.cl_syntax.specs.ExprTree.{expr_trees_of};
 ghost use Rattle.cl_syntax.specs.Expr.{bindings_of};
-ghost use Rattle.cl_phases.specs.SlotReads.{AreClear, ReadsSlot, StaysClear, Tells, body_at, calls, calls_among, calls_bound, names_slot, names_slot_among, names_slot_bound, with_call, with_calls};
+ghost use Rattle.cl_eval.specs.Uses.{ReadsSlot};
+ghost use Rattle.cl_phases.specs.SlotReads.{Tells};
+ghost use Rattle.cl_phases.specs.SlotSearch.{AreClear, StaysClear, body_at, calls, calls_among, calls_bound, names_slot, names_slot_among, names_slot_bound, with_call, with_calls};
 
 use cl_application::{Functions, SlotDecls};
 use cl_syntax::{Binding, Expr, ExprKind};
 use cl_table::{Declared, Names, Table};
 use cl_value::Text;
 use std::alloc::{AllocError, Global};
+use std::marker::Model;
+use std::mem;
 
 /// A function that is reached through calls.
 #[derive(Drop)]
@@ -24,21 +28,76 @@ impl Declared for Reached {
     }
 }
 
-/// Whether one of these opening values reads a slot: one stands in it, or in the body of a function
-/// that is reached from it through calls. Each body is looked at once for all of them.
-pub fn any_reads_slot(
+/// A search for slots through functions, seen as these functions. Until an opening value reads a slot, it looks
+/// at the body of each once, however many values reach it.
+#[derive(Drop)]
+pub struct SlotSearch<'a> {
+    alloc: Global,
+    functions: &'a Functions,
+    reached: Table<Reached>,
+}
+
+impl<'a> Model for SlotSearch<'a> {
+    ghost use Rattle.std.specs.Coded.{codes};
+    ghost use Rattle.cl_syntax.specs.contracts.expressions.Expr as expr;
+    ghost use Rattle.cl_eval.specs.Uses.{Functions};
+
+    ghost Value = { Functions };
+
+    ghost coded = { Prim.hlevel (codes, expr.the_row.coded) };
+
+    ghost use Rattle.cl_phases.specs.SlotSearch.{AreClear};
+
+    ghost view = { λ s. s.functions.now };
+
+    ghost invariant = { λ s. AreClear s.functions.now s.reached };
+}
+
+impl<'a> SlotSearch<'a> {
+    /// A search that has looked at no body, which takes no memory.
+    pub fn new(alloc: Global, functions: &'a Functions) -> SlotSearch<'a>
+        ensures { result ≡ functions.now }
+    {
+        SlotSearch {
+            alloc,
+            functions,
+            reached: Table::new(alloc),
+        }
+    }
+
+    /// Whether one of these opening values reads a slot: one stands in it, or in the body of a function
+    /// that is reached from it through calls. Where one does, or memory is wanting, what was reached is
+    /// forgotten, since not all of it was looked at.
+    pub fn any_reads_slot(&mut self, slots: &SlotDecls) -> Result<bool, AllocError>
+        ensures reads { IfOk result (Tells self.old slots.now) }
+        ensures same { self.new ≡ self.old }
+    {
+        let mut reached = mem::replace(&mut self.reached, Table::new(self.alloc));
+        let reads = any_reads_slot(self.alloc, self.functions, slots, &mut reached)?;
+        if !reads {
+            self.reached = reached;
+        }
+        Ok(reads)
+    }
+}
+
+/// Whether one of these opening values reads a slot. What was reached before reads none and is not looked
+/// at again.
+fn any_reads_slot(
     alloc: Global,
     functions: &Functions,
     slots: &SlotDecls,
+    reached: &mut Table<Reached>,
 ) -> Result<bool, AllocError>
-    ensures { IfOk result (Tells functions.now slots.now) }
+    requires { AreClear functions.now reached.old }
+    ensures reads { IfOk result (Tells functions.now slots.now) }
+    ensures clear { IfOk result (StaysClear functions.now reached.new) }
 {
-    let mut reached = Table::new(alloc);
     for place in 0..slots.len() {
         let Some(slot) = slots.at(place) else {
             unreachable!()
         };
-        if reads_slot(alloc, functions, &slot.opening, &mut reached)? {
+        if reads_slot(alloc, functions, &slot.opening, reached)? {
             return Ok(true);
         }
     }

@@ -1,7 +1,7 @@
 use Rattle.std.proofs.Common.{◌≡◌, ◌+◌, ◌*◌, drop}
 use Rattle.cl_syntax.specs.ExprTree.{nodes, nodes_all, nodes_bound, expr_trees_of}
 use Rattle.cl_syntax.specs.Expr.{bindings_of}
-use Rattle.cl_phases.specs.SlotReads.{names_slot_among, names_slot_bound}
+use Rattle.cl_phases.specs.SlotSearch.{names_slot_among, names_slot_bound}
 use Rattle.cl_phases.proofs.slot_reads.+names_slot.Given as goal
 
 abbrev pub decreases-names_slot : goal.decreases-names_slot

@@ -1,11 +1,11 @@
-use Rattle.cl_phases.proofs.SlotSearch.{none_found, read_here, read_next, not_both}
+use Rattle.cl_phases.proofs.SearchLemmas.{read_here, read_next, not_both}
 use Rattle.cl_phases.proofs.slot_reads.any_reads_slot.Goals as goal
 
 pub loop-place-init : goal.loop-place-init
-loop-place-init c = record { clear = rw c.new-reached.ensures (none_found c.args.functions.now); left = λ r. r }
+loop-place-init c = record { clear = c.requires; left = λ r. r }
 
-pub returns-then-branch : goal.returns-then-branch
-returns-then-branch c =
+pub returns-then-branch-clause-reads : goal.returns-then-branch-clause-reads
+returns-then-branch-clause-reads c =
     read_here c.args.functions.now c.args.slots.now c.loop-place.place c.in-Some.slot.now c.in-Some.ensures (c.in_ok-reads_slot.ensures.reads.0 c.if-branch.true)
 
 pub loop-place-preserved : goal.loop-place-preserved

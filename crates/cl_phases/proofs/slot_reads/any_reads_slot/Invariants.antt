@@ -1,5 +1,6 @@
 use Rattle.std.proofs.Common.{drop}
-use Rattle.cl_phases.specs.SlotReads.{AnyReads, AreClear}
+use Rattle.cl_phases.specs.SlotReads.{AnyReads}
+use Rattle.cl_phases.specs.SlotSearch.{AreClear}
 use Rattle.cl_phases.proofs.slot_reads.any_reads_slot.Given as goal
 
 abbrev pub invariant-loop-place : goal.invariant-loop-place

@@ -1,5 +1,5 @@
 use Rattle.std.proofs.Common.{◌≡◌, drop}
-use Rattle.cl_phases.specs.SlotReads.{calls, with_calls}
+use Rattle.cl_phases.specs.SlotSearch.{calls, with_calls}
 use Rattle.cl_phases.proofs.slot_reads.reach.Given as goal
 
 abbrev pub invariant-loop-name : goal.invariant-loop-name

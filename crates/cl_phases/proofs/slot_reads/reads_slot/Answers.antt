@@ -1,6 +1,6 @@
 use Rattle.std.proofs.Common.{refl, sym, ◌∙◌, arith}
-use Rattle.cl_phases.specs.SlotReads.{calls, with_calls}
-use Rattle.cl_phases.proofs.SlotSearch.{AddsAll, reads_itself, search_begins, search_goes_on, search_ends, all_clear, found_reads, body_is_there, adds_all}
+use Rattle.cl_phases.specs.SlotSearch.{calls, with_calls}
+use Rattle.cl_phases.proofs.SearchLemmas.{AddsAll, reads_itself, search_begins, search_goes_on, search_ends, all_clear, found_reads, body_is_there, adds_all}
 use Rattle.cl_phases.proofs.slot_reads.reads_slot.Goals as goal
 
 pub returns-then-names_slot-clause-reads : goal.returns-then-names_slot-clause-reads

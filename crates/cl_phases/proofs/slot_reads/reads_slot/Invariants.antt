@@ -1,6 +1,6 @@
 use Rattle.std.proofs.Common.{◌+◌, ◌-◌, length}
 use Rattle.cl_phases.proofs.Entries.{missing}
-use Rattle.cl_phases.proofs.SlotSearch.{Search}
+use Rattle.cl_phases.proofs.SearchLemmas.{Search}
 use Rattle.cl_phases.proofs.slot_reads.reads_slot.Given as goal
 
 abbrev pub invariant-loop-place : goal.invariant-loop-place

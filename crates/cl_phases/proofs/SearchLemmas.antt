@@ -11,8 +11,11 @@ use Rattle.cl_table.specs.Names.{named, declared_at, declared_in}
 use Rattle.cl_application.specs.declared.declarations.FunctionDecl.{FunctionDecl}
 use Rattle.cl_application.specs.declared.declarations.SlotDecl.{SlotDecl}
 use Rattle.cl_phases.specs.declared.slot_reads.Reached.{Reached}
-use Rattle.cl_phases.specs.SlotReads.{Functions, Found, Reaches, itself, calling, ReadsSlot, names_slot, calls, with_call, with_calls, body_of, body_named, body_at, has, IsClosed, IsLookedInto, AreClear, AnyReads}
+use Rattle.cl_eval.specs.Uses.{Functions, ReadsSlot}
+use Rattle.cl_phases.specs.SlotReads.{AnyReads}
+use Rattle.cl_phases.specs.SlotSearch.{Found, names_slot, calls, with_call, with_calls, body_of, body_named, body_at, has, IsClosed, IsLookedInto, AreClear}
 use Rattle.cl_phases.proofs.Entries.{same_name, has_more, has_last, missing, missing_less}
+use Rattle.cl_phases.proofs.UseLemmas.{Reaches, itself, calling, ReachesSlot, read_is_reached, reached_is_read}
 
 -- a function that is found is declared, and reached
 pub record IsReached (fs : Functions) (t : ExprTree) (e : List ℕ × Reached) : Type 0 where
@@ -154,7 +157,7 @@ pub found_reads : (fs : Functions) (t : ExprTree) (old found : Found) (place : �
 found_reads fs t old found place b s l e h =
     let r : IsReached fs t (get_or found place nobody) = at_place fs t old found place s l in
     let same : b ≡ r.function.body = some-inj b r.function.body (sym e ∙ body_found fs t old found place s l) in
-    record { reached = r.function.body; reaches = r.reaches; names = ap names_slot (sym same) ∙ h }
+    reached_is_read fs t (record { reached = r.function.body; reaches = r.reaches; names = ap names_slot (sym same) ∙ h })
 
 pub body_is_there : (fs : Functions) (t : ExprTree) (old found : Found) (place : ℕ) → Search fs t old found place → place < length found → body_at fs found place ≡ None → ⊥
 body_is_there fs t old found place s l e = let no : Some (at_place fs t old found place s l).function.body ≡ None = sym (body_found fs t old found place s l) ∙ e in cc
@@ -215,12 +218,13 @@ pub all_clear : (fs : Functions) (t : ExprTree) (old found : Found) (place : ℕ
 all_clear fs t old found place s l = subst (All (IsLookedInto fs found)) (take_all place found l) s.looked
 
 pub search_ends : (fs : Functions) (t : ExprTree) (old found : Found) (place : ℕ) → Search fs t old found place → length found ≤ place → ReadsSlot fs t → ⊥
-search_ends fs t old found place s l r =
+search_ends fs t old found place s l reads =
+    let r : ReachesSlot fs t = read_is_reached fs t reads in
     let c : IsClosed fs found r.reached = closed_through fs t r.reached found r.reaches s.root (all_clear fs t old found place s l) in
     let no : true ≡ false = sym r.names ∙ c.no_slot in cc
 
 pub reads_itself : (fs : Functions) (t : ExprTree) → names_slot t ≡ true → ReadsSlot fs t
-reads_itself fs t h = record { reached = t; reaches = itself fs t; names = h }
+reads_itself fs t h = reached_is_read fs t (record { reached = t; reaches = itself fs t; names = h })
 
 -- ---- one opening value behind the other
 
