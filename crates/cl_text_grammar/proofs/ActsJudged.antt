@@ -6,7 +6,7 @@ use Rattle.std.proofs.Math.Path.{subst}
 use Rattle.cl_syntax.specs.ActTree.{ActTree}
 use Rattle.cl_syntax.specs.ActTree as act
 use Rattle.cl_table.specs.Names.{named}
-use Rattle.cl_forms.specs.Datum.{Datum, offset, parts_of}
+use Rattle.cl_forms.specs.Datum.{Datum, Datums, in_order, offset, parts_of}
 use Rattle.cl_forms.specs.Naming.{name_in, symbol_of}
 use Rattle.cl_words.specs.Signatures.{slot_in}
 use Rattle.cl_words.specs.declared.heads.Head.{Head}
@@ -20,16 +20,16 @@ use Rattle.cl_expressions.specs.Scopes.{Names}
 use Rattle.cl_expressions.specs.Expressions.{Sub}
 use Rattle.cl_bodies.specs.declared.own.Own.{Own}
 use Rattle.cl_bodies.specs.declared.own.Own.TheVariants.{Whole}
-use Rattle.cl_bodies.specs.Statements.{parse_place, parse_own, statements, parse_act}
+use Rattle.cl_bodies.specs.Statements.{parse_place, parse_own, statements, parse_act, parse_acts}
 use Rattle.cl_grammar.specs.Sights.{expression, slot_name}
 use Rattle.cl_grammar.proofs.Judging.{Any, Judges, then_part, then_given, slot_judged}
 use Rattle.cl_grammar.proofs.Rows.{JudgedPart, JudgedParts}
 use Rattle.cl_grammar.proofs.Written.{shapes}
-use Rattle.cl_text_grammar.specs.FormSights.{expressions, FormSight, Misshapen, Sees, place_seen, act_rows, act_row_seen, act_seen}
+use Rattle.cl_text_grammar.specs.FormSights.{expressions, FormSight, Misshapen, Sees, forms_seen, place_seen, act_rows, act_row_seen, act_seen}
 use Rattle.cl_text_grammar.proofs.FormsLie.{acts_lie}
 use Rattle.cl_text_grammar.proofs.FormStands.{change_seen, act_under, act_stands, act_called}
-use Rattle.cl_text_grammar.proofs.FormJudging.{FormJudged, Answers}
-use Rattle.cl_text_grammar.proofs.FormsJudged.{in_front, OwnAnswers, IsOwn, SightRules, form_judged}
+use Rattle.cl_text_grammar.proofs.FormJudging.{FormJudged, FormJudges, Answers}
+use Rattle.cl_text_grammar.proofs.FormsJudged.{in_front, OwnAnswers, IsOwn, SightRules, form_judged, data_judged}
 
 module _ (w : Signatures) where
   -- what is read of a statement's own answers to what it sees
@@ -108,3 +108,6 @@ module _ (w : Signatures) where
 
   pub act_judged : (d : Datum) (env : Names) → FormJudged act_seen w acts_lie env d (parse_act w d env)
   act_judged d env = form_judged statements w row act_under acts_lie rules tt d env
+
+  pub acts_judged : (ds : Datums) (env : Names) → FormJudges act_seen w acts_lie (forms_seen env (in_order ds)) Any (parse_acts w ds env)
+  acts_judged ds env = data_judged statements w row act_under acts_lie rules tt ds env

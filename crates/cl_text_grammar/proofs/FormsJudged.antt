@@ -14,7 +14,7 @@ use Rattle.cl_expressions.specs.Scopes.{Names}
 use Rattle.cl_expressions.specs.Expressions.{Sub, parse_binding, is_binding, is_binding_list}
 use Rattle.cl_bodies.specs.declared.own.Own.{Own}
 use Rattle.cl_bodies.specs.declared.own.Own.TheVariants.{Whole, Before}
-use Rattle.cl_bodies.specs.Bodies.{Language, Part, subs_of, parse_each, parse_if, parse_when, parse_let, parse_dolist, parse_dolist_body, parse_control, finished, parse_own, parse_head, parse_headed, parse_listed, parse_form, parts_in}
+use Rattle.cl_bodies.specs.Bodies.{Language, Part, subs_of, parse_each, parse_if, parse_when, parse_let, parse_dolist, parse_dolist_body, parse_control, finished, parse_own, parse_head, parse_headed, parse_listed, parse_form, parts_in, parse_body}
 use Rattle.cl_grammar.specs.Sights.{Seen, names_behind, value_seen, names_bound, values_seen}
 use Rattle.cl_grammar.proofs.Judging.{Any, Judges}
 use Rattle.cl_grammar.proofs.Rows.{JudgedPart, JudgedParts}
@@ -241,3 +241,7 @@ module _ {F O C : Type 0} (l : Language F O C) (w : Signatures) (row : List ℕ 
     parts_go : (ds : Datums) → FormParts (parts_in l w ds)
     parts_go none = tt
     parts_go (item d ds) = (record { sub = part_judged w d; form = λ c env. form_judged c d env }, parts_go ds)
+
+  pub data_judged : (c : C) (ds : Datums) (env : Names) → Goes (forms_seen env (in_order ds)) (parse_body l w c ds env)
+  data_judged c ds env =
+      subst (λ es. Goes (forms_seen env es) (parse_body l w c ds env)) (stand_all ds) (each_judged c (parts_in l w ds) env (parts_go ds))

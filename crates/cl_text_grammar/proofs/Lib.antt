@@ -11,9 +11,11 @@ pub mod TextWritten
 pub mod DisplaysNamed
 pub mod FormStands
 pub mod FormsLie
+pub mod FormBounds
 pub mod FormJudging
 pub mod BindingsJudged
 pub mod FormsJudged
 pub mod ShapesJudged
 pub mod ActsJudged
+pub mod BodiesJudged
 pub mod FormVerdicts

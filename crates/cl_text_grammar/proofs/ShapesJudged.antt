@@ -7,7 +7,7 @@ use Rattle.cl_syntax.specs.ShapeTree.{ShapeTree}
 use Rattle.cl_syntax.specs.ShapeTree as shape
 use Rattle.cl_syntax.specs.declared.figures.Figure.{Figure}
 use Rattle.cl_table.specs.Names.{named}
-use Rattle.cl_forms.specs.Datum.{Datum}
+use Rattle.cl_forms.specs.Datum.{Datum, Datums, in_order}
 use Rattle.cl_forms.specs.Naming.{fits}
 use Rattle.cl_words.specs.Heads.{figure_count}
 use Rattle.cl_words.specs.Signatures.{display_in}
@@ -28,17 +28,17 @@ use Rattle.cl_bodies.specs.declared.display_forms.Context.{Context}
 use Rattle.cl_bodies.specs.declared.display_forms.Context.TheVariants as context
 use Rattle.cl_bodies.specs.declared.display_forms.Opening.{Opening}
 use Rattle.cl_bodies.specs.declared.display_forms.Opening.TheVariants as opening
-use Rattle.cl_bodies.specs.DisplayForms.{parse_call_counted, parse_own, display_forms, parse_shape}
+use Rattle.cl_bodies.specs.DisplayForms.{parse_call_counted, parse_own, display_forms, parse_shape, parse_shapes}
 use Rattle.cl_grammar.specs.Sights.{all_seen}
 use Rattle.cl_grammar.proofs.Judging.{Any, Judges, then_part, then_given, ended}
 use Rattle.cl_grammar.proofs.Rows.{JudgedParts}
 use Rattle.cl_grammar.proofs.Written.{shapes}
-use Rattle.cl_text_grammar.specs.FormSights.{expressions, FormSight, Misshapen, Sees, call_seen, shape_rows, shape_row_seen, shape_seen}
+use Rattle.cl_text_grammar.specs.FormSights.{expressions, FormSight, Misshapen, Sees, forms_seen, call_seen, shape_rows, shape_row_seen, shape_seen}
 use Rattle.cl_text_grammar.proofs.FormsLie.{shapes_lie}
 use Rattle.cl_text_grammar.proofs.FormStands.{setting_seen, writing_seen, shape_under, shape_stands, shape_called}
 use Rattle.cl_text_grammar.proofs.FormJudging.{FormJudged, FormJudges, Answers, then_expressions}
 use Rattle.cl_text_grammar.proofs.FormJudging as judging
-use Rattle.cl_text_grammar.proofs.FormsJudged.{in_front, at_once, OwnAnswers, IsOwn, SightRules, form_judged}
+use Rattle.cl_text_grammar.proofs.FormsJudged.{in_front, at_once, OwnAnswers, IsOwn, SightRules, form_judged, data_judged}
 
 length_shapes : (ps : List Sub) → length ps ≡ length (shapes ps)
 length_shapes [] = refl
@@ -136,3 +136,7 @@ module _ (w : Signatures) where
 
   pub shape_judged : (d : Datum) (env : Names) → FormJudged (shape_seen w) w (shapes_lie w) env d (parse_shape w d env)
   shape_judged d env = form_judged display_forms w row shape_under (shapes_lie w) rules context.Display d env
+
+  pub shapes_judged : (ds : Datums) (env : Names)
+      → FormJudges (shape_seen w) w (shapes_lie w) (forms_seen env (in_order ds)) Any (parse_shapes w ds env)
+  shapes_judged ds env = data_judged display_forms w row shape_under (shapes_lie w) rules context.Display ds env

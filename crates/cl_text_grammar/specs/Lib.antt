@@ -3,6 +3,7 @@ pub mod WritesShapes
 pub mod WritesActs
 pub mod FormSights
 pub mod FormBlames
+pub mod FormUnnamed
 pub mod WritesTypes
 pub mod WritesFrames
 pub mod WritesDeclarations

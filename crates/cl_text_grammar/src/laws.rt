@@ -14,10 +14,12 @@ ghost use Rattle.cl_declare.specs.Declarations.{parse_declarations};
 ghost use Rattle.cl_declare.specs.declared.declarations.Declarations.{Declarations};
 ghost use Rattle.cl_grammar.specs.Heads.{CallsNames};
 ghost use Rattle.cl_grammar.specs.Lies.{Lies};
+ghost use Rattle.cl_grammar.specs.Unnamed.{IsNoted};
 ghost use Rattle.cl_text_grammar.specs.Displays.{CallsDisplays};
 ghost use Rattle.cl_text_grammar.specs.WritesShapes.{WritesShape, WritesShapes};
 ghost use Rattle.cl_text_grammar.specs.WritesActs.{WritesAct, WritesActs};
 ghost use Rattle.cl_text_grammar.specs.FormBlames.{ShapeBlames, ActBlames, IsFirst};
+ghost use Rattle.cl_text_grammar.specs.FormUnnamed.{ShapeUnnamed, ActUnnamed};
 ghost use Rattle.cl_text_grammar.specs.WritesDeclarations.{TextDeclares};
 
 /// The displays that a text declares have names.
@@ -74,6 +76,12 @@ pub fn blamed_shape_is_refused()
         → ShapeBlames w env d number offset → parse_shape w d env u ≡ Ok (f, v) → ⊥ }
 {}
 
+/// Where a datum is read as a display form, the first of its names that are not declared is noted, if none was noted before.
+pub fn first_unnamed_of_a_shape_is_noted()
+    ensures { (w : Signatures) (d : Datum) (env : Names) (from to : ℕ) (u v : Notes) (f : ShapeTree) → Lies from d to
+        → parse_shape w d env u ≡ Ok (f, v) → IsNoted (ShapeUnnamed w env d) u.unknown v.unknown }
+{}
+
 /// A datum whose parts lie in order is refused as a statement exactly where a form in it is to blame, with the number and the offset
 /// of the first.
 pub fn first_blame_of_an_act_is_told()
@@ -85,4 +93,10 @@ pub fn first_blame_of_an_act_is_told()
 pub fn blamed_act_is_refused()
     ensures { (w : Signatures) (d : Datum) (env : Names) (from to : ℕ) (u v : Notes) (s : ActTree) (number offset : ℕ) → Lies from d to
         → ActBlames w env d number offset → parse_act w d env u ≡ Ok (s, v) → ⊥ }
+{}
+
+/// Where a datum is read as a statement, the first of its names that are not declared is noted, if none was noted before.
+pub fn first_unnamed_of_an_act_is_noted()
+    ensures { (w : Signatures) (d : Datum) (env : Names) (from to : ℕ) (u v : Notes) (s : ActTree) → Lies from d to
+        → parse_act w d env u ≡ Ok (s, v) → IsNoted (ActUnnamed w env d) u.unknown v.unknown }
 {}
