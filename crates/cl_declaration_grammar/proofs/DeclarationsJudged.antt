@@ -1,26 +1,23 @@
 -- The readings of declarations answer to what is looked at of them.
-use Rattle.std.proofs.Common.{◌≡◌, ℕ, Bool, true, false, ◌&&◌, ◌||◌, is_some, if◌then◌else◌, List, [], ◌∷◌, ◌++◌, refl}
+use Rattle.std.proofs.Common.{ℕ, Bool, true, false, ◌&&◌, ◌||◌, is_some, if◌then◌else◌, List, [], ◌∷◌, ◌++◌}
 use Rattle.std.specs.Prelude.{Option, Some, None, map, codes}
 use Rattle.std.specs.Str.{bytes_eq}
 use Rattle.cl_table.specs.Names.{named}
-use Rattle.cl_forms.specs.Datum.{Datum, number, literal, word, quoted, stray, list, in_order, parts_of, offset, datums_of}
+use Rattle.cl_forms.specs.Datum.{Datum, number, literal, word, quoted, stray, list, parts_of, offset}
 use Rattle.cl_forms.specs.Naming.{are_names, name_in}
 use Rattle.cl_forms.specs.Outer.{kind_or, kind_named, outer_listed, outer_in}
-use Rattle.cl_forms.specs.declared.outer.DeclarationKind.{DeclarationKind}
 use Rattle.cl_forms.specs.declared.outer.DeclarationKind.TheVariants.{Record, Function, Display, Command, Frame}
 use Rattle.cl_forms.specs.declared.outer.OuterKind.{OuterKind}
-use Rattle.cl_forms.specs.declared.outer.OuterKind.TheVariants.{Declared, Planned, Unknown}
+use Rattle.cl_forms.specs.declared.outer.OuterKind.TheVariants.{Planned, Unknown}
 use Rattle.cl_words.specs.declared.signatures.Signatures.{Signatures}
-use Rattle.cl_expressions.specs.Load.{Load, ◌>>=◌, give, refuse}
 use Rattle.cl_declare.specs.Callees.{parse_record, parse_function, parse_display}
 use Rattle.cl_declare.specs.Commands.{CommandHead, command_head, no_arguments, parse_headed, parse_command}
-use Rattle.cl_declare.specs.Declarations.{parse_declared, parse_kind, parse_declaration, parse_each_declaration}
+use Rattle.cl_declare.specs.Declarations.{parse_kind, parse_declaration, parse_each_declaration}
 use Rattle.cl_declare.specs.Names.{is_list, is_name_list, variables_in}
 use Rattle.cl_declare.specs.declared.declarations.Declarations.{Declarations}
-use Rattle.cl_grammar.specs.Sights.{expression}
 use Rattle.cl_grammar.proofs.Judging.{Any}
 use Rattle.cl_text_grammar.specs.FormSights.{forms_seen}
-use Rattle.cl_declaration_grammar.specs.Parts.{Part, acts, wrong, planned_keys, planned_parts}
+use Rattle.cl_declaration_grammar.specs.Parts.{acts, planned_keys, planned_parts}
 use Rattle.cl_declaration_grammar.specs.Declarations.{Row, record_seen, function_seen, display_seen, headed_seen, command_seen, planned_seen, rows}
 use Rattle.cl_declaration_grammar.specs.Declarations.{row_seen, listed_seen, declaration_seen}
 use Rattle.cl_declaration_grammar.specs.Frames.{frame_seen}

@@ -1,10 +1,10 @@
 -- What is looked at of types, declarations and texts lies in them.
-use Rattle.std.proofs.Common.{ℕ, ◌+◌, ◌≤◌, ◌<◌, Bool, true, false, ◌&&◌, is_some, if◌then◌else◌, List, [], ◌∷◌, ◌++◌, arith}
+use Rattle.std.proofs.Common.{ℕ, ◌+◌, ◌≤◌, Bool, true, false, ◌&&◌, is_some, if◌then◌else◌, List, [], ◌∷◌, ◌++◌, arith}
 use Rattle.std.specs.Prelude.{Option, Some, None}
 use Rattle.std.specs.Option.{IfSome}
 use Rattle.std.specs.Str.{bytes_eq}
 use Rattle.cl_table.specs.Names.{named}
-use Rattle.cl_forms.specs.Datum.{Datum, Datums, number, literal, word, quoted, stray, list, none, item, in_order, parts_of, offset}
+use Rattle.cl_forms.specs.Datum.{Datum, number, literal, word, quoted, stray, list, in_order, parts_of, offset}
 use Rattle.cl_forms.specs.Keys.{Keyed, keyed_sections, keyed_pairs}
 use Rattle.cl_forms.specs.Naming.{are_names, name_in}
 use Rattle.cl_forms.specs.declared.keys.Key.{Key}
@@ -22,9 +22,9 @@ use Rattle.cl_grammar.proofs.Bounds.{Within}
 use Rattle.cl_grammar.proofs.Lying.{LieList, list_lies, own_lies, datum_rises, datum_earlier}
 use Rattle.cl_text_grammar.specs.FormSights.{forms_seen}
 use Rattle.cl_text_grammar.proofs.FormsLie.{forms_lie}
-use Rattle.cl_declaration_grammar.specs.Parts.{Part, refused, type_name, display_name, expressions, acts, wrong, planned, planned_keys, planned_parts}
+use Rattle.cl_declaration_grammar.specs.Parts.{refused, type_name, display_name, expressions, shapes, acts, wrong, planned, planned_keys, planned_parts}
 use Rattle.cl_declaration_grammar.specs.Types.{plain_type_seen, ranged_type_seen, own_type_seen, named_type_seen, headed_type_seen, type_parts_seen}
-use Rattle.cl_declaration_grammar.specs.Types.{type_options_seen, first_type_seen, listed_type_seen, type_seen}
+use Rattle.cl_declaration_grammar.specs.Types.{type_options_seen, listed_type_seen, type_seen}
 use Rattle.cl_declaration_grammar.specs.Frames.{slot_seen, slots_seen, display_seen, pane_seen, panes_seen, section_seen, sections_seen, keyed_frame_seen, frame_seen}
 use Rattle.cl_declaration_grammar.specs.Declarations.{Row, record_seen, function_seen, command_seen, headed_seen, planned_seen, rows, row_seen}
 use Rattle.cl_declaration_grammar.specs.Declarations.{listed_seen, declaration_seen}
@@ -136,8 +136,14 @@ module _ (w : Signatures) where
   pane_lies : (ds : List Datum) (from to : ℕ) → LieList from ds to → LieParts from (pane_seen ds) to
   pane_lies (n ∷ x ∷ y ∷ a ∷ b ∷ d ∷ []) from to h =
       let own : Within h.2.2.2.2.0 (offset d) h.2.2.2.2.2.0 = own_lies d h.2.2.2.2.0 h.2.2.2.2.2.0 h.2.2.2.2.2.1 in
-      let before : from ≤ h.2.2.2.2.0 = omega (arith, datum_rises n from h.0 h.1, datum_rises x h.0 h.2.0 h.2.1, datum_rises y h.2.0 h.2.2.0 h.2.2.1,
-      datum_rises a h.2.2.0 h.2.2.2.0 h.2.2.2.1, datum_rises b h.2.2.2.0 h.2.2.2.2.0 h.2.2.2.2.1) in
+      let before : from ≤ h.2.2.2.2.0 = omega (
+        arith,
+        datum_rises n from h.0 h.1,
+        datum_rises x h.0 h.2.0 h.2.1,
+        datum_rises y h.2.0 h.2.2.0 h.2.2.1,
+        datum_rises a h.2.2.0 h.2.2.2.0 h.2.2.2.1,
+        datum_rises b h.2.2.2.0 h.2.2.2.2.0 h.2.2.2.2.1,
+      ) in
       shown_lies (offset d) (name_in d) from to (omega (arith, before, own.0), omega (arith, own.1, h.2.2.2.2.2.2))
   pane_lies [] from to h = h
   pane_lies (n ∷ []) from to h = list_rises (n ∷ []) from to h
@@ -204,8 +210,8 @@ module _ (w : Signatures) where
 
   display_lies : LieRow declarations.display_seen
   display_lies at h (n ∷ ps ∷ body) from to a b k =
-      when_lies (is_some (name_in n) && is_name_list ps) _ (wrong at) from to
-      (parts_earlier _ from k.2.0 to (omega (arith, datum_rises n from k.0 k.1, datum_rises ps k.0 k.2.0 k.2.1))
+      when_lies (is_some (name_in n) && is_name_list ps) (shapes (forms_seen (variables_in ps) body) ∷ []) (wrong at) from to
+      (parts_earlier (shapes (forms_seen (variables_in ps) body) ∷ []) from k.2.0 to (omega (arith, datum_rises n from k.0 k.1, datum_rises ps k.0 k.2.0 k.2.1))
       (to, forms_lie (variables_in ps) body k.2.0 to k.2.2, omega arith))
       (one_lies (refused 6 at) from to a)
   display_lies at h [] from to a b k = one_lies (refused 6 at) from to a
@@ -265,9 +271,34 @@ module _ (w : Signatures) where
   word_lies : (x : List ℕ) → LieRow (row_seen (named x (rows w)))
   word_lies x =
       row_lies (named x (rows w))
-      (rows_lie x (rows w)
-      (record_lies, (function_lies, (display_lies, (command_lies, (frame_lies, (planned_row_lies, (planned_row_lies, (planned_row_lies, (planned_row_lies,
-      (planned_row_lies, (planned_row_lies, (planned_row_lies, (planned_row_lies, (planned_row_lies, tt)))))))))))))))
+      (rows_lie x (rows w) (
+        record_lies,
+        (
+          function_lies,
+          (
+            display_lies,
+            (
+              command_lies,
+              (
+                frame_lies,
+                (
+                  planned_row_lies,
+                  (
+                    planned_row_lies,
+                    (
+                      planned_row_lies,
+                      (
+                        planned_row_lies,
+                        (planned_row_lies, (planned_row_lies, (planned_row_lies, (planned_row_lies, (planned_row_lies, tt))))),
+                      ),
+                    ),
+                  ),
+                ),
+              ),
+            ),
+          ),
+        ),
+      ))
 
   listed_declaration_lies : (at : ℕ) (ds : List Datum) (from to : ℕ) → Within from at to → LieList from ds to → LieParts from (listed_seen w at ds) to
   listed_declaration_lies at [] from to a k = one_lies (refused 6 at) from to a

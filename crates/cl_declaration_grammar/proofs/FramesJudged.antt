@@ -1,24 +1,19 @@
 -- The readings of frames answer to what is looked at of them.
-use Rattle.std.proofs.Common.{◌≡◌, ℕ, Bool, true, false, is_some, if◌then◌else◌, List, [], ◌∷◌, ◌++◌, refl}
+use Rattle.std.proofs.Common.{ℕ, is_some, if◌then◌else◌, List, [], ◌∷◌}
 use Rattle.std.specs.Prelude.{Option, Some, None}
 use Rattle.cl_forms.specs.Datum.{Datum, parts_of, offset}
 use Rattle.cl_forms.specs.Keys.{Keyed, keyed_sections}
-use Rattle.cl_forms.specs.Naming.{name_in, symbol_of}
+use Rattle.cl_forms.specs.Naming.{name_in}
 use Rattle.cl_forms.specs.declared.keys.Key.{Key}
 use Rattle.cl_forms.specs.declared.keys.Key.TheVariants as key
-use Rattle.cl_table.specs.Names.{with_first}
-use Rattle.cl_words.specs.Signatures.{display_in}
 use Rattle.cl_words.specs.declared.signatures.Signatures.{Signatures}
-use Rattle.cl_expressions.specs.Load.{Load, ◌>>=◌, give, refuse}
-use Rattle.cl_expressions.specs.Expressions.{parse_expression}
-use Rattle.cl_bodies.specs.SlotTypes.{parse_type}
 use Rattle.cl_declare.specs.Frames.{frame_keys, frame_shape}
 use Rattle.cl_declare.specs.Sections.{SlotTable, parse_slot, parse_slots, note_display, note_pane, no_more, parse_panes, parse_section}
 use Rattle.cl_declare.specs.Sections.{parse_sections, frame_of, parse_shaped, parse_keyed, parse_frame}
 use Rattle.cl_declare.specs.declared.frames.FrameShape.{FrameShape}
 use Rattle.cl_grammar.specs.Sights.{expression}
 use Rattle.cl_grammar.proofs.Judging.{Any}
-use Rattle.cl_declaration_grammar.specs.Parts.{Part, expressions, wrong, planned_parts}
+use Rattle.cl_declaration_grammar.specs.Parts.{expressions, wrong, planned_parts}
 use Rattle.cl_declaration_grammar.specs.Types.{type_seen}
 use Rattle.cl_declaration_grammar.specs.Frames.{slot_seen, slots_seen, display_seen, pane_seen, panes_seen, section_seen, sections_seen, keyed_frame_seen, frame_seen}
 use Rattle.cl_declaration_grammar.proofs.Judging.{Judges, joined, then_given, ended, refused_first}

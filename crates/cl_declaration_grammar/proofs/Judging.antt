@@ -1,9 +1,7 @@
 -- Readings against what is looked at: a reading gives a value where nothing is blamed, and fails where something is, at the least offset.
-use Rattle.std.proofs.Common.{◌≡◌, ℕ, ◌+◌, ◌≤◌, ◌⊎◌, inl, inr, List, [], ◌∷◌, ◌++◌, refl, sym, arith}
-use Rattle.std.specs.Prelude.{Result, Ok, Err, Option, Some, None}
-use Rattle.std.proofs.Math.Path.{subst}
+use Rattle.std.proofs.Common.{◌≡◌, ℕ, ◌⊎◌, inl, inr, List, [], ◌∷◌, ◌++◌, refl, arith}
 use Rattle.cl_words.specs.declared.signatures.Signatures.{Signatures}
-use Rattle.cl_expressions.specs.Load.{Load, Notes, Fault, after, ◌>>=◌, give, refuse}
+use Rattle.cl_expressions.specs.Load.{Load, Notes, ◌>>=◌, give, refuse}
 use Rattle.cl_grammar.proofs.Bounds.{Within, blames_any_within, unnamed_any_within, any_one_number, before_within}
 use Rattle.cl_grammar.proofs.Judging.{Any, Verdict, Joins, both_judged, given_judged, neither, noted_none}
 use Rattle.cl_text_grammar.specs.FormSights.{shape_seen, act_seen}

@@ -1,8 +1,8 @@
 -- The keys of a form lie in it in order, each with what stands behind it.
-use Rattle.std.proofs.Common.{ℕ, ◌+◌, ◌≤◌, ◌<◌, Bool, true, false, if◌then◌else◌, List, [], ◌∷◌, ◌++◌, arith}
+use Rattle.std.proofs.Common.{ℕ, ◌+◌, ◌≤◌, Bool, true, false, if◌then◌else◌, List, [], ◌∷◌, ◌++◌, arith}
 use Rattle.std.specs.Prelude.{Option, Some, None, option_and_then}
 use Rattle.std.specs.Option.{IfSome}
-use Rattle.cl_forms.specs.Datum.{Datum, Datums, number, literal, word, quoted, stray, list, none, item, in_order, offset}
+use Rattle.cl_forms.specs.Datum.{Datum, number, literal, word, quoted, stray, list, none, item, in_order, offset}
 use Rattle.cl_forms.specs.Keys.{Keyed, has_key, key_in, keyed_as, section_in, pair_in, with_keyed, keyed_sections, keyed_pairs}
 use Rattle.cl_forms.specs.declared.keys.Key.{Key}
 use Rattle.cl_grammar.specs.Lies.{Lies}

@@ -1,26 +1,24 @@
 -- The readings of names, expressions and bodies answer to the part that they are.
-use Rattle.std.proofs.Common.{◌≡◌, ℕ, ◌≤◌, ◌⊎◌, inl, inr, Bool, true, false, List, [], ◌∷◌, refl, sym, arith, ◌∙◌}
-use Rattle.std.specs.Prelude.{Result, Ok, Err, Option, Some, None, is_some}
+use Rattle.std.proofs.Common.{◌≡◌, ℕ, ◌⊎◌, inl, inr, false, List, [], ◌∷◌, refl, sym, ◌∙◌}
+use Rattle.std.specs.Prelude.{Result, Option, Some, None, is_some}
 use Rattle.std.proofs.Math.Path.{subst}
-use Rattle.cl_syntax.specs.ExprTree.{ExprTree}
 use Rattle.cl_forms.specs.Datum.{Datum, datums_of, in_order}
 use Rattle.cl_forms.proofs.Data.{data_in_order}
 use Rattle.cl_words.specs.Signatures.{record_in, display_in}
 use Rattle.cl_words.specs.declared.signatures.Signatures.{Signatures}
-use Rattle.cl_expressions.specs.Load.{Load, Notes, Fault, after, ◌>>=◌, give, refuse, noted, first_of}
+use Rattle.cl_expressions.specs.Load.{Load, Notes, Fault, noted}
 use Rattle.cl_expressions.specs.Scopes.{Names}
 use Rattle.cl_expressions.specs.Expressions.{parse_expression}
 use Rattle.cl_bodies.specs.DisplayForms.{parse_shapes}
 use Rattle.cl_bodies.specs.Statements.{parse_acts}
-use Rattle.cl_grammar.specs.Sights.{Seen, expression}
-use Rattle.cl_grammar.specs.Unnamed.{IsNoted}
+use Rattle.cl_grammar.specs.Sights.{expression}
 use Rattle.cl_grammar.proofs.Judging.{Any, Verdict, noted_none, noted_one, verdict_same}
 use Rattle.cl_grammar.proofs.Judged.{expression_judged}
 use Rattle.cl_text_grammar.specs.FormSights.{forms_seen}
 use Rattle.cl_text_grammar.proofs.ActsJudged.{acts_judged}
 use Rattle.cl_text_grammar.proofs.ShapesJudged.{shapes_judged}
-use Rattle.cl_declaration_grammar.specs.Parts.{Part, refused, type_name, display_name, expressions, shapes, acts, SomeOf, PartBlames, PartUnnamed}
-use Rattle.cl_declaration_grammar.proofs.PartsLie.{LiePart, LieParts, parts_later}
+use Rattle.cl_declaration_grammar.specs.Parts.{Part, type_name, display_name, expressions, shapes, acts, PartBlames, PartUnnamed}
+use Rattle.cl_declaration_grammar.proofs.PartsLie.{LiePart}
 use Rattle.cl_declaration_grammar.proofs.Judging.{Judges, Blamed, Missing}
 
 -- one part, or nothing behind it

@@ -1,10 +1,10 @@
 -- What is looked at of a text lies in it, part behind part.
-use Rattle.std.proofs.Common.{ℕ, ◌+◌, ◌≤◌, ◌<◌, Bool, true, false, if◌then◌else◌, List, [], ◌∷◌, ◌++◌, arith}
+use Rattle.std.proofs.Common.{ℕ, ◌≤◌, Bool, true, false, if◌then◌else◌, List, [], ◌∷◌, ◌++◌, arith}
 use Rattle.cl_forms.specs.Datum.{Datum, offset}
 use Rattle.cl_grammar.proofs.Bounds.{Within}
 use Rattle.cl_grammar.proofs.Lying.{LieSeen, LieList, own_lies, seen_rises, seen_earlier}
 use Rattle.cl_text_grammar.proofs.FormsLie.{LieForms, forms_rise, forms_earlier}
-use Rattle.cl_declaration_grammar.specs.Parts.{Part, refused, type_name, display_name, expressions, shapes, acts, wrong, planned, planned_parts}
+use Rattle.cl_declaration_grammar.specs.Parts.{Part, refused, type_name, display_name, expressions, shapes, acts, planned_parts}
 
 -- the part stands from one place up to another
 abbrev pub LiePart : ℕ → Part → ℕ → Type 0

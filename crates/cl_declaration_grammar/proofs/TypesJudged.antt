@@ -9,13 +9,13 @@ use Rattle.cl_forms.specs.Naming.{name_in}
 use Rattle.cl_words.specs.Signatures.{record_in}
 use Rattle.cl_words.specs.TypeNames.{is_plain_type, is_ranged_type, is_later_type}
 use Rattle.cl_words.specs.declared.signatures.Signatures.{Signatures}
-use Rattle.cl_expressions.specs.Load.{Load, ◌>>=◌, give, refuse, placed}
+use Rattle.cl_expressions.specs.Load.{Load, refuse, placed}
 use Rattle.cl_bodies.specs.PlannedKeys.{no_keys}
 use Rattle.cl_bodies.specs.SlotTypes.{type_named, parse_plain_type, parse_record_type, parse_ranged_type, parse_type_named, parse_type_head}
 use Rattle.cl_bodies.specs.SlotTypes.{parse_type_parts, option_keys, parse_type_options, parse_type_first, parse_type_list, parse_specifier}
 use Rattle.cl_bodies.specs.SlotTypes.{parse_type}
 use Rattle.cl_grammar.proofs.Judging.{Any, noted_none}
-use Rattle.cl_declaration_grammar.specs.Parts.{Part, refused, planned, wrong, planned_keys}
+use Rattle.cl_declaration_grammar.specs.Parts.{Part, wrong, planned_keys}
 use Rattle.cl_declaration_grammar.specs.Types.{plain_type_seen, ranged_type_seen, own_type_seen, named_type_seen, headed_type_seen, type_parts_seen}
 use Rattle.cl_declaration_grammar.specs.Types.{type_options_seen, first_type_seen, listed_type_seen, type_seen}
 use Rattle.cl_declaration_grammar.proofs.Judging.{Judges, Missing, joined, then_given, ended, refused_first}
@@ -28,7 +28,7 @@ module _ (w : Signatures) where
   chosen false h k = k
 
   -- a wrong form
-  pub is_wrong : {A : Type 0} (at : ℕ) → Judges {A = A} w (wrong at) Any (refuse 6 at)
+  pub is_wrong : {A : Type 0} (at : ℕ) → Judges w {A = A} (wrong at) Any (refuse 6 at)
   is_wrong at = refused_first w 6 at []
 
   pub keys_judged : (ks : List Keyed) → Judges w (planned_keys ks) Any (no_keys ks)
@@ -55,7 +55,7 @@ module _ (w : Signatures) where
       (chosen (is_later_type x) (refused_first w 0 name_at []) (own_judged (record_in w x) x name_at at ds refl)))
 
   found_judged : (o : Option (List ℕ)) (name_at at : ℕ) (ds : List Datum)
-      → Judges {A = TypeSpec} w (elim o [ None ↦ wrong at | Some x ↦ named_type_seen w x name_at at ds ]) Any
+      → Judges w {A = TypeSpec} (elim o [ None ↦ wrong at | Some x ↦ named_type_seen w x name_at at ds ]) Any
       (elim o [ None ↦ refuse 6 at | Some x ↦ parse_type_named w x name_at at ds ])
   found_judged None name_at at ds = is_wrong at
   found_judged (Some x) name_at at ds = named_judged x name_at at ds

@@ -34,7 +34,7 @@ display_seen at h parts = wrong at
 -- the head of a command, its arguments and its body, which sees no variable
 abbrev pub headed_seen : ℕ → Option CommandHead → List Datum → List Datum → List Part
 headed_seen at None arguments body = wrong at
-headed_seen at (Some c) arguments body = planned_keys c.keys ++ planned_parts arguments ++ acts (forms_seen [] body) ∷ []
+headed_seen at (Some c) arguments body = planned_keys c.keys ++ (planned_parts arguments ++ acts (forms_seen [] body) ∷ [])
 
 -- `(define-command NAME () STATEMENT ...)`, where the name may be `(NAME KEY VALUE ...)`
 abbrev pub command_seen : Row

@@ -33,7 +33,7 @@ forms_rise [] from to h = h
 forms_rise (expressions qs ∷ ps) from to h = omega (arith, seen_rises qs from h.0 h.1, forms_rise ps h.0 to h.2)
 forms_rise (form env d ∷ ps) from to h = omega (arith, datum_rises d from h.0 h.1, forms_rise ps h.0 to h.2)
 
-forms_earlier : (ps : List FormSeen) (before from to : ℕ) → before ≤ from → LieForms from ps to → LieForms before ps to
+pub forms_earlier : (ps : List FormSeen) (before from to : ℕ) → before ≤ from → LieForms from ps to → LieForms before ps to
 forms_earlier [] before from to e h = omega (arith, e, h)
 forms_earlier (expressions qs ∷ ps) before from to e h = (h.0, seen_earlier qs before from h.0 e h.1, h.2)
 forms_earlier (form env d ∷ ps) before from to e h = (h.0, datum_earlier d before from h.0 e h.1, h.2)
