@@ -18,7 +18,7 @@ use Rattle.cl_text_grammar.proofs.CalleesWritten.{some_same, nothing_found}
 use Rattle.cl_text_grammar.specs.WritesTypes.{IsOwnType, WritesNamed, a_plain_type, a_ranged_type, a_record_type, an_unknown_type, WritesType, a_name, a_list, a_list_of_one}
 
 -- some key stands
-is_there : List Keyed → Bool
+abbrev is_there : List Keyed → Bool
 is_there [] = false
 is_there (k ∷ ks) = true
 
