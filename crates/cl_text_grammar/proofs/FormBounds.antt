@@ -1,5 +1,5 @@
 -- What is blamed and not declared stands within the form; and what a form of each kind is blamed for.
-use Rattle.std.proofs.Common.{◌≡◌, ℕ, ◌+◌, ◌≤◌, ◌<◌, ◌⊎◌, inl, inr, false, List, [], ◌∷◌, refl, sym, arith}
+use Rattle.std.proofs.Common.{◌≡◌, ℕ, ◌+◌, ◌⊎◌, inl, inr, false, List, [], ◌∷◌, refl, sym, arith}
 use Rattle.std.proofs.Math.Path.{subst}
 use Rattle.cl_forms.specs.Datum.{Datum, Datums, list, in_order, offset}
 use Rattle.cl_words.specs.declared.signatures.Signatures.{Signatures}

@@ -1,7 +1,7 @@
 -- Readings of forms against what is to blame and what is not declared: a reading gives a value where nothing is blamed, with the first
 -- name that is not declared noted, and fails where something is blamed, at the least offset.
-use Rattle.std.proofs.Common.{◌≡◌, ℕ, ◌+◌, ◌≤◌, false, List, [], ◌∷◌, refl, sym, arith}
-use Rattle.std.specs.Prelude.{Result, Ok, Err}
+use Rattle.std.proofs.Common.{◌≡◌, ℕ, ◌+◌, false, List, [], ◌∷◌, refl, sym, arith}
+use Rattle.std.specs.Prelude.{Result, Err}
 use Rattle.std.proofs.Math.Path.{subst}
 use Rattle.cl_forms.specs.Datum.{Datum, Datums, list, in_order, offset}
 use Rattle.cl_words.specs.declared.signatures.Signatures.{Signatures}
