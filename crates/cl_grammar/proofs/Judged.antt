@@ -1,6 +1,6 @@
 -- Every datum is read as it is to be blamed.
 use Rattle.std.proofs.Common.{◌≡◌, ℕ, ◌≤◌, Bool, true, false, if◌then◌else◌, ◌||◌, List, [], ◌∷◌, refl, sym, ap, arith, ◌∙◌}
-use Rattle.std.specs.Prelude.{Option, Some, None, codes, is_some}
+use Rattle.std.specs.Prelude.{Option, Some, None, codes}
 use Rattle.std.specs.Str.{bytes_eq}
 use Rattle.std.proofs.Math.Path.{subst}
 use Rattle.cl_value.specs.Data as value
@@ -8,7 +8,7 @@ use Rattle.cl_syntax.specs.ExprTree.{ExprTree}
 use Rattle.cl_syntax.specs.ExprTree as expr
 use Rattle.cl_syntax.specs.declared.expressions.Binding.{Binding}
 use Rattle.cl_forms.specs.Datum.{Datum, Datums, number, literal, word, quoted, stray, list, none, item, in_order, parts_of}
-use Rattle.cl_forms.specs.Naming.{name_in, symbol_of, some_if}
+use Rattle.cl_forms.specs.Naming.{name_in, symbol_of}
 use Rattle.cl_forms.specs.Words.{is_name}
 use Rattle.cl_words.specs.declared.signatures.Signatures.{Signatures}
 use Rattle.cl_expressions.specs.Load.{Load, ◌>>=◌, give, refuse, noted}
@@ -21,7 +21,7 @@ use Rattle.cl_grammar.specs.Unnamed as unnamed
 use Rattle.cl_grammar.proofs.Bounds.{word_blamed, word_unnamed, stray_blamed}
 use Rattle.cl_grammar.proofs.Judging.{Any, Judges, joined, then_given, ended, alone, noted_none, noted_one, Answers, list_judged}
 use Rattle.cl_grammar.proofs.Rows.{JudgedParts, form_row}
-use Rattle.cl_grammar.proofs.Spelled.{both_parts, false_true, same_word}
+use Rattle.cl_grammar.proofs.Spelled.{both_parts, false_true, same_word, some_same, nothing_found, name_is}
 use Rattle.cl_grammar.proofs.Written.{shapes_subs}
 
 module _ (w : Signatures) where
@@ -97,33 +97,17 @@ module _ (w : Signatures) where
   abbrev pub JudgedBinding : Names → List Datum → Load Binding → Type 0
   JudgedBinding env ds m = Judges w (value_seen env ds) (λ b. b.name ∷ env ≡ names_behind env ds) m
 
-  name_is : (n : Datum) (o : Option (List ℕ)) → name_in n ≡ o → is_some o ≡ true → (x : List ℕ) × (o ≡ Some x) × (x ≡ symbol_of n)
-  name_is n None e h = absurd (false_true h)
-  name_is (word s at) (Some x) e h = (x, refl, some_word s (is_name s) x e)
-    where
-      some_word : (s : List ℕ) (b : Bool) (x : List ℕ) → some_if b s ≡ Some x → x ≡ s
-      some_word s true x e = cc
-      some_word s false x e = cc
-  name_is (number z at) (Some x) e h = cc
-  name_is (literal s at) (Some x) e h = cc
-  name_is (quoted s at name_at) (Some x) e h = cc
-  name_is (stray at) (Some x) e h = cc
-  name_is (list ds at) (Some x) e h = cc
-
-  binding_named : (at : ℕ) (n e : Datum) (env : Names) (m : Names → Load ExprTree) (o : Option (List ℕ))
-      → (x : List ℕ) × (o ≡ Some x) × (x ≡ symbol_of n) → Judges w (expression env e ∷ []) Any (m env)
+  binding_named : (at : ℕ) (n e : Datum) (env : Names) (m : Names → Load ExprTree) (o : Option (List ℕ)) → o ≡ Some (symbol_of n)
+      → Judges w (expression env e ∷ []) Any (m env)
       → JudgedBinding env (n ∷ e ∷ []) (elim o [ None ↦ refuse 6 at | Some x ↦ give x ] >>= λ x. m env >>= λ t. give (record { name = x; value = t }))
-  binding_named at n e env m None h k = cc
+  binding_named at n e env m None h k = absurd (nothing_found h)
   binding_named at n e env m (Some x) h k =
-      record { judged = (then_given (λ t. record { name = x; value = t }) k λ t i. ap (λ y. y ∷ env) (some_is x h)).judged }
-    where
-      some_is : (x : List ℕ) → (y : List ℕ) × (Some x ≡ Some y) × (y ≡ symbol_of n) → x ≡ symbol_of n
-      some_is x h = cc
+      record { judged = (then_given (λ t. record { name = x; value = t }) k λ t i. ap (λ y. y ∷ env) (some_same h)).judged }
 
   binding_parts_judged : (ds : Datums) (at : ℕ) (env : Names) → is_binding (in_order ds) ≡ true → JudgedParts w (subs w ds)
       → JudgedBinding env (in_order ds) (parse_binding_parts at (subs w ds) env)
   binding_parts_judged (item n (item e none)) at env h k =
-      binding_named at n e env (parse_expression w e) (name_in n) (name_is n (name_in n) refl h) (k.1.0.expr env)
+      binding_named at n e env (parse_expression w e) (name_in n) (name_is n h) (k.1.0.expr env)
   binding_parts_judged none at env h k = absurd (false_true h)
   binding_parts_judged (item n none) at env h k = absurd (false_true h)
   binding_parts_judged (item n (item e (item d ds))) at env h k = absurd (false_true h)

@@ -14,7 +14,9 @@ use Rattle.cl_words.specs.declared.heads.Head.TheVariants as head
 use Rattle.cl_words.specs.declared.heads.Special.{Special}
 use Rattle.cl_words.specs.declared.heads.Special.TheVariants as special
 use Rattle.cl_expressions.specs.Scopes.{Names, among}
-use Rattle.cl_forms.specs.Datum.{Datum}
+use Rattle.cl_forms.specs.Datum.{Datum, number, literal, word, quoted, stray, list}
+use Rattle.cl_forms.specs.Naming.{name_in, some_if, symbol_of}
+use Rattle.cl_forms.specs.Words.{is_name}
 use Rattle.cl_words.specs.declared.signatures.Signatures.{Signatures}
 use Rattle.cl_grammar.specs.Heads.{operators, fixed_heads}
 use Rattle.cl_grammar.specs.Sights.{Sight, UnknownHead, counted_seen, slot_seen, if_seen, let_seen, and_seen, or_seen, make_seen, get_seen, with_seen, map_seen, filter_seen, fold_seen, call_seen, rows, operator_seen, row_seen}
@@ -24,6 +26,28 @@ false_true h = cc
 
 pub same_word : (x w : List ℕ) → bytes_eq x w ≡ true → x ≡ w
 same_word x w h = (bytes_eq-Decides x w).0 h
+
+pub some_same : {A : Type 0} {a b : A} → ◌≡◌ {A = Option A} (Some a) (Some b) → a ≡ b
+some_same e = cc
+
+pub nothing_found : {A : Type 0} {a : A} → ◌≡◌ {A = Option A} None (Some a) → ⊥
+nothing_found e = cc
+
+-- ---- names
+
+some_name : (b : Bool) (s : List ℕ) → is_some (some_if b s) ≡ true → some_if b s ≡ Some s
+some_name true s e = refl
+some_name false s e = absurd (false_true e)
+
+pub name_is : (n : Datum) → is_some (name_in n) ≡ true → name_in n ≡ Some (symbol_of n)
+name_is (word s at) e = some_name (is_name s) s e
+name_is (number z at) e = absurd (false_true e)
+name_is (literal s at) e = absurd (false_true e)
+name_is (quoted s at name_at) e = absurd (false_true e)
+name_is (stray at) e = absurd (false_true e)
+name_is (list ds at) e = absurd (false_true e)
+
+-- ---- tables of words
 
 -- P holds of what is found, if anything is
 pub record Finds {A : Type 0} (P : A → Type 0) (o : Option A) : Type 0 where

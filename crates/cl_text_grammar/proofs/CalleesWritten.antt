@@ -6,8 +6,7 @@ use Rattle.cl_syntax.specs.ShapeTree.{shape_trees_of}
 use Rattle.cl_syntax.specs.ActTree.{act_trees_of}
 use Rattle.cl_forms.specs.Datum.{Datum, Datums, number, literal, word, quoted, stray, list, none, item, in_order, parts_of, datums_of}
 use Rattle.cl_forms.specs.Keys.{Keyed, keyed_pairs, with_keyed, pair_in, has_key}
-use Rattle.cl_forms.specs.Naming.{name_in, some_if, symbol_of, are_names}
-use Rattle.cl_forms.specs.Words.{is_name}
+use Rattle.cl_forms.specs.Naming.{name_in, are_names}
 use Rattle.cl_forms.specs.declared.keys.Key.{Key}
 use Rattle.cl_words.specs.declared.signatures.Signatures.{Signatures}
 use Rattle.cl_expressions.specs.Load.{give}
@@ -16,28 +15,16 @@ use Rattle.cl_declare.specs.Callees.{parse_record, parse_function, parse_display
 use Rattle.cl_declare.specs.Commands.{CommandHead, command_keys, head_of, command_head, parse_headed, parse_command}
 use Rattle.cl_grammar.specs.Heads.{CallsNames}
 use Rattle.cl_grammar.proofs.Endings.{Ends, gives, refuses, chooses, binds}
-use Rattle.cl_grammar.proofs.Spelled.{false_true, both_parts}
+use Rattle.cl_grammar.proofs.Spelled.{false_true, both_parts, some_same, nothing_found, name_is}
+use Rattle.cl_grammar.proofs.Written.{expression_ends}
 use Rattle.cl_text_grammar.specs.Displays.{CallsDisplays}
 use Rattle.cl_text_grammar.specs.WritesShapes.{WritesShapes}
 use Rattle.cl_text_grammar.specs.WritesActs.{WritesActs}
 use Rattle.cl_text_grammar.specs.WritesDeclarations.{WritesNames, no_name, one_name, WritesNameList, a_name_list, WritesCommandName, alone, in_parentheses, of_record, of_function, of_display, of_command, WritesDeclared, a_record, a_function, a_display, a_command}
-use Rattle.cl_text_grammar.proofs.Bindings.{expression_ends}
 use Rattle.cl_text_grammar.proofs.ShapesWritten.{shapes_end}
 use Rattle.cl_text_grammar.proofs.ActsWritten.{acts_end}
 
 -- ---- names
-
-some_name : (b : Bool) (s : List ℕ) → is_some (some_if b s) ≡ true → some_if b s ≡ Some s
-some_name true s e = refl
-some_name false s e = absurd (false_true e)
-
-pub name_is : (n : Datum) → is_some (name_in n) ≡ true → name_in n ≡ Some (symbol_of n)
-name_is (word s at) e = some_name (is_name s) s e
-name_is (number z at) e = absurd (false_true e)
-name_is (literal s at) e = absurd (false_true e)
-name_is (quoted s at name_at) e = absurd (false_true e)
-name_is (stray at) e = absurd (false_true e)
-name_is (list ds at) e = absurd (false_true e)
 
 names_written : (ds : List Datum) → are_names ds ≡ true → WritesNames (names_of ds) ds
 names_written [] e = no_name
@@ -54,12 +41,6 @@ name_list_written (quoted s at name_at) e = absurd (false_true e)
 name_list_written (stray at) e = absurd (false_true e)
 
 -- ---- the head of a command
-
-pub some_same : {A : Type 0} {a b : A} → ◌≡◌ {A = Option A} (Some a) (Some b) → a ≡ b
-some_same e = cc
-
-pub nothing_found : {A : Type 0} {a : A} → ◌≡◌ {A = Option A} None (Some a) → ⊥
-nothing_found e = cc
 
 some_keyed : {k : Keyed} {ks : List Keyed} → ◌≡◌ {A = Option (List Keyed)} (Some (k ∷ ks)) (Some []) → ⊥
 some_keyed e = cc

@@ -1,116 +1,14 @@
 -- The displays that a text declares have names.
-use Rattle.std.proofs.Common.{◌≡◌, ℕ, Bool, true, false, if◌then◌else◌, List, [], ◌∷◌, ◌++◌, refl, ap, ◌∙◌}
-use Rattle.std.specs.Prelude.{Option, Some, None, is_some, option_and_then}
-use Rattle.std.specs.Option.{IfSome}
-use Rattle.std.specs.Str.{bytes_eq}
-use Rattle.cl_table.specs.Names.{named, with_first}
-use Rattle.cl_forms.specs.Datum.{Datum, number, literal, word, quoted, stray, list, parts_of}
-use Rattle.cl_forms.specs.Naming.{name_in, some_if, names_counted}
+use Rattle.std.proofs.Common.{◌≡◌, ℕ, true, List, refl}
+use Rattle.std.specs.Prelude.{Option, Some, None}
+use Rattle.cl_table.specs.Names.{named}
 use Rattle.cl_forms.specs.Words.{is_name}
-use Rattle.cl_forms.specs.Keys.{section_values}
-use Rattle.cl_forms.specs.declared.keys.Key.TheVariants.{Slots}
-use Rattle.cl_forms.specs.Outer.{Outer, declared_name, behind_name}
-use Rattle.cl_forms.specs.declared.outer.DeclarationKind.{DeclarationKind}
-use Rattle.cl_forms.specs.declared.outer.DeclarationKind.TheVariants.{Record, Command, Frame}
-use Rattle.cl_forms.specs.declared.outer.DeclarationKind.TheVariants as kind
-use Rattle.cl_forms.specs.declared.outer.OuterKind.{OuterKind}
-use Rattle.cl_forms.specs.declared.outer.OuterKind.TheVariants.{Declared, Planned, Unknown, Headless}
-use Rattle.cl_words.specs.Heads.{is_operator}
-use Rattle.cl_words.specs.TypeNames.{is_standard_type}
-use Rattle.cl_words.specs.Signatures.{parameters_counted, with_callee, with_record, with_slot, with_slot_of, with_slots, with_sections, with_declaration, with_outer_kind, with_outer, with_outers, signatures_of, nothing_declared, display_count}
+use Rattle.cl_forms.specs.Outer.{Outer}
+use Rattle.cl_words.specs.Signatures.{signatures_of, display_count}
 use Rattle.cl_words.specs.declared.signatures.Signatures.{Signatures}
 use Rattle.cl_words.specs.declared.signatures.Callee.{Callee}
-use Rattle.cl_words.specs.declared.signatures.CalleeKind.{CalleeKind}
-use Rattle.cl_words.specs.declared.signatures.CalleeKind.TheVariants.{Function, Display}
-use Rattle.cl_grammar.proofs.Spelled.{same_word, found_one}
+use Rattle.cl_grammar.proofs.Declared.{AreNamed, found_named, callees_named}
 use Rattle.cl_text_grammar.specs.Displays.{CallsDisplays}
-
--- each word of the table is a name
-abbrev AreNamed : {D : Type 0} → List (List ℕ × D) → Type 0
-AreNamed [] = Unit {0}
-AreNamed (e ∷ es) = (is_name e.0 ≡ true) × AreNamed es
-
-one_more : {D : Type 0} (es : List (List ℕ × D)) (x : List ℕ) (v : D) → AreNamed es → is_name x ≡ true → AreNamed (es ++ (x, v) ∷ [])
-one_more [] x v h k = (k, tt)
-one_more (e ∷ es) x v h k = (h.0, one_more es x v h.1 k)
-
-found_named : {D : Type 0} (x : List ℕ) (es : List (List ℕ × D)) (d : D) → AreNamed es → named x es ≡ Some d → is_name x ≡ true
-found_named x [] d h e = cc
-found_named x (f ∷ es) d h e =
-    found_one (bytes_eq x f.0) f.1 (named x es) d (is_name x ≡ true) (λ i. ap is_name (same_word x f.0 i) ∙ h.0) (found_named x es d h.1) e
-
-name_named : (d : Datum) → IfSome (name_in d) (λ x. is_name x ≡ true)
-name_named (word s at) = found (is_name s) refl
-  where
-    found : (b : Bool) → is_name s ≡ b → IfSome (some_if b s) (λ x. is_name x ≡ true)
-    found true e = e
-    found false e = tt
-name_named (number z at) = tt
-name_named (literal s at) = tt
-name_named (quoted s at name_at) = tt
-name_named (stray at) = tt
-name_named (list ds at) = tt
-
--- each function and display that is declared has a name
-abbrev DeclaresNamed : Signatures → Type 0
-DeclaresNamed w = AreNamed w.callees
-
-either_named : (b : Bool) (v w : Signatures) → DeclaresNamed v → DeclaresNamed w → DeclaresNamed (if b then v else w)
-either_named true v w h k = h
-either_named false v w h k = k
-
-first_named : {D : Type 0} (b : Bool) (es fs : List (List ℕ × D)) → AreNamed es → AreNamed fs → AreNamed (if b then es else fs)
-first_named true es fs h k = h
-first_named false es fs h k = k
-
-callee_named : (w : Signatures) (kind : CalleeKind) (name : Option (List ℕ)) (count : Option ℕ) → DeclaresNamed w → IfSome name (λ x. is_name x ≡ true)
-    → DeclaresNamed (with_callee w kind name count)
-callee_named w kind None count h k = h
-callee_named w kind (Some x) count h k =
-    let c : Callee = record { name = x; kind = kind; count = count } in
-    either_named (is_operator x) w (record w { callees = with_first (λ (d : Callee). d.name) w.callees c }) h
-    (first_named (is_some (named x w.callees)) w.callees (w.callees ++ (x, c) ∷ []) h (one_more w.callees x c h k))
-
-record_named : (w : Signatures) (name : Option (List ℕ)) (count : Option ℕ) → DeclaresNamed w → DeclaresNamed (with_record w name count)
-record_named w None count h = h
-record_named w (Some x) count h = either_named (is_standard_type x) w _ h h
-
-slot_named : (w : Signatures) (name : Option (List ℕ)) → DeclaresNamed w → DeclaresNamed (with_slot w name)
-slot_named w None h = h
-slot_named w (Some x) h = h
-
-slot_of_named : (w : Signatures) (ds : List Datum) → DeclaresNamed w → DeclaresNamed (with_slot_of w ds)
-slot_of_named w [] h = h
-slot_of_named w (n ∷ more) h = slot_named w (name_in n) h
-
-slots_named : (w : Signatures) (ds : List Datum) → DeclaresNamed w → DeclaresNamed (with_slots w ds)
-slots_named w [] h = h
-slots_named w (d ∷ ds) h = slots_named (with_slot_of w (parts_of d)) ds (slot_of_named w (parts_of d) h)
-
-sections_named : (w : Signatures) (ds : List Datum) → DeclaresNamed w → DeclaresNamed (with_sections w ds)
-sections_named w [] h = h
-sections_named w (d ∷ ds) h = sections_named (with_slots w (section_values Slots d)) ds (slots_named w (section_values Slots d) h)
-
-outer_named : (d : Option Datum) → IfSome (option_and_then name_in d) (λ x. is_name x ≡ true)
-outer_named (Some d) = name_named d
-outer_named None = tt
-
-declaration_named : (w : Signatures) (k : DeclarationKind) (o : Outer) → DeclaresNamed w → DeclaresNamed (with_declaration w k o)
-declaration_named w Record o h = record_named w (declared_name o) (names_counted (behind_name o)) h
-declaration_named w kind.Function o h = callee_named w Function (declared_name o) (parameters_counted (behind_name o)) h (outer_named o.name)
-declaration_named w kind.Display o h = callee_named w Display (declared_name o) (parameters_counted (behind_name o)) h (outer_named o.name)
-declaration_named w Command o h = h
-declaration_named w Frame o h = sections_named w (behind_name o) h
-
-kind_named : (w : Signatures) (k : OuterKind) (o : Outer) → DeclaresNamed w → DeclaresNamed (with_outer_kind w k o)
-kind_named w (Declared k) o h = declaration_named w k o h
-kind_named w (Planned at) o h = h
-kind_named w (Unknown at) o h = h
-kind_named w Headless o h = h
-
-outers_named : (w : Signatures) (os : List Outer) → DeclaresNamed w → DeclaresNamed (with_outers w os)
-outers_named w [] h = h
-outers_named w (o ∷ os) h = outers_named (with_outer w o) os (kind_named w o.kind o h)
 
 counted_named : (x : List ℕ) (es : List (List ℕ × Callee)) (o : Option Callee) (count : Option ℕ) → AreNamed es → named x es ≡ o
     → display_count o ≡ Some count → is_name x ≡ true
@@ -120,4 +18,4 @@ counted_named x es None count h e i = cc
 pub displays_named : (forms : List Outer) → CallsDisplays (signatures_of forms)
 displays_named forms x count e =
     let w : Signatures = signatures_of forms in
-    counted_named x w.callees (named x w.callees) count (outers_named nothing_declared forms tt) refl e
+    counted_named x w.callees (named x w.callees) count (callees_named forms) refl e

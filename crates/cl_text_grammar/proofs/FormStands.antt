@@ -27,9 +27,8 @@ use Rattle.cl_words.specs.declared.heads.Planned.{Planned}
 use Rattle.cl_words.specs.declared.heads.Planned.TheVariants as planned
 use Rattle.cl_words.specs.declared.signatures.Signatures.{Signatures}
 use Rattle.cl_expressions.specs.Scopes.{Names}
-use Rattle.cl_grammar.proofs.Spelled.{missed, not_fixed}
+use Rattle.cl_grammar.proofs.Spelled.{missed, not_fixed, Finds, nothing, word_is, of_some, first, last_found}
 use Rattle.cl_text_grammar.specs.FormSights.{Row, UnknownHead, if_seen, when_seen, let_seen, dolist_seen, progn_seen, planned_seen, write_seen, newline_seen, drawn_seen, indent_seen, ink_seen, room_seen, call_seen, shape_rows, shape_row_seen, setf_seen, reply_seen, act_rows, act_row_seen}
-use Rattle.cl_text_grammar.proofs.FormWords.{Finds, nothing, word_is, of_some, first, last_found}
 
 abbrev pub control_seen : Control → Row
 control_seen control.When = when_seen

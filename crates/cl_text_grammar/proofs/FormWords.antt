@@ -1,13 +1,11 @@
 -- The words behind the heads of display forms and statements.
-use Rattle.std.proofs.Common.{◌≡◌, ℕ, Bool, true, false, if◌then◌else◌, List, refl, sym}
+use Rattle.std.proofs.Common.{◌≡◌, ℕ, List, refl, sym}
 use Rattle.std.specs.Prelude.{Option, Some, None, option_map, codes}
-use Rattle.std.specs.Option.{IfSome}
 use Rattle.std.proofs.Math.Path.{subst}
-use Rattle.std.specs.Str.{bytes_eq}
 use Rattle.cl_table.specs.Names.{named}
 use Rattle.cl_syntax.specs.declared.figures.Figure.{Figure}
 use Rattle.cl_syntax.specs.declared.figures.Figure.TheVariants as figure
-use Rattle.cl_words.specs.Heads.{named_or, operator_named, special_named, control_named, figure_named, figure_count, setting_named, writing_named, change_named, planned_named, shared_named, form_head, head_named}
+use Rattle.cl_words.specs.Heads.{operator_named, special_named, control_named, figure_named, figure_count, setting_named, writing_named, change_named, planned_named, shared_named, form_head, head_named}
 use Rattle.cl_words.specs.declared.heads.Head.{Head}
 use Rattle.cl_words.specs.declared.heads.Head.TheVariants as head
 use Rattle.cl_words.specs.declared.heads.Control.{Control}
@@ -18,7 +16,7 @@ use Rattle.cl_words.specs.declared.heads.Writing.{Writing}
 use Rattle.cl_words.specs.declared.heads.Writing.TheVariants as writing
 use Rattle.cl_words.specs.declared.heads.Change.{Change}
 use Rattle.cl_words.specs.declared.heads.Change.TheVariants as change
-use Rattle.cl_grammar.proofs.Spelled.{same_word}
+use Rattle.cl_grammar.proofs.Spelled.{Finds, nothing, word_is, of_some, first}
 use Rattle.cl_text_grammar.specs.Displays.{figures}
 
 abbrev pub control_word : Control → List ℕ
@@ -52,30 +50,6 @@ Spells x (head.Writing v) = x ≡ writing_word v
 Spells x (head.Change c) = x ≡ change_word c
 Spells x (head.Planned p) = Unit {0}
 
--- P holds of what is found, if anything is
-pub record Finds {A : Type 0} (P : A → Type 0) (o : Option A) : Type 0 where
-  pub found : IfSome o P
-
-pub nothing : {A : Type 0} {P : A → Type 0} → Finds P None
-nothing = record { found = tt }
-
-chosen : {A : Type 0} {P : A → Type 0} {rest : Option A} (a : A) (b : Bool) → (b ≡ true → P a) → Finds P rest → Finds P (if b then Some a else rest)
-chosen a true h k = record { found = h refl }
-chosen a false h k = k
-
--- what stands under this word is a, and else it is among the rest
-pub word_is : {A : Type 0} {P : A → Type 0} {rest : Option A} (a : A) (x w : List ℕ) → (x ≡ w → P a) → Finds P rest
-    → Finds P (if bytes_eq x w then Some a else rest)
-word_is a x w h k = chosen a (bytes_eq x w) (λ e. h (same_word x w e)) k
-
-pub of_some : {A : Type 0} {P : A → Type 0} (a : A) (o : Option A) → o ≡ Some a → Finds P o → P a
-of_some {P} a o e h = subst (λ (r : Option _). IfSome r P) e h.found
-
-pub first : {A B : Type 0} {P : B → Type 0} {other : Option B} (f : A → B) (o : Option A) → Finds (λ a. P (f a)) o → Finds P other
-    → Finds P (named_or f o other)
-first f (Some a) h k = record { found = h.found }
-first f None h k = k
-
 -- of the last table too, whatever it has
 any_found : {A : Type 0} {P : A → Type 0} → ((a : A) → P a) → (o : Option A) → Finds P o
 any_found h (Some a) = record { found = h a }
@@ -84,10 +58,6 @@ any_found h None = record { found = tt }
 last : {A B : Type 0} (P : B → Type 0) (f : A → B) (o : Option A) → ((a : A) → P (f a)) → Finds P (option_map f o)
 last P f (Some a) h = record { found = h a }
 last P f None h = record { found = tt }
-
-pub last_found : {A B : Type 0} (P : B → Type 0) (f : A → B) (o : Option A) → Finds (λ a. P (f a)) o → Finds P (option_map f o)
-last_found P f (Some a) h = record { found = h.found }
-last_found P f None h = record { found = tt }
 
 module _ (x : List ℕ) where
   drawn : {y : List ℕ} (f : Figure) → x ≡ y → Spells y (head.Figure f) → Spells x (head.Figure f)

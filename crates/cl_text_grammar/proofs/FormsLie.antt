@@ -1,10 +1,10 @@
 -- What a form sees lies in it, part behind part.
-use Rattle.std.proofs.Common.{ℕ, ◌+◌, ◌≤◌, ◌<◌, Bool, true, false, if◌then◌else◌, List, [], ◌∷◌, ◌++◌, length, arith}
+use Rattle.std.proofs.Common.{ℕ, ◌+◌, ◌≤◌, ◌<◌, Bool, true, false, if◌then◌else◌, List, [], ◌∷◌, length, arith}
 use Rattle.std.specs.Prelude.{Option, Some, None, ◌==◌, codes}
 use Rattle.std.specs.Option.{IfSome}
 use Rattle.std.specs.Str.{bytes_eq}
 use Rattle.cl_table.specs.Names.{named}
-use Rattle.cl_forms.specs.Datum.{Datum, number, literal, word, quoted, stray, list, none, item, in_order, parts_of, offset}
+use Rattle.cl_forms.specs.Datum.{Datum, number, literal, word, quoted, stray, list, none, item, parts_of, offset}
 use Rattle.cl_forms.specs.Naming.{name_in, symbol_of, fits}
 use Rattle.cl_words.specs.Signatures.{display_in}
 use Rattle.cl_words.specs.declared.signatures.Signatures.{Signatures}
@@ -12,8 +12,8 @@ use Rattle.cl_expressions.specs.Scopes.{Names, among}
 use Rattle.cl_expressions.specs.Expressions.{is_binding, is_binding_list}
 use Rattle.cl_grammar.specs.Heads.{fixed_heads}
 use Rattle.cl_grammar.specs.Lies.{Lies}
-use Rattle.cl_grammar.specs.Sights.{Seen, expression, slot_name, record_name, all_seen, names_behind, value_seen, names_bound, values_seen}
-use Rattle.cl_grammar.proofs.Lying.{LieList, LieSeen, list_lies, own_lies, datum_rises, datum_earlier, seen_rises, seen_earlier}
+use Rattle.cl_grammar.specs.Sights.{expression, slot_name, all_seen, names_behind, value_seen, names_bound, values_seen}
+use Rattle.cl_grammar.proofs.Lying.{LieList, LieSeen, own_lies, datum_rises, datum_earlier, seen_rises, seen_earlier, all_lie, value_lies, bound_lies}
 use Rattle.cl_text_grammar.specs.FormSights.{FormSeen, expressions, form, FormSight, Misshapen, UnknownHead, PlannedHead, Sees, Row, forms_seen, if_seen, when_seen, let_seen, dolist_seen, progn_seen, planned_seen, write_seen, newline_seen, drawn_seen, indent_seen, ink_seen, room_seen, call_seen, shape_rows, shape_row_seen, place_seen, setf_seen, reply_seen, act_rows, act_row_seen, headed_seen, shape_seen, act_seen}
 
 -- what is seen lies one behind another
@@ -41,46 +41,6 @@ forms_earlier (form env d ∷ ps) before from to e h = (h.0, datum_earlier d bef
 list_rises : (ds : List Datum) (from to : ℕ) → LieList from ds to → from ≤ to
 list_rises [] from to h = h
 list_rises (d ∷ ds) from to h = omega (arith, datum_rises d from h.0 h.1, list_rises ds h.0 to h.2)
-
--- ---- expressions
-
-all_lie : (env : Names) (ds : List Datum) (from to : ℕ) → LieList from ds to → LieSeen from (all_seen env ds) to
-all_lie env [] from to h = h
-all_lie env (d ∷ ds) from to h = (h.0, h.1, all_lie env ds h.0 to h.2)
-
-seen_joined : (ps qs : List Seen) (from middle to : ℕ) → LieSeen from ps middle → LieSeen middle qs to → LieSeen from (ps ++ qs) to
-seen_joined [] qs from middle to h k = seen_earlier qs from middle to h k
-seen_joined (expression env d ∷ ps) qs from middle to h k = (h.0, h.1, seen_joined ps qs h.0 middle to h.2 k)
-seen_joined (slot_name x at ∷ ps) qs from middle to h k = (h.0, seen_joined ps qs (at + 1) middle to h.1 k)
-seen_joined (record_name x at ∷ ps) qs from middle to h k = (h.0, seen_joined ps qs (at + 1) middle to h.1 k)
-
-value_lies : (env : Names) (d : Datum) (from to : ℕ) → Lies from d to → LieSeen from (value_seen env (parts_of d)) to
-value_lies env (list (item n (item e none)) at) from to h =
-    let value : Lies (at + 1) e h.2.2.0 = datum_earlier e (at + 1) h.2.0 h.2.2.0 (datum_rises n (at + 1) h.2.0 h.2.1) h.2.2.1 in
-    (h.2.2.0, datum_earlier e from (at + 1) h.2.2.0 (omega (arith, h.0)) value, h.2.2.2)
-value_lies env (list none at) from to h = omega (arith, h.0, h.1)
-value_lies env (list (item n none) at) from to h = omega (arith, h.0, h.1)
-value_lies env (list (item n (item e (item d ds))) at) from to h = omega (arith, h.0, h.1)
-value_lies env (number z at) from to h = omega (arith, h.0, h.1)
-value_lies env (literal s at) from to h = omega (arith, h.0, h.1)
-value_lies env (word s at) from to h = omega (arith, h.0, h.1)
-value_lies env (quoted s at name_at) from to h = omega (arith, h.0, h.1, h.2)
-value_lies env (stray at) from to h = omega (arith, h.0, h.1)
-
-values_lie : (env : Names) (ds : List Datum) (from to : ℕ) → LieList from ds to → LieSeen from (values_seen env ds) to
-values_lie env [] from to h = h
-values_lie env (d ∷ ds) from to h =
-    seen_joined (value_seen env (parts_of d)) (values_seen (names_behind env (parts_of d)) ds) from h.0 to (value_lies env d from h.0 h.1)
-    (values_lie (names_behind env (parts_of d)) ds h.0 to h.2)
-
-bound_lies : (env : Names) (d : Datum) (from to : ℕ) → Lies from d to → LieSeen from (values_seen env (parts_of d)) to
-bound_lies env (list ds at) from to h =
-    seen_earlier (values_seen env (in_order ds)) from (at + 1) to (omega (arith, h.0)) (values_lie env (in_order ds) (at + 1) to (list_lies ds (at + 1) to h.2))
-bound_lies env (number z at) from to h = omega (arith, h.0, h.1)
-bound_lies env (literal s at) from to h = omega (arith, h.0, h.1)
-bound_lies env (word s at) from to h = omega (arith, h.0, h.1)
-bound_lies env (quoted s at name_at) from to h = omega (arith, h.0, h.1, h.2)
-bound_lies env (stray at) from to h = omega (arith, h.0, h.1)
 
 -- ---- rows
 

@@ -21,12 +21,11 @@ use Rattle.cl_declare.specs.declared.frames.PaneForm.{PaneForm}
 use Rattle.cl_declare.specs.declared.frames.Size.{Size}
 use Rattle.cl_grammar.specs.Heads.{CallsNames}
 use Rattle.cl_grammar.proofs.Endings.{Ends, gives, refuses, binds, ends_weaker}
-use Rattle.cl_grammar.proofs.Spelled.{false_true, both_parts}
+use Rattle.cl_grammar.proofs.Spelled.{false_true, both_parts, name_is, some_same, nothing_found}
+use Rattle.cl_grammar.proofs.Written.{expression_ends}
 use Rattle.cl_text_grammar.specs.WritesFrames.{WritesSlots, no_slot, one_slot, with_slots, slots_of, WritesPane, a_pane, WritesSections, no_section, a_size, some_slots, one_pane}
 use Rattle.cl_text_grammar.specs.WritesDeclarations.{of_frame, WritesDeclared, a_frame}
-use Rattle.cl_text_grammar.proofs.Bindings.{expression_ends}
 use Rattle.cl_text_grammar.proofs.TypesWritten.{type_ends}
-use Rattle.cl_text_grammar.proofs.CalleesWritten.{name_is, some_same, nothing_found}
 use Rattle.cl_text_grammar.proofs.KeyWords.{key_word, IsSection, a_section, AreSections, no_more, one_more, StandApart, Sections, sections_stand, has_last, stood_before}
 
 -- of any value

@@ -8,9 +8,7 @@ use Rattle.cl_forms.specs.Datum.{Datum, Datums, number, literal, word, quoted, s
 use Rattle.cl_forms.specs.Keys.{Keyed, key_named, same_key, is_among, allowed, key_in, values_of, has_key, keyed_as, with_keyed, section_in, keyed_sections}
 use Rattle.cl_forms.specs.declared.keys.Key.{Key}
 use Rattle.cl_forms.specs.declared.keys.Key.TheVariants as key
-use Rattle.cl_grammar.proofs.Spelled.{false_true}
-use Rattle.cl_text_grammar.proofs.FormWords.{Finds, nothing, word_is, of_some}
-use Rattle.cl_text_grammar.proofs.CalleesWritten.{some_same, nothing_found}
+use Rattle.cl_grammar.proofs.Spelled.{false_true, Finds, nothing, word_is, of_some, some_same, nothing_found}
 
 abbrev pub key_word : Key → List ℕ
 key_word key.Size = codes ":size"

@@ -1,5 +1,5 @@
 -- What the readings of display forms come to: a lemma for each row that statements do not have.
-use Rattle.std.proofs.Common.{◌≡◌, ℕ, Bool, true, false, if◌then◌else◌, List, [], ◌∷◌, length, refl, sym, ap, suc}
+use Rattle.std.proofs.Common.{ℕ, Bool, true, false, if◌then◌else◌, List, [], ◌∷◌, length, refl, sym}
 use Rattle.std.specs.Prelude.{Option, Some, None, ◌==◌}
 use Rattle.std.proofs.Math.Path.{subst}
 use Rattle.cl_syntax.specs.ExprTree.{ExprTree, expr_trees_of}
@@ -30,8 +30,8 @@ use Rattle.cl_bodies.specs.declared.display_forms.Opening.{Opening}
 use Rattle.cl_bodies.specs.declared.display_forms.Opening.TheVariants as opening
 use Rattle.cl_bodies.specs.DisplayForms.{parse_call_counted, parse_own, display_forms, parse_shape, parse_shapes}
 use Rattle.cl_grammar.specs.Sights.{all_seen}
-use Rattle.cl_grammar.proofs.Judging.{Any, Judges, then_part, then_given, ended}
-use Rattle.cl_grammar.proofs.Rows.{JudgedParts}
+use Rattle.cl_grammar.proofs.Judging.{Any, then_given}
+use Rattle.cl_grammar.proofs.Rows.{JudgedParts, length_shapes, each_judged}
 use Rattle.cl_grammar.proofs.Written.{shapes}
 use Rattle.cl_text_grammar.specs.FormSights.{expressions, FormSight, Misshapen, Sees, forms_seen, call_seen, shape_rows, shape_row_seen, shape_seen}
 use Rattle.cl_text_grammar.proofs.FormsLie.{shapes_lie}
@@ -40,15 +40,7 @@ use Rattle.cl_text_grammar.proofs.FormJudging.{FormJudged, FormJudges, Answers, 
 use Rattle.cl_text_grammar.proofs.FormJudging as judging
 use Rattle.cl_text_grammar.proofs.FormsJudged.{in_front, at_once, OwnAnswers, IsOwn, SightRules, form_judged, data_judged}
 
-length_shapes : (ps : List Sub) → length ps ≡ length (shapes ps)
-length_shapes [] = refl
-length_shapes (p ∷ ps) = ap suc (length_shapes ps)
-
 module _ (w : Signatures) where
-  each_judged : (ps : List Sub) (env : Names) → JudgedParts w ps → Judges w (all_seen env (shapes ps)) Any (parse_each ps env)
-  each_judged [] env k = ended tt
-  each_judged (p ∷ ps) env k = then_part (k.0.expr env) λ t i. then_given (λ ts. t ∷ ts) (each_judged ps env k.1) λ ts j. tt
-
   -- what is read of a display form's own, up to its body, answers to what it sees
   abbrev OwnTells : Names → List Sub → ℕ → FormSight → Load (Own ShapeTree Opening Context) → Type 0
   OwnTells env ps at s m = OwnAnswers w env (shapes ps) at s m

@@ -32,11 +32,11 @@ use Rattle.cl_bodies.specs.DisplayForms.{parse_draw, parse_write, parse_newline,
 use Rattle.cl_grammar.specs.Heads.{CallsNames}
 use Rattle.cl_grammar.proofs.Endings.{Ends, gives, refuses, chooses, binds}
 use Rattle.cl_grammar.proofs.Spelled.{not_fixed}
-use Rattle.cl_grammar.proofs.Written.{shapes, WrittenParts}
+use Rattle.cl_grammar.proofs.Written.{shapes, WrittenParts, each_written}
 use Rattle.cl_text_grammar.specs.Displays.{figures, CallsDisplays}
 use Rattle.cl_text_grammar.specs.WritesShapes.{WritesShape, WritesShapeForm, WritesShapes, a_form, a_text, a_new_line, a_figure, an_indented, an_inked, a_room, an_if, a_when, a_let, a_dolist, a_progn, a_call, no_more, one_more}
 use Rattle.cl_text_grammar.proofs.FormWords.{setting_word, writing_word, Spells}
-use Rattle.cl_text_grammar.proofs.Bindings.{WritesBinding, a_binding, each_written}
+use Rattle.cl_text_grammar.proofs.Bindings.{WritesBinding, a_binding}
 use Rattle.cl_text_grammar.proofs.FormsWritten.{OwnWrites, Rules, form_ends, body_ends}
 
 -- what the display forms of a body write
