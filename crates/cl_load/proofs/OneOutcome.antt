@@ -12,7 +12,7 @@ use Rattle.cl_forms.proofs.OneTree.{one_forest}
 use Rattle.cl_expressions.specs.Load.{Fault, Notes, nothing_noted}
 use Rattle.cl_declare.specs.declared.declarations.Declarations.{Declarations}
 use Rattle.cl_declare.specs.declared.frames.FrameForm.{FrameForm}
-use Rattle.cl_phases.specs.SlotReads.{Functions}
+use Rattle.cl_eval.specs.Uses.{Functions}
 use Rattle.cl_load.specs.Application.{AreForms, IsUnreadable, ComesTo, HasOutcome, data_of}
 use Rattle.cl_load.specs.Outcome.{Comes, IsVerdict, Outcome, Settled, parse}
 use Rattle.cl_load.specs.Readings.{Finds, IsFirstReading, NoneReads}

@@ -2,7 +2,8 @@
 use Rattle.std.proofs.Common.{◌≡◌, ◌+◌, ◌<◌, inl, inr, ℕ, length, drop, get_or, List, ◌∷◌, refl, sym, ap, ◌∙◌, subst}
 use Rattle.std.proofs.lemmas.List.{drop_more}
 use Rattle.cl_declare.specs.declared.frames.FrameForm.{FrameForm}
-use Rattle.cl_phases.specs.SlotReads.{Functions, AnyReads}
+use Rattle.cl_eval.specs.Uses.{Functions}
+use Rattle.cl_phases.specs.SlotReads.{AnyReads}
 use Rattle.cl_load.specs.Readings.{IsFirstReading, NoneReads}
 
 -- what the frames from a place on say of all frames

@@ -1,7 +1,8 @@
 -- Opening values read no slot, through calls too.
 use Rattle.std.specs.Prelude.{◌≡◌, ◌⊎◌, ℕ, List, [], ◌∷◌, Option, Some, None}
 use Rattle.cl_declare.specs.declared.frames.FrameForm.{FrameForm}
-use Rattle.cl_phases.specs.SlotReads.{Functions, AnyReads}
+use Rattle.cl_eval.specs.Uses.{Functions}
+use Rattle.cl_phases.specs.SlotReads.{AnyReads}
 
 -- the offset of the first frame with an opening value that reads a slot
 abbrev pub IsFirstReading : Functions → List FrameForm → ℕ → Type 0

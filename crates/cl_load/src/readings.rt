@@ -4,10 +4,11 @@ ghost use Rattle.cl_load.specs.Readings.{Finds};
 
 use cl_application::Functions;
 use cl_declare::FrameForm;
-use cl_phases::any_reads_slot;
+use cl_phases::SlotSearch;
 use std::alloc::{AllocError, Global};
 
-/// The offset of the first frame with an opening value that reads a slot, through calls too.
+/// The offset of the first frame with an opening value that reads a slot, through calls too. The body of
+/// each function is looked at once for all frames.
 pub fn first_reading(
     alloc: Global,
     functions: &Functions,
@@ -15,8 +16,9 @@ pub fn first_reading(
 ) -> Result<Option<u32>, AllocError>
     ensures { IfOk result (Finds functions.now frames.now) }
 {
+    let mut search = SlotSearch::new(alloc, functions);
     for frame in frames {
-        if any_reads_slot(alloc, functions, &frame.slots)? {
+        if search.any_reads_slot(&frame.slots)? {
             return Ok(Some(frame.at));
         }
     }
