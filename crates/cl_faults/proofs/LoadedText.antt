@@ -1,5 +1,5 @@
 -- What a text that loads has, and what is told of one that does not.
-use Rattle.std.proofs.Common.{◌≡◌, ◌≤◌, ℕ, List, [], ◌∷◌, ◌++◌, length, inr, refl, sym, ap, arith, ◌∙◌}
+use Rattle.std.proofs.Common.{◌≡◌, ℕ, List, [], ◌∷◌, length, inr, refl, sym, ap, arith, ◌∙◌}
 use Rattle.std.specs.Prelude.{Option, Some, None, Result, Ok, Err}
 use Rattle.std.proofs.Math.Path.{subst}
 use Rattle.cl_application.specs.declared.applications.App.{App}
@@ -16,11 +16,11 @@ use Rattle.cl_grammar.specs.Lies.{LieInText}
 use Rattle.cl_grammar.specs.Unnamed.{IsNoted}
 use Rattle.cl_grammar.proofs.TextLies.{text_lies}
 use Rattle.cl_text_grammar.specs.FormBlames.{IsFirst}
-use Rattle.cl_declaration_grammar.specs.Texts.{TextBlames, TextUnnamed}
+use Rattle.cl_declaration_grammar.specs.Texts.{TextUnnamed}
 use Rattle.cl_declaration_grammar.proofs.TextVerdicts.{text_told, text_refused, text_noted}
-use Rattle.cl_load.specs.Application.{AreForms, ComesTo, data_of, IsApplication, IsRefusal}
+use Rattle.cl_load.specs.Application.{AreForms, data_of, IsApplication, IsRefusal}
 use Rattle.cl_load.specs.Outcome.{IsVerdict, Settled, Comes, parse}
-use Rattle.cl_load.specs.Refusals.{numbered, first_fault, app_in, form_faults, frame_faults}
+use Rattle.cl_load.specs.Refusals.{numbered, first_fault, app_in, frame_faults}
 use Rattle.cl_faults.specs.Loaded.{DataBlame, DataUnnamed, IsDeclared, IsFirstUnnamed}
 
 data_lie : (bytes : List ℕ) (forms : List Tree) → AreForms bytes forms → LieInText (datums_of (data_of forms))
@@ -63,12 +63,11 @@ Read ds = (s : Declarations) × (notes : Notes) × Reads ds s notes
 outcome_read : (size : ℕ) (ds : List Datum) (app : App) (r : Result (Declarations × Notes) Fault) → parse ds nothing_noted ≡ r → Comes size ds r (Ok app)
     → Read ds
 outcome_read size ds app (Err fault) e h = absurd (no_error h)
-outcome_read size ds app (Ok x) e h =
-    (
-      x.0,
-      x.1,
-      (e, none_noted (first_past ds) (first_twice (outers_of ds)) x.1.unknown (frame_faults size x.0 h.reading) (app_in x.0 x.0.frames) app h.verdict),
-    )
+outcome_read size ds app (Ok x) e h = (
+  x.0,
+  x.1,
+  (e, none_noted (first_past ds) (first_twice (outers_of ds)) x.1.unknown (frame_faults size x.0 h.reading) (app_in x.0 x.0.frames) app h.verdict),
+)
 
 module _ (bytes : List ℕ) (forms : List Tree) (r : AreForms bytes forms) where
   abbrev ds : List Datum

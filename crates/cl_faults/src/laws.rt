@@ -42,13 +42,11 @@ pub fn first_fault_of_a_text_has_least_offset()
 
 /// In a text that loads no form is to blame, and each name is declared: no call has a wrong count, and no name is without its
 /// declaration.
-#[tactic(auto, using(crate::proofs::LoadedText::loaded_declared))]
 pub fn what_loads_is_declared()
     ensures { (bytes : List ℕ) (app : App) → IsApplication bytes app → IsDeclared bytes }
 {}
 
 /// The first form of a text that is to blame is its refusal.
-#[tactic(auto, using(crate::proofs::LoadedText::blame_refused))]
 pub fn first_blame_of_a_text_is_its_refusal()
     ensures { (bytes : List ℕ) (forms : List Tree) (number at : ℕ) → AreForms bytes forms
         → IsFirst (DataBlame (data_of forms)) number at → IsRefusal bytes number at }
@@ -56,7 +54,6 @@ pub fn first_blame_of_a_text_is_its_refusal()
 
 /// The first name of a text that is not declared is its refusal, by 8, where nothing in the text is to blame, past a limit or
 /// declared twice.
-#[tactic(auto, using(crate::proofs::LoadedText::unnamed_refused))]
 pub fn first_unnamed_of_a_text_is_its_refusal()
     ensures { (bytes : List ℕ) (forms : List Tree) (at : ℕ) → AreForms bytes forms
         → IsFirstUnnamed (data_of forms) at → IsRefusal bytes 8 at }
