@@ -2,7 +2,6 @@
 use Rattle.std.proofs.Common.{ℕ, ◌+◌, ◌≤◌, ◌<◌, Bool, true, false, if◌then◌else◌, List, [], ◌∷◌, ◌++◌, length, arith}
 use Rattle.std.specs.Prelude.{Option, Some, None}
 use Rattle.std.specs.Option.{IfSome}
-use Rattle.std.specs.Str.{bytes_eq}
 use Rattle.cl_table.specs.Names.{named}
 use Rattle.cl_forms.specs.Datum.{Datum, Datums, number, literal, word, quoted, stray, list, none, item, in_order, parts_of, offset}
 use Rattle.cl_forms.specs.Naming.{name_in, fits}
@@ -13,6 +12,7 @@ use Rattle.cl_expressions.specs.Expressions.{is_binding_list}
 use Rattle.cl_grammar.specs.Heads.{Counted, operators, fixed_heads}
 use Rattle.cl_grammar.specs.Lies.{Lies, LieAll}
 use Rattle.cl_grammar.specs.Sights.{Seen, expression, slot_name, record_name, Sight, Misshapen, UnknownHead, Sees, all_seen, counted_seen, slot_seen, if_seen, names_behind, value_seen, values_seen, let_seen, fields_seen, make_seen, get_seen, with_seen, map_seen, filter_seen, fold_seen, call_seen, rows, operator_seen, row_seen, form_seen}
+use Rattle.cl_grammar.proofs.Spelled.{row_found}
 
 -- data lie one behind another, as those of a list do
 abbrev pub LieList : ℕ → List Datum → ℕ → Type 0
@@ -206,19 +206,6 @@ fold_lies env ds from to h = tt
 
 -- ---- forms by their heads
 
-abbrev LieRows : List (List ℕ × (Names → List Datum → Sight)) → Type 0
-LieRows [] = Unit {0}
-LieRows (r ∷ rs) = LieRow r.1 × LieRows rs
-
-found_lies : (R : Names → List Datum → Sight) (b : Bool) (o : Option (Names → List Datum → Sight)) → LieRow R → IfSome o LieRow
-    → IfSome (if b then Some R else o) LieRow
-found_lies R true o h k = h
-found_lies R false o h k = k
-
-rows_lie : (x : List ℕ) (rs : List (List ℕ × (Names → List Datum → Sight))) → LieRows rs → IfSome (named x rs) LieRow
-rows_lie x [] h = tt
-rows_lie x (r ∷ rs) h = found_lies r.1 (bytes_eq x r.0) (named x rs) h.0 (rows_lie x rs h.1)
-
 module _ (w : Signatures) (x : List ℕ) (head_at from next to : ℕ) (l : from ≤ head_at) (r : head_at < next) where
   call_lies : (c : Option (Option ℕ)) (env : Names) (ds : List Datum) → LieList next ds to → LieSight from (call_seen c head_at env ds) to
   call_lies None env ds h = (l, omega (arith, r, seen_rises (all_seen env ds) next to (all_lie env ds next to h)))
@@ -251,7 +238,7 @@ pub form_lies : (w : Signatures) (env : Names) (ds : List Datum) (from to : ℕ)
 form_lies w env [] from to h = tt
 form_lies w env (word x at ∷ ds) from to h =
     row_lies w x at from h.0 to h.1.0 h.1.1 (named x (rows w))
-    (rows_lie x (rows w)
+    (row_found LieRow x (rows w)
     (slot_lies, (if_lies, (let_lies, (counted_lies None, (counted_lies None, (make_lies w, (get_lies, (with_lies, (map_lies, (filter_lies, (fold_lies, tt))))))))))))
     env ds h.2
 form_lies w env (number z at ∷ ds) from to h = tt

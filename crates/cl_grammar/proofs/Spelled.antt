@@ -74,6 +74,19 @@ word_is a x w h k = chosen a (bytes_eq x w) (λ e. h (same_word x w e)) k
 pub of_some : {A : Type 0} {P : A → Type 0} (a : A) (o : Option A) → o ≡ Some a → Finds P o → P a
 of_some {P} a o e h = subst (λ (r : Option _). IfSome r P) e h.found
 
+-- P holds of each row of the table
+abbrev pub EachRow : {R : Type 0} → (R → Type 0) → List (List ℕ × R) → Type 0
+EachRow P [] = Unit {0}
+EachRow P (r ∷ rs) = P r.1 × EachRow P rs
+
+row_or : {R : Type 0} (P : R → Type 0) (row : R) (b : Bool) (o : Option R) → P row → IfSome o P → IfSome (if b then Some row else o) P
+row_or P row true o h k = h
+row_or P row false o h k = k
+
+pub row_found : {R : Type 0} (P : R → Type 0) (x : List ℕ) (rs : List (List ℕ × R)) → EachRow P rs → IfSome (named x rs) P
+row_found P x [] h = tt
+row_found P x (r ∷ rs) h = row_or P r.1 (bytes_eq x r.0) (named x rs) h.0 (row_found P x rs h.1)
+
 -- ---- heads
 
 -- the word of a head that stands before expressions alone

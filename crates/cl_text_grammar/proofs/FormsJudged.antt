@@ -1,5 +1,5 @@
 -- What the readings of forms come to, in any language of forms whose own rows answer to what they see.
-use Rattle.std.proofs.Common.{◌≡◌, ℕ, Bool, true, false, if◌then◌else◌, List, [], ◌∷◌, drop, refl, sym, ap, ◌∙◌, zero, suc}
+use Rattle.std.proofs.Common.{◌≡◌, ℕ, Bool, true, false, if◌then◌else◌, List, [], ◌∷◌, drop, refl, sym, ap, ◌∙◌}
 use Rattle.std.specs.Prelude.{Err, Option, Some, None}
 use Rattle.std.proofs.Math.Path.{subst}
 use Rattle.cl_forms.specs.Datum.{Datum, Datums, number, literal, word, quoted, stray, list, none, item, in_order, parts_of}
@@ -21,6 +21,7 @@ use Rattle.cl_grammar.proofs.Judging.{Any, Judges}
 use Rattle.cl_grammar.proofs.Rows.{JudgedPart, JudgedParts}
 use Rattle.cl_grammar.proofs.Written.{shapes}
 use Rattle.cl_text_grammar.specs.FormSights.{FormSeen, expressions, FormSight, Misshapen, UnknownHead, PlannedHead, Sees, Row, forms_seen, if_seen, when_seen, let_seen, dolist_seen, headed_seen}
+use Rattle.cl_text_grammar.proofs.FormParts.{EachPart, stand, parts_behind, stand_behind, stand_all}
 use Rattle.cl_text_grammar.proofs.BindingsJudged.{no_binding, part_judged}
 use Rattle.cl_text_grammar.proofs.FormsLie.{LieSights}
 use Rattle.cl_text_grammar.proofs.FormJudging.{FormJudges, FormJudged, then_expressions, then_form, ended, then_given, Answers, list_judged, atom_judged}
@@ -83,11 +84,7 @@ module _ {F O C : Type 0} (l : Language F O C) (w : Signatures) (row : List ℕ 
     form : (c : C) (env : Names) → FormJudged seen w lies env p.sub.shape (p.form c env)
 
   abbrev FormParts : List (Part F C) → Type 0
-  FormParts [] = Unit {0}
-  FormParts (p ∷ ps) = FormPart p × FormParts ps
-
-  abbrev stand : List (Part F C) → List Datum
-  stand ps = shapes (subs_of ps)
+  FormParts ps = EachPart FormPart ps
 
   subs_judged : (ps : List (Part F C)) → FormParts ps → JudgedParts w (subs_of ps)
   subs_judged [] k = tt
@@ -154,22 +151,12 @@ module _ {F O C : Type 0} (l : Language F O C) (w : Signatures) (row : List ℕ 
 
   -- ---- forms of the language's own
 
-  behind : (count : ℕ) (ps : List (Part F C)) → FormParts ps → FormParts (drop count ps)
-  behind zero ps k = k
-  behind (suc n) [] k = tt
-  behind (suc n) (p ∷ ps) k = behind n ps k.1
-
-  stand_behind : (count : ℕ) (ps : List (Part F C)) → stand (drop count ps) ≡ drop count (stand ps)
-  stand_behind zero ps = refl
-  stand_behind (suc n) [] = refl
-  stand_behind (suc n) (p ∷ ps) = stand_behind n ps
-
   finished_judged : (own : Own F O C) (rest : List FormSeen) (ps : List (Part F C)) (env : Names) → RestIs env (stand ps) rest own → FormParts ps
       → Goes rest (finished l own ps env)
   finished_judged (Whole f) rest ps env i k = subst (λ r. Goes r (give f)) (sym i) (ended seen w lies f)
   finished_judged (Before o count c) rest ps env i k =
       subst (λ r. Goes r (finished l (Before o count c) ps env)) (ap (forms_seen env) (stand_behind count ps) ∙ sym i)
-      (body_judged c (drop count ps) env (l.closed o) (behind count ps k))
+      (body_judged c (drop count ps) env (l.closed o) (parts_behind FormPart count ps k))
 
   sees_row : (seen_parts : List FormSeen) (m : Load (Own F O C)) (ps : List (Part F C)) (env : Names) → OwnSees w env (stand ps) seen_parts m → FormParts ps
       → Goes seen_parts (m >>= λ own. finished l own ps env)
@@ -224,15 +211,11 @@ module _ {F O C : Type 0} (l : Language F O C) (w : Signatures) (row : List ℕ 
   listed_row c at [] env k = λ u. refl
   listed_row c at (p ∷ ps) env k = headed_row c p.sub.shape at ps env k.1
 
-  stand_all : (ds : Datums) → stand (parts_in l w ds) ≡ in_order ds
-  stand_all none = refl
-  stand_all (item d ds) = λ i. d ∷ stand_all ds i
-
   mutual
     pub form_judged : (c : C) (d : Datum) (env : Names) → FormJudged seen w lies env d (parse_form l w c d env)
     form_judged c (list ds at) env =
         list_judged seen w lies env ds at (parse_form l w c (list ds at) env)
-        (subst (λ es. Tells at (seen env es) (parse_form l w c (list ds at) env)) (stand_all ds) (listed_row c at (parts_in l w ds) env (parts_go ds)))
+        (subst (λ es. Tells at (seen env es) (parse_form l w c (list ds at) env)) (stand_all l w ds) (listed_row c at (parts_in l w ds) env (parts_go ds)))
     form_judged c (number z at) env = atom_judged seen w lies env (number z at) refl
     form_judged c (literal s at) env = atom_judged seen w lies env (literal s at) refl
     form_judged c (quoted s at name_at) env = atom_judged seen w lies env (quoted s at name_at) refl
@@ -245,4 +228,4 @@ module _ {F O C : Type 0} (l : Language F O C) (w : Signatures) (row : List ℕ 
 
   pub data_judged : (c : C) (ds : Datums) (env : Names) → Goes (forms_seen env (in_order ds)) (parse_body l w c ds env)
   data_judged c ds env =
-      subst (λ es. Goes (forms_seen env es) (parse_body l w c ds env)) (stand_all ds) (each_judged c (parts_in l w ds) env (parts_go ds))
+      subst (λ es. Goes (forms_seen env es) (parse_body l w c ds env)) (stand_all l w ds) (each_judged c (parts_in l w ds) env (parts_go ds))

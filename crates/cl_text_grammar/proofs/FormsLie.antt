@@ -14,6 +14,7 @@ use Rattle.cl_grammar.specs.Heads.{fixed_heads}
 use Rattle.cl_grammar.specs.Lies.{Lies}
 use Rattle.cl_grammar.specs.Sights.{expression, slot_name, all_seen, names_behind, value_seen, names_bound, values_seen}
 use Rattle.cl_grammar.proofs.Lying.{LieList, LieSeen, own_lies, datum_rises, datum_earlier, seen_rises, seen_earlier, all_lie, value_lies, bound_lies}
+use Rattle.cl_grammar.proofs.Spelled.{row_found}
 use Rattle.cl_text_grammar.specs.FormSights.{FormSeen, expressions, form, FormSight, Misshapen, UnknownHead, PlannedHead, Sees, Row, forms_seen, if_seen, when_seen, let_seen, dolist_seen, progn_seen, planned_seen, write_seen, newline_seen, drawn_seen, indent_seen, ink_seen, room_seen, call_seen, shape_rows, shape_row_seen, place_seen, setf_seen, reply_seen, act_rows, act_row_seen, headed_seen, shape_seen, act_seen}
 
 -- what is seen lies one behind another
@@ -175,18 +176,6 @@ reply_lies k env (a ∷ b ∷ ds) from to l h = tt
 
 -- ---- forms by their heads
 
-abbrev LieRows : List (List ℕ × Row) → Type 0
-LieRows [] = Unit {0}
-LieRows (r ∷ rs) = LieRow r.1 × LieRows rs
-
-found_lies : (R : Row) (b : Bool) (o : Option Row) → LieRow R → IfSome o LieRow → IfSome (if b then Some R else o) LieRow
-found_lies R true o h k = h
-found_lies R false o h k = k
-
-rows_lie : (x : List ℕ) (rs : List (List ℕ × Row)) → LieRows rs → IfSome (named x rs) LieRow
-rows_lie x [] h = tt
-rows_lie x (r ∷ rs) h = found_lies r.1 (bytes_eq x r.0) (named x rs) h.0 (rows_lie x rs h.1)
-
 unknown_or_call : (b : Bool) (o : Option (Option ℕ)) → LieRow (λ h env ds. if b then UnknownHead h else call_seen o h env ds)
 unknown_or_call true o k env ds from to l h = head_lies k from to ds l h
 unknown_or_call false o k env ds from to l h = call_lies o k env ds from to l h
@@ -221,7 +210,7 @@ headed_lie row i env (list es at ∷ ds) from to h = tt
 
 pub shapes_lie : (w : Signatures) → LieSights (shape_seen w)
 shapes_lie w = headed_lie (λ x. shape_row_seen w (named x shape_rows) x) (λ x. shape_row_lies w (named x shape_rows) x
-    (rows_lie x shape_rows (
+    (row_found LieRow x shape_rows (
       if_lies,
       (
         when_row_lies,
@@ -261,5 +250,5 @@ shapes_lie w = headed_lie (λ x. shape_row_seen w (named x shape_rows) x) (λ x.
 
 pub acts_lie : LieSights act_seen
 acts_lie = headed_lie (λ x. act_row_seen (named x act_rows)) (λ x. act_row_lies (named x act_rows)
-    (rows_lie x act_rows
+    (row_found LieRow x act_rows
     (if_lies, (when_row_lies, (let_lies, (dolist_lies, (progn_lies, (setf_lies, (reply_lies, (planned_lies, (planned_lies, (planned_lies, tt))))))))))))

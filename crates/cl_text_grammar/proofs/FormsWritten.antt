@@ -1,5 +1,5 @@
 -- What is read of a datum as a form writes it, in any language of forms whose rows do.
-use Rattle.std.proofs.Common.{◌≡◌, ℕ, List, [], ◌∷◌, drop, refl, sym, zero, suc}
+use Rattle.std.proofs.Common.{◌≡◌, ℕ, List, [], ◌∷◌, drop, refl, sym}
 use Rattle.std.specs.Prelude.{Option, Some, None, codes}
 use Rattle.std.proofs.Math.Path.{subst}
 use Rattle.cl_syntax.specs.Expr.{bindings_of}
@@ -22,6 +22,7 @@ use Rattle.cl_grammar.specs.Heads.{CallsNames}
 use Rattle.cl_grammar.specs.Writes.{Writes, WritesBindings}
 use Rattle.cl_grammar.proofs.Endings.{Ends, gives, refuses, chooses, binds, ends_weaker}
 use Rattle.cl_grammar.proofs.Written.{shapes, WritesList, WrittenPart, WrittenParts}
+use Rattle.cl_text_grammar.proofs.FormParts.{EachPart, stand, parts_behind, stand_behind, stand_all}
 use Rattle.cl_text_grammar.proofs.FormWords.{control_word, Spells, head_spells}
 use Rattle.cl_text_grammar.proofs.Bindings.{WritesBinding, binding_ends, part_written}
 
@@ -56,11 +57,7 @@ module _ {F O C : Type 0} (l : Language F O C) (w : Signatures) (names : CallsNa
     form : (c : C) (env : Names) → Ends (λ f. V f p.sub.shape) (p.form c env)
 
   abbrev FormParts : List (Part F C) → Type 0
-  FormParts [] = Unit {0}
-  FormParts (p ∷ ps) = FormPart p × FormParts ps
-
-  abbrev stand : List (Part F C) → List Datum
-  stand ps = shapes (subs_of ps)
+  FormParts ps = EachPart FormPart ps
 
   subs_written : (ps : List (Part F C)) → FormParts ps → WrittenParts (subs_of ps)
   subs_written [] k = tt
@@ -121,21 +118,11 @@ module _ {F O C : Type 0} (l : Language F O C) (w : Signatures) (names : CallsNa
 
   -- ---- forms of the language's own
 
-  behind : (count : ℕ) (ps : List (Part F C)) → FormParts ps → FormParts (drop count ps)
-  behind zero ps k = k
-  behind (suc n) [] k = tt
-  behind (suc n) (p ∷ ps) k = behind n ps k.1
-
-  stand_behind : (count : ℕ) (ps : List (Part F C)) → stand (drop count ps) ≡ drop count (stand ps)
-  stand_behind zero ps = refl
-  stand_behind (suc n) [] = refl
-  stand_behind (suc n) (p ∷ ps) = stand_behind n ps
-
   finished_ends : (h : Datum) (ps : List (Part F C)) (env : Names) (own : Own F O C) → FormParts ps → OwnWrites l W B h (stand ps) own
       → Ends (λ f. W f (h ∷ stand ps)) (finished l own ps env)
   finished_ends h ps env (Whole f) k i = gives i
   finished_ends h ps env (Before o count c) k i =
-      binds (each_ends c (drop count ps) env (behind count ps k)) λ fs j. gives (i fs (subst (B fs) (stand_behind count ps) j))
+      binds (each_ends c (drop count ps) env (parts_behind FormPart count ps k)) λ fs j. gives (i fs (subst (B fs) (stand_behind count ps) j))
 
   own_ends : (c : C) (o : Head) (x : List ℕ) (h at : ℕ) (ps : List (Part F C)) (env : Names) → Spells x o → FormParts ps
       → Ends (RowEnds x h ps) (parse_own l w c o h at ps env)
@@ -179,14 +166,10 @@ module _ {F O C : Type 0} (l : Language F O C) (w : Signatures) (names : CallsNa
   listed_ends c at [] env k = refuses
   listed_ends c at (p ∷ ps) env k = headed_ends c p.sub.shape at ps env k.1
 
-  stand_all : (ds : Datums) → stand (parts_in l w ds) ≡ in_order ds
-  stand_all none = refl
-  stand_all (item d ds) = λ i. d ∷ stand_all ds i
-
   mutual
     pub form_ends : (c : C) (d : Datum) (env : Names) → Ends (λ f. V f d) (parse_form l w c d env)
     form_ends c (list ds at) env =
-        ends_weaker (λ f i. rules.a_form f ds at (subst (W f) (stand_all ds) i)) (listed_ends c at (parts_in l w ds) env (parts_end ds))
+        ends_weaker (λ f i. rules.a_form f ds at (subst (W f) (stand_all l w ds) i)) (listed_ends c at (parts_in l w ds) env (parts_end ds))
     form_ends c (number z at) env = refuses
     form_ends c (literal s at) env = refuses
     form_ends c (quoted s at name_at) env = refuses
@@ -198,4 +181,4 @@ module _ {F O C : Type 0} (l : Language F O C) (w : Signatures) (names : CallsNa
     parts_end (item d ds) = (record { sub = part_written w names d; form = λ c env. form_ends c d env }, parts_end ds)
 
   pub body_ends : (c : C) (ds : Datums) (env : Names) → Ends (λ fs. B fs (in_order ds)) (parse_body l w c ds env)
-  body_ends c ds env = ends_weaker (λ fs i. subst (B fs) (stand_all ds) i) (each_ends c (parts_in l w ds) env (parts_end ds))
+  body_ends c ds env = ends_weaker (λ fs i. subst (B fs) (stand_all l w ds) i) (each_ends c (parts_in l w ds) env (parts_end ds))

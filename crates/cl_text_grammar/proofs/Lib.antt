@@ -1,5 +1,6 @@
 pub mod FormWords
 pub mod Bindings
+pub mod FormParts
 pub mod FormsWritten
 pub mod ShapesWritten
 pub mod ActsWritten
