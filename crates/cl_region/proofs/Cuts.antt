@@ -60,10 +60,6 @@ or_new true q = refl
 or_new false true = refl
 or_new false false = refl
 
-and_true : (p : Bool) → p && true ≡ p
-and_true true = refl
-and_true false = refl
-
 not_held : (b : Bool) → not b ≡ true → b ≡ true → ⊥
 not_held true h k = wrong h
 not_held false h k = wrong k
@@ -303,9 +299,6 @@ rest_cut r holes parts hole left h = record {
       ap (λ b. b && not (held left x y)) (held-cut_all hole parts x y)
       ∙ (outside_two (held parts x y) (holds hole x y) (held left x y) ∙ h.places x y);
 }
-
-pub rest_places : (r : Rect) (holes parts : List Rect) → IsRest r holes parts [] → (x y : ℤ) → held parts x y ≡ holds r x y && not (held holes x y)
-rest_places r holes parts h x y = sym (and_true (held parts x y)) ∙ h.places x y
 
 -- the rectangles, and behind them what is new of another one
 pub added_holds : (rs new : List Rect) (r : Rect) → ((x y : ℤ) → held new x y ≡ holds r x y && not (held rs x y))

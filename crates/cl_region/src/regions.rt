@@ -53,8 +53,7 @@ impl Region {
         self.rects.as_slice()
     }
 
-    /// Adds the cells of a rectangle. Where memory is wanting, nothing changes. One that continues the last
-    /// rectangle takes no memory.
+    /// Adds the cells of a rectangle. Where memory is wanting, nothing changes.
     pub fn add(&mut self, rect: Rect) -> Result<(), AllocError>
         ensures cells { OnOk result ((x y : ℤ) → held self.new x y ≡ held self.old x y || holds rect x y) }
         ensures unchanged { OnErr result (self.new ≡ self.old) }
@@ -107,36 +106,36 @@ fn is_apart(rects: &[Rect], rect: &Rect) -> bool
     true
 }
 
-// One rectangle more, which shares no cell with the others. With the last of them it is joined to one, as long as
-// it continues it. Where memory is wanting, nothing changes.
+// One rectangle more, which shares no cell with the others. It is joined with the last of them, and what they make
+// with the one before, as long as the two make one. Where memory is wanting, nothing changes.
 fn put_in(rects: &mut Vec<Rect>, rect: Rect) -> Result<(), AllocError>
     requires { ArePieces (rect ∷ rects.old.items) }
     ensures pieces { OnOk result (ArePiecesOf (rect ∷ rects.old.items) rects.new.items) }
     ensures unchanged { OnErr result (rects.new.items ≡ rects.old.items) }
 {
-    let (kept, whole) = joined_with_last(rects.as_slice(), rect);
-    if kept == rects.len() {
+    let (left, whole) = joined_with_last(rects.as_slice(), rect);
+    if left == rects.len() {
         rects.push(whole)?;
         return Ok(());
     }
-    rects[kept] = whole;
-    rects.truncate(kept + 1);
+    rects[left] = whole;
+    rects.truncate(left + 1);
     Ok(())
 }
 
-// How many of the rectangles stay, and the one that the others make together with the rectangle.
+// How many of the rectangles are left, and the one that the others make together with the rectangle.
 fn joined_with_last(rects: &[Rect], rect: Rect) -> (usize, Rect)
     requires { ArePieces (rect ∷ rects.now) }
     ensures count { result.0 ≤ length rects.now }
     ensures pieces { ArePiecesOf (rect ∷ rects.now) (result.1 ∷ take result.0 rects.now) }
 {
     let mut whole = rect;
-    let mut kept = rects.len();
-    while kept > 0 && continues(&rects[kept - 1], &whole) {
-        kept -= 1;
-        whole = rects[kept].corners_box(&whole);
+    let mut left = rects.len();
+    while left > 0 && continues(&rects[left - 1], &whole) {
+        left -= 1;
+        whole = rects[left].corners_box(&whole);
     }
-    (kept, whole)
+    (left, whole)
 }
 
 // Whether the next rectangle makes one with the first, to the right of it or below it.
@@ -158,7 +157,7 @@ fn is_below(first: &Rect, next: &Rect) -> bool
     next.x1 == first.x1 && next.x2 == first.x2 && next.y1 == first.y2
 }
 
-// What a rectangle has outside of each of the others. It is cut by those that share a cell with it.
+// What a rectangle has outside of each of the others. Only those that share a cell with it cut it.
 fn outside_of_each(alloc: Global, holes: &[Rect], rect: Rect) -> Result<Vec<Rect>, AllocError>
     ensures pieces { IfOk result (λ v. ArePieces v.items) }
     ensures cells { IfOk result (λ v. (x y : ℤ) → held v.items x y ≡ holds rect x y && not (held holes.now x y)) }

@@ -1,5 +1,6 @@
 //! Rectangles, and regions of them.
 use cl_region::{Rect, Region, Shift};
+use std::alloc::AllocError;
 use std::test::Fail;
 
 fn rect(x1: i64, y1: i64, x2: i64, y2: i64) -> Rect {
@@ -56,5 +57,34 @@ fn regions(rt: HostRuntime) -> Result<(), Fail> {
     region.add(rect(1, 1, 6, 2))?;
     assert_eq!(rt; region.rects().len(), 6);
     assert!(rt; region.contains(5, 1));
+    Ok(())
+}
+
+const COLUMNS: i64 = 400;
+const ROWS: i64 = 250;
+
+// The cells of a row one after another, each by itself.
+fn add_row(region: &mut Region, y: i64) -> Result<(), AllocError> {
+    for x in 0..COLUMNS {
+        region.add(rect(x, y, x + 1, y + 1))?;
+    }
+    Ok(())
+}
+
+#[test]
+fn regions_join_what_continues(rt: HostRuntime) -> Result<(), Fail> {
+    let mut region = Region::new(rt.alloc());
+    for y in 0..ROWS {
+        add_row(&mut region, y)?;
+    }
+    assert_eq!(rt; region.rects().len(), 1);
+    assert!(rt; region.contains(0, 0));
+    assert!(rt; region.contains(COLUMNS - 1, ROWS - 1));
+    assert!(rt; !region.contains(COLUMNS, 0));
+    assert!(rt; !region.contains(0, ROWS));
+    region.add(rect(0, ROWS, 1, ROWS + 1))?;
+    region.add(rect(2, ROWS, 3, ROWS + 1))?;
+    assert_eq!(rt; region.rects().len(), 3);
+    assert!(rt; !region.contains(1, ROWS));
     Ok(())
 }

@@ -4,14 +4,14 @@ use Rattle.cl_region.specs.Pieces.{ArePiecesOf}
 use Rattle.cl_region.proofs.Joins.{joined}
 use Rattle.cl_region.proofs.regions.joined_with_last.Goals as goal
 
-pub loop-kept-preserved : goal.loop-kept-preserved
-loop-kept-preserved c =
+pub loop-left-preserved : goal.loop-left-preserved
+loop-left-preserved c =
     let rects = c.args.rects.now in
-    let kept = c.loop-kept.kept in
+    let left = c.loop-left.left in
     let all = c.args.rect ∷ rects in
-    let more : kept ≡ (kept - 1) + 1 = omega (arith, c.loop-kept-test.true) in
-    let left = ap (λ n. take n rects) more ∙ take_more rects (kept - 1) _ (omega (arith, c.loop-kept-test.true, c.loop-kept.invariant.0)) in (
-      omega (arith, c.loop-kept.invariant.0),
-      joined all (take (kept - 1) rects) _ c.loop-kept.whole c.corners_box-whole.result c.corners_box-whole.ensures.corners (c.continues.ensures.0 c.if-continues.true)
-          (subst (λ ps. ArePiecesOf all (c.loop-kept.whole ∷ ps)) left c.loop-kept.invariant.1),
+    let more : left ≡ (left - 1) + 1 = omega (arith, c.loop-left-test.true) in
+    let before = ap (λ n. take n rects) more ∙ take_more rects (left - 1) _ (omega (arith, c.loop-left-test.true, c.loop-left.invariant.0)) in (
+      omega (arith, c.loop-left.invariant.0),
+      joined all (take (left - 1) rects) _ c.loop-left.whole c.corners_box-whole.result c.corners_box-whole.ensures.corners (c.continues.ensures.0 c.if-continues.true)
+          (subst (λ ps. ArePiecesOf all (c.loop-left.whole ∷ ps)) before c.loop-left.invariant.1),
     )
