@@ -1,3 +1,4 @@
+//! How a gesture is handled, before the pane is settled.
 ghost use Rattle.std.specs.Prelude.{◌≡◌, ◌≤◌, ◌++◌, ◌∷◌, [], codes, IfOk};
 ghost use Rattle.std.specs.Fmt.{decimal};
 ghost use Rattle.cl_command.specs.Line.{finish_of};

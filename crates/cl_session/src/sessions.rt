@@ -1,3 +1,4 @@
+//! A session: an application with its slots, its command line and its pane.
 ghost use Rattle.std.specs.Prelude.{◌≡◌, ◌≤◌, ◌+◌, ◌||◌, false, is_none, IfOk};
 ghost use Rattle.cl_display.specs.Script.{pane_fresh};
 ghost use Rattle.cl_eval.specs.Outcome.{RisesBy, cost_of};
