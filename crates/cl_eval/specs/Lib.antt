@@ -3,6 +3,7 @@ pub mod Slots
 pub mod Scope
 pub mod Operators
 pub mod Meaning
+pub mod Standpoint
 pub mod Agrees
 pub mod Evaluated
 pub mod Statements

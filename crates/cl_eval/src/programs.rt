@@ -10,7 +10,7 @@ ghost use Rattle.cl_eval.specs.Agrees.{Agrees, Comes, always, itself};
 
 use crate::bindings::evaluate_bindings;
 use crate::effects::Effects;
-use crate::evaluation::{Context, evaluate, evaluate_list, evaluate_test};
+use crate::evaluation::{Context, Standpoint, evaluate, evaluate_list, evaluate_test};
 use crate::execution::Types;
 use crate::metering::{Meter, Stop};
 use crate::slot_table::Slots;
@@ -53,7 +53,13 @@ pub fn value_of<T: Types, L: Ledger>(
         slots,
         budget: program.budget,
     };
-    evaluate(&context, expr, scope, left, level, meter, steps)
+    let here = Standpoint {
+        context: &context,
+        scope,
+        left,
+        level,
+    };
+    evaluate(&here, expr, meter, steps)
 }
 
 /// Whether an expression is true on these slots.
@@ -79,7 +85,13 @@ pub fn is_true<T: Types, L: Ledger>(
         slots,
         budget: program.budget,
     };
-    evaluate_test(&context, expr, scope, left, level, meter, steps)
+    let here = Standpoint {
+        context: &context,
+        scope,
+        left,
+        level,
+    };
+    evaluate_test(&here, expr, meter, steps)
 }
 
 /// The list that an expression gives on these slots.
@@ -105,7 +117,13 @@ pub fn list_of<T: Types, L: Ledger>(
         slots,
         budget: program.budget,
     };
-    evaluate_list(&context, expr, scope, left, level, meter, steps)
+    let here = Standpoint {
+        context: &context,
+        scope,
+        left,
+        level,
+    };
+    evaluate_list(&here, expr, meter, steps)
 }
 
 /// The variables of bindings on these slots.
@@ -131,7 +149,13 @@ pub fn frame_of<T: Types, L: Ledger>(
         slots,
         budget: program.budget,
     };
-    evaluate_bindings(&context, bindings, scope, left, level, meter, steps)
+    let here = Standpoint {
+        context: &context,
+        scope,
+        left,
+        level,
+    };
+    evaluate_bindings(&here, bindings, meter, steps)
 }
 
 /// A slot with a new value, where that is a member of its type.
