@@ -7,5 +7,6 @@ pub mod Standpoint
 pub mod Agrees
 pub mod Evaluated
 pub mod Statements
+pub mod Stage
 pub mod Executed
 pub mod Uses

@@ -25,9 +25,8 @@ pub fn evaluate_let<L: Ledger>(
 ) -> Result<Value, Stop>
     requires { here.now.level + here.now.left < 2 ^ 32 }
     ensures meaning { Agrees data_of result meter.new
-        (let_in (meaning_at here.now) here.now.level
-        (bindings_of bindings.now) body.now (variables_of here.now.scope.now) meter.old.cost
-        meter.old.deepest) }
+        (let_in (meaning_at here.now) here.now.level (bindings_of bindings.now) body.now
+        (variables_of here.now.scope.now) meter.old.cost meter.old.deepest) }
     ensures ledger { steps.new + meter.old.cost ≡ steps.old + meter.new.cost }
 {
     let frame = evaluate_bindings(here, bindings, meter, steps)?;
@@ -50,7 +49,8 @@ pub fn evaluate_bindings<L: Ledger>(
     requires { here.now.level + here.now.left < 2 ^ 32 }
     ensures meaning { Agrees (λ frame. frame ++ variables_of here.now.scope.now) result meter.new
         (bound (meaning_at here.now) here.now.level
-        (bindings_of bindings.now) (variables_of here.now.scope.now) meter.old.cost meter.old.deepest) }
+        (bindings_of bindings.now) (variables_of here.now.scope.now) meter.old.cost
+        meter.old.deepest) }
     ensures ledger { steps.new + meter.old.cost ≡ steps.old + meter.new.cost }
 {
     let mut frame = Env::new(here.context.alloc);

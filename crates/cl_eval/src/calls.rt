@@ -26,8 +26,8 @@ pub fn evaluate_operation<L: Ledger>(
 ) -> Result<Value, Stop>
     requires { here.now.level + here.now.left < 2 ^ 32 }
     ensures meaning { Agrees data_of result meter.new
-        (seen_from here.now (operation_on here.now.context.now.app.now) operator.now (expr_trees_of parts.now) meter.old.cost
-        meter.old.deepest) }
+        (seen_from here.now (operation_on here.now.context.now.app.now) operator.now
+        (expr_trees_of parts.now) meter.old.cost meter.old.deepest) }
     ensures ledger { steps.new + meter.old.cost ≡ steps.old + meter.new.cost }
 {
     match parts {
@@ -69,8 +69,8 @@ pub fn call<L: Ledger>(
     requires { here.now.level + here.now.left < 2 ^ 32 }
     ensures meaning { Agrees data_of result meter.new
         (called (meaning_at here.now) here.now.level
-        (function_named name.now here.now.context.now.app.now) (map data_of values.now) meter.old.cost
-        meter.old.deepest) }
+        (function_named name.now here.now.context.now.app.now) (map data_of values.now)
+        meter.old.cost meter.old.deepest) }
     ensures ledger { steps.new + meter.old.cost ≡ steps.old + meter.new.cost }
 {
     match here.context.app.function(name.as_slice()) {

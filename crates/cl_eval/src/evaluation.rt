@@ -70,7 +70,8 @@ fn evaluate_parts<L: Ledger>(
 ) -> Result<Value, Stop>
     requires { here.now.level + here.now.left < 2 ^ 32 }
     ensures meaning { Agrees data_of result meter.new
-        (seen_from here.now (parts here.now.context.now.app.now here.now.context.now.slots.now) expr.now meter.old.cost meter.old.deepest) }
+        (seen_from here.now (parts here.now.context.now.app.now here.now.context.now.slots.now)
+        expr.now meter.old.cost meter.old.deepest) }
     ensures ledger { steps.new + meter.old.cost ≡ steps.old + meter.new.cost }
 {
     match &expr.kind {

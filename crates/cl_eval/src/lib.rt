@@ -26,5 +26,6 @@ pub use evaluation::{Context, Standpoint, evaluate, evaluate_each, evaluate_list
 pub use execution::{Executed, Types, exec};
 pub use laws::{limits_can_be_wider, names_alone_matter, quotient_is_rounded_down};
 pub use metering::{Limits, Meter, Stop};
+pub use programs::Program;
 pub use slot_table::Slots;
 pub use variables::{Env, Scope};

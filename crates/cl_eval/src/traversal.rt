@@ -83,8 +83,8 @@ pub fn fold_over<L: Ledger>(
 ) -> Result<Value, Stop>
     requires { here.now.level + here.now.left < 2 ^ 32 }
     ensures meaning { Agrees data_of result meter.new
-        (seen_from here.now folded fold.now.name fold.now.accumulator fold.now.body (map data_of list.now)
-        (data_of opening) meter.old.cost meter.old.deepest) }
+        (seen_from here.now folded fold.now.name fold.now.accumulator fold.now.body
+        (map data_of list.now) (data_of opening) meter.old.cost meter.old.deepest) }
     ensures ledger { steps.new + meter.old.cost ≡ steps.old + meter.new.cost }
 {
     let mut value = opening;
