@@ -14,12 +14,14 @@ use Rattle.cl_eval.specs.declared.metering.Stop.TheVariants.{Trap, Memory}
 use Rattle.cl_eval.specs.Outcome.{Gives, Traps, ◌>>=◌, give, trap, lift}
 use Rattle.cl_eval.specs.Slots.{Slots, Env, given}
 use Rattle.cl_eval.specs.Meaning.{Go, bound, each, entering, tested, listed, means}
+use Rattle.cl_eval.specs.declared.evaluation.Standpoint.{Standpoint}
 use Rattle.cl_eval.specs.Agrees.{Agrees, Comes, always, itself, items_are}
 use Rattle.cl_eval.proofs.CostLemmas.{Grows, GoGrows, Agrees-stop, grows-then, grows-give, grows-lift, grows-choice, grows-each, grows-entering, grows-tested, grows-listed, grows-bound, grows-means}
 use Rattle.cl_eval.proofs.EnteringLemmas.{no_entry}
 use Rattle.cl_syntax.specs.declared.figures.Figure.{Figure}
 use Rattle.cl_display.specs.Drawings.{DrawingAt, figured, indented, ink_back, inked, lined, margin_back, outer_of, room_entered, room_left}
 use Rattle.cl_display.specs.Fresh.{Draws, written, in_order, for_each, draws_in, called, shape_parts, draws, within}
+use Rattle.cl_display.specs.DrawnFrom.{draws_at}
 
 abbrev pub DrawsGrow : Draws → Type 0
 DrawsGrow go = (level : ℕ) (env : Env) (f : ShapeTree) (s : DrawingAt) → Grows (go level env f s)
@@ -91,6 +93,9 @@ grows-draws (suc left) budget app slots level env f s =
     grows-then (entering (suc left) budget level) (λ _. shape_parts app (means left budget app slots) (draws left budget app slots) (level + 1) env f s)
     (grows-entering (suc left) budget level)
     (λ _. grows-shape_parts app (means left budget app slots) (grows-means left budget app slots) (draws left budget app slots) (grows-draws left budget app slots) (level + 1) env f s)
+
+pub grows-at : (here : Standpoint) → DrawsGrow (draws_at here)
+grows-at here = grows-draws here.left here.context.now.budget here.context.now.app.now here.context.now.slots.now
 
 -- ---- entering
 

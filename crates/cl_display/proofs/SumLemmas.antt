@@ -25,7 +25,7 @@ use Rattle.cl_medium.specs.declared.any_leaf.AnyLeaf.{AnyLeaf}
 use Rattle.cl_medium.specs.declared.areas.Area.{Area}
 use Rattle.cl_region.specs.Places.{box}
 use Rattle.cl_region.specs.declared.rects.Rect.{Rect}
-use Rattle.cl_record.specs.Marks.{Mark, draw, opens, begins, closes, history_marks}
+use Rattle.cl_record.specs.Marks.{draw, history_marks}
 use Rattle.cl_record.specs.Replays.{drawn as items_in}
 use Rattle.cl_record.proofs.Replayed.{drawn-append}
 use Rattle.cl_display.specs.Drawings.{DrawingAt, added, after_text, blank_drawing, byte_of, cursor_box, cursor_to, drawing_of, drawn, figured, filled, filled_at, from_origin, highest, indented, ink_back, ink_set, inked, is_in_range, is_near, lined, margin_back, margin_box, margin_set, number_of, outer_of, outlined, outlined_at, pointed, pointed_at, room_entered, room_left, ruled_across, ruled_across_at, ruled_down, ruled_down_at, shaped, then_to, with_item}

@@ -22,7 +22,6 @@ use Rattle.cl_syntax.specs.declared.operators.RecordOperator.{RecordOperator}
 use Rattle.cl_syntax.specs.declared.operators.RecordOperator.TheVariants as fields
 use Rattle.cl_syntax.specs.declared.operators.Operator.{Operator}
 use Rattle.cl_syntax.specs.declared.operators.Operator.TheVariants as operator
-use Rattle.cl_eval.specs.Slots.{is_name}
 
 abbrev pub Answer : Type 0
 Answer = Result Data ℕ
