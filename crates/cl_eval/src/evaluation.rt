@@ -85,7 +85,7 @@ fn evaluate_parts<L: Ledger>(
                 evaluate(here, &choice.other, meter, steps)
             }
         }
-        ExprKind::Let(bindings, body) => { evaluate_let(here, bindings, body, meter, steps) }
+        ExprKind::Let(bindings, body) => evaluate_let(here, bindings, body, meter, steps),
         ExprKind::And(parts) => evaluate_every(here, parts, meter, steps),
         ExprKind::Or(parts) => evaluate_some(here, parts, meter, steps),
         ExprKind::Map(each) => {
