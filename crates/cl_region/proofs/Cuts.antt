@@ -3,7 +3,8 @@ use Rattle.std.proofs.Common.{◌≡◌, ◌*◌, ◌≤◌, ℤ, ◌≤ℤ◌, 
 use Rattle.std.proofs.lemmas.Int.{ints, clamps, by_lt_z}
 use Rattle.cl_region.specs.declared.rects.Rect.{Rect}
 use Rattle.cl_region.specs.Places.{common, held, holds, is_thin}
-use Rattle.cl_region.specs.Pieces.{ArePieces, kept, around, cut, cut_all, cut_by_each}
+use Rattle.cl_region.specs.Pieces.{ArePieces}
+use Rattle.cl_region.specs.Cutting.{kept, around, cut, cut_all}
 use Rattle.cl_region.proofs.Corners.{HasCell, Within, and_left, and_right, both, common-holds, corner_held, false_holds, has_cell, holds_within, same_bool, thin_test, within, wrong}
 
 by_test : (P : List Rect → Type 0) (b : Bool) (x y : List Rect) → (b ≡ true → P x) → (b ≡ false → P y) → P (if b then x else y)
@@ -40,6 +41,11 @@ outside_two : (p m n : Bool) → (p && not m) && not n ≡ p && not (m || n)
 outside_two true true n = refl
 outside_two true false n = refl
 outside_two false m n = refl
+
+outside_other : (p m n : Bool) → (p ≡ true → m ≡ true → ⊥) → p && not n ≡ p && not (m || n)
+outside_other true true n f = absurd (f refl refl)
+outside_other true false n f = refl
+outside_other false m n f = refl
 
 outside_common : (p q : Bool) → p && not (p && q) ≡ p && not q
 outside_common true q = refl
@@ -188,12 +194,6 @@ held-cut_all hole (r ∷ rs) x y =
     held-append (cut hole r) (cut_all hole rs) x y
     ∙ (rw (held-cut hole r x y, held-cut_all hole rs x y) (outside_both (holds r x y) (held rs x y) (not (holds hole x y))))
 
-pub held-cut_by_each : (holes parts : List Rect) (x y : ℤ) → held (cut_by_each holes parts) x y ≡ held parts x y && not (held holes x y)
-held-cut_by_each [] parts x y = sym (and_true (held parts x y))
-held-cut_by_each (hole ∷ holes) parts x y =
-    held-cut_by_each holes (cut_all hole parts) x y
-    ∙ (ap (λ b. b && not (held holes x y)) (held-cut_all hole parts x y) ∙ outside_two (held parts x y) (holds hole x y) (held holes x y))
-
 pub pieces-append : (ps qs : List Rect) → ArePieces ps → ArePieces qs → ((x y : ℤ) → held ps x y ≡ true → held qs x y ≡ true → ⊥) → ArePieces (ps ++ qs)
 pieces-append [] qs a b f = b
 pieces-append (p ∷ ps) qs a b f = (
@@ -253,10 +253,6 @@ pieces-cut_all hole (r ∷ rs) a =
     (and_left (holds r x y) (not (holds hole x y)) (sym (held-cut hole r x y) ∙ h))
     (and_left (held rs x y) (not (holds hole x y)) (sym (held-cut_all hole rs x y) ∙ k)))
 
-pub pieces-cut_by_each : (holes parts : List Rect) → ArePieces parts → ArePieces (cut_by_each holes parts)
-pieces-cut_by_each [] parts a = a
-pieces-cut_by_each (hole ∷ holes) parts a = pieces-cut_by_each holes (cut_all hole parts) (pieces-cut_all hole parts a)
-
 few_kept : (r : Rect) → length (kept r) ≤ 1
 few_kept r = by_test (λ rs. length rs ≤ 1) (is_thin r) [] (r ∷ []) (λ h. omega arith) (λ h. omega arith)
 
@@ -275,13 +271,48 @@ pub few_pieces : (hole : Rect) (rs : List Rect) → length (cut_all hole rs) ≤
 few_pieces hole [] = omega arith
 few_pieces hole (r ∷ rs) = rw length-append (omega (arith, few_cut hole r, few_pieces hole rs))
 
--- the rectangles, and behind them what is new of another one
-pub added_holds : (rs : List Rect) (r : Rect) (x y : ℤ) → held (rs ++ cut_by_each rs (kept r)) x y ≡ held rs x y || holds r x y
-added_holds rs r x y =
-    held-append rs (cut_by_each rs (kept r)) x y
-    ∙ (rw (held-cut_by_each rs (kept r) x y, held-kept r x y) (or_new (held rs x y) (holds r x y)))
+-- parts of a rectangle, which are what it has outside of the holes once those that are left are taken away too
+pub record IsRest (r : Rect) (holes parts left : List Rect) : Type 0 where
+  pub pieces : ArePieces parts
+  pub inside : (x y : ℤ) → held parts x y ≡ true → holds r x y ≡ true
+  pub places : (x y : ℤ) → held parts x y && not (held left x y) ≡ holds r x y && not (held holes x y)
 
-pub added_pieces : (rs : List Rect) (r : Rect) → ArePieces rs → ArePieces (rs ++ cut_by_each rs (kept r))
-added_pieces rs r a =
-    pieces-append rs (cut_by_each rs (kept r)) a (pieces-cut_by_each rs (kept r) (pieces-kept r))
-    (λ x y h k. not_held (held rs x y) (and_right (held (kept r) x y) (not (held rs x y)) (sym (held-cut_by_each rs (kept r) x y) ∙ k)) h)
+pub rest_first : (r : Rect) (holes : List Rect) → IsRest r holes (kept r) holes
+rest_first r holes = record {
+  pieces = pieces-kept r;
+  inside = λ x y h. sym (held-kept r x y) ∙ h;
+  places = λ x y. ap (λ b. b && not (held holes x y)) (held-kept r x y);
+}
+
+-- a hole that shares no place with the rectangle cuts nothing off
+pub rest_skip : (r : Rect) (holes parts : List Rect) (hole : Rect) (left : List Rect)
+    → ((x y : ℤ) → holds r x y ≡ true → holds hole x y ≡ true → ⊥)
+    → IsRest r holes parts (hole ∷ left) → IsRest r holes parts left
+rest_skip r holes parts hole left f h = record {
+  pieces = h.pieces;
+  inside = h.inside;
+  places = λ x y. outside_other (held parts x y) (holds hole x y) (held left x y) (λ k. f x y (h.inside x y k)) ∙ h.places x y;
+}
+
+pub rest_cut : (r : Rect) (holes parts : List Rect) (hole : Rect) (left : List Rect)
+    → IsRest r holes parts (hole ∷ left) → IsRest r holes (cut_all hole parts) left
+rest_cut r holes parts hole left h = record {
+  pieces = pieces-cut_all hole parts h.pieces;
+  inside = λ x y k. h.inside x y (and_left (held parts x y) (not (holds hole x y)) (sym (held-cut_all hole parts x y) ∙ k));
+  places = λ x y.
+      ap (λ b. b && not (held left x y)) (held-cut_all hole parts x y)
+      ∙ (outside_two (held parts x y) (holds hole x y) (held left x y) ∙ h.places x y);
+}
+
+pub rest_places : (r : Rect) (holes parts : List Rect) → IsRest r holes parts [] → (x y : ℤ) → held parts x y ≡ holds r x y && not (held holes x y)
+rest_places r holes parts h x y = sym (and_true (held parts x y)) ∙ h.places x y
+
+-- the rectangles, and behind them what is new of another one
+pub added_holds : (rs new : List Rect) (r : Rect) → ((x y : ℤ) → held new x y ≡ holds r x y && not (held rs x y))
+    → (x y : ℤ) → held (rs ++ new) x y ≡ held rs x y || holds r x y
+added_holds rs new r h x y = held-append rs new x y ∙ (rw (h x y) (or_new (held rs x y) (holds r x y)))
+
+pub added_pieces : (rs new : List Rect) (r : Rect) → ((x y : ℤ) → held new x y ≡ holds r x y && not (held rs x y))
+    → ArePieces rs → ArePieces new → ArePieces (rs ++ new)
+added_pieces rs new r h a b =
+    pieces-append rs new a b (λ x y k l. not_held (held rs x y) (and_right (holds r x y) (not (held rs x y)) (sym (h x y) ∙ l)) k)

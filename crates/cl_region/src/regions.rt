@@ -1,7 +1,8 @@
 //! Regions: sets of cells, kept as rectangles that share none.
-ghost use Rattle.std.specs.Prelude.{◌≡◌, ℤ, ◌*◌, ◌≤◌, ◌&&◌, ◌||◌, ◌++◌, [], not, length, OnOk, OnErr, IfOk};
+ghost use Rattle.std.specs.Prelude.{◌≡◌, ℤ, ◌*◌, ◌≤◌, ◌&&◌, ◌||◌, ◌++◌, ◌↔◌, [], ◌∷◌, not, length, take, IsTrue, OnOk, OnErr, IfOk};
 ghost use Rattle.cl_region.specs.Places.{held, holds};
-ghost use Rattle.cl_region.specs.Pieces.{ArePieces, around, cut, cut_all, cut_by_each, kept};
+ghost use Rattle.cl_region.specs.Pieces.{ArePieces, ArePiecesOf, IsApart};
+ghost use Rattle.cl_region.specs.Cutting.{Continues, IsBelow, IsBeside, around, cut, cut_all, kept};
 
 use crate::rects::Rect;
 use std::alloc::{AllocError, Global};
@@ -52,23 +53,27 @@ impl Region {
         self.rects.as_slice()
     }
 
-    /// Adds the cells of a rectangle. The rectangles that were there stay; behind them stand the pieces
-    /// that it has outside of each of them. Where memory is wanting, nothing changes.
+    /// Adds the cells of a rectangle. Where memory is wanting, nothing changes. One that continues the last
+    /// rectangle takes no memory.
     pub fn add(&mut self, rect: Rect) -> Result<(), AllocError>
         ensures cells { OnOk result ((x y : ℤ) → held self.new x y ≡ held self.old x y || holds rect x y) }
-        ensures pieces { OnOk result (self.new ≡ self.old ++ cut_by_each self.old (kept rect)) }
         ensures unchanged { OnErr result (self.new ≡ self.old) }
     {
+        if rect.is_empty() {
+            return Ok(());
+        }
+        if is_apart(self.rects.as_slice(), &rect) {
+            return put_in(&mut self.rects, rect);
+        }
         let new = outside_of_each(self.alloc, self.rects.as_slice(), rect)?;
         self.rects.extend_from_slice(new.as_slice())?;
         Ok(())
     }
 
-    /// Takes the cells of a rectangle away. A rectangle that has such cells is cut into at most four
-    /// pieces, every other stays. Where memory is wanting, nothing changes.
+    /// Takes the cells of a rectangle away. Each rectangle that was there leaves at most four. Where memory is
+    /// wanting, nothing changes.
     pub fn minus(&mut self, rect: Rect) -> Result<(), AllocError>
         ensures cells { OnOk result ((x y : ℤ) → held self.new x y ≡ held self.old x y && not (holds rect x y)) }
-        ensures pieces { OnOk result (self.new ≡ cut_all rect self.old) }
         ensures few { length self.new ≤ 4 * length self.old }
         ensures unchanged { OnErr result (self.new ≡ self.old) }
     {
@@ -90,13 +95,79 @@ fn some_contains(rects: &[Rect], x: i64, y: i64) -> bool
     false
 }
 
-// What a rectangle has outside of each of the others.
+// Whether a rectangle shares no cell with any of the others.
+fn is_apart(rects: &[Rect], rect: &Rect) -> bool
+    ensures { IsTrue result ↔ IsApart rect.now rects.now }
+{
+    for other in rects {
+        if other.overlaps(rect) {
+            return false;
+        }
+    }
+    true
+}
+
+// One rectangle more, which shares no cell with the others. With the last of them it is joined to one, as long as
+// it continues it. Where memory is wanting, nothing changes.
+fn put_in(rects: &mut Vec<Rect>, rect: Rect) -> Result<(), AllocError>
+    requires { ArePieces (rect ∷ rects.old.items) }
+    ensures pieces { OnOk result (ArePiecesOf (rect ∷ rects.old.items) rects.new.items) }
+    ensures unchanged { OnErr result (rects.new.items ≡ rects.old.items) }
+{
+    let (kept, whole) = joined_with_last(rects.as_slice(), rect);
+    if kept == rects.len() {
+        rects.push(whole)?;
+        return Ok(());
+    }
+    rects[kept] = whole;
+    rects.truncate(kept + 1);
+    Ok(())
+}
+
+// How many of the rectangles stay, and the one that the others make together with the rectangle.
+fn joined_with_last(rects: &[Rect], rect: Rect) -> (usize, Rect)
+    requires { ArePieces (rect ∷ rects.now) }
+    ensures count { result.0 ≤ length rects.now }
+    ensures pieces { ArePiecesOf (rect ∷ rects.now) (result.1 ∷ take result.0 rects.now) }
+{
+    let mut whole = rect;
+    let mut kept = rects.len();
+    while kept > 0 && continues(&rects[kept - 1], &whole) {
+        kept -= 1;
+        whole = rects[kept].corners_box(&whole);
+    }
+    (kept, whole)
+}
+
+// Whether the next rectangle makes one with the first, to the right of it or below it.
+fn continues(first: &Rect, next: &Rect) -> bool
+    ensures { IsTrue result ↔ Continues first.now next.now }
+{
+    is_beside(first, next) || is_below(first, next)
+}
+
+fn is_beside(first: &Rect, next: &Rect) -> bool
+    ensures { IsTrue result ↔ IsBeside first.now next.now }
+{
+    next.y1 == first.y1 && next.y2 == first.y2 && next.x1 == first.x2
+}
+
+fn is_below(first: &Rect, next: &Rect) -> bool
+    ensures { IsTrue result ↔ IsBelow first.now next.now }
+{
+    next.x1 == first.x1 && next.x2 == first.x2 && next.y1 == first.y2
+}
+
+// What a rectangle has outside of each of the others. It is cut by those that share a cell with it.
 fn outside_of_each(alloc: Global, holes: &[Rect], rect: Rect) -> Result<Vec<Rect>, AllocError>
-    ensures { IfOk result (λ v. v.items ≡ cut_by_each holes.now (kept rect)) }
+    ensures pieces { IfOk result (λ v. ArePieces v.items) }
+    ensures cells { IfOk result (λ v. (x y : ℤ) → held v.items x y ≡ holds rect x y && not (held holes.now x y)) }
 {
     let mut parts = one_piece(alloc, rect)?;
     for hole in holes {
-        parts = without(alloc, parts.as_slice(), hole)?;
+        if hole.overlaps(&rect) {
+            parts = without(alloc, parts.as_slice(), hole)?;
+        }
     }
     Ok(parts)
 }

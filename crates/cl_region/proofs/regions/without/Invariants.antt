@@ -1,5 +1,5 @@
 use Rattle.std.proofs.Common.{◌≡◌, ◌++◌, drop}
-use Rattle.cl_region.specs.Pieces.{cut_all}
+use Rattle.cl_region.specs.Cutting.{cut_all}
 use Rattle.cl_region.proofs.regions.without.Given as goal
 
 abbrev pub invariant-loop-rect : goal.invariant-loop-rect
