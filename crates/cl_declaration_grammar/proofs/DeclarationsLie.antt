@@ -25,7 +25,8 @@ use Rattle.cl_text_grammar.proofs.FormsLie.{forms_lie}
 use Rattle.cl_declaration_grammar.specs.Parts.{refused, type_name, display_name, expressions, shapes, acts, wrong, planned, planned_keys, planned_parts}
 use Rattle.cl_declaration_grammar.specs.Types.{plain_type_seen, ranged_type_seen, own_type_seen, named_type_seen, headed_type_seen, type_parts_seen}
 use Rattle.cl_declaration_grammar.specs.Types.{type_options_seen, listed_type_seen, type_seen}
-use Rattle.cl_declaration_grammar.specs.Frames.{slot_seen, slots_seen, pane_display_seen, pane_seen, panes_seen, section_seen, sections_seen, keyed_frame_seen, frame_seen}
+use Rattle.cl_declaration_grammar.specs.Frames.{slot_seen, slots_seen, pane_display_seen, pane_seen, panes_seen, section_seen, sections_seen}
+use Rattle.cl_declaration_grammar.specs.Frames.{keyed_frame_seen, frame_seen}
 use Rattle.cl_declaration_grammar.specs.Declarations.{Row, record_seen, function_seen, display_seen, command_seen, headed_seen, planned_seen, rows, row_seen}
 use Rattle.cl_declaration_grammar.specs.Declarations.{listed_seen, declaration_seen}
 use Rattle.cl_declaration_grammar.specs.Texts.{text_seen}

@@ -15,7 +15,8 @@ use Rattle.cl_grammar.specs.Sights.{expression}
 use Rattle.cl_grammar.proofs.Judging.{Any}
 use Rattle.cl_declaration_grammar.specs.Parts.{expressions, wrong, planned_parts}
 use Rattle.cl_declaration_grammar.specs.Types.{type_seen}
-use Rattle.cl_declaration_grammar.specs.Frames.{slot_seen, slots_seen, pane_display_seen, pane_seen, panes_seen, section_seen, sections_seen, keyed_frame_seen, frame_seen}
+use Rattle.cl_declaration_grammar.specs.Frames.{slot_seen, slots_seen, pane_display_seen, pane_seen, panes_seen, section_seen, sections_seen}
+use Rattle.cl_declaration_grammar.specs.Frames.{keyed_frame_seen, frame_seen}
 use Rattle.cl_declaration_grammar.proofs.Judging.{Judges, joined, then_given, ended, refused_first}
 use Rattle.cl_declaration_grammar.proofs.PartsJudged.{expression_part, display_name_judged}
 use Rattle.cl_declaration_grammar.proofs.TypesJudged.{is_wrong, type_judged}

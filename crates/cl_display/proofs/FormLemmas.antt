@@ -1,5 +1,6 @@
 -- Display forms: the cost never falls, a form that could be entered draws what its parts draw, and a part that stops, stops the whole.
-use Rattle.std.proofs.Common.{◌≡◌, ℕ, zero, suc, ◌+◌, ◌-◌, ◌==◌, Bool, if◌then◌else◌, nat_le, List, [], ◌∷◌, ◌++◌, refl, length, Option, Some, None, Result, Ok, Err, arith}
+use Rattle.std.proofs.Common.{◌≡◌, ℕ, zero, suc, ◌+◌, ◌-◌, ◌==◌, Bool, if◌then◌else◌, nat_le, List, [], ◌∷◌, ◌++◌, refl, length, Option, Some, None}
+use Rattle.std.proofs.Common.{Result, Ok, Err, arith}
 use Rattle.cl_value.specs.Data.{Data}
 use Rattle.cl_value.specs.Value.{data_of}
 use Rattle.cl_syntax.specs.ShapeTree as shape
@@ -16,7 +17,8 @@ use Rattle.cl_eval.specs.Slots.{Slots, Env, given}
 use Rattle.cl_eval.specs.Meaning.{Go, bound, each, entering, tested, listed, means}
 use Rattle.cl_eval.specs.declared.evaluation.Standpoint.{Standpoint}
 use Rattle.cl_eval.specs.Agrees.{Agrees, Comes, always, itself, items_are}
-use Rattle.cl_eval.proofs.CostLemmas.{Grows, GoGrows, Agrees-stop, grows-then, grows-give, grows-lift, grows-choice, grows-each, grows-entering, grows-tested, grows-listed, grows-bound, grows-means}
+use Rattle.cl_eval.proofs.CostLemmas.{Grows, GoGrows, Agrees-stop, grows-then, grows-give, grows-lift, grows-choice, grows-each, grows-entering}
+use Rattle.cl_eval.proofs.CostLemmas.{grows-tested, grows-listed, grows-bound, grows-means}
 use Rattle.cl_eval.proofs.EnteringLemmas.{no_entry}
 use Rattle.cl_syntax.specs.declared.figures.Figure.{Figure}
 use Rattle.cl_display.specs.Drawings.{DrawingAt, figured, indented, ink_back, inked, lined, margin_back, outer_of, room_entered, room_left}

@@ -16,7 +16,8 @@ use Rattle.cl_eval.specs.Statements.{Member, Does, assigned, replied, in_turn, f
 use Rattle.cl_eval.specs.declared.programs.Stage.{Stage}
 use Rattle.cl_eval.specs.Stage.{doing_on}
 use Rattle.cl_eval.specs.Agrees.{Agrees, always, itself}
-use Rattle.cl_eval.proofs.CostLemmas.{Grows, GoGrows, Agrees-stop, grows-then, grows-give, grows-lift, grows-choice, grows-entering, grows-tested, grows-listed, grows-bound, grows-means}
+use Rattle.cl_eval.proofs.CostLemmas.{Grows, GoGrows, Agrees-stop, grows-then, grows-give, grows-lift, grows-choice, grows-entering, grows-tested}
+use Rattle.cl_eval.proofs.CostLemmas.{grows-listed, grows-bound, grows-means}
 use Rattle.cl_eval.proofs.EnteringLemmas.{no_entry}
 
 abbrev pub DoesGrows : Does → Type 0

@@ -11,7 +11,9 @@ use Rattle.cl_eval.specs.Scope.{variables_of}
 use Rattle.cl_eval.specs.Standpoint.{meaning_at}
 use Rattle.cl_eval.proofs.EnteringLemmas.{means-entered}
 use Rattle.cl_eval.proofs.CostLemmas.{grows-at}
-use Rattle.cl_eval.proofs.StopLemmas.{stop-each, full-each, stop-every, stop-some, stop-bound, full-bound, stop-let_in, stop-first, stop-second, done-second, pair, stop-mapped, full-mapped, stop-filtered, full-filtered, stop-folded, stop-choice, stop-map, stop-filter, stop-fold, stop-opening, stop-elements, stop-call, is_memory}
+use Rattle.cl_eval.proofs.StopLemmas.{stop-each, full-each, stop-every, stop-some, stop-bound, full-bound, stop-let_in, stop-first, stop-second}
+use Rattle.cl_eval.proofs.StopLemmas.{done-second, pair, stop-mapped, full-mapped, stop-filtered, full-filtered, stop-folded, stop-choice, stop-map}
+use Rattle.cl_eval.proofs.StopLemmas.{stop-filter, stop-fold, stop-opening, stop-elements, stop-call, is_memory}
 use Rattle.cl_eval.proofs.+evaluate.Goals as goal
 
 pub evaluation::evaluate-returns-clause-meaning : goal.evaluation::evaluate-returns-clause-meaning

@@ -12,7 +12,8 @@ use Rattle.cl_eval.specs.Scope.{variables_of}
 use Rattle.cl_eval.specs.Standpoint.{meaning_at}
 use Rattle.cl_display.specs.Drawings.{drawing_of, indented, ink_back, inked, margin_back, outer_of, room_left}
 use Rattle.cl_display.specs.DrawnFrom.{draws_at}
-use Rattle.cl_display.proofs.FormLemmas.{draws-entered, grows-at, stop-call, stop-choice, stop-dolist, stop-draws_in, stop-figure, stop-for_each, stop-in_order, stop-indent, stop-ink, stop-set, stop-when, stop-within}
+use Rattle.cl_display.proofs.FormLemmas.{draws-entered, grows-at, stop-call, stop-choice, stop-dolist, stop-draws_in, stop-figure, stop-for_each}
+use Rattle.cl_display.proofs.FormLemmas.{stop-in_order, stop-indent, stop-ink, stop-set, stop-when, stop-within}
 use Rattle.cl_display.proofs.forms.+draw.Goals as goal
 
 pub draw-returns-clause-meaning : goal.draw-returns-clause-meaning
