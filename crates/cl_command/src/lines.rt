@@ -1,3 +1,4 @@
+//! The command line: the bytes that were typed, and what they finish to.
 ghost use Rattle.std.specs.Prelude.{◌≡◌, [], IfOk};
 ghost use Rattle.cl_command.specs.Line.{Pushes, finish_of, finish_words, without_spaces};
 ghost use Rattle.cl_command.specs.Naming.{line_names};

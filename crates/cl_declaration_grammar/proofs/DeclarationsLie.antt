@@ -25,10 +25,10 @@ use Rattle.cl_text_grammar.proofs.FormsLie.{forms_lie}
 use Rattle.cl_declaration_grammar.specs.Parts.{refused, type_name, display_name, expressions, shapes, acts, wrong, planned, planned_keys, planned_parts}
 use Rattle.cl_declaration_grammar.specs.Types.{plain_type_seen, ranged_type_seen, own_type_seen, named_type_seen, headed_type_seen, type_parts_seen}
 use Rattle.cl_declaration_grammar.specs.Types.{type_options_seen, listed_type_seen, type_seen}
-use Rattle.cl_declaration_grammar.specs.Frames.{slot_seen, slots_seen, display_seen, pane_seen, panes_seen, section_seen, sections_seen, keyed_frame_seen, frame_seen}
-use Rattle.cl_declaration_grammar.specs.Declarations.{Row, record_seen, function_seen, command_seen, headed_seen, planned_seen, rows, row_seen}
+use Rattle.cl_declaration_grammar.specs.Frames.{slot_seen, slots_seen, pane_display_seen, pane_seen, panes_seen, section_seen, sections_seen}
+use Rattle.cl_declaration_grammar.specs.Frames.{keyed_frame_seen, frame_seen}
+use Rattle.cl_declaration_grammar.specs.Declarations.{Row, record_seen, function_seen, display_seen, command_seen, headed_seen, planned_seen, rows, row_seen}
 use Rattle.cl_declaration_grammar.specs.Declarations.{listed_seen, declaration_seen}
-use Rattle.cl_declaration_grammar.specs.Declarations as declarations
 use Rattle.cl_declaration_grammar.specs.Texts.{text_seen}
 use Rattle.cl_declaration_grammar.proofs.PartsLie.{LieParts, parts_earlier, parts_later, parts_joined, one_lies, when_lies, list_rises, planned_lie}
 use Rattle.cl_declaration_grammar.proofs.KeysLie.{LieKey, LieKeys, list_earlier, planned_keys_lie, sections_lie, pairs_lie}
@@ -129,7 +129,7 @@ module _ (w : Signatures) where
   slots_lie (d ∷ ds) from to h =
       parts_joined (slot_seen w (parts_of d)) (slots_seen w ds) from h.0 to (slot_lies (parts_of d) from h.0 (inside d from h.0 h.1)) (slots_lie ds h.0 to h.2)
 
-  shown_lies : (at : ℕ) (o : Option (List ℕ)) (from to : ℕ) → Within from at to → LieParts from (display_seen at o) to
+  shown_lies : (at : ℕ) (o : Option (List ℕ)) (from to : ℕ) → Within from at to → LieParts from (pane_display_seen at o) to
   shown_lies at None from to h = omega (arith, h.0, h.1)
   shown_lies at (Some x) from to h = one_lies (display_name x at) from to h
 
@@ -208,7 +208,7 @@ module _ (w : Signatures) where
   function_lies at h (n ∷ ps ∷ []) from to a b k = one_lies (refused 6 at) from to a
   function_lies at h (n ∷ ps ∷ e ∷ d ∷ ds) from to a b k = one_lies (refused 6 at) from to a
 
-  display_lies : LieRow declarations.display_seen
+  display_lies : LieRow display_seen
   display_lies at h (n ∷ ps ∷ body) from to a b k =
       when_lies (is_some (name_in n) && is_name_list ps) (shapes (forms_seen (variables_in ps) body) ∷ []) (wrong at) from to
       (parts_earlier (shapes (forms_seen (variables_in ps) body) ∷ []) from k.2.0 to (omega (arith, datum_rises n from k.0 k.1, datum_rises ps k.0 k.2.0 k.2.1))

@@ -15,7 +15,8 @@ use Rattle.cl_grammar.specs.Sights.{expression}
 use Rattle.cl_grammar.proofs.Judging.{Any}
 use Rattle.cl_declaration_grammar.specs.Parts.{expressions, wrong, planned_parts}
 use Rattle.cl_declaration_grammar.specs.Types.{type_seen}
-use Rattle.cl_declaration_grammar.specs.Frames.{slot_seen, slots_seen, display_seen, pane_seen, panes_seen, section_seen, sections_seen, keyed_frame_seen, frame_seen}
+use Rattle.cl_declaration_grammar.specs.Frames.{slot_seen, slots_seen, pane_display_seen, pane_seen, panes_seen, section_seen, sections_seen}
+use Rattle.cl_declaration_grammar.specs.Frames.{keyed_frame_seen, frame_seen}
 use Rattle.cl_declaration_grammar.proofs.Judging.{Judges, joined, then_given, ended, refused_first}
 use Rattle.cl_declaration_grammar.proofs.PartsJudged.{expression_part, display_name_judged}
 use Rattle.cl_declaration_grammar.proofs.TypesJudged.{is_wrong, type_judged}
@@ -38,7 +39,7 @@ module _ (w : Signatures) where
   planned_judged [] = ended w
   planned_judged (d ∷ ds) = refused_first w 0 (offset d) (planned_parts ds)
 
-  shown_judged : (at : ℕ) (o : Option (List ℕ)) → Judges w (display_seen at o) Any (note_display w at o)
+  shown_judged : (at : ℕ) (o : Option (List ℕ)) → Judges w (pane_display_seen at o) Any (note_display w at o)
   shown_judged at None = ended w
   shown_judged at (Some x) = display_name_judged w x at
 

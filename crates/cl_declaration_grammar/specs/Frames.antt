@@ -20,13 +20,13 @@ slots_seen w [] = []
 slots_seen w (d ∷ ds) = slot_seen w (parts_of d) ++ slots_seen w ds
 
 -- the display of a pane
-abbrev pub display_seen : ℕ → Option (List ℕ) → List Part
-display_seen at None = []
-display_seen at (Some x) = display_name x at ∷ []
+abbrev pub pane_display_seen : ℕ → Option (List ℕ) → List Part
+pane_display_seen at None = []
+pane_display_seen at (Some x) = display_name x at ∷ []
 
 -- `NAME X Y WIDTH HEIGHT DISPLAY`
 abbrev pub pane_seen : List Datum → List Part
-pane_seen (n ∷ x ∷ y ∷ a ∷ b ∷ d ∷ []) = display_seen (offset d) (name_in d)
+pane_seen (n ∷ x ∷ y ∷ a ∷ b ∷ d ∷ []) = pane_display_seen (offset d) (name_in d)
 pane_seen parts = []
 
 -- one pane is built

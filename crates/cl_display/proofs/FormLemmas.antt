@@ -1,5 +1,6 @@
 -- Display forms: the cost never falls, a form that could be entered draws what its parts draw, and a part that stops, stops the whole.
-use Rattle.std.proofs.Common.{◌≡◌, ℕ, zero, suc, ◌+◌, ◌-◌, ◌==◌, Bool, if◌then◌else◌, nat_le, List, [], ◌∷◌, ◌++◌, refl, length, Option, Some, None, Result, Ok, Err, arith}
+use Rattle.std.proofs.Common.{◌≡◌, ℕ, zero, suc, ◌+◌, ◌-◌, ◌==◌, Bool, if◌then◌else◌, nat_le, List, [], ◌∷◌, ◌++◌, refl, length, Option, Some, None}
+use Rattle.std.proofs.Common.{Result, Ok, Err, arith}
 use Rattle.cl_value.specs.Data.{Data}
 use Rattle.cl_value.specs.Value.{data_of}
 use Rattle.cl_syntax.specs.ShapeTree as shape
@@ -14,12 +15,15 @@ use Rattle.cl_eval.specs.declared.metering.Stop.TheVariants.{Trap, Memory}
 use Rattle.cl_eval.specs.Outcome.{Gives, Traps, ◌>>=◌, give, trap, lift}
 use Rattle.cl_eval.specs.Slots.{Slots, Env, given}
 use Rattle.cl_eval.specs.Meaning.{Go, bound, each, entering, tested, listed, means}
+use Rattle.cl_eval.specs.declared.evaluation.Standpoint.{Standpoint}
 use Rattle.cl_eval.specs.Agrees.{Agrees, Comes, always, itself, items_are}
-use Rattle.cl_eval.proofs.CostLemmas.{Grows, GoGrows, Agrees-stop, grows-then, grows-give, grows-lift, grows-choice, grows-each, grows-entering, grows-tested, grows-listed, grows-bound, grows-means}
+use Rattle.cl_eval.proofs.CostLemmas.{Grows, GoGrows, Agrees-stop, grows-then, grows-give, grows-lift, grows-choice, grows-each, grows-entering}
+use Rattle.cl_eval.proofs.CostLemmas.{grows-tested, grows-listed, grows-bound, grows-means}
 use Rattle.cl_eval.proofs.EnteringLemmas.{no_entry}
 use Rattle.cl_syntax.specs.declared.figures.Figure.{Figure}
 use Rattle.cl_display.specs.Drawings.{DrawingAt, figured, indented, ink_back, inked, lined, margin_back, outer_of, room_entered, room_left}
 use Rattle.cl_display.specs.Fresh.{Draws, written, in_order, for_each, draws_in, called, shape_parts, draws, within}
+use Rattle.cl_display.specs.DrawnFrom.{draws_at}
 
 abbrev pub DrawsGrow : Draws → Type 0
 DrawsGrow go = (level : ℕ) (env : Env) (f : ShapeTree) (s : DrawingAt) → Grows (go level env f s)
@@ -91,6 +95,9 @@ grows-draws (suc left) budget app slots level env f s =
     grows-then (entering (suc left) budget level) (λ _. shape_parts app (means left budget app slots) (draws left budget app slots) (level + 1) env f s)
     (grows-entering (suc left) budget level)
     (λ _. grows-shape_parts app (means left budget app slots) (grows-means left budget app slots) (draws left budget app slots) (grows-draws left budget app slots) (level + 1) env f s)
+
+pub grows-at : (here : Standpoint) → DrawsGrow (draws_at here)
+grows-at here = grows-draws here.left here.context.now.budget here.context.now.app.now here.context.now.slots.now
 
 -- ---- entering
 

@@ -1,5 +1,6 @@
 -- What forms draw: items behind those that were there, the weight of these, and the lowest end of these.
-use Rattle.std.proofs.Common.{◌≡◌, ◌∙◌, ap, sym, ℕ, zero, suc, ◌+◌, ◌≤◌, ◌==◌, ℤ, pos, ◌+ℤ◌, ◌≤ℤ◌, Bool, true, false, if◌then◌else◌, nat_le, List, [], ◌∷◌, ◌++◌, length, Option, Some, None, Result, Ok, Err, drop, append_assoc, append-nil, arith, refl, subst}
+use Rattle.std.proofs.Common.{◌≡◌, ◌∙◌, ap, sym, ℕ, zero, suc, ◌+◌, ◌≤◌, ◌==◌, ℤ, pos, ◌+ℤ◌, ◌≤ℤ◌, Bool, true, false, if◌then◌else◌, nat_le, List, []}
+use Rattle.std.proofs.Common.{◌∷◌, ◌++◌, length, Option, Some, None, Result, Ok, Err, drop, append_assoc, append-nil, arith, refl, subst}
 use Rattle.std.proofs.lemmas.Bool.Decides.{nat_tests}
 use Rattle.std.proofs.lemmas.Int.{ints, clamps}
 use Rattle.std.specs.Int.{int_max}
@@ -25,10 +26,13 @@ use Rattle.cl_medium.specs.declared.any_leaf.AnyLeaf.{AnyLeaf}
 use Rattle.cl_medium.specs.declared.areas.Area.{Area}
 use Rattle.cl_region.specs.Places.{box}
 use Rattle.cl_region.specs.declared.rects.Rect.{Rect}
-use Rattle.cl_record.specs.Marks.{Mark, draw, opens, begins, closes, history_marks}
+use Rattle.cl_record.specs.Marks.{draw, history_marks}
 use Rattle.cl_record.specs.Replays.{drawn as items_in}
 use Rattle.cl_record.proofs.Replayed.{drawn-append}
-use Rattle.cl_display.specs.Drawings.{DrawingAt, added, after_text, blank_drawing, byte_of, cursor_box, cursor_to, drawing_of, drawn, figured, filled, filled_at, from_origin, highest, indented, ink_back, ink_set, inked, is_in_range, is_near, lined, margin_back, margin_box, margin_set, number_of, outer_of, outlined, outlined_at, pointed, pointed_at, room_entered, room_left, ruled_across, ruled_across_at, ruled_down, ruled_down_at, shaped, then_to, with_item}
+use Rattle.cl_display.specs.Drawings.{DrawingAt, added, after_text, blank_drawing, byte_of, cursor_box, cursor_to, drawing_of, drawn, figured, filled}
+use Rattle.cl_display.specs.Drawings.{filled_at, from_origin, highest, indented, ink_back, ink_set, inked, is_in_range, is_near, lined, margin_back}
+use Rattle.cl_display.specs.Drawings.{margin_box, margin_set, number_of, outer_of, outlined, outlined_at, pointed, pointed_at, room_entered}
+use Rattle.cl_display.specs.Drawings.{room_left, ruled_across, ruled_across_at, ruled_down, ruled_down_at, shaped, then_to, with_item}
 use Rattle.cl_display.specs.declared.drawings.Drawing.{Drawing}
 use Rattle.cl_display.specs.Fresh.{Draws, called, draws, draws_in, for_each, in_order, shape_parts, within, written}
 use Rattle.cl_display.specs.Script.{fresh}

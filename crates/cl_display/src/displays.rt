@@ -10,7 +10,7 @@ use crate::drawings::{Drawing, push_leaf};
 use crate::forms::draw_all;
 use crate::histories::History;
 use cl_application::App;
-use cl_eval::{Context, Env, Limits, Meter, Scope, Slots, Stop};
+use cl_eval::{Context, Env, Limits, Meter, Scope, Slots, Standpoint, Stop};
 use cl_medium::{Ambient, Drawn, draw_text};
 use cl_outside::{Ledger, Steps};
 use cl_record::Nodes;
@@ -55,16 +55,13 @@ pub fn display<L: Ledger>(
     let mut meter = Meter::new();
     let mut drawing = Drawing::blank(alloc);
     let scope = Scope::Given(env);
-    match draw_all(
-        &context,
-        forms,
-        &scope,
-        limits.depth,
-        0,
-        &mut drawing,
-        &mut meter,
-        steps,
-    ) {
+    let here = Standpoint {
+        context: &context,
+        scope: &scope,
+        left: limits.depth,
+        level: 0,
+    };
+    match draw_all(&here, forms, &mut drawing, &mut meter, steps) {
         Ok(()) => Shown::Built(History::from_nodes(drawing.nodes)),
         Err(Stop::Trap(kind)) => match trapped(alloc, kind) {
             Ok(history) => Shown::Trapped(history, kind),

@@ -1,5 +1,6 @@
 -- The cost so far never falls: what a run comes to costs at least what it began with.
-use Rattle.std.proofs.Common.{ℕ, zero, suc, ◌+◌, ◌≤◌, ◌==◌, Bool, true, false, if◌then◌else◌, nat_le, List, [], ◌∷◌, ◌++◌, length, Option, Some, None, Result, Ok, Err, arith, refl}
+use Rattle.std.proofs.Common.{ℕ, zero, suc, ◌+◌, ◌≤◌, ◌==◌, Bool, true, false, if◌then◌else◌, nat_le, List, [], ◌∷◌, ◌++◌, length, Option, Some, None}
+use Rattle.std.proofs.Common.{Result, Ok, Err, arith, refl}
 use Rattle.std.specs.Prelude.{max}
 use Rattle.cl_value.specs.Data.{Data, bool, list, items_of}
 use Rattle.cl_syntax.specs.ExprTree as expr
@@ -14,6 +15,8 @@ use Rattle.cl_eval.specs.Outcome.{Outcome, Gives, Traps, Run, give, trap, lift, 
 use Rattle.cl_eval.specs.Slots.{Slots, Env, found, given}
 use Rattle.cl_eval.specs.Operators.{limited, or_trap, truth, elements, operated}
 use Rattle.cl_eval.specs.Meaning.{Go, entering, tested, listed, each, every, some, bound, let_in, mapped, filtered, folded, called, parts, means}
+use Rattle.cl_eval.specs.declared.evaluation.Standpoint.{Standpoint}
+use Rattle.cl_eval.specs.Standpoint.{meaning_at}
 use Rattle.cl_eval.specs.Agrees.{Agrees, Comes, Entered}
 
 abbrev pub Grows : {A : Type 0} → Run A → Type 0
@@ -162,6 +165,9 @@ grows-means zero budget app slots level env t =
 grows-means (suc left) budget app slots level env t =
     grows-then (entering (suc left) budget level) (λ _. parts app slots (means left budget app slots) (level + 1) env t) (grows-entering (suc left) budget level)
     (λ _. grows-parts app slots (means left budget app slots) (grows-means left budget app slots) (level + 1) env t)
+
+pub grows-at : (here : Standpoint) → GoGrows (meaning_at here)
+grows-at here = grows-means here.left here.context.now.budget here.context.now.app.now here.context.now.slots.now
 
 -- ---- a stop before the rest of a run
 

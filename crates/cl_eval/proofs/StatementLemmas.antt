@@ -1,7 +1,6 @@
 -- ActTrees: the cost never falls, a statement that could be entered does what its parts do, and a part that stops, stops the whole.
 use Rattle.std.proofs.Common.{◌≡◌, ℕ, zero, suc, ◌+◌, ◌-◌, Bool, if◌then◌else◌, nat_le, List, [], ◌∷◌, ◌++◌, Err, arith}
 use Rattle.cl_value.specs.Data.{Data}
-use Rattle.cl_value.specs.Value.{data_of}
 use Rattle.cl_syntax.specs.ActTree as act
 use Rattle.cl_syntax.specs.ActTree.{ActTree, ActTrees, none, statement}
 use Rattle.cl_syntax.specs.ExprTree.{ExprTree, Bindings}
@@ -14,8 +13,11 @@ use Rattle.cl_eval.specs.Outcome.{Gives, Traps, give, lift}
 use Rattle.cl_eval.specs.Slots.{Slots, Env}
 use Rattle.cl_eval.specs.Meaning.{Go, bound, entering, tested, listed, means}
 use Rattle.cl_eval.specs.Statements.{Member, Does, assigned, replied, in_turn, for_each, acts_in, act_parts, does}
+use Rattle.cl_eval.specs.declared.programs.Stage.{Stage}
+use Rattle.cl_eval.specs.Stage.{doing_on}
 use Rattle.cl_eval.specs.Agrees.{Agrees, always, itself}
-use Rattle.cl_eval.proofs.CostLemmas.{Grows, GoGrows, Agrees-stop, grows-then, grows-give, grows-lift, grows-choice, grows-entering, grows-tested, grows-listed, grows-bound, grows-means}
+use Rattle.cl_eval.proofs.CostLemmas.{Grows, GoGrows, Agrees-stop, grows-then, grows-give, grows-lift, grows-choice, grows-entering, grows-tested}
+use Rattle.cl_eval.proofs.CostLemmas.{grows-listed, grows-bound, grows-means}
 use Rattle.cl_eval.proofs.EnteringLemmas.{no_entry}
 
 abbrev pub DoesGrows : Does → Type 0
@@ -70,6 +72,9 @@ grows-does (suc left) budget app member level env a s =
     grows-then (entering (suc left) budget level) (λ _. act_parts app member (means left budget app) (does left budget app member) (level + 1) env a s)
     (grows-entering (suc left) budget level)
     (λ _. grows-act_parts app member (means left budget app) (grows-means left budget app) (does left budget app member) (grows-does left budget app member) (level + 1) env a s)
+
+pub grows-on : {T : Type 0} (holds : T → Member) (here : Stage T) → DoesGrows (doing_on holds here)
+grows-on holds here = grows-does here.left here.program.now.limits.budget here.program.now.app.now (holds here.program.now.types.now)
 
 -- ---- entering
 

@@ -3,8 +3,10 @@ pub mod Slots
 pub mod Scope
 pub mod Operators
 pub mod Meaning
+pub mod Standpoint
 pub mod Agrees
 pub mod Evaluated
 pub mod Statements
+pub mod Stage
 pub mod Executed
 pub mod Uses

@@ -1,6 +1,8 @@
 -- The operators, over the values of their parts: a value, or the kind of a trap.
 -- Traps: 1 a wrong kind, or a wrong count of parts; 2 a number past 64 bits; 3 a zero divisor; 4 no such place; 7 a value past its limits.
-use Rattle.std.specs.Prelude.{ℕ, zero, suc, ◌+◌, ◌-◌, ◌^◌, ℤ, pos, negsuc, neg_ℤ, ◌+ℤ◌, ◌-ℤ◌, ◌*ℤ◌, int_lt, int_le, Bool, true, false, not, ◌&&◌, nat_lt, nat_le, ◌==◌, if◌then◌else◌, List, [], ◌∷◌, ◌++◌, length, replicate, slice_range, Option, Some, None, Result, Ok, Err}
+use Rattle.std.specs.Prelude.{ℕ, zero, suc, ◌+◌, ◌-◌, ◌^◌, ℤ, pos, negsuc, neg_ℤ, ◌+ℤ◌, ◌-ℤ◌, ◌*ℤ◌, int_lt, int_le, Bool, true, false, not, ◌&&◌}
+use Rattle.std.specs.Prelude.{nat_lt, nat_le, ◌==◌, if◌then◌else◌, List, [], ◌∷◌, ◌++◌, length, replicate, slice_range, Option, Some, None, Result}
+use Rattle.std.specs.Prelude.{Ok, Err}
 use Rattle.std.specs.Fmt.{signed_decimal}
 use Rattle.std.specs.Int.{int_min, int_max, int_div_euclid}
 use Rattle.std.specs.declared.cmp.Ordering.{Ordering}
@@ -22,7 +24,6 @@ use Rattle.cl_syntax.specs.declared.operators.RecordOperator.{RecordOperator}
 use Rattle.cl_syntax.specs.declared.operators.RecordOperator.TheVariants as fields
 use Rattle.cl_syntax.specs.declared.operators.Operator.{Operator}
 use Rattle.cl_syntax.specs.declared.operators.Operator.TheVariants as operator
-use Rattle.cl_eval.specs.Slots.{is_name}
 
 abbrev pub Answer : Type 0
 Answer = Result Data ℕ

@@ -3,11 +3,11 @@ ghost use Rattle.std.specs.Prelude.{◌≡◌, ◌+◌, ◌<◌, ◌^◌, map};
 ghost use Rattle.cl_value.specs.Value.{data_of};
 ghost use Rattle.cl_application.specs.App.{function_named};
 ghost use Rattle.cl_syntax.specs.ExprTree.{expr_trees_of};
-ghost use Rattle.cl_eval.specs.Scope.{variables_of};
-ghost use Rattle.cl_eval.specs.Meaning.{called, means, operation_on};
+ghost use Rattle.cl_eval.specs.Meaning.{called, operation_on};
+ghost use Rattle.cl_eval.specs.Standpoint.{meaning_at, seen_from};
 ghost use Rattle.cl_eval.specs.Agrees.{Agrees};
 
-use crate::evaluation::{Context, evaluate, evaluate_each};
+use crate::evaluation::{Standpoint, evaluate, evaluate_each};
 use crate::metering::{Meter, Stop};
 use crate::operators::operate;
 use crate::variables::Scope;
@@ -18,36 +18,41 @@ use cl_value::{Text, Value};
 /// An operator over the values of its parts. Of one part or two, as most operators have, the values take no memory.
 #[cycle(evaluate)]
 pub fn evaluate_operation<L: Ledger>(
-    context: &Context<'_>,
+    here: &Standpoint<'_>,
     operator: &Operator,
     parts: &[Expr],
-    scope: &Scope<'_>,
-    left: u32,
-    level: u32,
     meter: &mut Meter,
     steps: &mut Steps<L>,
 ) -> Result<Value, Stop>
-    requires { level + left < 2 ^ 32 }
+    requires { here.now.level + here.now.left < 2 ^ 32 }
     ensures meaning { Agrees data_of result meter.new
-        (operation_on context.now.app.now
-        (means left context.now.budget context.now.app.now context.now.slots.now) level
-        (variables_of scope.now) operator.now (expr_trees_of parts.now) meter.old.cost
-        meter.old.deepest) }
+        (seen_from here.now (operation_on here.now.context.now.app.now) operator.now
+        (expr_trees_of parts.now) meter.old.cost meter.old.deepest) }
     ensures ledger { steps.new + meter.old.cost ≡ steps.old + meter.new.cost }
 {
     match parts {
         [only] => {
-            let only = evaluate(context, only, scope, left, level, meter, steps)?;
-            operate(context.alloc, context.app, operator, &[only])
+            let only = evaluate(here, only, meter, steps)?;
+            operate(here.context.alloc, here.context.app, operator, &[only])
         }
         [first, second] => {
-            let first = evaluate(context, first, scope, left, level, meter, steps)?;
-            let second = evaluate(context, second, scope, left, level, meter, steps)?;
-            operate(context.alloc, context.app, operator, &[first, second])
+            let first = evaluate(here, first, meter, steps)?;
+            let second = evaluate(here, second, meter, steps)?;
+            operate(
+                here.context.alloc,
+                here.context.app,
+                operator,
+                &[first, second],
+            )
         }
         _ => {
-            let values = evaluate_each(context, parts, scope, left, level, meter, steps)?;
-            operate(context.alloc, context.app, operator, values.as_slice())
+            let values = evaluate_each(here, parts, meter, steps)?;
+            operate(
+                here.context.alloc,
+                here.context.app,
+                operator,
+                values.as_slice(),
+            )
         }
     }
 }
@@ -55,25 +60,27 @@ pub fn evaluate_operation<L: Ledger>(
 /// A function's body, where its parameters are all that it sees.
 #[cycle(evaluate)]
 pub fn call<L: Ledger>(
-    context: &Context<'_>,
+    here: &Standpoint<'_>,
     name: &Text,
     values: &[Value],
-    left: u32,
-    level: u32,
     meter: &mut Meter,
     steps: &mut Steps<L>,
 ) -> Result<Value, Stop>
-    requires { level + left < 2 ^ 32 }
+    requires { here.now.level + here.now.left < 2 ^ 32 }
     ensures meaning { Agrees data_of result meter.new
-        (called (means left context.now.budget context.now.app.now context.now.slots.now) level
-        (function_named name.now context.now.app.now) (map data_of values.now) meter.old.cost
-        meter.old.deepest) }
+        (called (meaning_at here.now) here.now.level
+        (function_named name.now here.now.context.now.app.now) (map data_of values.now)
+        meter.old.cost meter.old.deepest) }
     ensures ledger { steps.new + meter.old.cost ≡ steps.old + meter.new.cost }
 {
-    match context.app.function(name.as_slice()) {
+    match here.context.app.function(name.as_slice()) {
         Some(function) if function.parameters.len() == values.len() => {
-            let inner = Scope::Parameters(&function.parameters, &*values);
-            evaluate(context, &function.body, &inner, left, level, meter, steps)
+            let scope = Scope::Parameters(&function.parameters, &*values);
+            let inner = Standpoint {
+                scope: &scope,
+                ..*here
+            };
+            evaluate(&inner, &function.body, meter, steps)
         }
         _ => Err(Stop::Trap(1)),
     }

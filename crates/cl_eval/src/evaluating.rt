@@ -3,7 +3,7 @@ ghost use Rattle.std.specs.Prelude.{◌≤◌};
 ghost use Rattle.cl_eval.specs.Outcome.{RisesBy, cost_of};
 ghost use Rattle.cl_eval.specs.Evaluated.{Evaluates, meant, met_memory};
 
-use crate::evaluation::{Context, evaluate};
+use crate::evaluation::{Context, Standpoint, evaluate};
 use crate::metering::{Limits, Meter, Stop};
 use crate::slot_table::Slots;
 use crate::variables::{Env, Scope};
@@ -48,7 +48,13 @@ pub fn eval<L: Ledger>(
     };
     let mut meter = Meter::new();
     let scope = Scope::Given(env);
-    match evaluate(&context, expr, &scope, limits.depth, 0, &mut meter, steps) {
+    let here = Standpoint {
+        context: &context,
+        scope: &scope,
+        left: limits.depth,
+        level: 0,
+    };
+    match evaluate(&here, expr, &mut meter, steps) {
         Ok(value) => Evaluated::Value(value, meter.cost, meter.deepest),
         Err(Stop::Trap(kind)) => Evaluated::Trap(kind, meter.cost),
         Err(Stop::Memory) => Evaluated::Memory,

@@ -4,25 +4,22 @@ ghost use Rattle.cl_value.specs.Data.{Data};
 ghost use Rattle.cl_value.specs.Value.{data_of};
 ghost use Rattle.cl_syntax.specs.ActTree.{act_trees_of};
 ghost use Rattle.cl_syntax.specs.Expr.{bindings_of};
-ghost use Rattle.cl_application.specs.App.{slot_type};
 ghost use Rattle.cl_syntax.specs.declared.type_specs.TypeSpec.{TypeSpec};
 ghost use Rattle.cl_eval.specs.Outcome.{RisesBy, cost_of};
 ghost use Rattle.cl_eval.specs.Scope.{variables_of};
-ghost use Rattle.cl_eval.specs.Meaning.{listed, means, tested};
-ghost use Rattle.cl_eval.specs.Statements.{act_parts, acts_in, assigned, does, for_each, in_turn};
-ghost use Rattle.cl_eval.specs.Agrees.{Agrees, Comes, always, itself};
+ghost use Rattle.cl_eval.specs.Statements.{act_parts, acts_in, for_each, in_turn};
+ghost use Rattle.cl_eval.specs.Stage.{doing_on, meaning_on, played_on};
+ghost use Rattle.cl_eval.specs.Agrees.{Agrees, always, itself};
 ghost use Rattle.cl_eval.specs.Executed.{Decides, Executes, met_memory, ran};
 
 use crate::effects::{Effects, Lines, reply};
-use crate::metering::{Limits, Meter, Stop};
-use crate::programs::{Program, assign, frame_of, is_true, list_of, value_of};
+use crate::metering::{Meter, Stop};
+use crate::programs::{Program, Stage, assign, frame_of, is_true, list_of, value_of};
 use crate::slot_table::Slots;
 use crate::variables::{Env, Scope};
-use cl_application::App;
 use cl_outside::{Ledger, Steps};
 use cl_syntax::{Act, ActKind, Acts, Binding, TypeSpec};
 use cl_value::{Held, Text, Value};
-use std::alloc::Global;
 
 /// The types of an application.
 pub trait Types {
@@ -48,39 +45,35 @@ pub enum Executed {
 /// Runs statements on a copy of the slots. Each form that is entered is a step.
 #[tactic(auto, unfolding(crate::specs::Executed::ran))]
 pub fn exec<T: Types, L: Ledger>(
-    alloc: Global,
-    app: &App,
+    program: &Program<'_, T>,
     statements: &Acts,
     env: &Env,
     slots: &Slots,
-    types: &T,
-    limits: Limits,
     steps: &mut Steps<L>,
 ) -> Executed
-    requires { limits.depth ≤ 512 }
+    requires { program.now.limits.depth ≤ 512 }
     ensures meaning { Executes result
-        (ran limits app.now (T.holds types.now) statements.now env.now slots.now) }
+        (ran program.now.limits program.now.app.now (T.holds program.now.types.now) statements.now
+        env.now slots.now) }
     ensures ledger { RisesBy (met_memory result) steps.old steps.new
-        (cost_of (ran limits app.now (T.holds types.now) statements.now env.now slots.now)) }
+        (cost_of (ran program.now.limits program.now.app.now (T.holds program.now.types.now)
+        statements.now env.now slots.now)) }
 {
-    let program = Program {
-        alloc,
-        app,
-        types,
-        budget: limits.budget,
-    };
     let mut meter = Meter::new();
-    let mut effects = match Effects::new(alloc, slots) {
+    let mut effects = match Effects::new(program.alloc, slots) {
         Ok(effects) => effects,
         Err(_) => return Executed::Memory,
     };
     let scope = Scope::Given(env);
+    let here = Stage {
+        program: &*program,
+        scope: &scope,
+        left: program.limits.depth,
+        level: 0,
+    };
     match act_all(
-        &program,
+        &here,
         statements.as_slice(),
-        &scope,
-        limits.depth,
-        0,
         &mut effects,
         &mut meter,
         steps,
@@ -94,211 +87,106 @@ pub fn exec<T: Types, L: Ledger>(
 // One statement.
 #[cycle(act)]
 fn act<T: Types, L: Ledger>(
-    program: &Program<'_, T>,
+    here: &Stage<'_, T>,
     statement: &Act,
-    scope: &Scope<'_>,
-    left: u32,
-    level: u32,
     effects: &mut Effects,
     meter: &mut Meter,
     steps: &mut Steps<L>,
 ) -> Result<(), Stop>
-    requires { level + left < 2 ^ 32 }
+    requires { here.now.level + here.now.left < 2 ^ 32 }
     ensures meaning { Agrees (always effects.new) result meter.new
-        (does left program.now.budget program.now.app.now (T.holds program.now.types.now) level
-        (variables_of scope.now) statement.now effects.old meter.old.cost meter.old.deepest) }
+        (played_on T.holds here.now itself statement.now effects.old meter.old.cost meter.old.deepest) }
     ensures ledger { steps.new + meter.old.cost ≡ steps.old + meter.new.cost }
 {
-    meter.enter(left, program.budget, level, steps)?;
-    act_parts(
-        program,
-        statement,
-        scope,
-        left - 1,
-        level + 1,
-        effects,
-        meter,
-        steps,
-    )
+    meter.enter(here.left, here.program.limits.budget, here.level, steps)?;
+    let inner = Stage {
+        left: here.left - 1,
+        level: here.level + 1,
+        ..*here
+    };
+    act_parts(&inner, statement, effects, meter, steps)
 }
 
 // A statement that was entered.
 #[cycle(act)]
 fn act_parts<T: Types, L: Ledger>(
-    program: &Program<'_, T>,
+    here: &Stage<'_, T>,
     statement: &Act,
-    scope: &Scope<'_>,
-    left: u32,
-    level: u32,
     effects: &mut Effects,
     meter: &mut Meter,
     steps: &mut Steps<L>,
 ) -> Result<(), Stop>
-    requires { level + left < 2 ^ 32 }
+    requires { here.now.level + here.now.left < 2 ^ 32 }
     ensures meaning { Agrees (always effects.new) result meter.new
-        (act_parts program.now.app.now (T.holds program.now.types.now)
-        (means left program.now.budget program.now.app.now)
-        (does left program.now.budget program.now.app.now (T.holds program.now.types.now)) level
-        (variables_of scope.now) statement.now effects.old meter.old.cost meter.old.deepest) }
+        (played_on T.holds here.now (act_parts here.now.program.now.app.now
+        (T.holds here.now.program.now.types.now) (meaning_on here.now)) statement.now
+        effects.old meter.old.cost meter.old.deepest) }
     ensures ledger { steps.new + meter.old.cost ≡ steps.old + meter.new.cost }
 {
     match &statement.kind {
         ActKind::Setf(name, value) => {
-            let value = value_of(
-                program,
-                value,
-                &effects.slots,
-                scope,
-                left,
-                level,
-                meter,
-                steps,
-            )?;
-            assign(program, name, value, effects)
+            let value = value_of(here, value, &effects.slots, meter, steps)?;
+            assign(here.program, name, value, effects)
         }
         ActKind::Reply(text) => {
-            let text = value_of(
-                program,
-                text,
-                &effects.slots,
-                scope,
-                left,
-                level,
-                meter,
-                steps,
-            )?;
+            let text = value_of(here, text, &effects.slots, meter, steps)?;
             reply(effects, text)
         }
         ActKind::If(choice) => {
-            if is_true(
-                program,
-                &choice.test,
-                &effects.slots,
-                scope,
-                left,
-                level,
-                meter,
-                steps,
-            )? {
-                act(
-                    program,
-                    &choice.then,
-                    scope,
-                    left,
-                    level,
-                    effects,
-                    meter,
-                    steps,
-                )
+            if is_true(here, &choice.test, &effects.slots, meter, steps)? {
+                act(here, &choice.then, effects, meter, steps)
             } else {
-                act(
-                    program,
-                    &choice.other,
-                    scope,
-                    left,
-                    level,
-                    effects,
-                    meter,
-                    steps,
-                )
+                act(here, &choice.other, effects, meter, steps)
             }
         }
         ActKind::When(test, body) => {
-            if is_true(
-                program,
-                test,
-                &effects.slots,
-                scope,
-                left,
-                level,
-                meter,
-                steps,
-            )? {
-                act_all(
-                    program,
-                    body.as_slice(),
-                    scope,
-                    left,
-                    level,
-                    effects,
-                    meter,
-                    steps,
-                )
+            if is_true(here, test, &effects.slots, meter, steps)? {
+                act_all(here, body.as_slice(), effects, meter, steps)
             } else {
                 Ok(())
             }
         }
         ActKind::Let(bindings, body) => act_in(
-            program,
+            here,
             bindings,
             body.as_slice(),
-            scope,
-            left,
-            level,
             effects,
             meter,
             steps,
         ),
         ActKind::Dolist(name, list, body) => {
-            let list = list_of(
-                program,
-                list,
-                &effects.slots,
-                scope,
-                left,
-                level,
-                meter,
-                steps,
-            )?;
+            let list = list_of(here, list, &effects.slots, meter, steps)?;
             act_each(
-                program,
+                here,
                 name,
                 list.as_slice(),
                 body.as_slice(),
-                scope,
-                left,
-                level,
                 effects,
                 meter,
                 steps,
             )
         }
-        ActKind::Progn(body) => act_all(
-            program,
-            body.as_slice(),
-            scope,
-            left,
-            level,
-            effects,
-            meter,
-            steps,
-        ),
+        ActKind::Progn(body) => act_all(here, body.as_slice(), effects, meter, steps),
     }
 }
 
 // Statements in order.
 #[cycle(act)]
 fn act_all<T: Types, L: Ledger>(
-    program: &Program<'_, T>,
+    here: &Stage<'_, T>,
     statements: &[Act],
-    scope: &Scope<'_>,
-    left: u32,
-    level: u32,
     effects: &mut Effects,
     meter: &mut Meter,
     steps: &mut Steps<L>,
 ) -> Result<(), Stop>
-    requires { level + left < 2 ^ 32 }
+    requires { here.now.level + here.now.left < 2 ^ 32 }
     ensures meaning { Agrees (always effects.new) result meter.new
-        (in_turn (does left program.now.budget program.now.app.now (T.holds program.now.types.now))
-        level (variables_of scope.now) (act_trees_of statements.now) effects.old meter.old.cost
+        (played_on T.holds here.now in_turn (act_trees_of statements.now) effects.old meter.old.cost
         meter.old.deepest) }
     ensures ledger { steps.new + meter.old.cost ≡ steps.old + meter.new.cost }
 {
     for statement in statements {
-        act(
-            program, statement, scope, left, level, effects, meter, steps,
-        )?;
+        act(here, statement, effects, meter, steps)?;
     }
     Ok(())
 }
@@ -306,62 +194,53 @@ fn act_all<T: Types, L: Ledger>(
 // The statements behind bindings.
 #[cycle(act)]
 fn act_in<T: Types, L: Ledger>(
-    program: &Program<'_, T>,
+    here: &Stage<'_, T>,
     bindings: &[Binding],
     body: &[Act],
-    scope: &Scope<'_>,
-    left: u32,
-    level: u32,
     effects: &mut Effects,
     meter: &mut Meter,
     steps: &mut Steps<L>,
 ) -> Result<(), Stop>
-    requires { level + left < 2 ^ 32 }
+    requires { here.now.level + here.now.left < 2 ^ 32 }
     ensures meaning { Agrees (always effects.new) result meter.new
-        (acts_in ((means left program.now.budget program.now.app.now) effects.old.slots)
-        (does left program.now.budget program.now.app.now (T.holds program.now.types.now)) level
-        (bindings_of bindings.now) (act_trees_of body.now) (variables_of scope.now) effects.old
-        meter.old.cost meter.old.deepest) }
+        (acts_in (meaning_on here.now effects.old.slots) (doing_on T.holds here.now) here.now.level
+        (bindings_of bindings.now) (act_trees_of body.now) (variables_of here.now.scope.now)
+        effects.old meter.old.cost meter.old.deepest) }
     ensures ledger { steps.new + meter.old.cost ≡ steps.old + meter.new.cost }
 {
-    let frame = frame_of(
-        program,
-        bindings,
-        &effects.slots,
-        scope,
-        left,
-        level,
-        meter,
-        steps,
-    )?;
-    let inner = Scope::Frame(&frame, &*scope);
-    act_all(program, body, &inner, left, level, effects, meter, steps)
+    let frame = frame_of(here, bindings, &effects.slots, meter, steps)?;
+    let scope = Scope::Frame(&frame, &*here.scope);
+    let inner = Stage {
+        scope: &scope,
+        ..*here
+    };
+    act_all(&inner, body, effects, meter, steps)
 }
 
 // The statements for each of these values.
 #[cycle(act)]
 fn act_each<T: Types, L: Ledger>(
-    program: &Program<'_, T>,
+    here: &Stage<'_, T>,
     name: &Text,
     list: &[Value],
     body: &[Act],
-    scope: &Scope<'_>,
-    left: u32,
-    level: u32,
     effects: &mut Effects,
     meter: &mut Meter,
     steps: &mut Steps<L>,
 ) -> Result<(), Stop>
-    requires { level + left < 2 ^ 32 }
+    requires { here.now.level + here.now.left < 2 ^ 32 }
     ensures meaning { Agrees (always effects.new) result meter.new
-        (for_each (does left program.now.budget program.now.app.now (T.holds program.now.types.now))
-        level (variables_of scope.now) name.now (act_trees_of body.now) (map data_of list.now)
+        (played_on T.holds here.now for_each name.now (act_trees_of body.now) (map data_of list.now)
         effects.old meter.old.cost meter.old.deepest) }
     ensures ledger { steps.new + meter.old.cost ≡ steps.old + meter.new.cost }
 {
     for item in list {
-        let inner = Scope::Bound(&*name, item, &*scope);
-        act_all(program, body, &inner, left, level, effects, meter, steps)?;
+        let scope = Scope::Bound(&*name, item, &*here.scope);
+        let inner = Stage {
+            scope: &scope,
+            ..*here
+        };
+        act_all(&inner, body, effects, meter, steps)?;
     }
     Ok(())
 }

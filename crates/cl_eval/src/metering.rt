@@ -1,3 +1,4 @@
+//! The limits of an evaluation, what it has spent so far, and why it stops.
 ghost use Rattle.std.specs.Prelude.{◌≡◌, ℕ, ◌+◌, ◌≤◌, ◌<◌, ◌^◌};
 ghost use Rattle.cl_eval.specs.Meaning.{entering};
 ghost use Rattle.cl_eval.specs.Agrees.{Entered};

@@ -4,15 +4,16 @@ ghost use Rattle.cl_value.specs.Value.{data_of};
 ghost use Rattle.cl_application.specs.App.{slot_type};
 ghost use Rattle.cl_syntax.specs.Expr.{bindings_of};
 ghost use Rattle.cl_eval.specs.Scope.{variables_of};
-ghost use Rattle.cl_eval.specs.Meaning.{bound, listed, means, tested};
+ghost use Rattle.cl_eval.specs.Meaning.{bound, listed, tested};
+ghost use Rattle.cl_eval.specs.Stage.{meaning_on, seen_on};
 ghost use Rattle.cl_eval.specs.Statements.{assigned};
 ghost use Rattle.cl_eval.specs.Agrees.{Agrees, Comes, always, itself};
 
 use crate::bindings::evaluate_bindings;
 use crate::effects::Effects;
-use crate::evaluation::{Context, evaluate, evaluate_list, evaluate_test};
+use crate::evaluation::{Context, Standpoint, evaluate, evaluate_list, evaluate_test};
 use crate::execution::Types;
-use crate::metering::{Meter, Stop};
+use crate::metering::{Limits, Meter, Stop};
 use crate::slot_table::Slots;
 use crate::variables::{Env, Scope};
 use cl_application::App;
@@ -21,117 +22,137 @@ use cl_syntax::{Binding, Expr};
 use cl_value::{Held, Text, Value, Values};
 use std::alloc::Global;
 
-/// What statements are run in: the application, its types, and how many forms may be entered in all.
+/// What statements are run in: the application, its types, and how many forms may be entered.
 #[derive(Drop)]
 pub struct Program<'a, T: Types> {
     pub alloc: Global,
     pub app: &'a App,
     pub types: &'a T,
-    pub budget: u64,
+    pub limits: Limits,
+}
+
+/// Where a statement is run: in some program, with the variables in sight, below `level` entered forms, where `left` more
+/// levels may be entered.
+#[derive(Drop)]
+pub struct Stage<'a, T: Types> {
+    pub program: &'a Program<'a, T>,
+    pub scope: &'a Scope<'a>,
+    pub left: u32,
+    pub level: u32,
 }
 
 /// The value of an expression on these slots.
 pub fn value_of<T: Types, L: Ledger>(
-    program: &Program<'_, T>,
+    here: &Stage<'_, T>,
     expr: &Expr,
     slots: &Slots,
-    scope: &Scope<'_>,
-    left: u32,
-    level: u32,
     meter: &mut Meter,
     steps: &mut Steps<L>,
 ) -> Result<Value, Stop>
-    requires { level + left < 2 ^ 32 }
+    requires { here.now.level + here.now.left < 2 ^ 32 }
     ensures meaning { Agrees data_of result meter.new
-        (means left program.now.budget program.now.app.now slots.now level (variables_of scope.now)
-        expr.now meter.old.cost meter.old.deepest) }
+        (seen_on here.now slots.now itself expr.now meter.old.cost meter.old.deepest) }
     ensures ledger { steps.new + meter.old.cost ≡ steps.old + meter.new.cost }
 {
     let context = Context {
-        alloc: program.alloc,
-        app: program.app,
+        alloc: here.program.alloc,
+        app: here.program.app,
         slots,
-        budget: program.budget,
+        budget: here.program.limits.budget,
     };
-    evaluate(&context, expr, scope, left, level, meter, steps)
+    let inner = Standpoint {
+        context: &context,
+        scope: here.scope,
+        left: here.left,
+        level: here.level,
+    };
+    evaluate(&inner, expr, meter, steps)
 }
 
 /// Whether an expression is true on these slots.
 pub fn is_true<T: Types, L: Ledger>(
-    program: &Program<'_, T>,
+    here: &Stage<'_, T>,
     expr: &Expr,
     slots: &Slots,
-    scope: &Scope<'_>,
-    left: u32,
-    level: u32,
     meter: &mut Meter,
     steps: &mut Steps<L>,
 ) -> Result<bool, Stop>
-    requires { level + left < 2 ^ 32 }
+    requires { here.now.level + here.now.left < 2 ^ 32 }
     ensures meaning { Agrees itself result meter.new
-        (tested (means left program.now.budget program.now.app.now slots.now) level
-        (variables_of scope.now) expr.now meter.old.cost meter.old.deepest) }
+        (seen_on here.now slots.now tested expr.now meter.old.cost meter.old.deepest) }
     ensures ledger { steps.new + meter.old.cost ≡ steps.old + meter.new.cost }
 {
     let context = Context {
-        alloc: program.alloc,
-        app: program.app,
+        alloc: here.program.alloc,
+        app: here.program.app,
         slots,
-        budget: program.budget,
+        budget: here.program.limits.budget,
     };
-    evaluate_test(&context, expr, scope, left, level, meter, steps)
+    let inner = Standpoint {
+        context: &context,
+        scope: here.scope,
+        left: here.left,
+        level: here.level,
+    };
+    evaluate_test(&inner, expr, meter, steps)
 }
 
 /// The list that an expression gives on these slots.
 pub fn list_of<T: Types, L: Ledger>(
-    program: &Program<'_, T>,
+    here: &Stage<'_, T>,
     expr: &Expr,
     slots: &Slots,
-    scope: &Scope<'_>,
-    left: u32,
-    level: u32,
     meter: &mut Meter,
     steps: &mut Steps<L>,
 ) -> Result<Values, Stop>
-    requires { level + left < 2 ^ 32 }
+    requires { here.now.level + here.now.left < 2 ^ 32 }
     ensures meaning { Agrees itself result meter.new
-        (listed (means left program.now.budget program.now.app.now slots.now) level
-        (variables_of scope.now) expr.now meter.old.cost meter.old.deepest) }
+        (seen_on here.now slots.now listed expr.now meter.old.cost meter.old.deepest) }
     ensures ledger { steps.new + meter.old.cost ≡ steps.old + meter.new.cost }
 {
     let context = Context {
-        alloc: program.alloc,
-        app: program.app,
+        alloc: here.program.alloc,
+        app: here.program.app,
         slots,
-        budget: program.budget,
+        budget: here.program.limits.budget,
     };
-    evaluate_list(&context, expr, scope, left, level, meter, steps)
+    let inner = Standpoint {
+        context: &context,
+        scope: here.scope,
+        left: here.left,
+        level: here.level,
+    };
+    evaluate_list(&inner, expr, meter, steps)
 }
 
 /// The variables of bindings on these slots.
 pub fn frame_of<T: Types, L: Ledger>(
-    program: &Program<'_, T>,
+    here: &Stage<'_, T>,
     bindings: &[Binding],
     slots: &Slots,
-    scope: &Scope<'_>,
-    left: u32,
-    level: u32,
     meter: &mut Meter,
     steps: &mut Steps<L>,
 ) -> Result<Env, Stop>
-    requires { level + left < 2 ^ 32 }
-    ensures meaning { Agrees (λ frame. frame ++ variables_of scope.now) result meter.new
-        (bound (means left program.now.budget program.now.app.now slots.now) level
-        (bindings_of bindings.now) (variables_of scope.now) meter.old.cost meter.old.deepest) }
+    requires { here.now.level + here.now.left < 2 ^ 32 }
+    ensures meaning { Agrees (λ frame. frame ++ variables_of here.now.scope.now) result meter.new
+        (bound (meaning_on here.now slots.now) here.now.level
+        (bindings_of bindings.now) (variables_of here.now.scope.now) meter.old.cost
+        meter.old.deepest) }
     ensures ledger { steps.new + meter.old.cost ≡ steps.old + meter.new.cost }
 {
     let context = Context {
-        alloc: program.alloc,
-        app: program.app,
+        alloc: here.program.alloc,
+        app: here.program.app,
         slots,
-        budget: program.budget,
+        budget: here.program.limits.budget,
     };
-    evaluate_bindings(&context, bindings, scope, left, level, meter, steps)
+    let inner = Standpoint {
+        context: &context,
+        scope: here.scope,
+        left: here.left,
+        level: here.level,
+    };
+    evaluate_bindings(&inner, bindings, meter, steps)
 }
 
 /// A slot with a new value, where that is a member of its type.

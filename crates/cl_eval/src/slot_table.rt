@@ -1,3 +1,4 @@
+//! Slots by name, with their values.
 ghost use Rattle.std.specs.Prelude.{◌≡◌, [], OnOk, OnErr, IfOk, option_map, position, ◌<◌, slice_set, vec_len};
 ghost use Rattle.cl_value.specs.Value.{data_of};
 ghost use Rattle.cl_eval.specs.Slots.{found, put, is_named};

@@ -10,7 +10,9 @@ use Rattle.cl_forms.specs.Keys.{Keyed, keyed_pairs}
 use Rattle.cl_forms.specs.Naming.{name_in}
 use Rattle.cl_words.specs.Signatures.{record_in}
 use Rattle.cl_words.specs.declared.signatures.Signatures.{Signatures}
-use Rattle.cl_bodies.specs.SlotTypes.{type_named, parse_plain_type, parse_record_type, parse_ranged_type, parse_type_named, parse_type_head, parse_type_parts, option_keys, parse_type_options, parse_type_first, parse_type_list, parse_specifier, parse_type}
+use Rattle.cl_bodies.specs.SlotTypes.{type_named, parse_plain_type, parse_record_type, parse_ranged_type, parse_type_named, parse_type_head}
+use Rattle.cl_bodies.specs.SlotTypes.{parse_type_parts, option_keys, parse_type_options, parse_type_first, parse_type_list, parse_specifier}
+use Rattle.cl_bodies.specs.SlotTypes.{parse_type}
 use Rattle.cl_faults.proofs.FaultLemmas.{FaultsAt, gives, refuses, notes_then, places_then, binds, chooses}
 use Rattle.cl_faults.proofs.ExpressionFaults.{Covers, covers_offset}
 use Rattle.cl_faults.proofs.DataFaults.{CoversEach, covers_order}

@@ -1,3 +1,4 @@
+//! Bytes of a stream that were read and are not answered yet.
 ghost use Rattle.std.specs.Prelude.{◌≡◌, ◌<◌, ◌≤◌, ◌-◌, [], length, take, drop, IfOk};
 ghost use Rattle.cl_outside.specs.Outside.{ReadTook, FailedRose};
 ghost use Rattle.cl_gesture.specs.Ahead.{FillTook};

@@ -1,3 +1,4 @@
+//! What a reader of gestures answers.
 use cl_value::Text;
 
 /// What a person did.

@@ -1,3 +1,4 @@
+//! The next line of a stream, cut from the bytes that were read.
 ghost use Rattle.std.specs.Prelude.{◌≡◌, ◌≤◌, All, length, take};
 ghost use Rattle.cl_gesture.specs.Lines.{IsNoFeed, longest_line};
 ghost use Rattle.cl_gesture.specs.Cut.{FoundIn, CutOf, UnreadCut};

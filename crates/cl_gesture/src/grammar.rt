@@ -1,3 +1,4 @@
+//! The grammar of gesture lines.
 ghost use Rattle.std.specs.Prelude.{◌≡◌, MatchOption, None, Some};
 ghost use Rattle.std.specs.List.{list_all};
 ghost use Rattle.cl_gesture.specs.declared.answers.Gesture.TheVariants as gesture;

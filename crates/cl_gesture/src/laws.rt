@@ -1,3 +1,4 @@
+//! What the definitions of pieces and gesture lines say. The contracts are the laws.
 ghost use Rattle.cl_gesture.specs.Lines.{AreTheBytes, AreWellCut, IsTheOnlyCut};
 ghost use Rattle.cl_gesture.specs.Gesture.{AreSpelled};
 

@@ -1,3 +1,4 @@
+//! The reader of gestures over a source.
 ghost use Rattle.std.specs.Prelude.{◌≡◌, ◌⊎◌, ◌≤◌, ◌<◌, [], IfOk};
 
 use crate::ahead::Ahead;

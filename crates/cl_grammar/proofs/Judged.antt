@@ -13,7 +13,8 @@ use Rattle.cl_forms.specs.Words.{is_name}
 use Rattle.cl_words.specs.declared.signatures.Signatures.{Signatures}
 use Rattle.cl_expressions.specs.Load.{Load, ◌>>=◌, give, refuse, noted}
 use Rattle.cl_expressions.specs.Scopes.{Names, among}
-use Rattle.cl_expressions.specs.Expressions.{parse_variable, parse_word, is_binding, are_bindings, is_binding_list, parse_binding_parts, parse_form, parse_expression, subs, parse_bindings, parse_each_binding, parse_binding}
+use Rattle.cl_expressions.specs.Expressions.{parse_variable, parse_word, is_binding, are_bindings, is_binding_list, parse_binding_parts, parse_form}
+use Rattle.cl_expressions.specs.Expressions.{parse_expression, subs, parse_bindings, parse_each_binding, parse_binding}
 use Rattle.cl_grammar.specs.Sights.{expression, names_behind, value_seen, names_bound, values_seen, form_seen}
 use Rattle.cl_grammar.specs.Blames.{Blames, is_atom, a_stray_quote, no_atom}
 use Rattle.cl_grammar.specs.Unnamed.{Unnamed, UnnamedAny, IsNoted}

@@ -13,7 +13,9 @@ use Rattle.cl_grammar.specs.Blames.{Blames, BlamesAny, a_misshapen_form, an_unkn
 use Rattle.cl_grammar.specs.Unnamed.{Unnamed, UnnamedAny, IsNoted}
 use Rattle.cl_grammar.specs.Unnamed as unnamed
 use Rattle.cl_grammar.proofs.Lying.{LieSeen, LieSight, LieApart, seen_split, list_lies, form_lies}
-use Rattle.cl_grammar.proofs.Bounds.{before_within, blames_any_within, unnamed_any_within, none_blamed, none_unnamed, blames_left, blames_right, blames_split, unnamed_left, unnamed_right, unnamed_split, only_blamed, only_unnamed, slot_unnamed, record_unnamed, slot_blames, record_blames, SightBlames, SightUnnamed, form_blamed, form_unnamed}
+use Rattle.cl_grammar.proofs.Bounds.{before_within, blames_any_within, unnamed_any_within, none_blamed, none_unnamed, blames_left, blames_right}
+use Rattle.cl_grammar.proofs.Bounds.{blames_split, unnamed_left, unnamed_right, unnamed_split, only_blamed, only_unnamed, slot_unnamed}
+use Rattle.cl_grammar.proofs.Bounds.{record_unnamed, slot_blames, record_blames, SightBlames, SightUnnamed, form_blamed, form_unnamed}
 use Rattle.cl_grammar.proofs.Spelled.{false_true}
 
 -- no value asks for more

@@ -11,7 +11,9 @@ use Rattle.cl_expressions.specs.Scopes.{Names, among}
 use Rattle.cl_expressions.specs.Expressions.{is_binding_list}
 use Rattle.cl_grammar.specs.Heads.{Counted, operators, fixed_heads}
 use Rattle.cl_grammar.specs.Lies.{Lies, LieAll}
-use Rattle.cl_grammar.specs.Sights.{Seen, expression, slot_name, record_name, Sight, Misshapen, UnknownHead, Sees, all_seen, counted_seen, slot_seen, if_seen, names_behind, value_seen, values_seen, let_seen, fields_seen, make_seen, get_seen, with_seen, map_seen, filter_seen, fold_seen, call_seen, rows, operator_seen, row_seen, form_seen}
+use Rattle.cl_grammar.specs.Sights.{Seen, expression, slot_name, record_name, Sight, Misshapen, UnknownHead, Sees, all_seen, counted_seen, slot_seen}
+use Rattle.cl_grammar.specs.Sights.{if_seen, names_behind, value_seen, values_seen, let_seen, fields_seen, make_seen, get_seen, with_seen, map_seen}
+use Rattle.cl_grammar.specs.Sights.{filter_seen, fold_seen, call_seen, rows, operator_seen, row_seen, form_seen}
 use Rattle.cl_grammar.proofs.Spelled.{row_found}
 
 -- data lie one behind another, as those of a list do

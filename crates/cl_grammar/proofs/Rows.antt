@@ -19,8 +19,12 @@ use Rattle.cl_words.specs.declared.heads.Special.TheVariants as special
 use Rattle.cl_words.specs.declared.signatures.Signatures.{Signatures}
 use Rattle.cl_expressions.specs.Load.{Load, ◌>>=◌, give, refuse}
 use Rattle.cl_expressions.specs.Scopes.{Names}
-use Rattle.cl_expressions.specs.Expressions.{Sub, named_part, parse_each, parse_slot, parse_make_fields, parse_make, parse_get, parse_with, parse_if, parse_and, parse_or, parse_call_counted, parse_map, parse_filter, parse_fold, is_binding_list, parse_let, parse_special, parse_head, parse_headed, parse_form}
-use Rattle.cl_grammar.specs.Sights.{Seen, expression, Sight, Misshapen, Sees, all_seen, counted_seen, where_named, slot_seen, if_seen, names_bound, values_seen, let_seen, and_seen, or_seen, fields_seen, make_seen, get_seen, with_seen, map_seen, filter_seen, fold_seen, call_seen, rows, row_seen, headed_seen, form_seen}
+use Rattle.cl_expressions.specs.Expressions.{Sub, named_part, parse_each, parse_slot, parse_make_fields, parse_make, parse_get, parse_with, parse_if}
+use Rattle.cl_expressions.specs.Expressions.{parse_and, parse_or, parse_call_counted, parse_map, parse_filter, parse_fold, is_binding_list, parse_let}
+use Rattle.cl_expressions.specs.Expressions.{parse_special, parse_head, parse_headed, parse_form}
+use Rattle.cl_grammar.specs.Sights.{Seen, expression, Sight, Misshapen, Sees, all_seen, counted_seen, where_named, slot_seen, if_seen, names_bound}
+use Rattle.cl_grammar.specs.Sights.{values_seen, let_seen, and_seen, or_seen, fields_seen, make_seen, get_seen, with_seen, map_seen, filter_seen}
+use Rattle.cl_grammar.specs.Sights.{fold_seen, call_seen, rows, row_seen, headed_seen, form_seen}
 use Rattle.cl_grammar.proofs.Judging.{Any, Judges, joined, then_part, then_given, ended, slot_judged, record_judged, Answers, misshapen, unknown_head, sees}
 use Rattle.cl_grammar.proofs.Spelled.{row_of, seen_under, head_stands, call_stands}
 use Rattle.cl_grammar.proofs.Written.{shapes}

@@ -7,7 +7,10 @@ use Rattle.std.specs.Str.{bytes_eq}
 use Rattle.std.proofs.lemmas.Slice.Eq.{bytes_eq-Decides}
 use Rattle.cl_syntax.specs.declared.operators.Operator.TheVariants as operator
 use Rattle.cl_table.specs.Names.{named}
-use Rattle.cl_words.specs.Heads.{named_or, arithmetic_named, comparison_named, list_operator_named, text_operator_named, other_operator_named, operator_named, count_of, access_named, walk_named, special_named, control_named, figure_named, setting_named, writing_named, change_named, planned_display, planned_other, planned_named, shared_named, form_head, head_named, is_operator}
+use Rattle.cl_words.specs.Heads.{named_or, arithmetic_named, comparison_named, list_operator_named, text_operator_named, other_operator_named}
+use Rattle.cl_words.specs.Heads.{operator_named, count_of, access_named, walk_named, special_named, control_named, figure_named, setting_named}
+use Rattle.cl_words.specs.Heads.{writing_named, change_named, planned_display, planned_other, planned_named, shared_named, form_head, head_named}
+use Rattle.cl_words.specs.Heads.{is_operator}
 use Rattle.cl_words.specs.Signatures.{function_in}
 use Rattle.cl_words.specs.declared.heads.Head.{Head}
 use Rattle.cl_words.specs.declared.heads.Head.TheVariants as head
@@ -19,7 +22,8 @@ use Rattle.cl_forms.specs.Naming.{name_in, some_if, symbol_of}
 use Rattle.cl_forms.specs.Words.{is_name}
 use Rattle.cl_words.specs.declared.signatures.Signatures.{Signatures}
 use Rattle.cl_grammar.specs.Heads.{operators, fixed_heads}
-use Rattle.cl_grammar.specs.Sights.{Sight, UnknownHead, counted_seen, slot_seen, if_seen, let_seen, and_seen, or_seen, make_seen, get_seen, with_seen, map_seen, filter_seen, fold_seen, call_seen, rows, operator_seen, row_seen}
+use Rattle.cl_grammar.specs.Sights.{Sight, UnknownHead, counted_seen, slot_seen, if_seen, let_seen, and_seen, or_seen, make_seen, get_seen, with_seen}
+use Rattle.cl_grammar.specs.Sights.{map_seen, filter_seen, fold_seen, call_seen, rows, operator_seen, row_seen}
 
 pub false_true : false ≡ true → ⊥
 false_true h = cc

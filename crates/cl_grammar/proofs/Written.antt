@@ -22,9 +22,14 @@ use Rattle.cl_words.specs.declared.heads.Special.TheVariants as special
 use Rattle.cl_words.specs.declared.signatures.Signatures.{Signatures}
 use Rattle.cl_expressions.specs.Load.{Load, Notes}
 use Rattle.cl_expressions.specs.Scopes.{Names, among}
-use Rattle.cl_expressions.specs.Expressions.{Sub, parse_each, parse_variable, parse_word, parse_slot, parse_make_fields, parse_make, parse_get, parse_with, parse_if, parse_and, parse_or, parse_operation, parse_call_counted, parse_map, parse_filter, parse_fold, is_binding_list, parse_binding_parts, parse_let, parse_special, parse_head, parse_headed, parse_form, parse_expression, subs, parse_bindings, parse_each_binding, parse_binding}
+use Rattle.cl_expressions.specs.Expressions.{Sub, parse_each, parse_variable, parse_word, parse_slot, parse_make_fields, parse_make, parse_get}
+use Rattle.cl_expressions.specs.Expressions.{parse_with, parse_if, parse_and, parse_or, parse_operation, parse_call_counted, parse_map, parse_filter}
+use Rattle.cl_expressions.specs.Expressions.{parse_fold, is_binding_list, parse_binding_parts, parse_let, parse_special, parse_head, parse_headed}
+use Rattle.cl_expressions.specs.Expressions.{parse_form, parse_expression, subs, parse_bindings, parse_each_binding, parse_binding}
 use Rattle.cl_grammar.specs.Heads.{operators, CallsNames}
-use Rattle.cl_grammar.specs.Writes.{Writes, WritesForm, WritesAll, WritesBindings, a_number, a_text, a_quoted_name, the_true, the_false, the_null, a_variable, a_form, a_slot, an_if, a_let, an_and, an_or, a_make, a_get, a_with, a_map, a_filter, a_fold, an_operation, a_call, no_more, one_more, no_binding, one_binding}
+use Rattle.cl_grammar.specs.Writes.{Writes, WritesForm, WritesAll, WritesBindings, a_number, a_text, a_quoted_name, the_true, the_false, the_null}
+use Rattle.cl_grammar.specs.Writes.{a_variable, a_form, a_slot, an_if, a_let, an_and, an_or, a_make, a_get, a_with, a_map, a_filter, a_fold}
+use Rattle.cl_grammar.specs.Writes.{an_operation, a_call, no_more, one_more, no_binding, one_binding}
 use Rattle.cl_grammar.proofs.Endings.{Ends, gives, refuses, chooses, notes_then, binds, asks_name}
 use Rattle.cl_grammar.proofs.Spelled.{same_word, word_of, IsSpelled, head_stands, not_fixed}
 

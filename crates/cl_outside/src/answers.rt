@@ -1,3 +1,4 @@
+//! What calls on the outside answer.
 /// What a read or a write answers.
 #[derive(Clone, Copy, PartialEq, Eq, Debug)]
 pub enum Took {

@@ -1,3 +1,4 @@
+//! A cell of a screen: its glyph and its ink.
 ghost use Rattle.std.specs.Prelude.{◌≤◌};
 
 /// One character cell: a glyph, a byte from 32 to 126, and one of eight inks, 0 to 7.

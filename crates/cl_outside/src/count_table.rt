@@ -1,3 +1,4 @@
+//! Counts by name.
 ghost use Rattle.std.specs.Prelude.{◌≡◌, ℕ, ◌<◌, [], length, MatchOption, IfOk, OnErr, OnOk};
 ghost use Rattle.std.specs.List.{position};
 ghost use Rattle.cl_outside.specs.Memory.{one_more};

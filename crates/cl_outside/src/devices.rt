@@ -1,3 +1,4 @@
+//! What a caller may rest on of a device that shows spans of cells.
 ghost use Rattle.std.specs.Prelude.{◌≡◌, ℕ, ◌≤◌, Option, Bool, false};
 ghost use Rattle.cl_outside.specs.Device.{Picture, IsSpan, ClearSent, SpanSent, SentRose};
 ghost use Rattle.cl_outside.specs.Lent.{Lent, nothing_lent};

@@ -1,3 +1,4 @@
+//! A place over the files of the system.
 ghost use Rattle.std.specs.Prelude.{◌≡◌, None, true, false};
 ghost use Rattle.cl_outside.specs.Place.{OnDone, OnMemory, OpenedRose};
 

@@ -1,3 +1,4 @@
+//! Files by name, with their bytes.
 ghost use Rattle.std.specs.Prelude.{◌≡◌, ◌+◌, ◌≤◌, ◌<◌, [], ◌++◌, length, slice_index, MatchOption, IfOk, OnErr, OnOk, Some, vec_capacity};
 ghost use Rattle.std.specs.List.{position};
 ghost use Rattle.std.specs.Option.{option_copied};

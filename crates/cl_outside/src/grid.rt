@@ -1,3 +1,4 @@
+//! The cells of a device in memory.
 ghost use Rattle.std.specs.Prelude.{◌≡◌, ℕ, ◌+◌, ◌≤◌, ◌<◌, length, All, IfOk, replicate};
 ghost use Rattle.cl_outside.specs.Device.{IsGlyph, IsSpan, IsPainted};
 ghost use Rattle.cl_outside.specs.MemoryDevice.{AllBlank, IsPut, IsFilled, glyph_in, ink_in, picture_in, place_of};

@@ -1,3 +1,4 @@
+//! Bytes that are handed over into a buffer.
 ghost use Rattle.std.specs.Prelude.{◌+◌, ◌≤◌, ◌<◌, length, drop, Some};
 ghost use Rattle.cl_outside.specs.Outside.{ReadTook};
 ghost use Rattle.cl_outside.specs.declared.answers.Took.{Took};

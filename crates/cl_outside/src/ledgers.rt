@@ -1,3 +1,4 @@
+//! The ledger that counts steps.
 ghost use Rattle.std.specs.Prelude.{◌≡◌, ℕ, ◌+◌, ◌-◌, ◌^◌, min};
 
 use std::marker::Model;

@@ -1,3 +1,4 @@
+//! A source that is lent.
 ghost use Rattle.std.specs.Prelude.{◌≡◌};
 
 use crate::answers::Took;

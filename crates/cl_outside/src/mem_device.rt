@@ -1,3 +1,4 @@
+//! A device in memory, which fails where it is told to.
 ghost use Rattle.std.specs.Prelude.{◌≡◌, ◌↔◌, ◌≤◌, ◌<◌, true, false, IfOk};
 ghost use Rattle.cl_outside.specs.Device.{IsBlank, IsSpan, ClearSent, SpanSent, SentRose};
 ghost use Rattle.cl_outside.specs.Memory.{IsToFail, counted, new_plan};

@@ -1,3 +1,4 @@
+//! A place in memory, which fails where it is told to.
 ghost use Rattle.std.specs.Prelude.{◌≡◌, ◌↔◌, ◌⊎◌, ◌+◌, ◌-◌, ◌<◌, [], length, None, Some, IsSome};
 ghost use Rattle.cl_outside.specs.Memory.{AllPositive, IsToFail, new_plan};
 ghost use Rattle.cl_outside.specs.NameTables.{entries_of};

@@ -1,3 +1,4 @@
+//! The calls of a place in memory.
 ghost use Rattle.std.specs.Prelude.{◌≡◌, ◌≢◌, ◌↔◌, ◌⊎◌, ℕ, ◌≤◌, ◌<◌, List, length, true, None, Some, Option, IsSome, is_some};
 ghost use Rattle.cl_outside.specs.Outside.{ReadTook, WriteTook, FailedRose};
 ghost use Rattle.cl_outside.specs.Place.{HasBytes, IsEmptyFile, OnDone, OnMemory, OpenedRose};

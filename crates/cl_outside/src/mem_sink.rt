@@ -1,3 +1,4 @@
+//! A sink in memory, which fails where it is told to.
 ghost use Rattle.std.specs.Prelude.{◌≡◌, ◌↔◌, ◌⊎◌, ◌-◌, ◌≤◌, ◌<◌, [], length, Some, IfOk};
 ghost use Rattle.cl_outside.specs.Outside.{WriteTook, FailedRose};
 ghost use Rattle.cl_outside.specs.Memory.{AllPositive, IsToFail, counted, new_plan, CountsFault, WritesPiece};

@@ -1,3 +1,4 @@
+//! A source in memory, which fails where it is told to.
 ghost use Rattle.std.specs.Prelude.{◌≡◌, ◌↔◌, ◌+◌, ◌-◌, ◌≤◌, ◌<◌, length, drop, Some};
 ghost use Rattle.cl_outside.specs.Outside.{ReadTook, FailedRose};
 ghost use Rattle.cl_outside.specs.Memory.{IsToFail, counted, new_plan, CountsFault, ReadsAll};

@@ -1,3 +1,4 @@
+//! A sink that keeps nothing.
 ghost use Rattle.std.specs.Prelude.{◌≡◌, ◌<◌, length, None};
 
 use crate::answers::Took;

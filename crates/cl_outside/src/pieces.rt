@@ -1,3 +1,4 @@
+//! The greatest numbers of bytes that the writes to come take.
 ghost use Rattle.std.specs.Prelude.{◌≡◌, ℕ, ◌+◌, ◌≤◌, ◌<◌, drop};
 ghost use Rattle.cl_outside.specs.Memory.{AllPositive, next_piece, later_pieces};
 

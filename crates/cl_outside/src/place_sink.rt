@@ -1,3 +1,4 @@
+//! The file that is open for writing in a place, as a sink.
 ghost use Rattle.std.specs.Prelude.{◌≡◌, true};
 
 use crate::answers::Took;

@@ -1,3 +1,4 @@
+//! What a caller may rest on of a place, where files are opened by name.
 ghost use Rattle.std.specs.Prelude.{◌≡◌, ◌≢◌, ℕ, ◌≤◌, ◌<◌, List, Option, length, Bool, true, IsSome, None};
 ghost use Rattle.cl_outside.specs.Outside.{ReadTook, WriteTook, FailedRose};
 ghost use Rattle.cl_outside.specs.Place.{HasBytes, IsEmptyFile, IsTold, OnDone, OnMemory, OpenedRose};

@@ -1,3 +1,4 @@
+//! The numbers of the calls that fail.
 ghost use Rattle.std.specs.Prelude.{◌≡◌, ◌↔◌, ◌+◌, ◌-◌, IsTrue, Contains};
 ghost use Rattle.cl_outside.specs.Memory.{IsToFail, counted, new_plan, one_more};
 

@@ -1,3 +1,4 @@
+//! A reader of the system as a source.
 ghost use Rattle.std.specs.Prelude.{◌≡◌};
 
 use crate::answers::Took;

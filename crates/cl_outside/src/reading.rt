@@ -1,3 +1,4 @@
+//! The open source of a place in memory.
 // The open source of a place in memory: the place of its file, how many bytes were read, and the
 // place of its count of faults.
 #[derive(Clone, Copy)]

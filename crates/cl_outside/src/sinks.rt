@@ -1,3 +1,4 @@
+//! What a caller may rest on of a sink.
 ghost use Rattle.std.specs.Prelude.{◌≡◌, ℕ, ◌<◌, List, Option, length};
 ghost use Rattle.cl_outside.specs.Lent.{Lent, nothing_lent};
 ghost use Rattle.cl_outside.specs.Outside.{WriteTook, FailedRose};

@@ -1,3 +1,4 @@
+//! What a caller may rest on of a source.
 ghost use Rattle.std.specs.Prelude.{◌≡◌, ℕ, ◌<◌, List, Option, length};
 ghost use Rattle.cl_outside.specs.Outside.{ReadTook, FailedRose};
 

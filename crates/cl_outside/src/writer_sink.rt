@@ -1,3 +1,4 @@
+//! A writer of the system as a sink.
 ghost use Rattle.std.specs.Prelude.{◌≡◌};
 
 use crate::answers::Took;

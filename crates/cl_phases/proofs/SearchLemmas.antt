@@ -1,6 +1,7 @@
 -- The search for a slot through calls, from what was found and looked into before: what is found since is reached, and once all that
 -- is found was looked into, nothing else is.
-use Rattle.std.proofs.Common.{◌≡◌, ◌≤◌, ◌<◌, ◌+◌, ◌-◌, ◌++◌, ◌==◌, inl, inr, ℕ, zero, suc, Bool, true, false, cond, length, take, drop, get_or, List, [], ◌∷◌, Option, Some, None, refl, sym, ap, ◌∙◌, subst, arith}
+use Rattle.std.proofs.Common.{◌≡◌, ◌≤◌, ◌<◌, ◌+◌, ◌-◌, ◌++◌, ◌==◌, inl, inr, ℕ, zero, suc, Bool, true, false, cond, length, take, drop, get_or, List}
+use Rattle.std.proofs.Common.{[], ◌∷◌, Option, Some, None, refl, sym, ap, ◌∙◌, subst, arith}
 use Rattle.std.specs.Prelude.{All, Contains, IsTrue, is_some, if◌then◌else◌}
 use Rattle.std.specs.Cmp.Lexicographic.{pointwise}
 use Rattle.std.proofs.lemmas.List.{append-nil, append_assoc, length-append, length_push, take_more, take_all, take-append-le, get_or_append_left, get_or-append_right}

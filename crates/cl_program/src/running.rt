@@ -1,3 +1,4 @@
+//! The run of an application: its text is read and loaded, it is opened, and gestures are served.
 ghost use Rattle.std.specs.Prelude.{◌≡◌, ◌≤◌, ◌+◌, ℕ, List, [], IfOk, map};
 ghost use Rattle.cl_program.specs.Run.{EndsAs, IsOpening, Ran, RanLoaded, RanText, opening_cost, streams};
 

@@ -1,3 +1,4 @@
+//! The usage line and the line of a refusal.
 ghost use Rattle.std.specs.Prelude.{◌≡◌, ◌≤◌, [], map};
 ghost use Rattle.cl_session.specs.Writing.{Puts, Says, joined};
 ghost use Rattle.cl_program.specs.Command.{refusal_line, usage_line};

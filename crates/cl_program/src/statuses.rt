@@ -1,3 +1,4 @@
+//! The top call and its exit status.
 ghost use Rattle.std.specs.Prelude.{◌≡◌, ◌≤◌, ◌⊎◌, ℕ, List, map};
 ghost use Rattle.cl_outside.specs.Causes.{Rose};
 ghost use Rattle.cl_session.specs.declared.serving.End.TheVariants as end;

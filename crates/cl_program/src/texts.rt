@@ -1,3 +1,4 @@
+//! The text of an application, read from a place.
 ghost use Rattle.std.specs.Prelude.{◌≡◌, ◌≤◌, ◌<◌, ℕ, List, true, vec_len};
 ghost use Rattle.cl_program.specs.Texts.{PieceOf, PieceRose, ReadsOpened, ReadsText, TextRose};
 

@@ -1,3 +1,4 @@
+//! The words of a command.
 ghost use Rattle.std.specs.Prelude.{◌≡◌, None, IfSome, map};
 ghost use Rattle.cl_program.specs.Command.{IsNoCommand, IsRun, is_file_name};
 

@@ -1,3 +1,4 @@
+//! The glyphs and inks of a screen of cells.
 ghost use Rattle.std.specs.Prelude.{◌≡◌, ◌<◌, ◌≤◌, All, IfOk, length};
 ghost use Rattle.cl_outside.specs.Device.{IsGlyph};
 ghost use Rattle.cl_raster.specs.Raster.{Blanks, IsInk, Sets, blank, glyph_at, ink_at, row_of};

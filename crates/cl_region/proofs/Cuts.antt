@@ -1,11 +1,13 @@
 -- What is left of rectangles outside of another one: its places, and that the pieces share none.
-use Rattle.std.proofs.Common.{◌≡◌, ◌*◌, ◌≤◌, ℤ, ◌≤ℤ◌, Bool, true, false, not, ◌&&◌, ◌||◌, if◌then◌else◌, List, [], ◌∷◌, ◌++◌, length, refl, sym, ◌∙◌, ap, arith, length-append}
+use Rattle.std.proofs.Common.{◌≡◌, ◌*◌, ◌≤◌, ℤ, ◌≤ℤ◌, Bool, true, false, not, ◌&&◌, ◌||◌, if◌then◌else◌, List, [], ◌∷◌, ◌++◌, length, refl, sym, ◌∙◌}
+use Rattle.std.proofs.Common.{ap, arith, length-append}
 use Rattle.std.proofs.lemmas.Int.{ints, clamps, by_lt_z}
 use Rattle.cl_region.specs.declared.rects.Rect.{Rect}
 use Rattle.cl_region.specs.Places.{common, held, holds, is_thin}
 use Rattle.cl_region.specs.Pieces.{ArePieces}
 use Rattle.cl_region.specs.Cutting.{kept, around, cut, cut_all}
-use Rattle.cl_region.proofs.Corners.{HasCell, Within, and_left, and_right, both, common-holds, corner_held, false_holds, has_cell, holds_within, same_bool, thin_test, within, wrong}
+use Rattle.cl_region.proofs.Corners.{HasCell, Within, and_left, and_right, both, common-holds, corner_held, false_holds, has_cell, holds_within}
+use Rattle.cl_region.proofs.Corners.{same_bool, thin_test, within, wrong}
 
 by_test : (P : List Rect → Type 0) (b : Bool) (x y : List Rect) → (b ≡ true → P x) → (b ≡ false → P y) → P (if b then x else y)
 by_test P b x y =

@@ -6,7 +6,8 @@ use Rattle.cl_region.specs.declared.rects.Rect.{Rect}
 use Rattle.cl_region.specs.Places.{IsEmpty, box, held, holds}
 use Rattle.cl_region.specs.Pieces.{ArePieces, ArePiecesOf, IsApart, IsPiece}
 use Rattle.cl_region.specs.Cutting.{Continues, IsBelow, IsBeside}
-use Rattle.cl_region.proofs.Corners.{HasCell, Within, and_left, and_right, both, box-left, box-right, corner_held, false_holds, has_cell, holds_within, same_bool, within, wrong}
+use Rattle.cl_region.proofs.Corners.{HasCell, Within, and_left, and_right, both, box-left, box-right, corner_held, false_holds, has_cell}
+use Rattle.cl_region.proofs.Corners.{holds_within, same_bool, within, wrong}
 use Rattle.cl_region.proofs.Cuts.{held-append, or_elim, or_left, or_right, pieces-append}
 
 or_swap : (p q : Bool) → p || (q || false) ≡ q || p

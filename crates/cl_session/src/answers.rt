@@ -1,3 +1,4 @@
+//! What a session answers to a gesture.
 use cl_eval::Lines;
 
 /// What was done to show a pane anew: how many pieces were kept in place and moved, and how many

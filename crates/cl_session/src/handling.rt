@@ -1,3 +1,4 @@
+//! How a gesture is handled, before the pane is settled.
 ghost use Rattle.std.specs.Prelude.{◌≡◌, ◌≤◌, ◌++◌, ◌∷◌, [], codes, IfOk};
 ghost use Rattle.std.specs.Fmt.{decimal};
 ghost use Rattle.cl_command.specs.Line.{finish_of};
@@ -13,7 +14,7 @@ use crate::panes::Pane;
 use crate::telling::{frame_lines, history_lines, ink_lines};
 use cl_application::{App, CommandDecl};
 use cl_command::{Finished, Line, Pushed};
-use cl_eval::{Env, Executed, Limits, Lines, Slots, exec};
+use cl_eval::{Env, Executed, Lines, Program, Slots, exec};
 use cl_gesture::Gesture;
 use cl_load::SlotTypes;
 use cl_outside::{Ledger, Steps};
@@ -33,32 +34,31 @@ pub enum Handling {
 
 /// Handles a gesture: its own replies, and what becomes of the slots and of the line.
 pub fn handle<L: Ledger>(
-    alloc: Global,
-    app: &App,
-    limits: Limits,
+    program: &Program<'_, SlotTypes>,
     gesture: &Gesture,
     pane: &Pane,
     slots: &mut Slots,
     line: &mut Line,
     steps: &mut Steps<L>,
 ) -> Handling
-    requires depth { limits.depth ≤ 512 }
-    requires has_pane { HasPane app.now }
+    requires depth { program.now.limits.depth ≤ 512 }
+    requires has_pane { HasPane program.now.app.now }
     requires painted { IsPainted pane.now }
-    requires width { pane.now.screen.width ≡ app.now.frame.width }
-    requires height { pane.now.screen.height ≡ app.now.frame.height }
-    requires area { pane.now.area ≡ area_of (pane_of app.now) }
-    ensures handles { HandlesTo (handled app.now limits
+    requires width { pane.now.screen.width ≡ program.now.app.now.frame.width }
+    requires height { pane.now.screen.height ≡ program.now.app.now.frame.height }
+    requires area { pane.now.area ≡ area_of (pane_of program.now.app.now) }
+    ensures handles { HandlesTo (handled program.now.app.now program.now.limits
         (record { slots = slots.old; line = line.old; pane = marks_of_pane pane.now.history })
         gesture.now) result slots.old slots.new line.old line.new }
     ensures ledger { RisesBy (handling_met result) steps.old steps.new
-        (handled app.now limits
+        (handled program.now.app.now program.now.limits
         (record { slots = slots.old; line = line.old; pane = marks_of_pane pane.now.history })
         gesture.now).cost }
 {
+    let (alloc, app) = (program.alloc, program.app);
     match gesture {
         Gesture::Type(text) => type_text(alloc, text.as_slice(), pane, slots, line),
-        Gesture::Return => finish_line(alloc, app, limits, pane, slots, line, steps),
+        Gesture::Return => finish_line(program, pane, slots, line, steps),
         Gesture::Frame => match frame_lines(alloc, pane) {
             Ok(lines) => Handling::Replied(lines),
             Err(_) => Handling::Memory,
@@ -113,67 +113,54 @@ fn type_text(alloc: Global, text: &[u8], pane: &Pane, slots: &Slots, line: &mut 
 }
 
 fn finish_line<L: Ledger>(
-    alloc: Global,
-    app: &App,
-    limits: Limits,
+    program: &Program<'_, SlotTypes>,
     pane: &Pane,
     slots: &mut Slots,
     line: &mut Line,
     steps: &mut Steps<L>,
 ) -> Handling
-    requires { limits.depth ≤ 512 }
-    ensures handles { HandlesTo (returned app.now limits
+    requires { program.now.limits.depth ≤ 512 }
+    ensures handles { HandlesTo (returned program.now.app.now program.now.limits
         (record { slots = slots.old; line = line.old; pane = marks_of_pane pane.now.history })
-        (finish_of (line_names app.now.commands) line.old)) result slots.old slots.new line.old
-        line.new }
+        (finish_of (line_names program.now.app.now.commands) line.old)) result slots.old slots.new
+        line.old line.new }
     ensures ledger { RisesBy (handling_met result) steps.old steps.new
-        (returned app.now limits
+        (returned program.now.app.now program.now.limits
         (record { slots = slots.old; line = line.old; pane = marks_of_pane pane.now.history })
-        (finish_of (line_names app.now.commands) line.old)).cost }
+        (finish_of (line_names program.now.app.now.commands) line.old)).cost }
 {
-    match line.finish(&app.commands) {
-        Finished::Unknown => reply(alloc, b"! unknown"),
-        Finished::Surplus => reply(alloc, b"! surplus"),
-        Finished::Command(place) => match app.commands.at(place) {
-            None => reply(alloc, b"! unknown"),
-            Some(command) => run_command(alloc, app, command, limits, pane, slots, line, steps),
+    match line.finish(&program.app.commands) {
+        Finished::Unknown => reply(program.alloc, b"! unknown"),
+        Finished::Surplus => reply(program.alloc, b"! surplus"),
+        Finished::Command(place) => match program.app.commands.at(place) {
+            None => reply(program.alloc, b"! unknown"),
+            Some(command) => run_command(program, command, pane, slots, line, steps),
         },
     }
 }
 
 fn run_command<L: Ledger>(
-    alloc: Global,
-    app: &App,
+    program: &Program<'_, SlotTypes>,
     command: &CommandDecl,
-    limits: Limits,
     pane: &Pane,
     slots: &mut Slots,
     line: &mut Line,
     steps: &mut Steps<L>,
 ) -> Handling
-    requires { limits.depth ≤ 512 }
+    requires { program.now.limits.depth ≤ 512 }
     ensures handles { HandlesTo (run_of command.now.line_name
         (record { slots = slots.old; line = line.old; pane = marks_of_pane pane.now.history })
-        (command_run limits app.now command.now slots.old)) result slots.old slots.new line.old
-        line.new }
+        (command_run program.now.limits program.now.app.now command.now slots.old)) result slots.old
+        slots.new line.old line.new }
     ensures ledger { RisesBy (handling_met result) steps.old steps.new
         (run_of command.now.line_name
         (record { slots = slots.old; line = line.old; pane = marks_of_pane pane.now.history })
-        (command_run limits app.now command.now slots.old)).cost }
+        (command_run program.now.limits program.now.app.now command.now slots.old)).cost }
 {
-    let env = Env::new(alloc);
-    match exec(
-        alloc,
-        app,
-        &command.body,
-        &env,
-        slots,
-        &SlotTypes,
-        limits,
-        steps,
-    ) {
+    let env = Env::new(program.alloc);
+    match exec(program, &command.body, &env, slots, steps) {
         Executed::Done(next, replies, _) => match ok_lines(
-            alloc,
+            program.alloc,
             command.line_name.as_slice(),
             replies.as_slice(),
         ) {
@@ -184,7 +171,7 @@ fn run_command<L: Ledger>(
             }
             Err(_) => Handling::Memory,
         },
-        Executed::Trap(kind, _) => match trap_line(alloc, kind) {
+        Executed::Trap(kind, _) => match trap_line(program.alloc, kind) {
             Ok(lines) => Handling::Replied(lines),
             Err(_) => Handling::Memory,
         },

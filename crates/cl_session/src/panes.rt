@@ -1,3 +1,4 @@
+//! The pane: its history, its area, and the cells of the screen.
 ghost use Rattle.std.specs.Prelude.{◌≡◌, ◌≤◌, ◌<◌, ◌+◌, All, IfOk, Some, None, map};
 ghost use Rattle.cl_eval.specs.Outcome.{RisesBy, cost_of};
 ghost use Rattle.cl_display.specs.Script.{pane_fresh};

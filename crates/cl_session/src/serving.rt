@@ -1,3 +1,4 @@
+//! The serving of a stream of gestures.
 ghost use Rattle.std.specs.Prelude.{◌≡◌, ◌≤◌, Some};
 ghost use Rattle.cl_gesture.specs.declared.answers.Stop.TheVariants as stop;
 ghost use Rattle.cl_gesture.specs.Reader.{progress_of, source_of, stop_of};

@@ -1,3 +1,4 @@
+//! A session: an application with its slots, its command line and its pane.
 ghost use Rattle.std.specs.Prelude.{◌≡◌, ◌≤◌, ◌+◌, ◌||◌, false, is_none, IfOk};
 ghost use Rattle.cl_display.specs.Script.{pane_fresh};
 ghost use Rattle.cl_eval.specs.Outcome.{RisesBy, cost_of};
@@ -15,9 +16,9 @@ use crate::panes::{Pane, area_of};
 use crate::writing::Outgoing;
 use cl_application::App;
 use cl_command::Line;
-use cl_eval::{Limits, Lines, Slots};
+use cl_eval::{Limits, Lines, Program, Slots};
 use cl_gesture::Gesture;
-use cl_load::Loaded;
+use cl_load::{Loaded, SlotTypes};
 use cl_outside::{Ledger, Steps};
 use std::alloc::{AllocError, Global};
 
@@ -98,16 +99,13 @@ impl Session {
         ensures fits { Fits loaded.now.app slots.new self.new }
     {
         let app = &loaded.app;
-        match handle(
+        let program = Program {
             alloc,
             app,
-            self.limits,
-            gesture,
-            &self.pane,
-            slots,
-            &mut self.line,
-            steps,
-        ) {
+            types: &SlotTypes,
+            limits: self.limits,
+        };
+        match handle(&program, gesture, &self.pane, slots, &mut self.line, steps) {
             Handling::Replied(own) => {
                 let pane = self.settle_if(false, alloc, app, slots, steps);
                 Replies {

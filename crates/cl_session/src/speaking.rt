@@ -1,3 +1,4 @@
+//! The lines that answer a gesture.
 ghost use Rattle.std.specs.Prelude.{◌≡◌, ◌≤◌, ◌++◌, ◌∷◌, [], codes, map};
 ghost use Rattle.cl_session.specs.Replies.{lines_of, own_lines, report_lines};
 ghost use Rattle.cl_session.specs.Transcript.{bad_line, said};

@@ -1,3 +1,4 @@
+//! Bytes that wait to be written, and how they are.
 ghost use Rattle.std.specs.Prelude.{◌≡◌, ◌+◌, ◌≤◌, ◌++◌, [], true, IfOk, length, map};
 ghost use Rattle.cl_session.specs.Writing.{Puts, joined};
 

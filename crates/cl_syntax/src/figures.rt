@@ -1,3 +1,4 @@
+//! The figures that drawing forms draw.
 /// What a drawing form draws, from the origin on. X and Y are its left column and its top row there.
 #[derive(Clone, Copy, PartialEq, Eq, Debug)]
 pub enum Figure {

@@ -1,3 +1,4 @@
+//! The operators of expressions.
 use cl_value::Text;
 
 /// The arithmetic of two numbers.

@@ -20,7 +20,9 @@ use Rattle.cl_grammar.proofs.Written.{expression_ends}
 use Rattle.cl_text_grammar.specs.Displays.{CallsDisplays}
 use Rattle.cl_text_grammar.specs.WritesShapes.{WritesShapes}
 use Rattle.cl_text_grammar.specs.WritesActs.{WritesActs}
-use Rattle.cl_text_grammar.specs.WritesDeclarations.{WritesNames, no_name, one_name, WritesNameList, a_name_list, WritesCommandName, alone, in_parentheses, of_record, of_function, of_display, of_command, WritesDeclared, a_record, a_function, a_display, a_command}
+use Rattle.cl_text_grammar.specs.WritesDeclarations.{WritesNames, no_name, one_name, WritesNameList, a_name_list, WritesCommandName, alone}
+use Rattle.cl_text_grammar.specs.WritesDeclarations.{in_parentheses, of_record, of_function, of_display, of_command, WritesDeclared, a_record}
+use Rattle.cl_text_grammar.specs.WritesDeclarations.{a_function, a_display, a_command}
 use Rattle.cl_text_grammar.proofs.ShapesWritten.{shapes_end}
 use Rattle.cl_text_grammar.proofs.ActsWritten.{acts_end}
 

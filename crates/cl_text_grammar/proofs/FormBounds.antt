@@ -13,7 +13,8 @@ use Rattle.cl_grammar.proofs.Bounds.{Within, blames_any_within, unnamed_any_with
 use Rattle.cl_grammar.proofs.Lying.{list_lies, own_lies, datum_rises, seen_rises}
 use Rattle.cl_grammar.proofs.Spelled.{false_true}
 use Rattle.cl_text_grammar.specs.FormSights.{FormSeen, expressions, form, FormSight, Misshapen, UnknownHead, PlannedHead, Sees}
-use Rattle.cl_text_grammar.specs.FormBlames.{FormBlames, FormBlamesAny, an_atom, a_misshapen_form, an_unknown_head, a_planned_head, in_a_part, in_expressions, in_the_form, in_a_later}
+use Rattle.cl_text_grammar.specs.FormBlames.{FormBlames, FormBlamesAny, an_atom, a_misshapen_form, an_unknown_head, a_planned_head, in_a_part}
+use Rattle.cl_text_grammar.specs.FormBlames.{in_expressions, in_the_form, in_a_later}
 use Rattle.cl_text_grammar.specs.FormUnnamed.{FormUnnamed, FormUnnamedAny}
 use Rattle.cl_text_grammar.specs.FormUnnamed as unnamed
 use Rattle.cl_text_grammar.proofs.FormsLie.{LieForms, LieFormSight, forms_rise, LieSights}

@@ -16,11 +16,14 @@ use Rattle.cl_grammar.proofs.Bounds.{before_within, blames_any_within, unnamed_a
 use Rattle.cl_grammar.proofs.Judging.{Any, Judges, Joins, Verdict, both_judged, given_judged, verdict_same, noted_none}
 use Rattle.cl_grammar.proofs.Lying.{LieSeen, list_lies}
 use Rattle.cl_text_grammar.specs.FormSights.{FormSeen, expressions, form, FormSight, Misshapen, UnknownHead, PlannedHead, Sees}
-use Rattle.cl_text_grammar.specs.FormBlames.{FormBlames, FormBlamesAny, an_atom, a_misshapen_form, an_unknown_head, a_planned_head, in_a_part, in_expressions, in_the_form, in_a_later}
+use Rattle.cl_text_grammar.specs.FormBlames.{FormBlames, FormBlamesAny, an_atom, a_misshapen_form, an_unknown_head, a_planned_head, in_a_part}
+use Rattle.cl_text_grammar.specs.FormBlames.{in_expressions, in_the_form, in_a_later}
 use Rattle.cl_text_grammar.specs.FormUnnamed.{FormUnnamed, FormUnnamedAny}
 use Rattle.cl_text_grammar.specs.FormUnnamed as unnamed
 use Rattle.cl_text_grammar.proofs.FormsLie.{LieForms, LieFormSight, LieSights}
-use Rattle.cl_text_grammar.proofs.FormBounds.{none_blamed, none_unnamed, expressions_blamed, expressions_unnamed, first_form_blamed, first_form_unnamed, atom_blamed, SightBlames, form_blamed, SightUnnamed, form_unnamed, form_within, any_within, form_unnamed_within, any_unnamed_within}
+use Rattle.cl_text_grammar.proofs.FormBounds.{none_blamed, none_unnamed, expressions_blamed, expressions_unnamed, first_form_blamed}
+use Rattle.cl_text_grammar.proofs.FormBounds.{first_form_unnamed, atom_blamed, SightBlames, form_blamed, SightUnnamed, form_unnamed, form_within}
+use Rattle.cl_text_grammar.proofs.FormBounds.{any_within, form_unnamed_within, any_unnamed_within}
 
 module _ (seen : Names → List Datum → FormSight) (w : Signatures) (lies : LieSights seen) where
   -- what a reading of these parts comes to, where they lie in order

@@ -11,7 +11,9 @@ use Rattle.cl_syntax.specs.declared.operators.TextOperator.TheVariants as on_tex
 use Rattle.cl_syntax.specs.declared.figures.Figure.TheVariants as figure
 use Rattle.cl_words.specs.declared.heads.Special.TheVariants as special
 use Rattle.cl_forms.specs.Datum.{Datum}
-use Rattle.cl_words.specs.Heads.{arithmetic_named, comparison_named, list_operator_named, text_operator_named, other_operator_named, operator_named, access_named, walk_named, special_named, control_named, figure_named, figure_count, setting_named, writing_named, change_named, planned_display, planned_other, planned_named, shared_named, form_head, head_named}
+use Rattle.cl_words.specs.Heads.{arithmetic_named, comparison_named, list_operator_named, text_operator_named, other_operator_named, operator_named}
+use Rattle.cl_words.specs.Heads.{access_named, walk_named, special_named, control_named, figure_named, figure_count, setting_named, writing_named}
+use Rattle.cl_words.specs.Heads.{change_named, planned_display, planned_other, planned_named, shared_named, form_head, head_named}
 use Rattle.cl_words.specs.Signatures.{display_in}
 use Rattle.cl_words.specs.declared.heads.Head.{Head}
 use Rattle.cl_words.specs.declared.heads.Head.TheVariants as head
@@ -28,7 +30,9 @@ use Rattle.cl_words.specs.declared.heads.Planned.TheVariants as planned
 use Rattle.cl_words.specs.declared.signatures.Signatures.{Signatures}
 use Rattle.cl_expressions.specs.Scopes.{Names}
 use Rattle.cl_grammar.proofs.Spelled.{missed, not_fixed, Finds, nothing, word_is, of_some, first, last_found}
-use Rattle.cl_text_grammar.specs.FormSights.{Row, UnknownHead, if_seen, when_seen, let_seen, dolist_seen, progn_seen, planned_seen, write_seen, newline_seen, drawn_seen, indent_seen, ink_seen, room_seen, call_seen, shape_rows, shape_row_seen, setf_seen, reply_seen, act_rows, act_row_seen}
+use Rattle.cl_text_grammar.specs.FormSights.{Row, UnknownHead, if_seen, when_seen, let_seen, dolist_seen, progn_seen, planned_seen, write_seen}
+use Rattle.cl_text_grammar.specs.FormSights.{newline_seen, drawn_seen, indent_seen, ink_seen, room_seen, call_seen, shape_rows, shape_row_seen}
+use Rattle.cl_text_grammar.specs.FormSights.{setf_seen, reply_seen, act_rows, act_row_seen}
 
 abbrev pub control_seen : Control → Row
 control_seen control.When = when_seen

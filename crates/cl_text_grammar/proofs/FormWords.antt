@@ -5,7 +5,8 @@ use Rattle.std.proofs.Math.Path.{subst}
 use Rattle.cl_table.specs.Names.{named}
 use Rattle.cl_syntax.specs.declared.figures.Figure.{Figure}
 use Rattle.cl_syntax.specs.declared.figures.Figure.TheVariants as figure
-use Rattle.cl_words.specs.Heads.{operator_named, special_named, control_named, figure_named, figure_count, setting_named, writing_named, change_named, planned_named, shared_named, form_head, head_named}
+use Rattle.cl_words.specs.Heads.{operator_named, special_named, control_named, figure_named, figure_count, setting_named, writing_named, change_named}
+use Rattle.cl_words.specs.Heads.{planned_named, shared_named, form_head, head_named}
 use Rattle.cl_words.specs.declared.heads.Head.{Head}
 use Rattle.cl_words.specs.declared.heads.Head.TheVariants as head
 use Rattle.cl_words.specs.declared.heads.Control.{Control}

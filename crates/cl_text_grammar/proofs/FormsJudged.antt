@@ -14,13 +14,15 @@ use Rattle.cl_expressions.specs.Scopes.{Names}
 use Rattle.cl_expressions.specs.Expressions.{Sub, parse_binding, is_binding, is_binding_list}
 use Rattle.cl_bodies.specs.declared.own.Own.{Own}
 use Rattle.cl_bodies.specs.declared.own.Own.TheVariants.{Whole, Before}
-use Rattle.cl_bodies.specs.Bodies.{Language, Part, subs_of, parse_each, parse_if, parse_when, parse_let, parse_dolist, parse_dolist_body, parse_control, finished, parse_own, parse_head, parse_headed, parse_listed, parse_form, parts_in, parse_body}
+use Rattle.cl_bodies.specs.Bodies.{Language, Part, subs_of, parse_each, parse_if, parse_when, parse_let, parse_dolist, parse_dolist_body}
+use Rattle.cl_bodies.specs.Bodies.{parse_control, finished, parse_own, parse_head, parse_headed, parse_listed, parse_form, parts_in, parse_body}
 use Rattle.cl_grammar.specs.Sights.{Seen, names_behind, value_seen, names_bound, values_seen}
 use Rattle.cl_grammar.proofs.Judged.{binding_judged}
 use Rattle.cl_grammar.proofs.Judging.{Any, Judges}
 use Rattle.cl_grammar.proofs.Rows.{JudgedPart, JudgedParts}
 use Rattle.cl_grammar.proofs.Written.{shapes}
-use Rattle.cl_text_grammar.specs.FormSights.{FormSeen, expressions, FormSight, Misshapen, UnknownHead, PlannedHead, Sees, Row, forms_seen, if_seen, when_seen, let_seen, dolist_seen, headed_seen}
+use Rattle.cl_text_grammar.specs.FormSights.{FormSeen, expressions, FormSight, Misshapen, UnknownHead, PlannedHead, Sees, Row, forms_seen, if_seen}
+use Rattle.cl_text_grammar.specs.FormSights.{when_seen, let_seen, dolist_seen, headed_seen}
 use Rattle.cl_text_grammar.proofs.FormParts.{EachPart, stand, parts_behind, stand_behind, stand_all}
 use Rattle.cl_text_grammar.proofs.BindingsJudged.{no_binding, part_judged}
 use Rattle.cl_text_grammar.proofs.FormsLie.{LieSights}

@@ -15,7 +15,10 @@ use Rattle.cl_grammar.specs.Lies.{Lies}
 use Rattle.cl_grammar.specs.Sights.{expression, slot_name, all_seen, names_behind, value_seen, names_bound, values_seen}
 use Rattle.cl_grammar.proofs.Lying.{LieList, LieSeen, own_lies, datum_rises, datum_earlier, seen_rises, seen_earlier, all_lie, value_lies, bound_lies}
 use Rattle.cl_grammar.proofs.Spelled.{row_found}
-use Rattle.cl_text_grammar.specs.FormSights.{FormSeen, expressions, form, FormSight, Misshapen, UnknownHead, PlannedHead, Sees, Row, forms_seen, if_seen, when_seen, let_seen, dolist_seen, progn_seen, planned_seen, write_seen, newline_seen, drawn_seen, indent_seen, ink_seen, room_seen, call_seen, shape_rows, shape_row_seen, place_seen, setf_seen, reply_seen, act_rows, act_row_seen, headed_seen, shape_seen, act_seen}
+use Rattle.cl_text_grammar.specs.FormSights.{FormSeen, expressions, form, FormSight, Misshapen, UnknownHead, PlannedHead, Sees, Row, forms_seen}
+use Rattle.cl_text_grammar.specs.FormSights.{if_seen, when_seen, let_seen, dolist_seen, progn_seen, planned_seen, write_seen, newline_seen}
+use Rattle.cl_text_grammar.specs.FormSights.{drawn_seen, indent_seen, ink_seen, room_seen, call_seen, shape_rows, shape_row_seen, place_seen}
+use Rattle.cl_text_grammar.specs.FormSights.{setf_seen, reply_seen, act_rows, act_row_seen, headed_seen, shape_seen, act_seen}
 
 -- what is seen lies one behind another
 abbrev pub LieForms : ℕ → List FormSeen → ℕ → Type 0

@@ -17,7 +17,8 @@ use Rattle.cl_expressions.specs.Scopes.{Names}
 use Rattle.cl_expressions.specs.Expressions.{Sub, is_binding_list}
 use Rattle.cl_bodies.specs.declared.own.Own.{Own}
 use Rattle.cl_bodies.specs.declared.own.Own.TheVariants.{Whole, Before}
-use Rattle.cl_bodies.specs.Bodies.{Language, Part, subs_of, parse_each, parse_if, parse_when, parse_let, parse_dolist, parse_progn, parse_control, finished, parse_own, parse_head, parse_headed, parse_listed, parse_form, parts_in, parse_body}
+use Rattle.cl_bodies.specs.Bodies.{Language, Part, subs_of, parse_each, parse_if, parse_when, parse_let, parse_dolist, parse_progn, parse_control}
+use Rattle.cl_bodies.specs.Bodies.{finished, parse_own, parse_head, parse_headed, parse_listed, parse_form, parts_in, parse_body}
 use Rattle.cl_grammar.specs.Heads.{CallsNames}
 use Rattle.cl_grammar.specs.Writes.{Writes, WritesBindings}
 use Rattle.cl_grammar.proofs.Endings.{Ends, gives, refuses, chooses, binds, ends_weaker}

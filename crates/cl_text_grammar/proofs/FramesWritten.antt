@@ -13,7 +13,8 @@ use Rattle.cl_words.specs.Signatures.{display_in}
 use Rattle.cl_words.specs.declared.signatures.Signatures.{Signatures}
 use Rattle.cl_expressions.specs.Load.{Load, Fault}
 use Rattle.cl_application.specs.declared.declarations.SlotDecl.{SlotDecl}
-use Rattle.cl_declare.specs.Frames.{frame_keys, number_in, size_of, size_in, is_slot, are_slots, place_of, takes_none, pane_of, pane_listed, first_pane, shape_of, or_nothing, behind, frame_shape}
+use Rattle.cl_declare.specs.Frames.{frame_keys, number_in, size_of, size_in, is_slot, are_slots, place_of, takes_none, pane_of, pane_listed}
+use Rattle.cl_declare.specs.Frames.{first_pane, shape_of, or_nothing, behind, frame_shape}
 use Rattle.cl_declare.specs.Sections.{SlotTable, parse_slot, parse_slots, note_pane, parse_panes, parse_sections, frame_of, parse_shaped, parse_keyed, parse_frame}
 use Rattle.cl_declare.specs.declared.frames.FrameForm.{FrameForm}
 use Rattle.cl_declare.specs.declared.frames.FrameShape.{FrameShape}
@@ -23,7 +24,8 @@ use Rattle.cl_grammar.specs.Heads.{CallsNames}
 use Rattle.cl_grammar.proofs.Endings.{Ends, gives, refuses, binds, ends_weaker}
 use Rattle.cl_grammar.proofs.Spelled.{false_true, both_parts, name_is, some_same, nothing_found}
 use Rattle.cl_grammar.proofs.Written.{expression_ends}
-use Rattle.cl_text_grammar.specs.WritesFrames.{WritesSlots, no_slot, one_slot, with_slots, slots_of, WritesPane, a_pane, WritesSections, no_section, a_size, some_slots, one_pane}
+use Rattle.cl_text_grammar.specs.WritesFrames.{WritesSlots, no_slot, one_slot, with_slots, slots_of, WritesPane, a_pane, WritesSections, no_section}
+use Rattle.cl_text_grammar.specs.WritesFrames.{a_size, some_slots, one_pane}
 use Rattle.cl_text_grammar.specs.WritesDeclarations.{of_frame, WritesDeclared, a_frame}
 use Rattle.cl_text_grammar.proofs.TypesWritten.{type_ends}
 use Rattle.cl_text_grammar.proofs.KeyWords.{key_word, IsSection, a_section, AreSections, no_more, one_more, StandApart, Sections, sections_stand, has_last, stood_before}

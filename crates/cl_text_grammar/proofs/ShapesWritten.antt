@@ -28,13 +28,15 @@ use Rattle.cl_bodies.specs.declared.own.Own.{Own}
 use Rattle.cl_bodies.specs.declared.display_forms.Context.{Context}
 use Rattle.cl_bodies.specs.declared.display_forms.Context.TheVariants as context
 use Rattle.cl_bodies.specs.declared.display_forms.Opening.{Opening}
-use Rattle.cl_bodies.specs.DisplayForms.{parse_draw, parse_write, parse_newline, parse_call_counted, parse_writing, parse_indent, parse_ink, parse_setting, parse_own, display_forms, parse_shape, parse_shapes}
+use Rattle.cl_bodies.specs.DisplayForms.{parse_draw, parse_write, parse_newline, parse_call_counted, parse_writing, parse_indent, parse_ink}
+use Rattle.cl_bodies.specs.DisplayForms.{parse_setting, parse_own, display_forms, parse_shape, parse_shapes}
 use Rattle.cl_grammar.specs.Heads.{CallsNames}
 use Rattle.cl_grammar.proofs.Endings.{Ends, gives, refuses, chooses, binds}
 use Rattle.cl_grammar.proofs.Spelled.{not_fixed}
 use Rattle.cl_grammar.proofs.Written.{shapes, WrittenParts, each_written}
 use Rattle.cl_text_grammar.specs.Displays.{figures, CallsDisplays}
-use Rattle.cl_text_grammar.specs.WritesShapes.{WritesShape, WritesShapeForm, WritesShapes, a_form, a_text, a_new_line, a_figure, an_indented, an_inked, a_room, an_if, a_when, a_let, a_dolist, a_progn, a_call, no_more, one_more}
+use Rattle.cl_text_grammar.specs.WritesShapes.{WritesShape, WritesShapeForm, WritesShapes, a_form, a_text, a_new_line, a_figure, an_indented}
+use Rattle.cl_text_grammar.specs.WritesShapes.{an_inked, a_room, an_if, a_when, a_let, a_dolist, a_progn, a_call, no_more, one_more}
 use Rattle.cl_text_grammar.proofs.FormWords.{setting_word, writing_word, Spells}
 use Rattle.cl_text_grammar.proofs.Bindings.{WritesBinding, a_binding}
 use Rattle.cl_text_grammar.proofs.FormsWritten.{OwnWrites, Rules, form_ends, body_ends}

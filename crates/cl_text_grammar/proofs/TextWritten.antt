@@ -16,7 +16,9 @@ use Rattle.cl_grammar.specs.Heads.{CallsNames}
 use Rattle.cl_grammar.proofs.Endings.{Ends, gives, refuses, binds, ends_weaker}
 use Rattle.cl_grammar.proofs.Spelled.{Finds, word_is, of_some}
 use Rattle.cl_text_grammar.specs.Displays.{CallsDisplays}
-use Rattle.cl_text_grammar.specs.WritesDeclarations.{Declaration, of_record, of_function, of_display, of_command, of_frame, WritesDeclared, WritesDeclaration, a_declaration, nothing, one_more, with_declaration, with_declarations, IsDeclaredIn, TextDeclares}
+use Rattle.cl_text_grammar.specs.WritesDeclarations.{Declaration, of_record, of_function, of_display, of_command, of_frame, WritesDeclared}
+use Rattle.cl_text_grammar.specs.WritesDeclarations.{WritesDeclaration, a_declaration, nothing, one_more, with_declaration, with_declarations}
+use Rattle.cl_text_grammar.specs.WritesDeclarations.{IsDeclaredIn, TextDeclares}
 use Rattle.cl_grammar.proofs.Spelled as words
 use Rattle.cl_text_grammar.proofs.CalleesWritten.{record_ends, function_ends, command_ends, display_ends}
 use Rattle.cl_text_grammar.proofs.FramesWritten.{frame_ends}

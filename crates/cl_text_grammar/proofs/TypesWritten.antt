@@ -11,10 +11,12 @@ use Rattle.cl_words.specs.Signatures.{record_in}
 use Rattle.cl_words.specs.TypeNames.{is_plain_type, is_ranged_type, is_later_type}
 use Rattle.cl_words.specs.declared.signatures.Signatures.{Signatures}
 use Rattle.cl_expressions.specs.Load.{Load, refuse, placed}
-use Rattle.cl_bodies.specs.SlotTypes.{parse_plain_type, parse_record_type, parse_ranged_type, parse_type_named, parse_type_head, parse_type_parts, option_keys, parse_type_options, parse_type_list, parse_specifier, parse_type}
+use Rattle.cl_bodies.specs.SlotTypes.{parse_plain_type, parse_record_type, parse_ranged_type, parse_type_named, parse_type_head, parse_type_parts}
+use Rattle.cl_bodies.specs.SlotTypes.{option_keys, parse_type_options, parse_type_list, parse_specifier, parse_type}
 use Rattle.cl_grammar.proofs.Spelled.{false_true, some_same, nothing_found}
 use Rattle.cl_grammar.proofs.Endings.{Ends, gives, refuses, chooses, notes_then, binds, ends_weaker}
-use Rattle.cl_text_grammar.specs.WritesTypes.{IsOwnType, WritesNamed, a_plain_type, a_ranged_type, a_record_type, an_unknown_type, WritesType, a_name, a_list, a_list_of_one}
+use Rattle.cl_text_grammar.specs.WritesTypes.{IsOwnType, WritesNamed, a_plain_type, a_ranged_type, a_record_type, an_unknown_type, WritesType, a_name}
+use Rattle.cl_text_grammar.specs.WritesTypes.{a_list, a_list_of_one}
 
 -- some key stands
 abbrev is_there : List Keyed → Bool

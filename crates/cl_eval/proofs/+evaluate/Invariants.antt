@@ -3,89 +3,90 @@ use Rattle.cl_value.specs.Value.{data_of}
 use Rattle.cl_syntax.specs.ExprTree.{expr_trees_of}
 use Rattle.cl_syntax.specs.Expr.{bindings_of}
 use Rattle.cl_eval.specs.Scope.{variables_of}
-use Rattle.cl_eval.specs.Meaning.{bound, each, every, some, mapped, filtered, folded, means}
+use Rattle.cl_eval.specs.Meaning.{bound, each, every, some, mapped, filtered, folded}
+use Rattle.cl_eval.specs.Standpoint.{meaning_at, seen_from}
 use Rattle.cl_eval.proofs.+evaluate.Given as goal
 
 abbrev pub decreases-evaluation::evaluate : goal.decreases-evaluation::evaluate
-decreases-evaluation::evaluate g l = l.left * 2 ^ 66
+decreases-evaluation::evaluate g l = l.here.now.left * 2 ^ 66
 
 abbrev pub decreases-evaluation::evaluate_parts : goal.decreases-evaluation::evaluate_parts
-decreases-evaluation::evaluate_parts g l = l.left * 2 ^ 66 + 2 ^ 65
+decreases-evaluation::evaluate_parts g l = l.here.now.left * 2 ^ 66 + 2 ^ 65
 
 abbrev pub decreases-evaluation::evaluate_test : goal.decreases-evaluation::evaluate_test
-decreases-evaluation::evaluate_test g l = l.left * 2 ^ 66 + 1
+decreases-evaluation::evaluate_test g l = l.here.now.left * 2 ^ 66 + 1
 
 abbrev pub decreases-evaluation::evaluate_list : goal.decreases-evaluation::evaluate_list
-decreases-evaluation::evaluate_list g l = l.left * 2 ^ 66 + 1
+decreases-evaluation::evaluate_list g l = l.here.now.left * 2 ^ 66 + 1
 
 abbrev pub decreases-bindings::evaluate_let : goal.decreases-bindings::evaluate_let
-decreases-bindings::evaluate_let g l = l.left * 2 ^ 66 + 3
+decreases-bindings::evaluate_let g l = l.here.now.left * 2 ^ 66 + 3
 
 abbrev pub decreases-bindings::evaluate_bindings : goal.decreases-bindings::evaluate_bindings
-decreases-bindings::evaluate_bindings g l = l.left * 2 ^ 66 + 2
+decreases-bindings::evaluate_bindings g l = l.here.now.left * 2 ^ 66 + 2
 
 abbrev pub decreases-calls::evaluate_operation : goal.decreases-calls::evaluate_operation
-decreases-calls::evaluate_operation g l = l.left * 2 ^ 66 + 3
+decreases-calls::evaluate_operation g l = l.here.now.left * 2 ^ 66 + 3
 
 abbrev pub decreases-evaluation::evaluate_each : goal.decreases-evaluation::evaluate_each
-decreases-evaluation::evaluate_each g l = l.left * 2 ^ 66 + 2
+decreases-evaluation::evaluate_each g l = l.here.now.left * 2 ^ 66 + 2
 
 abbrev pub decreases-evaluation::evaluate_every : goal.decreases-evaluation::evaluate_every
-decreases-evaluation::evaluate_every g l = l.left * 2 ^ 66 + 2
+decreases-evaluation::evaluate_every g l = l.here.now.left * 2 ^ 66 + 2
 
 abbrev pub decreases-evaluation::evaluate_some : goal.decreases-evaluation::evaluate_some
-decreases-evaluation::evaluate_some g l = l.left * 2 ^ 66 + 2
+decreases-evaluation::evaluate_some g l = l.here.now.left * 2 ^ 66 + 2
 
 abbrev pub decreases-traversal::map_over : goal.decreases-traversal::map_over
-decreases-traversal::map_over g l = l.left * 2 ^ 66 + 2
+decreases-traversal::map_over g l = l.here.now.left * 2 ^ 66 + 2
 
 abbrev pub decreases-traversal::filter_over : goal.decreases-traversal::filter_over
-decreases-traversal::filter_over g l = l.left * 2 ^ 66 + 2
+decreases-traversal::filter_over g l = l.here.now.left * 2 ^ 66 + 2
 
 abbrev pub decreases-traversal::fold_over : goal.decreases-traversal::fold_over
-decreases-traversal::fold_over g l = l.left * 2 ^ 66 + 2
+decreases-traversal::fold_over g l = l.here.now.left * 2 ^ 66 + 2
 
 abbrev pub decreases-calls::call : goal.decreases-calls::call
-decreases-calls::call g l = l.left * 2 ^ 66 + 1
+decreases-calls::call g l = l.here.now.left * 2 ^ 66 + 1
 
 abbrev pub invariant-evaluation::evaluate_each-loop-part : goal.invariant-evaluation::evaluate_each-loop-part
 invariant-evaluation::evaluate_each-loop-part g l = record {
-  meaning : each (means l.left l.context.budget l.context.app.now l.context.slots.now) l.level (variables_of l.scope) (expr_trees_of (drop l.part-index l.parts)) (map data_of l.values.items) l.meter.cost l.meter.deepest ≡ each (means l.left l.context.budget l.context.app.now l.context.slots.now) l.level (variables_of l.scope) (expr_trees_of l.parts) [] l.initial.meter.cost l.initial.meter.deepest;
+  meaning : seen_from l.here each (expr_trees_of (drop l.part-index l.parts)) (map data_of l.values.items) l.meter.cost l.meter.deepest ≡ seen_from l.here each (expr_trees_of l.parts) [] l.initial.meter.cost l.initial.meter.deepest;
   ledger : l.steps + l.initial.meter.cost ≡ l.initial.steps + l.meter.cost;
 }
 
 abbrev pub invariant-bindings::evaluate_bindings-loop-binding : goal.invariant-bindings::evaluate_bindings-loop-binding
 invariant-bindings::evaluate_bindings-loop-binding g l = record {
-  meaning : bound (means l.left l.context.budget l.context.app.now l.context.slots.now) l.level (bindings_of (drop l.binding-index l.bindings)) (l.frame ++ variables_of l.scope) l.meter.cost l.meter.deepest ≡ bound (means l.left l.context.budget l.context.app.now l.context.slots.now) l.level (bindings_of l.bindings) (variables_of l.scope) l.initial.meter.cost l.initial.meter.deepest;
+  meaning : bound (meaning_at l.here) l.here.level (bindings_of (drop l.binding-index l.bindings)) (l.frame ++ variables_of l.here.scope.now) l.meter.cost l.meter.deepest ≡ bound (meaning_at l.here) l.here.level (bindings_of l.bindings) (variables_of l.here.scope.now) l.initial.meter.cost l.initial.meter.deepest;
   ledger : l.steps + l.initial.meter.cost ≡ l.initial.steps + l.meter.cost;
 }
 
 abbrev pub invariant-evaluation::evaluate_every-loop-part : goal.invariant-evaluation::evaluate_every-loop-part
 invariant-evaluation::evaluate_every-loop-part g l = record {
-  meaning : every (means l.left l.context.budget l.context.app.now l.context.slots.now) l.level (variables_of l.scope) (expr_trees_of (drop l.part-index l.parts)) l.meter.cost l.meter.deepest ≡ every (means l.left l.context.budget l.context.app.now l.context.slots.now) l.level (variables_of l.scope) (expr_trees_of l.parts) l.initial.meter.cost l.initial.meter.deepest;
+  meaning : seen_from l.here every (expr_trees_of (drop l.part-index l.parts)) l.meter.cost l.meter.deepest ≡ seen_from l.here every (expr_trees_of l.parts) l.initial.meter.cost l.initial.meter.deepest;
   ledger : l.steps + l.initial.meter.cost ≡ l.initial.steps + l.meter.cost;
 }
 
 abbrev pub invariant-evaluation::evaluate_some-loop-part : goal.invariant-evaluation::evaluate_some-loop-part
 invariant-evaluation::evaluate_some-loop-part g l = record {
-  meaning : some (means l.left l.context.budget l.context.app.now l.context.slots.now) l.level (variables_of l.scope) (expr_trees_of (drop l.part-index l.parts)) l.meter.cost l.meter.deepest ≡ some (means l.left l.context.budget l.context.app.now l.context.slots.now) l.level (variables_of l.scope) (expr_trees_of l.parts) l.initial.meter.cost l.initial.meter.deepest;
+  meaning : seen_from l.here some (expr_trees_of (drop l.part-index l.parts)) l.meter.cost l.meter.deepest ≡ seen_from l.here some (expr_trees_of l.parts) l.initial.meter.cost l.initial.meter.deepest;
   ledger : l.steps + l.initial.meter.cost ≡ l.initial.steps + l.meter.cost;
 }
 
 abbrev pub invariant-traversal::map_over-loop-item : goal.invariant-traversal::map_over-loop-item
 invariant-traversal::map_over-loop-item g l = record {
-  meaning : mapped (means l.left l.context.budget l.context.app.now l.context.slots.now) l.level (variables_of l.scope) l.name l.body (map data_of (drop l.item-index l.list)) l.values l.meter.cost l.meter.deepest ≡ mapped (means l.left l.context.budget l.context.app.now l.context.slots.now) l.level (variables_of l.scope) l.name l.body (map data_of l.list) [] l.initial.meter.cost l.initial.meter.deepest;
+  meaning : seen_from l.here mapped l.name l.body (map data_of (drop l.item-index l.list)) l.values l.meter.cost l.meter.deepest ≡ seen_from l.here mapped l.name l.body (map data_of l.list) [] l.initial.meter.cost l.initial.meter.deepest;
   ledger : l.steps + l.initial.meter.cost ≡ l.initial.steps + l.meter.cost;
 }
 
 abbrev pub invariant-traversal::filter_over-loop-item : goal.invariant-traversal::filter_over-loop-item
 invariant-traversal::filter_over-loop-item g l = record {
-  meaning : filtered (means l.left l.context.budget l.context.app.now l.context.slots.now) l.level (variables_of l.scope) l.name l.body (map data_of (drop l.item-index l.list)) l.values l.meter.cost l.meter.deepest ≡ filtered (means l.left l.context.budget l.context.app.now l.context.slots.now) l.level (variables_of l.scope) l.name l.body (map data_of l.list) [] l.initial.meter.cost l.initial.meter.deepest;
+  meaning : seen_from l.here filtered l.name l.body (map data_of (drop l.item-index l.list)) l.values l.meter.cost l.meter.deepest ≡ seen_from l.here filtered l.name l.body (map data_of l.list) [] l.initial.meter.cost l.initial.meter.deepest;
   ledger : l.steps + l.initial.meter.cost ≡ l.initial.steps + l.meter.cost;
 }
 
 abbrev pub invariant-traversal::fold_over-loop-item : goal.invariant-traversal::fold_over-loop-item
 invariant-traversal::fold_over-loop-item g l = record {
-  meaning : folded (means l.left l.context.budget l.context.app.now l.context.slots.now) l.level (variables_of l.scope) l.name l.accumulator l.body (map data_of (drop l.item-index l.list)) (data_of l.value) l.meter.cost l.meter.deepest ≡ folded (means l.left l.context.budget l.context.app.now l.context.slots.now) l.level (variables_of l.scope) l.name l.accumulator l.body (map data_of l.list) (data_of l.initial.value) l.initial.meter.cost l.initial.meter.deepest;
+  meaning : seen_from l.here folded l.fold.name l.fold.accumulator l.fold.body (map data_of (drop l.item-index l.list)) (data_of l.value) l.meter.cost l.meter.deepest ≡ seen_from l.here folded l.fold.name l.fold.accumulator l.fold.body (map data_of l.list) (data_of l.initial.value) l.initial.meter.cost l.initial.meter.deepest;
   ledger : l.steps + l.initial.meter.cost ≡ l.initial.steps + l.meter.cost;
 }

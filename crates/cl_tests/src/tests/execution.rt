@@ -1,7 +1,7 @@
 //! Statements that no application has: the slot `count` that they leave, what they reply, and their cost, worked out by hand.
 use super::reading::{loaded, statements, variables};
 use super::saying::put_bytes;
-use cl_eval::{Executed, Limits, Lines, exec};
+use cl_eval::{Executed, Limits, Lines, Program, exec};
 use cl_load::{Loaded, SlotTypes};
 use cl_outside::own_steps;
 use cl_syntax::Acts;
@@ -17,11 +17,14 @@ const LIMITS: Limits = Limits {
 /// What a body comes to in an application, in words.
 fn come_to_loaded(alloc: Global, body: &Acts, loaded: &Loaded) -> Result<String, Fail> {
     let env = variables(alloc)?;
-    let (app, slots) = (&loaded.app, &loaded.slots);
+    let program = Program {
+        alloc,
+        app: &loaded.app,
+        types: &SlotTypes,
+        limits: LIMITS,
+    };
     let mut steps = own_steps();
-    let outcome = exec(
-        alloc, app, body, &env, slots, &SlotTypes, LIMITS, &mut steps,
-    );
+    let outcome = exec(&program, body, &env, &loaded.slots, &mut steps);
     words(alloc, &outcome)
 }
 
