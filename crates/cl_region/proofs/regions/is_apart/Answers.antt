@@ -20,7 +20,8 @@ loop-other-preserved c =
     let i = c.loop-other.other-index in
     let rects = c.args.rects.now in
     let left = drop_more rects i _ c.loop-other-test.true in
-    let same = apart_more c.args.rect.now _ (drop (i + 1) rects) (λ s. false_holds c.overlaps.result c.if-overlaps.false (c.overlaps.ensures.cells.1 s)) in (
+    let same = apart_more c.args.rect.now _ (drop (i + 1) rects)
+    (λ s. false_holds c.overlaps.result c.if-overlaps.false (c.overlaps.ensures.cells.1 s)) in (
       (λ a. c.loop-other.invariant.0 (subst (λ rs. IsApart c.args.rect.now rs) (sym left) (same.1 a))),
       (λ a. same.0 (subst (λ rs. IsApart c.args.rect.now rs) left (c.loop-other.invariant.1 a))),
     )

@@ -12,6 +12,7 @@ loop-left-preserved c =
     let more : left ≡ (left - 1) + 1 = omega (arith, c.loop-left-test.true) in
     let before = ap (λ n. take n rects) more ∙ take_more rects (left - 1) _ (omega (arith, c.loop-left-test.true, c.loop-left.invariant.0)) in (
       omega (arith, c.loop-left.invariant.0),
-      joined all (take (left - 1) rects) _ c.loop-left.whole c.corners_box-whole.result c.corners_box-whole.ensures.corners (c.continues.ensures.0 c.if-continues.true)
+      joined all (take (left - 1) rects) _ c.loop-left.whole c.corners_box-whole.result c.corners_box-whole.ensures.corners
+          (c.continues.ensures.0 c.if-continues.true)
           (subst (λ ps. ArePiecesOf all (c.loop-left.whole ∷ ps)) before c.loop-left.invariant.1),
     )

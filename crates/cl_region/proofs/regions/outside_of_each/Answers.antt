@@ -17,7 +17,8 @@ loop-hole-preserved c =
     elim c.if-overlaps.branch [
       | then-overlaps+in_ok-parts-2 w ↦
           rw (w.parts-is, w.in_ok-parts-2.ensures, w.as_slice.ensures.value)
-          (rest_cut r holes c.loop-hole.parts.items _ (drop (i + 1) holes) (subst (λ rs. IsRest r holes c.loop-hole.parts.items rs) left c.loop-hole.invariant))
+          (rest_cut r holes c.loop-hole.parts.items _ (drop (i + 1) holes)
+          (subst (λ rs. IsRest r holes c.loop-hole.parts.items rs) left c.loop-hole.invariant))
       | else-overlaps w ↦
           rw w.parts-is
           (rest_skip r holes c.loop-hole.parts.items _ (drop (i + 1) holes)

@@ -3,15 +3,20 @@ use Rattle.cl_region.proofs.Joins.{put_in_holds, put_in_pieces, some_piece}
 use Rattle.cl_region.proofs.regions.Region.add.Goals as goal
 
 pub put_in-requires : goal.put_in-requires
-put_in-requires c =
-    (some_piece c.args.rect c.is_empty.result c.is_empty.ensures.cells c.if-is_empty.false, rw (← c.as_slice.ensures.value) (c.is_apart.ensures.0 c.if-is_apart.true), c.self.invariant)
+put_in-requires c = (
+  some_piece c.args.rect c.is_empty.result c.is_empty.ensures.cells c.if-is_empty.false,
+  rw (← c.as_slice.ensures.value) (c.is_apart.ensures.0 c.if-is_apart.true),
+  c.self.invariant,
+)
 
 pub returns-then-is_apart-clause-cells : goal.returns-then-is_apart-clause-cells
-returns-then-is_apart-clause-cells c = rw (← c.self.view_is) (put_in_holds c.put_in.result c.args.rect c.self.inside.rects.items c.put_in.new.rects.items c.put_in.ensures.pieces)
+returns-then-is_apart-clause-cells c = rw (← c.self.view_is) (put_in_holds c.put_in.result c.args.rect c.self.inside.rects.items
+    c.put_in.new.rects.items c.put_in.ensures.pieces)
 
 pub invariant_of-self : goal.invariant_of-self
 invariant_of-self c =
-    put_in_pieces c.put_in.result c.args.rect c.self.inside.rects.items c.put_in.new.rects.items c.put_in.ensures.pieces c.put_in.ensures.unchanged c.self.invariant
+    put_in_pieces c.put_in.result c.args.rect c.self.inside.rects.items c.put_in.new.rects.items
+    c.put_in.ensures.pieces c.put_in.ensures.unchanged c.self.invariant
 
 pub invariant_of-self-2 : goal.invariant_of-self-2
 invariant_of-self-2 c =
