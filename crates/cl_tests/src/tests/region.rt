@@ -61,6 +61,7 @@ fn regions(rt: HostRuntime) -> Result<(), Fail> {
 }
 
 const COLUMNS: i64 = 400;
+
 const ROWS: i64 = 250;
 
 // The cells of a row one after another, each by itself.
