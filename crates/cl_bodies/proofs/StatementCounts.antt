@@ -10,7 +10,8 @@ use Rattle.cl_forms.specs.declared.datum.Datum.{Datum}
 use Rattle.cl_words.specs.declared.signatures.Signatures.{Signatures}
 use Rattle.cl_bodies.specs.Statements.{parse_setf, parse_place, parse_reply}
 
-pub setf_counts : (w : Signatures) (at : ℕ) (ds : List Datum) (env : Names) (s : Notes) → (length ds ≡ 2 → ⊥) → parse_setf w at (subs w (datums_of (map datum_of ds))) env s ≡ Err (6, at)
+pub setf_counts : (w : Signatures) (at : ℕ) (ds : List Datum) (env : Names) (s : Notes) → (length ds ≡ 2 → ⊥)
+    → parse_setf w at (subs w (datums_of (map datum_of ds))) env s ≡ Err (6, at)
 setf_counts w at [] env s h = refl
 setf_counts w at (a ∷ []) env s h = refl
 setf_counts w at (a ∷ b ∷ []) env s h = absurd (h refl)
@@ -22,7 +23,8 @@ place_counts w at (a ∷ []) s h = refl
 place_counts w at (a ∷ b ∷ []) s h = absurd (h refl)
 place_counts w at (a ∷ b ∷ c ∷ ds) s h = refl
 
-pub reply_counts : (w : Signatures) (at : ℕ) (ds : List Datum) (env : Names) (s : Notes) → (length ds ≡ 1 → ⊥) → parse_reply at (subs w (datums_of (map datum_of ds))) env s ≡ Err (6, at)
+pub reply_counts : (w : Signatures) (at : ℕ) (ds : List Datum) (env : Names) (s : Notes) → (length ds ≡ 1 → ⊥)
+    → parse_reply at (subs w (datums_of (map datum_of ds))) env s ≡ Err (6, at)
 reply_counts w at [] env s h = refl
 reply_counts w at (a ∷ []) env s h = absurd (h refl)
 reply_counts w at (a ∷ b ∷ ds) env s h = refl

@@ -39,7 +39,8 @@ pane_counts w at (a ∷ b ∷ c ∷ d ∷ e ∷ []) h = refl
 pane_counts w at (a ∷ b ∷ c ∷ d ∷ e ∷ f ∷ []) h = absurd (h refl)
 pane_counts w at (a ∷ b ∷ c ∷ d ∷ e ∷ f ∷ g ∷ ds) h = refl
 
-pub slot_counts : (w : Signatures) (at : ℕ) (ds : List Datum) (slots : SlotTable) (n : Notes) → (length ds ≡ 3 → ⊥) → parse_slot w at (map datum_of ds) slots n ≡ Ok (slots, n)
+pub slot_counts : (w : Signatures) (at : ℕ) (ds : List Datum) (slots : SlotTable) (n : Notes) → (length ds ≡ 3 → ⊥)
+    → parse_slot w at (map datum_of ds) slots n ≡ Ok (slots, n)
 slot_counts w at [] slots n h = refl
 slot_counts w at (a ∷ []) slots n h = refl
 slot_counts w at (a ∷ b ∷ []) slots n h = refl
