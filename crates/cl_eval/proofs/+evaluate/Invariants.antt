@@ -51,42 +51,49 @@ decreases-calls::call g l = l.here.now.left * 2 ^ 66 + 1
 
 abbrev pub invariant-evaluation::evaluate_each-loop-part : goal.invariant-evaluation::evaluate_each-loop-part
 invariant-evaluation::evaluate_each-loop-part g l = record {
-  meaning : seen_from l.here each (expr_trees_of (drop l.part-index l.parts)) (map data_of l.values.items) l.meter.cost l.meter.deepest ≡ seen_from l.here each (expr_trees_of l.parts) [] l.initial.meter.cost l.initial.meter.deepest;
+  meaning : seen_from l.here each (expr_trees_of (drop l.part-index l.parts)) (map data_of l.values.items) l.meter.cost l.meter.deepest
+      ≡ seen_from l.here each (expr_trees_of l.parts) [] l.initial.meter.cost l.initial.meter.deepest;
   ledger : l.steps + l.initial.meter.cost ≡ l.initial.steps + l.meter.cost;
 }
 
 abbrev pub invariant-bindings::evaluate_bindings-loop-binding : goal.invariant-bindings::evaluate_bindings-loop-binding
 invariant-bindings::evaluate_bindings-loop-binding g l = record {
-  meaning : bound (meaning_at l.here) l.here.level (bindings_of (drop l.binding-index l.bindings)) (l.frame ++ variables_of l.here.scope.now) l.meter.cost l.meter.deepest ≡ bound (meaning_at l.here) l.here.level (bindings_of l.bindings) (variables_of l.here.scope.now) l.initial.meter.cost l.initial.meter.deepest;
+  meaning : bound (meaning_at l.here) l.here.level (bindings_of (drop l.binding-index l.bindings)) (l.frame ++ variables_of l.here.scope.now) l.meter.cost l.meter.deepest
+      ≡ bound (meaning_at l.here) l.here.level (bindings_of l.bindings) (variables_of l.here.scope.now) l.initial.meter.cost l.initial.meter.deepest;
   ledger : l.steps + l.initial.meter.cost ≡ l.initial.steps + l.meter.cost;
 }
 
 abbrev pub invariant-evaluation::evaluate_every-loop-part : goal.invariant-evaluation::evaluate_every-loop-part
 invariant-evaluation::evaluate_every-loop-part g l = record {
-  meaning : seen_from l.here every (expr_trees_of (drop l.part-index l.parts)) l.meter.cost l.meter.deepest ≡ seen_from l.here every (expr_trees_of l.parts) l.initial.meter.cost l.initial.meter.deepest;
+  meaning : seen_from l.here every (expr_trees_of (drop l.part-index l.parts)) l.meter.cost l.meter.deepest
+      ≡ seen_from l.here every (expr_trees_of l.parts) l.initial.meter.cost l.initial.meter.deepest;
   ledger : l.steps + l.initial.meter.cost ≡ l.initial.steps + l.meter.cost;
 }
 
 abbrev pub invariant-evaluation::evaluate_some-loop-part : goal.invariant-evaluation::evaluate_some-loop-part
 invariant-evaluation::evaluate_some-loop-part g l = record {
-  meaning : seen_from l.here some (expr_trees_of (drop l.part-index l.parts)) l.meter.cost l.meter.deepest ≡ seen_from l.here some (expr_trees_of l.parts) l.initial.meter.cost l.initial.meter.deepest;
+  meaning : seen_from l.here some (expr_trees_of (drop l.part-index l.parts)) l.meter.cost l.meter.deepest
+      ≡ seen_from l.here some (expr_trees_of l.parts) l.initial.meter.cost l.initial.meter.deepest;
   ledger : l.steps + l.initial.meter.cost ≡ l.initial.steps + l.meter.cost;
 }
 
 abbrev pub invariant-traversal::map_over-loop-item : goal.invariant-traversal::map_over-loop-item
 invariant-traversal::map_over-loop-item g l = record {
-  meaning : seen_from l.here mapped l.name l.body (map data_of (drop l.item-index l.list)) l.values l.meter.cost l.meter.deepest ≡ seen_from l.here mapped l.name l.body (map data_of l.list) [] l.initial.meter.cost l.initial.meter.deepest;
+  meaning : seen_from l.here mapped l.name l.body (map data_of (drop l.item-index l.list)) l.values l.meter.cost l.meter.deepest
+      ≡ seen_from l.here mapped l.name l.body (map data_of l.list) [] l.initial.meter.cost l.initial.meter.deepest;
   ledger : l.steps + l.initial.meter.cost ≡ l.initial.steps + l.meter.cost;
 }
 
 abbrev pub invariant-traversal::filter_over-loop-item : goal.invariant-traversal::filter_over-loop-item
 invariant-traversal::filter_over-loop-item g l = record {
-  meaning : seen_from l.here filtered l.name l.body (map data_of (drop l.item-index l.list)) l.values l.meter.cost l.meter.deepest ≡ seen_from l.here filtered l.name l.body (map data_of l.list) [] l.initial.meter.cost l.initial.meter.deepest;
+  meaning : seen_from l.here filtered l.name l.body (map data_of (drop l.item-index l.list)) l.values l.meter.cost l.meter.deepest
+      ≡ seen_from l.here filtered l.name l.body (map data_of l.list) [] l.initial.meter.cost l.initial.meter.deepest;
   ledger : l.steps + l.initial.meter.cost ≡ l.initial.steps + l.meter.cost;
 }
 
 abbrev pub invariant-traversal::fold_over-loop-item : goal.invariant-traversal::fold_over-loop-item
 invariant-traversal::fold_over-loop-item g l = record {
-  meaning : seen_from l.here folded l.fold.name l.fold.accumulator l.fold.body (map data_of (drop l.item-index l.list)) (data_of l.value) l.meter.cost l.meter.deepest ≡ seen_from l.here folded l.fold.name l.fold.accumulator l.fold.body (map data_of l.list) (data_of l.initial.value) l.initial.meter.cost l.initial.meter.deepest;
+  meaning : seen_from l.here folded l.fold.name l.fold.accumulator l.fold.body (map data_of (drop l.item-index l.list)) (data_of l.value) l.meter.cost l.meter.deepest
+      ≡ seen_from l.here folded l.fold.name l.fold.accumulator l.fold.body (map data_of l.list) (data_of l.initial.value) l.initial.meter.cost l.initial.meter.deepest;
   ledger : l.steps + l.initial.meter.cost ≡ l.initial.steps + l.meter.cost;
 }

@@ -22,12 +22,14 @@ decreases-act_each g l = l.here.now.left * 2 ^ 66 + 3
 
 abbrev pub invariant-act_all-loop-statement : goal.invariant-act_all-loop-statement
 invariant-act_all-loop-statement g l = record {
-  meaning : played_on g.T.Types.holds l.here in_turn (act_trees_of (drop l.statement-index l.statements)) l.effects l.meter.cost l.meter.deepest ≡ played_on g.T.Types.holds l.here in_turn (act_trees_of l.statements) l.initial.effects l.initial.meter.cost l.initial.meter.deepest;
+  meaning : played_on g.T.Types.holds l.here in_turn (act_trees_of (drop l.statement-index l.statements)) l.effects l.meter.cost l.meter.deepest
+      ≡ played_on g.T.Types.holds l.here in_turn (act_trees_of l.statements) l.initial.effects l.initial.meter.cost l.initial.meter.deepest;
   ledger : l.steps + l.initial.meter.cost ≡ l.initial.steps + l.meter.cost;
 }
 
 abbrev pub invariant-act_each-loop-item : goal.invariant-act_each-loop-item
 invariant-act_each-loop-item g l = record {
-  meaning : played_on g.T.Types.holds l.here for_each l.name (act_trees_of l.body) (map data_of (drop l.item-index l.list)) l.effects l.meter.cost l.meter.deepest ≡ played_on g.T.Types.holds l.here for_each l.name (act_trees_of l.body) (map data_of l.list) l.initial.effects l.initial.meter.cost l.initial.meter.deepest;
+  meaning : played_on g.T.Types.holds l.here for_each l.name (act_trees_of l.body) (map data_of (drop l.item-index l.list)) l.effects l.meter.cost l.meter.deepest
+      ≡ played_on g.T.Types.holds l.here for_each l.name (act_trees_of l.body) (map data_of l.list) l.initial.effects l.initial.meter.cost l.initial.meter.deepest;
   ledger : l.steps + l.initial.meter.cost ≡ l.initial.steps + l.meter.cost;
 }
