@@ -60,14 +60,21 @@ fn regions(rt: HostRuntime) -> Result<(), Fail> {
     Ok(())
 }
 
-const COLUMNS: i64 = 400;
+const COLUMNS: u16 = 400;
 
-const ROWS: i64 = 250;
+const ROWS: u16 = 250;
+
+// The rectangle of one cell.
+fn cell(x: u16, y: u16) -> Rect {
+    let x = i64::from(x);
+    let y = i64::from(y);
+    rect(x, y, x + 1, y + 1)
+}
 
 // The cells of a row one after another, each by itself.
-fn add_row(region: &mut Region, y: i64) -> Result<(), AllocError> {
+fn add_row(region: &mut Region, y: u16) -> Result<(), AllocError> {
     for x in 0..COLUMNS {
-        region.add(rect(x, y, x + 1, y + 1))?;
+        region.add(cell(x, y))?;
     }
     Ok(())
 }
@@ -80,12 +87,12 @@ fn regions_join_what_continues(rt: HostRuntime) -> Result<(), Fail> {
     }
     assert_eq!(rt; region.rects().len(), 1);
     assert!(rt; region.contains(0, 0));
-    assert!(rt; region.contains(COLUMNS - 1, ROWS - 1));
-    assert!(rt; !region.contains(COLUMNS, 0));
-    assert!(rt; !region.contains(0, ROWS));
-    region.add(rect(0, ROWS, 1, ROWS + 1))?;
-    region.add(rect(2, ROWS, 3, ROWS + 1))?;
+    assert!(rt; region.contains(399, 249));
+    assert!(rt; !region.contains(400, 0));
+    assert!(rt; !region.contains(0, 250));
+    region.add(cell(0, ROWS))?;
+    region.add(cell(2, ROWS))?;
     assert_eq!(rt; region.rects().len(), 3);
-    assert!(rt; !region.contains(1, ROWS));
+    assert!(rt; !region.contains(1, 250));
     Ok(())
 }
