@@ -6,7 +6,7 @@ use Rattle.cl_region.specs.Places.{moved}
 use Rattle.cl_region.specs.declared.rects.Rect.{Rect}
 use Rattle.cl_region.specs.declared.rects.Shift.{Shift}
 use Rattle.cl_record.specs.declared.heads.Measures.{Measures}
-use Rattle.cl_record.specs.declared.heads.Site.{Site}
+use Rattle.cl_syntax.specs.declared.sites.Site.{Site}
 
 -- a cursor or an origin
 pub record Point : Type 0 where

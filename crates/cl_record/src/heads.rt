@@ -6,16 +6,9 @@ ghost use Rattle.cl_record.specs.Heads.{measured};
 
 use cl_medium::Ambient;
 use cl_region::Rect;
+use cl_syntax::Site;
 use cl_value::{Value, Values};
 use std::marker::Model;
-
-/// Which form made an update: the offset of the form, and 0; or that of a dialog's declaration, and
-/// the number of the query from 1 on.
-#[derive(Clone, Copy, PartialEq, Eq, Debug)]
-pub struct Site {
-    pub form: u64,
-    pub query: u8,
-}
 
 /// What the evaluation of an update's body came to, by which it is known where the piece may be used
 /// again.

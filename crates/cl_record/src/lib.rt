@@ -15,7 +15,7 @@ mod shifts;
 mod values;
 
 pub use canvases::Canvas;
-pub use heads::{Head, Measures, Site};
+pub use heads::{Head, Measures};
 pub use histories::History;
 pub use labels::Label;
 pub use lines::Printable;

@@ -1,5 +1,4 @@
 pub mod Parts
 pub mod Same
-pub mod Total
 pub mod Measures
 pub mod Rows

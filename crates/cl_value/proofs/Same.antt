@@ -4,51 +4,13 @@ use Rattle.std.specs.Prelude.{IsTrue}
 use Rattle.std.proofs.lemmas.Cmp.{int_cmp_total, nat_list_cmp_total}
 use Rattle.std.specs.declared.cmp.Ordering.{Ordering}
 use Rattle.std.specs.declared.cmp.Ordering.TheVariants.{Less, Equal, Greater}
-use Rattle.std.specs.Ordering.{nat_cmp, int_cmp, bool_cmp, ordering_then, ordering_reverse, is_eq}
+use Rattle.std.specs.Ordering.{nat_cmp, int_cmp, bool_cmp, ordering_reverse, is_eq}
 use Rattle.std.specs.Cmp.Lexicographic.{slice_cmp}
-use Rattle.std.proofs.lemmas.Map.Lookups.{exact_bytes, exact_signed}
 use Rattle.cl_value.specs.Data.{Data, int, bool, text, symbol, null, list, rec, Items, none, item, items_of, order_of, order_of_items}
+use Rattle.cl_value.specs.OrderLaws.{same_data}
 use Rattle.cl_value.specs.Value.{data_of}
 use Rattle.cl_value.specs.declared.Value.{Value}
 use Rattle.cl_value.specs.declared.Value.TheVariants as value
-
-then_first : (a b : Ordering) → ordering_then a b ≡ Equal → a ≡ Equal
-then_first Less b p = p
-then_first Equal b p = refl
-then_first Greater b p = p
-
-then_second : (a b : Ordering) → ordering_then a b ≡ Equal → b ≡ Equal
-then_second Less b p = cc
-then_second Equal b p = p
-then_second Greater b p = cc
-
-bool_same : (a b : Bool) → bool_cmp a b ≡ Equal → a ≡ b
-bool_same true true p = refl
-bool_same false false p = refl
-bool_same true false p = cc
-bool_same false true p = cc
-
-mutual
-  pub same_data : (x y : Data) → order_of x y ≡ Equal → x ≡ y
-  same_data (int m) (int n) p = ap int (exact_signed m n p)
-  same_data (bool a) (bool b) p = ap bool (bool_same a b p)
-  same_data (text s) (text t) p = ap text (exact_bytes s t p)
-  same_data (symbol s) (symbol t) p = ap symbol (exact_bytes s t p)
-  same_data null null p = refl
-  same_data (list ds) (list es) p = ap list (same_items ds es p)
-  same_data (rec s ds) (rec t es) p =
-      let names : s ≡ t = exact_bytes s t (then_first _ _ p) in
-      let parts : ds ≡ es = same_items ds es (then_second _ _ p) in
-      λ i. rec (names i) (parts i)
-  same_data x y p = cc
-
-  pub same_items : (ds es : Items) → order_of_items ds es ≡ Equal → ds ≡ es
-  same_items none none p = refl
-  same_items (item d ds) (item e es) p =
-      let first : d ≡ e = same_data d e (then_first _ _ p) in
-      let rest : ds ≡ es = same_items ds es (then_second _ _ p) in
-      λ i. item (first i) (rest i)
-  same_items ds es p = cc
 
 pub same_parts : (ds es : List Data) → items_of ds ≡ items_of es → ds ≡ es
 same_parts [] [] p = refl

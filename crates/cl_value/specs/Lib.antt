@@ -1,5 +1,6 @@
 pub mod Data
 pub mod Shared
+pub mod OrderLaws
 pub mod Value
 pub mod Measured
 pub mod Falls

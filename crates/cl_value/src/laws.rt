@@ -19,7 +19,7 @@ pub fn order_tells_values()
 {}
 
 /// The order turns round where its arguments are swapped, and holds along a chain.
-#[tactic(auto, using(crate::proofs::Total::order_total))]
+#[tactic(auto, using(crate::specs::OrderLaws::order_total))]
 pub fn order_is_total()
     ensures { IsTotalOrder order_of }
 {}

@@ -1,8 +1,13 @@
 //! Equality and order of values.
-ghost use Rattle.std.specs.Prelude.{◌≡◌, ◌↔◌, IsTrue};
-ghost use Rattle.std.specs.Ordering.{nat_cmp};
-ghost use Rattle.std.specs.Cmp.Lexicographic.{slice_cmp};
+ghost use Rattle.std.specs.Prelude.{◌≡◌, ◌↔◌, IsTrue, Some, refl};
+ghost use Rattle.std.specs.Ordering.{eq_by_cmp, nat_cmp};
+ghost use Rattle.std.specs.Cmp.{on_equiv, on_per, on_po, on_total, partial_equiv_from_equiv, po};
+ghost use Rattle.std.specs.Cmp.Lexicographic.{nat_list_cmp_total, pointwise, slice_cmp, texts_ties};
+ghost use Rattle.std.proofs.Common.{rules};
+ghost use Rattle.std.specs.Cmp.Rules.{comparing};
+ghost use Rattle.std.proofs.lemmas.Cmp.{eq_by_cmp_equiv};
 ghost use Rattle.cl_value.specs.Data.{kind_of, order_of, order_of_items};
+ghost use Rattle.cl_value.specs.OrderLaws.{order_total};
 ghost use Rattle.cl_value.specs.Value.{data_of, parts_of};
 
 use crate::{Text, Value};
@@ -14,6 +19,68 @@ impl Text {
         ensures { result ≡ slice_cmp nat_cmp self.now other.now }
     {
         self.as_slice().cmp(other.as_slice())
+    }
+}
+
+impl PartialOrd for Text {
+    ghost partial_cmp = { λ s t. Some (slice_cmp nat_cmp s t) };
+
+    ghost laws = { po nat_list_cmp_total texts_ties };
+
+    fn partial_cmp(&self, other: &Text) -> Option<Ordering> {
+        Some(self.cmp(other))
+    }
+}
+
+impl Ord for Text {
+    ghost cmp = { slice_cmp nat_cmp };
+
+    ghost total = { nat_list_cmp_total };
+
+    ghost matches_partial_cmp = { λ s t. refl };
+
+    ghost matches_eq = { texts_ties };
+
+    fn cmp(&self, other: &Text) -> Ordering {
+        self.order(other)
+    }
+}
+
+impl PartialEq for Value {
+    ghost eq = { λ v w. eq_by_cmp order_of (data_of v) (data_of w) };
+
+    ghost laws = { on_per data_of (partial_equiv_from_equiv (eq_by_cmp_equiv order_total)) };
+
+    fn eq(&self, other: &Value) -> bool {
+        self.order(other).is_eq()
+    }
+}
+
+impl Eq for Value {
+    ghost laws = { on_equiv data_of (eq_by_cmp_equiv order_total) };
+}
+
+impl PartialOrd for Value {
+    ghost partial_cmp = { λ v w. Some (order_of (data_of v) (data_of w)) };
+
+    ghost laws = { on_po data_of (po order_total (λ v w. refl)) };
+
+    fn partial_cmp(&self, other: &Value) -> Option<Ordering> {
+        Some(self.cmp(other))
+    }
+}
+
+impl Ord for Value {
+    ghost cmp = { λ v w. order_of (data_of v) (data_of w) };
+
+    ghost total = { on_total data_of order_total };
+
+    ghost matches_partial_cmp = { λ v w. refl };
+
+    ghost matches_eq = { λ v w. refl };
+
+    fn cmp(&self, other: &Value) -> Ordering {
+        self.order(other)
     }
 }
 

@@ -4,8 +4,9 @@ ghost use Rattle.cl_region.specs.Places.{IsInRange};
 use cl_medium::{
     Ambient, AnyLeaf, Drawn, Leaf, draw_box, draw_text, enter_room, fill_box, leave_room,
 };
-use cl_record::{Canvas, Head, History, Label, Measures, Node, Nodes, STILL, Site};
+use cl_record::{Canvas, Head, History, Label, Measures, Node, Nodes, STILL};
 use cl_region::{Rect, Region, Shift};
+use cl_syntax::Site;
 use cl_value::{Text, Value, Values};
 use std::alloc::{AllocError, Global};
 use std::process::Abort;
