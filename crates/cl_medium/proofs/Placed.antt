@@ -9,8 +9,8 @@ use Rattle.cl_medium.specs.declared.areas.Area.{Area}
 use Rattle.cl_medium.specs.Ambients.{AmbientAt, CursorMoved, IsAmbient, OriginMoved}
 use Rattle.cl_medium.specs.Drawing.{shape_area, text_area, text_leaf}
 use Rattle.cl_medium.specs.ItemLaws.{swapped}
-use Rattle.cl_medium.specs.Items.{IsArea, moved_area}
-use Rattle.cl_medium.specs.Leaves.{leaf_moved}
+use Rattle.cl_medium.specs.Items.{IsArea, move_area}
+use Rattle.cl_medium.specs.Items.{move_item}
 use Rattle.cl_medium.proofs.Sizes.{area_is}
 
 pub placed_shape : (m : AmbientAt) (x y w h p q k l : ℤ) → IsAmbient m → pos 0 ≤ℤ w → pos 0 ≤ℤ h
@@ -30,10 +30,10 @@ placed_text m n p q k l am a b d e x2 y2 = (
   record { range = record { x1 = am.x; y1 = am.y; x2 = x2; y2 = y2 }; width = omega (arith, ints); height = omega (arith, ints); ink = am.ink },
 )
 
-pub shapes_move : (v : Shift) (a b : AmbientAt) (x y w h : ℤ) → OriginMoved v a b → shape_area b x y w h ≡ moved_area v (shape_area a x y w h)
+pub shapes_move : (v : Shift) (a b : AmbientAt) (x y w h : ℤ) → OriginMoved v a b → shape_area b x y w h ≡ move_area v (shape_area a x y w h)
 shapes_move v a b x y w h m = rw (m.x, m.y, m.ink, swapped a.origin_x v.dx x, swapped a.origin_y v.dy y) refl
 
-pub text_moves : (v : Shift) (a b : AmbientAt) → CursorMoved v a b → (text : List ℕ) → text_leaf b text ≡ leaf_moved v (text_leaf a text)
+pub text_moves : (v : Shift) (a b : AmbientAt) → CursorMoved v a b → (text : List ℕ) → text_leaf b text ≡ move_item v (text_leaf a text)
 text_moves v a b m text = rw (m.x, m.y, m.ink) refl
 
 -- the cursor at the end of a text

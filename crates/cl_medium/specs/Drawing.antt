@@ -2,11 +2,10 @@
 use Rattle.std.specs.Prelude.{◌≡◌, ℕ, ◌<◌, ℤ, pos, ◌+ℤ◌, ◌≤ℤ◌, ◌<ℤ◌, ◌⊎◌, List, length, Option, Some, None}
 use Rattle.cl_region.specs.Places.{IsInRange, IsNear}
 use Rattle.cl_medium.specs.Ambients.{AmbientAt}
-use Rattle.cl_medium.specs.Items.{IsArea, bounds_of, bytes, filled, line, outlined}
+use Rattle.cl_medium.specs.Items.{HasSize, IsArea, Item, bounds_of, columns_of}
 use Rattle.cl_medium.specs.declared.areas.Area.{Area}
-use Rattle.cl_medium.specs.declared.any_leaf.AnyLeaf.{AnyLeaf}
-use Rattle.cl_medium.specs.declared.any_leaf.AnyLeaf.TheVariants.{Text, Point, Line, Outline, Fill}
-use Rattle.cl_medium.specs.declared.lines.Direction.TheVariants.{Horizontal, Vertical}
+use Rattle.cl_medium.specs.declared.shapes.Direction.TheVariants.{Horizontal, Vertical}
+use Rattle.cl_medium.specs.declared.shapes.LeafShape.TheVariants.{Fill, Line, Outline, Point, Text}
 use Rattle.cl_medium.specs.declared.drawing.Drawn.{Drawn}
 use Rattle.cl_medium.specs.declared.drawing.Drawn.TheVariants as drawn
 use Rattle.cl_medium.specs.declared.placing.Fit.{Fit}
@@ -16,33 +15,28 @@ use Rattle.cl_medium.specs.declared.placing.Fit.TheVariants as fit
 abbrev pub text_area : AmbientAt → ℕ → Area
 text_area a count = record { x = a.x; y = a.y; width = pos count; height = pos 1; ink = a.ink }
 
-abbrev pub text_leaf : AmbientAt → List ℕ → AnyLeaf
-text_leaf a text = Text (record { area = text_area a (length text); shape = bytes text })
+abbrev pub text_leaf : AmbientAt → List ℕ → Item
+text_leaf a text = record { area = text_area a (columns_of text); shape = Text text }
 
 -- a rectangle so far from the origin
 abbrev pub shape_area : AmbientAt → (x y width height : ℤ) → Area
 shape_area a x y width height =
     record { x = a.origin_x +ℤ x; y = a.origin_y +ℤ y; width = width; height = height; ink = a.ink }
 
-abbrev pub point_leaf : Area → ℕ → AnyLeaf
-point_leaf area byte = Point (record { area = area; shape = filled byte })
+abbrev pub point_leaf : Area → ℕ → Item
+point_leaf area byte = record { area = area; shape = Point byte }
 
-abbrev pub hline_leaf : Area → AnyLeaf
-hline_leaf area = Line (record { area = area; shape = line Horizontal })
+abbrev pub hline_leaf : Area → Item
+hline_leaf area = record { area = area; shape = Line Horizontal }
 
-abbrev pub vline_leaf : Area → AnyLeaf
-vline_leaf area = Line (record { area = area; shape = line Vertical })
+abbrev pub vline_leaf : Area → Item
+vline_leaf area = record { area = area; shape = Line Vertical }
 
-abbrev pub box_leaf : Area → AnyLeaf
-box_leaf area = Outline (record { area = area; shape = outlined })
+abbrev pub box_leaf : Area → Item
+box_leaf area = record { area = area; shape = Outline }
 
-abbrev pub fill_leaf : Area → ℕ → AnyLeaf
-fill_leaf area byte = Fill (record { area = area; shape = filled byte })
-
--- both sizes are positive
-pub record HasSize (a : Area) : Type 0 where
-  pub width : pos 0 <ℤ a.width
-  pub height : pos 0 <ℤ a.height
+abbrev pub fill_leaf : Area → ℕ → Item
+fill_leaf area byte = record { area = area; shape = Fill byte }
 
 -- no size is negative and one is 0
 pub record HasNoSize (a : Area) : Type 0 where
@@ -70,7 +64,7 @@ IsFit area fit.Nothing = HasNoSize area
 IsFit area fit.Range = IsOut area
 
 -- what is drawn, where its area is this one
-abbrev pub IsDrawn : AnyLeaf → Area → Drawn → Type 0
+abbrev pub IsDrawn : Item → Area → Drawn → Type 0
 IsDrawn leaf area (drawn.Item found) = (found ≡ leaf) × IsArea area × HasSize area
 IsDrawn leaf area drawn.Nothing = HasNoSize area
 IsDrawn leaf area drawn.Range = IsOut area
@@ -79,8 +73,8 @@ IsDrawn leaf area drawn.Memory = ⊥
 -- a text moves the cursor to its end; in every other case all stays
 abbrev pub IsWritten : (before now : AmbientAt) → List ℕ → Drawn → Type 0
 IsWritten before now text (drawn.Item found) =
-    (found ≡ text_leaf before text) × (0 < length text) × IsArea (text_area before (length text))
-    × (now ≡ record before { x = before.x +ℤ pos (length text) })
+    (found ≡ text_leaf before text) × (0 < length text) × IsArea (text_area before (columns_of text))
+    × (now ≡ record before { x = before.x +ℤ pos (columns_of text) })
 IsWritten before now text drawn.Nothing = (length text ≡ 0) × (now ≡ before)
-IsWritten before now text drawn.Range = (0 < length text) × (IsInRange (bounds_of (text_area before (length text))) → ⊥) × (now ≡ before)
-IsWritten before now text drawn.Memory = (0 < length text) × IsInRange (bounds_of (text_area before (length text))) × (now ≡ before)
+IsWritten before now text drawn.Range = (0 < length text) × (IsInRange (bounds_of (text_area before (columns_of text))) → ⊥) × (now ≡ before)
+IsWritten before now text drawn.Memory = (0 < length text) × IsInRange (bounds_of (text_area before (columns_of text))) × (now ≡ before)

@@ -7,7 +7,8 @@ use Rattle.cl_region.specs.declared.rects.Rect.{Rect}
 use Rattle.cl_region.specs.declared.rects.Shift.{Shift}
 use Rattle.cl_region.proofs.Corners.{holds_within, same_bool, within}
 use Rattle.cl_medium.specs.declared.areas.Area.{Area}
-use Rattle.cl_medium.specs.Items.{Item, Painted, Shape, bounds_of, item_bounds, item_cell, item_moved, moved_area, shape_glyph, with_ink}
+use Rattle.cl_medium.specs.declared.shapes.LeafShape.{LeafShape}
+use Rattle.cl_medium.specs.Items.{Item, Painted, bounds_of, item_bounds, item_cell, move_item, move_area, shape_glyph, with_ink}
 
 pub swapped : (a b c : ℤ) → (a +ℤ b) +ℤ c ≡ (a +ℤ c) +ℤ b
 swapped a b c = omega (arith, ints)
@@ -21,7 +22,7 @@ same_distance x a d = omega (arith, ints)
 unmoved : (a : ℤ) → a +ℤ pos 0 ≡ a
 unmoved a = omega (arith, ints)
 
-pub bounds_move : (v : Shift) (a : Area) → bounds_of (moved_area v a) ≡ moved v (bounds_of a)
+pub bounds_move : (v : Shift) (a : Area) → bounds_of (move_area v a) ≡ moved v (bounds_of a)
 bounds_move v a = rw (swapped a.x a.width v.dx, swapped a.y a.height v.dy) refl
 
 pub holds_moved : (v : Shift) (r : Rect) (x y : ℤ) → holds (moved v r) (x +ℤ v.dx) (y +ℤ v.dy) ≡ holds r x y
@@ -32,7 +33,7 @@ holds_moved v r x y =
     (λ h. let w = within r x y h in
     holds_within (moved v r) (x +ℤ v.dx) (y +ℤ v.dy) (record { x1 = omega (arith, ints, w.x1); x2 = omega (arith, ints, w.x2); y1 = omega (arith, ints, w.y1); y2 = omega (arith, ints, w.y2) }))
 
-pub same_cell : (ink : ℕ) (s : Shape) (w h : ℤ) (b b' : Bool) (p p' q q' : ℤ) → b ≡ b' → p ≡ p' → q ≡ q'
+pub same_cell : (ink : ℕ) (s : LeafShape) (w h : ℤ) (b b' : Bool) (p p' q q' : ℤ) → b ≡ b' → p ≡ p' → q ≡ q'
     → ◌≡◌ {A = Option Painted} (if b then with_ink ink (shape_glyph s w h p q) else None) (if b' then with_ink ink (shape_glyph s w h p' q') else None)
 same_cell ink s w h b b' p p' q q' e f g = rw (e, f, g) refl
 
@@ -45,17 +46,17 @@ pub item_within : (i : Item) (x y : ℤ) (c : Painted) → item_cell i x y ≡ S
 item_within i x y c h =
     some_inside (holds (bounds_of i.area) x y) (with_ink i.area.ink (shape_glyph i.shape i.area.width i.area.height (x -ℤ i.area.x) (y -ℤ i.area.y))) c h
 
-pub item_moves_bounds : (v : Shift) (i : Item) → item_bounds (item_moved v i) ≡ moved v (item_bounds i)
+pub item_moves_bounds : (v : Shift) (i : Item) → item_bounds (move_item v i) ≡ moved v (item_bounds i)
 item_moves_bounds v i = bounds_move v i.area
 
-pub item_moves_cells : (v : Shift) (i : Item) (x y : ℤ) → item_cell (item_moved v i) (x +ℤ v.dx) (y +ℤ v.dy) ≡ item_cell i x y
+pub item_moves_cells : (v : Shift) (i : Item) (x y : ℤ) → item_cell (move_item v i) (x +ℤ v.dx) (y +ℤ v.dy) ≡ item_cell i x y
 item_moves_cells v i x y =
     same_cell i.area.ink i.shape i.area.width i.area.height _ (holds (bounds_of i.area) x y) _ (x -ℤ i.area.x) _ (y -ℤ i.area.y)
     (ap (λ (r : Rect). holds r (x +ℤ v.dx) (y +ℤ v.dy)) (bounds_move v i.area) ∙ holds_moved v (bounds_of i.area) x y)
     (same_distance x i.area.x v.dx) (same_distance y i.area.y v.dy)
 
-pub item_moves_twice : (v w : Shift) (i : Item) → item_moved w (item_moved v i) ≡ item_moved (record { dx = v.dx +ℤ w.dx; dy = v.dy +ℤ w.dy }) i
+pub item_moves_twice : (v w : Shift) (i : Item) → move_item w (move_item v i) ≡ move_item (record { dx = v.dx +ℤ w.dx; dy = v.dy +ℤ w.dy }) i
 item_moves_twice v w i = rw (joined_up i.area.x v.dx w.dx, joined_up i.area.y v.dy w.dy) refl
 
-pub item_stays : (i : Item) → item_moved (record { dx = pos 0; dy = pos 0 }) i ≡ i
+pub item_stays : (i : Item) → move_item (record { dx = pos 0; dy = pos 0 }) i ≡ i
 item_stays i = rw (unmoved i.area.x, unmoved i.area.y) refl

@@ -2,4 +2,3 @@ pub mod Ambients
 pub mod Drawing
 pub mod Items
 pub mod ItemLaws
-pub mod Leaves

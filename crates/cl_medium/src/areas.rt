@@ -1,7 +1,7 @@
 //! The part of a pane that an item takes.
-ghost use Rattle.std.specs.Prelude.{◌≡◌, ℤ};
+ghost use Rattle.std.specs.Prelude.{◌≡◌, ◌↔◌, ℤ, IsTrue};
 ghost use Rattle.cl_region.specs.Places.{IsInRange, holds, moved};
-ghost use Rattle.cl_medium.specs.Items.{IsArea, IsDistance, bounds_of, moved_area};
+ghost use Rattle.cl_medium.specs.Items.{IsArea, IsDistance, bounds_of, move_area};
 
 use cl_region::{Rect, Shift};
 
@@ -50,11 +50,22 @@ impl Area {
         Some((x - self.x, y - self.y))
     }
 
+    // Whether both are the same.
+    pub(crate) fn same(&self, other: &Area) -> bool
+        ensures { IsTrue result ↔ (self.now ≡ other.now) }
+    {
+        self.x == other.x
+            && self.y == other.y
+            && self.width == other.width
+            && self.height == other.height
+            && self.ink == other.ink
+    }
+
     /// The same area elsewhere.
     pub fn shifted(&self, by: Shift) -> Area
         requires area { IsArea self.now }
         requires range { IsInRange (moved by (bounds_of self.now)) }
-        ensures value { result ≡ moved_area by self.now }
+        ensures value { result ≡ move_area by self.now }
         ensures area { IsArea result }
     {
         Area {

@@ -4,11 +4,9 @@ ghost use Rattle.cl_medium.specs.Drawing.{IsDrawn, IsWritten, box_leaf, fill_lea
 
 use crate::ambients::Ambient;
 use crate::any_leaf::AnyLeaf;
-use crate::boxes::BoxItem;
-use crate::fills::{FillItem, PointItem};
-use crate::lines::{Direction, LineItem};
+use crate::columns::columns_of;
 use crate::placing::{Fit, fit_area, place_text};
-use crate::texts::TextItem;
+use crate::shapes::{Direction, LeafShape};
 use cl_value::Text;
 
 /// What a drawing call answers.
@@ -29,7 +27,7 @@ pub enum Drawn {
 pub fn draw_text(ambient: &mut Ambient, text: &Text) -> Drawn
     ensures { IsWritten ambient.old ambient.new text.now result }
 {
-    let count = text.as_slice().len();
+    let count = columns_of(text.as_slice());
     if count == 0 {
         return Drawn::Nothing;
     }
@@ -40,7 +38,7 @@ pub fn draw_text(ambient: &mut Ambient, text: &Text) -> Drawn
         return Drawn::Memory;
     };
     ambient.x += area.width;
-    Drawn::Item(AnyLeaf::Text(TextItem::new(area, shared)))
+    Drawn::Item(AnyLeaf::new(area, LeafShape::Text(shared)))
 }
 
 /// One byte in one cell. Here and below x and y are those from the origin, and the cursor stays.
@@ -49,7 +47,7 @@ pub fn draw_point(ambient: &Ambient, x: i64, y: i64, byte: u8) -> Drawn
         (point_leaf area byte) area result }
 {
     match fit_area(ambient, x, y, 1, 1) {
-        Fit::Within(area) => Drawn::Item(AnyLeaf::Point(PointItem::new(area, byte))),
+        Fit::Within(area) => Drawn::Item(AnyLeaf::new(area, LeafShape::Point(byte))),
         Fit::Nothing => Drawn::Nothing,
         Fit::Range => Drawn::Range,
     }
@@ -62,7 +60,7 @@ pub fn draw_hline(ambient: &Ambient, x: i64, y: i64, length: i64) -> Drawn
 {
     match fit_area(ambient, x, y, length, 1) {
         Fit::Within(area) => {
-            Drawn::Item(AnyLeaf::Line(LineItem::new(area, Direction::Horizontal)))
+            Drawn::Item(AnyLeaf::new(area, LeafShape::Line(Direction::Horizontal)))
         }
         Fit::Nothing => Drawn::Nothing,
         Fit::Range => Drawn::Range,
@@ -75,7 +73,7 @@ pub fn draw_vline(ambient: &Ambient, x: i64, y: i64, length: i64) -> Drawn
         result }
 {
     match fit_area(ambient, x, y, 1, length) {
-        Fit::Within(area) => Drawn::Item(AnyLeaf::Line(LineItem::new(area, Direction::Vertical))),
+        Fit::Within(area) => Drawn::Item(AnyLeaf::new(area, LeafShape::Line(Direction::Vertical))),
         Fit::Nothing => Drawn::Nothing,
         Fit::Range => Drawn::Range,
     }
@@ -87,7 +85,7 @@ pub fn draw_box(ambient: &Ambient, x: i64, y: i64, width: i64, height: i64) -> D
         result }
 {
     match fit_area(ambient, x, y, width, height) {
-        Fit::Within(area) => Drawn::Item(AnyLeaf::Outline(BoxItem::new(area))),
+        Fit::Within(area) => Drawn::Item(AnyLeaf::new(area, LeafShape::Outline)),
         Fit::Nothing => Drawn::Nothing,
         Fit::Range => Drawn::Range,
     }
@@ -99,7 +97,7 @@ pub fn fill_box(ambient: &Ambient, x: i64, y: i64, width: i64, height: i64, byte
         area result }
 {
     match fit_area(ambient, x, y, width, height) {
-        Fit::Within(area) => Drawn::Item(AnyLeaf::Fill(FillItem::new(area, byte))),
+        Fit::Within(area) => Drawn::Item(AnyLeaf::new(area, LeafShape::Fill(byte))),
         Fit::Nothing => Drawn::Nothing,
         Fit::Range => Drawn::Range,
     }

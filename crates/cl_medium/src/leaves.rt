@@ -1,7 +1,7 @@
 //! What records and painting may rest on of a drawn thing.
-ghost use Rattle.std.specs.Prelude.{◌≡◌, ◌↔◌, IsTrue, option_map};
-ghost use Rattle.cl_region.specs.Places.{IsInRange, moved};
-ghost use Rattle.cl_medium.specs.Items.{painted_of};
+ghost use Rattle.std.specs.Prelude.{◌≡◌, ◌↔◌, ◌+ℤ◌, pos, IsTrue, length, option_map};
+ghost use Rattle.cl_region.specs.Places.{IsInRange, IsNear, moved};
+ghost use Rattle.cl_medium.specs.Items.{AreCells, painted_of};
 
 use cl_outside::Cell;
 use cl_region::{Rect, Shift};
@@ -32,6 +32,14 @@ pub trait Leaf: Drop {
     fn cell_at(&self, at: Shift, x: i64, y: i64) -> Option<Cell>
         requires { IsInRange (moved at (bounds self.now)) }
         ensures { option_map painted_of result ≡ cell (moved_by at self.now) x y };
+
+    /// Gives each place of a stretch of row `y`, from column `x` on, what it paints there, moved by `at`;
+    /// None where it paints nothing. It takes one step for each place.
+    fn put_row(&self, at: Shift, x: i64, y: i64, cells: &mut [Option<Cell>])
+        requires range { IsInRange (moved at (bounds self.now)) }
+        requires first { IsNear x }
+        requires last { IsNear (x +ℤ pos (length cells.old)) }
+        ensures { AreCells (cell (moved_by at self.now)) x y cells.old cells.new };
 
     /// Moves it.
     fn shift(&mut self, by: Shift)

@@ -4,23 +4,20 @@
 mod ambients;
 mod any_leaf;
 mod areas;
-mod boxes;
+mod cells;
+mod columns;
 mod drawing;
-mod fills;
 mod glyphs;
 mod laws;
 mod leaves;
-mod lines;
 mod placing;
-mod texts;
+mod shapes;
 
 pub use ambients::{Ambient, enter_room, indent, leave_room, newline};
 pub use any_leaf::AnyLeaf;
 pub use areas::Area;
-pub use boxes::BoxItem;
+pub use columns::columns_of;
 pub use drawing::{Drawn, draw_box, draw_hline, draw_point, draw_text, draw_vline, fill_box};
-pub use fills::{FillItem, PointItem};
 pub use laws::{shapes_move_with_origin, text_moves_with_cursor};
 pub use leaves::Leaf;
-pub use lines::{Direction, LineItem};
-pub use texts::TextItem;
+pub use shapes::{Direction, LeafShape};

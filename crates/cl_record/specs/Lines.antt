@@ -1,11 +1,11 @@
 -- A history as lines of text.
 use Rattle.std.specs.Prelude.{ℕ, zero, suc, ℤ, pos, List, [], ◌∷◌, ◌++◌, codes}
 use Rattle.std.specs.Fmt.{decimal, signed_decimal}
-use Rattle.cl_medium.specs.Items.{Shape, bytes, filled, line, outlined}
-use Rattle.cl_medium.specs.declared.any_leaf.AnyLeaf.{AnyLeaf}
-use Rattle.cl_medium.specs.declared.any_leaf.AnyLeaf.TheVariants.{Text, Point, Line, Outline, Fill}
+use Rattle.cl_medium.specs.Items.{Item}
 use Rattle.cl_medium.specs.declared.areas.Area.{Area}
-use Rattle.cl_medium.specs.declared.lines.Direction.TheVariants.{Horizontal, Vertical}
+use Rattle.cl_medium.specs.declared.shapes.Direction.TheVariants.{Horizontal, Vertical}
+use Rattle.cl_medium.specs.declared.shapes.LeafShape.{LeafShape}
+use Rattle.cl_medium.specs.declared.shapes.LeafShape.TheVariants.{Fill, Line, Outline, Point, Text}
 use Rattle.cl_region.specs.declared.rects.Shift.{Shift}
 use Rattle.cl_record.specs.Heads.{HeadAt}
 use Rattle.cl_record.specs.Labels.{LabelAt}
@@ -18,29 +18,17 @@ abbrev pub numbers : List ℤ → List ℕ
 numbers [] = []
 numbers (z ∷ zs) = 32 ∷ (signed_decimal z ++ numbers zs)
 
--- the bytes of a text, or the one that fills an area
-abbrev pub shape_bytes : Shape → List ℕ
-shape_bytes (bytes bs) = bs
-shape_bytes (filled byte) = byte ∷ []
-shape_bytes (line direction) = []
-shape_bytes outlined = []
+-- the kind, the place, the sizes, the ink and the bytes; of a line its way and its length
+abbrev pub shape_line : LeafShape → Area → List ℕ
+shape_line (Text text) a = codes "text" ++ numbers (a.x ∷ a.y ∷ pos a.ink ∷ []) ++ 32 ∷ text
+shape_line (Point byte) a = codes "point" ++ numbers (a.x ∷ a.y ∷ pos a.ink ∷ []) ++ 32 ∷ byte ∷ []
+shape_line (Line Horizontal) a = codes "hline" ++ numbers (a.x ∷ a.y ∷ a.width ∷ pos a.ink ∷ [])
+shape_line (Line Vertical) a = codes "vline" ++ numbers (a.x ∷ a.y ∷ a.height ∷ pos a.ink ∷ [])
+shape_line Outline a = codes "box" ++ numbers (a.x ∷ a.y ∷ a.width ∷ a.height ∷ pos a.ink ∷ [])
+shape_line (Fill byte) a = codes "fill" ++ numbers (a.x ∷ a.y ∷ a.width ∷ a.height ∷ pos a.ink ∷ []) ++ 32 ∷ byte ∷ []
 
--- a line by its way and its length
-abbrev pub ruled_line : Shape → Area → List ℕ
-ruled_line (bytes bs) a = []
-ruled_line (filled byte) a = []
-ruled_line (line Horizontal) a = codes "hline" ++ numbers (a.x ∷ a.y ∷ a.width ∷ pos a.ink ∷ [])
-ruled_line (line Vertical) a = codes "vline" ++ numbers (a.x ∷ a.y ∷ a.height ∷ pos a.ink ∷ [])
-ruled_line outlined a = []
-
--- the kind, the place, the sizes, the ink and the bytes
-abbrev pub item_line : AnyLeaf → List ℕ
-item_line (Text i) = codes "text" ++ numbers (i.area.x ∷ i.area.y ∷ pos i.area.ink ∷ []) ++ 32 ∷ shape_bytes i.shape
-item_line (Point i) = codes "point" ++ numbers (i.area.x ∷ i.area.y ∷ pos i.area.ink ∷ []) ++ 32 ∷ shape_bytes i.shape
-item_line (Line i) = ruled_line i.shape i.area
-item_line (Outline i) = codes "box" ++ numbers (i.area.x ∷ i.area.y ∷ i.area.width ∷ i.area.height ∷ pos i.area.ink ∷ [])
-item_line (Fill i) =
-    codes "fill" ++ numbers (i.area.x ∷ i.area.y ∷ i.area.width ∷ i.area.height ∷ pos i.area.ink ∷ []) ++ 32 ∷ shape_bytes i.shape
+abbrev pub item_line : Item → List ℕ
+item_line i = shape_line i.shape i.area
 
 -- the type's name and what is presented
 abbrev pub label_line : LabelAt → List ℕ

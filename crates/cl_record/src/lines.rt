@@ -1,14 +1,13 @@
 //! The lines of items and of openings.
 ghost use Rattle.std.specs.Prelude.{◌≡◌, ◌++◌, ◌∷◌, [], OnOk, pos};
 ghost use Rattle.std.specs.Fmt.{signed_decimal};
-ghost use Rattle.cl_medium.specs.Items.{line as line_of};
 ghost use Rattle.cl_region.specs.Places.{IsInRange, moved};
-ghost use Rattle.cl_record.specs.Lines.{head_line, item_line, label_line, numbers, ruled_line};
+ghost use Rattle.cl_record.specs.Lines.{head_line, item_line, label_line, numbers, shape_line};
 
 use crate::heads::Head;
 use crate::labels::Label;
 use crate::values::put_value;
-use cl_medium::{AnyLeaf, Area, Direction, Leaf};
+use cl_medium::{AnyLeaf, Area, Direction, Leaf, LeafShape};
 use cl_region::Shift;
 use itoa::Buffer;
 use std::alloc::AllocError;
@@ -32,27 +31,32 @@ impl Printable for AnyLeaf {
     ghost line_of = { item_line };
 
     fn put_line(&self, at: Shift, out: &mut Vec<u8>) -> Result<(), AllocError> {
-        match self {
-            AnyLeaf::Text(item) => {
-                let area = item.area().shifted(at);
-                put_small(out, b"text", area)?;
-                put_bytes(out, item.text())?
-            }
-            AnyLeaf::Point(item) => {
-                let area = item.area().shifted(at);
-                put_small(out, b"point", area)?;
-                put_bytes(out, &[item.byte()])?
-            }
-            AnyLeaf::Line(item) => put_ruled(out, item.direction(), item.area().shifted(at))?,
-            AnyLeaf::Outline(item) => put_sized(out, b"box", item.area().shifted(at))?,
-            AnyLeaf::Fill(item) => {
-                let area = item.area().shifted(at);
-                put_sized(out, b"fill", area)?;
-                put_bytes(out, &[item.byte()])?
-            }
-        }
-        Ok(())
+        put_shape(out, self.shape(), self.area().shifted(at))
     }
+}
+
+// Puts the line of a shape in an area behind a line.
+fn put_shape(line: &mut Vec<u8>, shape: &LeafShape, area: Area) -> Result<(), AllocError>
+    ensures { OnOk result (line.new.items ≡ line.old.items ++ shape_line shape.now area) }
+{
+    match shape {
+        LeafShape::Text(text) => {
+            put_small(line, b"text", area)?;
+            put_bytes(line, text.as_slice())?
+        }
+        LeafShape::Point(byte) => {
+            put_small(line, b"point", area)?;
+            put_bytes(line, &[*byte])?
+        }
+        LeafShape::Line(Direction::Horizontal) => put_long(line, b"hline", area, area.width)?,
+        LeafShape::Line(Direction::Vertical) => put_long(line, b"vline", area, area.height)?,
+        LeafShape::Outline => put_sized(line, b"box", area)?,
+        LeafShape::Fill(byte) => {
+            put_sized(line, b"fill", area)?;
+            put_bytes(line, &[*byte])?
+        }
+    }
+    Ok(())
 }
 
 // Puts the line of a label behind a line.
@@ -77,17 +81,6 @@ pub(crate) fn put_head(line: &mut Vec<u8>, head: &Head) -> Result<(), AllocError
     line.extend_from_slice(Buffer::new().format(site.query).as_bytes())?;
     line.push(b' ')?;
     put_value(line, head.id())?;
-    Ok(())
-}
-
-// A line by its way and its length.
-fn put_ruled(line: &mut Vec<u8>, direction: Direction, area: Area) -> Result<(), AllocError>
-    ensures { OnOk result (line.new.items ≡ line.old.items ++ ruled_line (line_of direction) area) }
-{
-    match direction {
-        Direction::Horizontal => put_long(line, b"hline", area, area.width)?,
-        Direction::Vertical => put_long(line, b"vline", area, area.height)?,
-    }
     Ok(())
 }
 

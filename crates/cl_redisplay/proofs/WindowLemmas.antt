@@ -3,8 +3,8 @@ use Rattle.std.proofs.Common.{◌≡◌, ℕ, ◌+◌, ◌-◌, ◌<◌, ◌≤�
 use Rattle.std.proofs.lemmas.Bool.Decides.{nat_tests}
 use Rattle.std.proofs.lemmas.Int.{ints}
 use Rattle.cl_medium.specs.Items.{Painted}
-use Rattle.cl_medium.specs.Leaves.{leaf_cell}
-use Rattle.cl_medium.specs.declared.any_leaf.AnyLeaf.{AnyLeaf}
+use Rattle.cl_medium.specs.Items.{item_cell}
+use Rattle.cl_medium.specs.Items.{Item}
 use Rattle.cl_raster.specs.Raster.{Picture}
 use Rattle.cl_record.specs.Marks.{Mark}
 use Rattle.cl_record.specs.Replays.{drawn, painted}
@@ -33,8 +33,8 @@ window_at p area x y h =
     let row : area.y + (y - area.y) ≡ y = omega (arith, k) in
     (shown, rw (shown, column, row) refl)
 
-shows_marks : (p q r : Picture) (area : Area) (marks : List (Mark AnyLeaf)) → Repaints p q area [] → KeepsOthers q r area
-    → ((x y : ℤ) → holds (own_rect area) x y ≡ true → window_cell r area x y ≡ painted leaf_cell (drawn marks) x y (window_cell q area x y))
+shows_marks : (p q r : Picture) (area : Area) (marks : List (Mark Item)) → Repaints p q area [] → KeepsOthers q r area
+    → ((x y : ℤ) → holds (own_rect area) x y ≡ true → window_cell r area x y ≡ painted item_cell (drawn marks) x y (window_cell q area x y))
     → Repaints p r area marks
 shows_marks p q r area marks b k f = record {
   others = others_through p q r area b.others k;
@@ -42,14 +42,14 @@ shows_marks p q r area marks b k f = record {
       let before = window_at q area x y yes in
       let after = window_at r area x y yes in
       sym after.1 ∙ (f (pos (x - area.x)) (pos (y - area.y)) before.0
-      ∙ ap (λ (c : Painted). painted leaf_cell (drawn marks) (pos (x - area.x)) (pos (y - area.y)) c) (before.1 ∙ b.cells x y hx hy yes));
+      ∙ ap (λ (c : Painted). painted item_cell (drawn marks) (pos (x - area.x)) (pos (y - area.y)) c) (before.1 ∙ b.cells x y hx hy yes));
 }
 
 -- a window on an area that was made blank, before and after all marks were painted through it
-pub repainted : (p q r : Picture) (first last : Window) (area : Area) (rect : Rect) (marks : List (Mark AnyLeaf)) → Repaints p q area []
+pub repainted : (p q r : Picture) (first last : Window) (area : Area) (rect : Rect) (marks : List (Mark Item)) → Repaints p q area []
     → first.raster.now ≡ q → first.area ≡ area → rect ≡ own_rect area → last.raster.now ≡ r → Keeps first last
     → ((x y : ℤ) → holds (own_rect first.area) x y ≡ true → holds rect x y ≡ true
-    → window_cell last.raster.now last.area x y ≡ painted leaf_cell (drawn marks) x y (window_cell first.raster.now first.area x y))
+    → window_cell last.raster.now last.area x y ≡ painted item_cell (drawn marks) x y (window_cell first.raster.now first.area x y))
     → Repaints p r area marks
 repainted p q r first last area rect marks b same_raster same_area same_rect is_last k f =
     let own : rect ≡ own_rect first.area = same_rect ∙ ap own_rect (sym same_area) in

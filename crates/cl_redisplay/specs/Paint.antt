@@ -1,8 +1,8 @@
 -- Painting in an area of a screen: each of its places has the cell of the last item that paints it, else a space with ink 0.
 use Rattle.std.specs.Prelude.{◌≡◌, ℕ, zero, suc, ◌+◌, ◌-◌, ◌<◌, ◌≤◌, pos, Bool, true, false, ◌&&◌, nat_le, nat_lt, if◌then◌else◌, List, [], ◌∷◌}
 use Rattle.cl_medium.specs.Items.{Painted}
-use Rattle.cl_medium.specs.Leaves.{leaf_cell}
-use Rattle.cl_medium.specs.declared.any_leaf.AnyLeaf.{AnyLeaf}
+use Rattle.cl_medium.specs.Items.{item_cell}
+use Rattle.cl_medium.specs.Items.{Item}
 use Rattle.cl_raster.specs.Raster.{Picture, SameSize, glyph_at, ink_at}
 use Rattle.cl_region.specs.declared.rects.Rect.{Rect}
 use Rattle.cl_record.specs.Marks.{Mark}
@@ -36,15 +36,15 @@ pub record LiesIn (area : Area) (p : Picture) : Type 0 where
   pub most_rows : p.height ≤ 256
 
 -- what the marks of a pane paint at a place of the screen, where this area shows the pane and the place was blank
-abbrev pub pane_cell : Area → List (Mark AnyLeaf) → (x y : ℕ) → Painted
-pane_cell area marks x y = painted leaf_cell (drawn marks) (pos (x - area.x)) (pos (y - area.y)) blank_cell
+abbrev pub pane_cell : Area → List (Mark Item) → (x y : ℕ) → Painted
+pane_cell area marks x y = painted item_cell (drawn marks) (pos (x - area.x)) (pos (y - area.y)) blank_cell
 
 -- the cell at a place of a screen whose one area shows these marks
-abbrev pub shown_at : Area → List (Mark AnyLeaf) → (x y : ℕ) → Painted
+abbrev pub shown_at : Area → List (Mark Item) → (x y : ℕ) → Painted
 shown_at area marks x y = if covers area x y then pane_cell area marks x y else blank_cell
 
 -- the area of the picture shows these marks, and all is blank elsewhere
-pub record Shows (p : Picture) (area : Area) (marks : List (Mark AnyLeaf)) : Type 0 where
+pub record Shows (p : Picture) (area : Area) (marks : List (Mark Item)) : Type 0 where
   pub cells : (x y : ℕ) → x < p.width → y < p.height → cell_at p x y ≡ shown_at area marks x y
 
 -- ---- what painting changes
@@ -55,7 +55,7 @@ pub record KeepsOthers (old new : Picture) (area : Area) : Type 0 where
   pub cells : (x y : ℕ) → x < old.width → y < old.height → covers area x y ≡ false → cell_at new x y ≡ cell_at old x y
 
 -- the area shows these marks, and every other place is what it was
-pub record Repaints (old new : Picture) (area : Area) (marks : List (Mark AnyLeaf)) : Type 0 where
+pub record Repaints (old new : Picture) (area : Area) (marks : List (Mark Item)) : Type 0 where
   pub others : KeepsOthers old new area
   pub cells : (x y : ℕ) → x < old.width → y < old.height → covers area x y ≡ true → cell_at new x y ≡ pane_cell area marks x y
 
@@ -71,7 +71,7 @@ ink_digit ink = 48 + ink
 abbrev pub digit_in : Painted → ℕ
 digit_in cell = ink_digit cell.ink
 
-module _ (tell : Painted → ℕ) (area : Area) (marks : List (Mark AnyLeaf)) where
+module _ (tell : Painted → ℕ) (area : Area) (marks : List (Mark Item)) where
   -- what is told of so many cells of a row, from a column on
   abbrev pub row_from : (y x count : ℕ) → List ℕ
   row_from y x zero = []
@@ -86,15 +86,15 @@ module _ (tell : Painted → ℕ) (area : Area) (marks : List (Mark AnyLeaf)) wh
   rows_from width y (suc more) = told_row width y ∷ rows_from width (y + 1) more
 
 -- the glyphs of a row, and the digits of its inks
-abbrev pub shown_row : Area → List (Mark AnyLeaf) → (width y : ℕ) → List ℕ
+abbrev pub shown_row : Area → List (Mark Item) → (width y : ℕ) → List ℕ
 shown_row area marks width y = told_row glyph_in area marks width y
 
-abbrev pub shown_ink_row : Area → List (Mark AnyLeaf) → (width y : ℕ) → List ℕ
+abbrev pub shown_ink_row : Area → List (Mark Item) → (width y : ℕ) → List ℕ
 shown_ink_row area marks width y = told_row digit_in area marks width y
 
 -- the rows of a screen of this width and height
-abbrev pub shown_rows : Area → List (Mark AnyLeaf) → (width height : ℕ) → List (List ℕ)
+abbrev pub shown_rows : Area → List (Mark Item) → (width height : ℕ) → List (List ℕ)
 shown_rows area marks width height = rows_from glyph_in area marks width 0 height
 
-abbrev pub shown_ink_rows : Area → List (Mark AnyLeaf) → (width height : ℕ) → List (List ℕ)
+abbrev pub shown_ink_rows : Area → List (Mark Item) → (width height : ℕ) → List (List ℕ)
 shown_ink_rows area marks width height = rows_from digit_in area marks width 0 height

@@ -1,6 +1,7 @@
 -- What items paint in an area, and what one of them paints in a part of it.
-use Rattle.std.specs.Prelude.{◌≡◌, ℕ, ◌+◌, ◌-◌, ◌<◌, ◌≤◌, ℤ, pos, ◌&&◌, if◌then◌else◌, List, Option, unwrap_or}
-use Rattle.cl_medium.specs.Items.{Painted}
+use Rattle.std.specs.Prelude.{◌≡◌, ℕ, ◌+◌, ◌-◌, ◌<◌, ◌≤◌, ℤ, pos, negsuc, ◌&&◌, if◌then◌else◌, List, Option, Some, None, option_map, slice_get, unwrap_or}
+use Rattle.cl_medium.specs.Items.{Painted, painted_of}
+use Rattle.cl_outside.specs.declared.cells.Cell.{Cell}
 use Rattle.cl_raster.specs.Raster.{Picture, SameSize}
 use Rattle.cl_record.specs.Replays.{painted}
 use Rattle.cl_region.specs.Places.{holds}
@@ -27,6 +28,15 @@ window_place p area x y = blank_cell
 
 abbrev pub window_cell : Picture → Area → ℤ → ℤ → Painted
 window_cell p area x y = if holds (own_rect area) x y then window_place p area x y else blank_cell
+
+-- what stands in a column among cells in a row, if anything does
+abbrev pub painted_in : Option (Option Cell) → Option Painted
+painted_in None = None
+painted_in (Some found) = option_map painted_of found
+
+abbrev pub row_cell : List (Option Cell) → ℤ → ℤ → Option Painted
+row_cell cells (pos n) y = painted_in (slice_get cells n)
+row_cell cells (negsuc n) y = None
 
 module _ {A : Type 0} where
   -- the item's cell at a place of the screen, where it paints it, else the one that was there

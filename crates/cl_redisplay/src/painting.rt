@@ -1,6 +1,6 @@
 //! Painting of a history in an area of a screen.
 ghost use Rattle.std.specs.Prelude.{◌≡◌, []};
-ghost use Rattle.cl_medium.specs.Leaves.{leaf_moved};
+ghost use Rattle.cl_medium.specs.Items.{move_item};
 ghost use Rattle.cl_record.specs.Marks.{history_marks};
 ghost use Rattle.cl_redisplay.specs.Paint.{LiesIn, Repaints};
 
@@ -31,7 +31,7 @@ pub fn blank(raster: &mut Raster, area: Area)
 /// dropped, and no other place of the screen changes. It takes no memory.
 pub fn paint(raster: &mut Raster, area: Area, history: &History<AnyLeaf>)
     requires { LiesIn area raster.old }
-    ensures { Repaints raster.old raster.new area (history_marks leaf_moved history.now) }
+    ensures { Repaints raster.old raster.new area (history_marks move_item history.now) }
 {
     blank(raster, area);
     let mut window = Window::new(raster, area);

@@ -3,8 +3,9 @@ ghost use Rattle.std.specs.Prelude.{◌≡◌};
 ghost use Rattle.cl_redisplay.specs.Paint.{LiesIn};
 
 use crate::areas::Area;
-use crate::items::paint_item;
+use crate::items::{WIDEST, paint_item};
 use cl_medium::Leaf;
+use cl_outside::Cell;
 use cl_raster::Raster;
 use cl_record::Canvas;
 use cl_region::Shift;
@@ -15,6 +16,8 @@ use cl_region::Shift;
 pub struct Window<'a> {
     pub raster: &'a mut Raster,
     pub area: Area,
+    /// What an item paints in a row.
+    cells: [Option<Cell>; 512],
     pub ghost lies: { LiesIn area raster.now },
 }
 
@@ -25,7 +28,11 @@ impl<'a> Window<'a> {
         ensures raster { result.raster.now ≡ raster.old }
         ensures area { result.area ≡ area }
     {
-        Window { raster, area }
+        Window {
+            raster,
+            area,
+            cells: [None; WIDEST],
+        }
     }
 }
 
@@ -46,6 +53,6 @@ impl<'a, L: Leaf> Canvas<L> for Window<'a> {
     ghost keeps_through = { keeps_through };
 
     fn paint(&mut self, leaf: &L, at: Shift) {
-        paint_item(self.raster, self.area, leaf, at);
+        paint_item(self.raster, self.area, leaf, at, &mut self.cells);
     }
 }

@@ -1,9 +1,7 @@
-use Rattle.std.proofs.Common.{◌∙◌, ap, refl}
+use Rattle.std.proofs.Common.{◌∙◌, refl}
 use Rattle.std.proofs.lemmas.Int.{to_z-of_z}
 use mir.Syntax.{w64}
 use mir.Val.{SFits}
-use Rattle.cl_medium.specs.Items.{Item}
-use Rattle.cl_medium.specs.declared.any_leaf.AnyLeaf.TheVariants.{Outline}
 use Rattle.cl_medium.proofs.drawing.draw_box.Goals as goal
 
 pub returns-in-Within : goal.returns-in-Within
@@ -13,7 +11,7 @@ returns-in-Within c =
     let f_width : SFits w64 c.args.width = c.ranges.width in
     let f_height : SFits w64 c.args.height = c.ranges.height in
     let d = simp to_z-of_z at c.in-Within.ensures in
-    (ap (λ (i : Item). Outline i) (c.new.ensures ∙ rw d.0 refl), d.1, d.2)
+    (c.new.ensures ∙ rw d.0 refl, d.1, d.2)
 
 pub returns-in-Range : goal.returns-in-Range
 returns-in-Range c =
