@@ -1,7 +1,7 @@
 -- Areas by their fields.
 use Rattle.std.proofs.Common.{◌≡◌, ℤ, ◌-ℤ◌, Bool, true, false, Option, Some, None, if◌then◌else◌, refl, subst, sym, ap, ◌∙◌, ◌↔◌}
 use Rattle.std.specs.Prelude.{IsTrue}
-use Rattle.cl_region.specs.Places.{IsInRange, holds, moved}
+use Rattle.cl_region.specs.Places.{IsInRange, holds, move_rect}
 use Rattle.cl_region.specs.declared.rects.Shift.{Shift}
 use Rattle.cl_medium.specs.declared.areas.Area.{Area}
 use Rattle.cl_medium.specs.ItemLaws.{bounds_move, same_cell}
@@ -15,7 +15,7 @@ area_is r a b c d e f g h = rw (e, f, g, h) refl
 pub area_same : (a b : Area) → a ≡ b → IsArea b → IsArea a
 area_same a b e h = rw e h
 
-pub area_moved : (v : Shift) (a : Area) → IsArea a → IsInRange (moved v (bounds_of a)) → IsArea (move_area v a)
+pub area_moved : (v : Shift) (a : Area) → IsArea a → IsInRange (move_rect v (bounds_of a)) → IsArea (move_area v a)
 area_moved v a h r = record { range = subst IsInRange (sym (bounds_move v a)) r; width = h.width; height = h.height; ink = h.ink }
 
 -- what an item paints at a place of its area, and outside

@@ -2,7 +2,7 @@
 use Rattle.std.specs.Prelude.{◌≡◌, ℕ, ℤ, pos, ◌+ℤ◌, ◌-ℤ◌, Bool, true, false, if◌then◌else◌, Option, Some, None, refl}
 use Rattle.std.proofs.Common.{◌∙◌, ap, arith}
 use Rattle.std.proofs.lemmas.Int.{ints}
-use Rattle.cl_region.specs.Places.{holds, moved}
+use Rattle.cl_region.specs.Places.{holds, move_rect}
 use Rattle.cl_region.specs.declared.rects.Rect.{Rect}
 use Rattle.cl_region.specs.declared.rects.Shift.{Shift}
 use Rattle.cl_region.proofs.Corners.{holds_within, same_bool, within}
@@ -22,16 +22,16 @@ same_distance x a d = omega (arith, ints)
 unmoved : (a : ℤ) → a +ℤ pos 0 ≡ a
 unmoved a = omega (arith, ints)
 
-pub bounds_move : (v : Shift) (a : Area) → bounds_of (move_area v a) ≡ moved v (bounds_of a)
+pub bounds_move : (v : Shift) (a : Area) → bounds_of (move_area v a) ≡ move_rect v (bounds_of a)
 bounds_move v a = rw (swapped a.x a.width v.dx, swapped a.y a.height v.dy) refl
 
-pub holds_moved : (v : Shift) (r : Rect) (x y : ℤ) → holds (moved v r) (x +ℤ v.dx) (y +ℤ v.dy) ≡ holds r x y
+pub holds_moved : (v : Shift) (r : Rect) (x y : ℤ) → holds (move_rect v r) (x +ℤ v.dx) (y +ℤ v.dy) ≡ holds r x y
 holds_moved v r x y =
-    same_bool (holds (moved v r) (x +ℤ v.dx) (y +ℤ v.dy)) (holds r x y)
-    (λ h. let w = within (moved v r) (x +ℤ v.dx) (y +ℤ v.dy) h in
+    same_bool (holds (move_rect v r) (x +ℤ v.dx) (y +ℤ v.dy)) (holds r x y)
+    (λ h. let w = within (move_rect v r) (x +ℤ v.dx) (y +ℤ v.dy) h in
     holds_within r x y (record { x1 = omega (arith, ints, w.x1); x2 = omega (arith, ints, w.x2); y1 = omega (arith, ints, w.y1); y2 = omega (arith, ints, w.y2) }))
     (λ h. let w = within r x y h in
-    holds_within (moved v r) (x +ℤ v.dx) (y +ℤ v.dy) (record { x1 = omega (arith, ints, w.x1); x2 = omega (arith, ints, w.x2); y1 = omega (arith, ints, w.y1); y2 = omega (arith, ints, w.y2) }))
+    holds_within (move_rect v r) (x +ℤ v.dx) (y +ℤ v.dy) (record { x1 = omega (arith, ints, w.x1); x2 = omega (arith, ints, w.x2); y1 = omega (arith, ints, w.y1); y2 = omega (arith, ints, w.y2) }))
 
 pub same_cell : (ink : ℕ) (s : LeafShape) (w h : ℤ) (b b' : Bool) (p p' q q' : ℤ) → b ≡ b' → p ≡ p' → q ≡ q'
     → ◌≡◌ {A = Option Painted} (if b then with_ink ink (shape_glyph s w h p q) else None) (if b' then with_ink ink (shape_glyph s w h p' q') else None)
@@ -46,7 +46,7 @@ pub item_within : (i : Item) (x y : ℤ) (c : Painted) → item_cell i x y ≡ S
 item_within i x y c h =
     some_inside (holds (bounds_of i.area) x y) (with_ink i.area.ink (shape_glyph i.shape i.area.width i.area.height (x -ℤ i.area.x) (y -ℤ i.area.y))) c h
 
-pub item_moves_bounds : (v : Shift) (i : Item) → item_bounds (move_item v i) ≡ moved v (item_bounds i)
+pub item_moves_bounds : (v : Shift) (i : Item) → item_bounds (move_item v i) ≡ move_rect v (item_bounds i)
 item_moves_bounds v i = bounds_move v i.area
 
 pub item_moves_cells : (v : Shift) (i : Item) (x y : ℤ) → item_cell (move_item v i) (x +ℤ v.dx) (y +ℤ v.dy) ≡ item_cell i x y

@@ -3,7 +3,7 @@ ghost use Rattle.std.specs.Prelude.{◌≡◌, pos, ◌+ℤ◌};
 ghost use Rattle.cl_region.specs.Places.{IsNear};
 ghost use Rattle.cl_medium.specs.Ambients.{IsAmbient, IsNearSum, MovesWhereNear, after_indent, after_newline, after_room, ambient_start, in_room};
 
-use cl_region::FURTHEST;
+use cl_region::MAX_COORDINATE;
 use std::marker::Model;
 
 /// The cursor, the left margin, the origin, all of them from -1,000,000 to 1,000,000, and the ink, from
@@ -137,10 +137,10 @@ pub(crate) fn near_sum(a: i64, b: i64) -> Option<i64>
 fn near(z: i64) -> Option<i64>
     ensures { IsNearSum z result }
 {
-    if z < -FURTHEST {
+    if z < -MAX_COORDINATE {
         return None;
     }
-    if z > FURTHEST {
+    if z > MAX_COORDINATE {
         return None;
     }
     Some(z)

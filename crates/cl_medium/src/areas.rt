@@ -1,6 +1,6 @@
 //! The part of a pane that an item takes.
 ghost use Rattle.std.specs.Prelude.{◌≡◌, ◌↔◌, ℤ, IsTrue};
-ghost use Rattle.cl_region.specs.Places.{IsInRange, holds, moved};
+ghost use Rattle.cl_region.specs.Places.{IsInRange, holds, move_rect};
 ghost use Rattle.cl_medium.specs.Items.{IsArea, IsDistance, bounds_of, move_area};
 
 use cl_region::{Rect, Shift};
@@ -64,7 +64,7 @@ impl Area {
     /// The same area elsewhere.
     pub fn shifted(&self, by: Shift) -> Area
         requires area { IsArea self.now }
-        requires range { IsInRange (moved by (bounds_of self.now)) }
+        requires range { IsInRange (move_rect by (bounds_of self.now)) }
         ensures value { result ≡ move_area by self.now }
         ensures area { IsArea result }
     {

@@ -10,7 +10,7 @@ use Rattle.cl_outside.specs.Device.{IsGlyph}
 use Rattle.cl_region.specs.Places.{holds}
 use Rattle.cl_region.specs.declared.rects.Rect.{Rect}
 use Rattle.cl_region.proofs.Corners.{false_holds, holds_within, within}
-use Rattle.cl_raster.specs.Raster.{AreCells, Blanks, Fills, FillsBox, IsInk, at_place, clipped}
+use Rattle.cl_raster.specs.Raster.{AreCells, Blanks, Fills, FillsBox, IsInk, at_place, clip_to}
 
 split : {P : Type 0} (m n : ℕ) → (m < n → P) → (n ≤ m → P) → P
 split m n f g = elim (cases_lt m n) [ inl h ↦ f h | inr h ↦ g h ]
@@ -46,24 +46,24 @@ box_more old cur new w x1 x2 y1 y v hx hw hy b f = record {
       (λ right. f.outside (j * w + i) (inr (rw row (omega arith))) ∙ same))));
 }
 
-pub clipped_low : (z : ℤ) (w i : ℕ) → z ≤ℤ pos i → clipped z w ≤ i
+pub clipped_low : (z : ℤ) (w i : ℕ) → z ≤ℤ pos i → clip_to z w ≤ i
 clipped_low (pos n) w i h = let e : n ≤ i = omega (arith, ints, h) in omega (arith, e)
 clipped_low (negsuc n) w i h = omega arith
 
-pub clipped_high : (z : ℤ) (w i : ℕ) → i < w → pos i <ℤ z → i < clipped z w
+pub clipped_high : (z : ℤ) (w i : ℕ) → i < w → pos i <ℤ z → i < clip_to z w
 clipped_high (pos n) w i k h = let e : i < n = omega (arith, ints, h) in omega (arith, e)
 clipped_high (negsuc n) w i k h = omega (arith, ints, h)
 
-pub low_clipped : (z : ℤ) (w i : ℕ) → i < w → clipped z w ≤ i → z ≤ℤ pos i
+pub low_clipped : (z : ℤ) (w i : ℕ) → i < w → clip_to z w ≤ i → z ≤ℤ pos i
 low_clipped (pos n) w i k h = let e : n ≤ i = omega (arith, h) in omega (arith, ints, e)
 low_clipped (negsuc n) w i k h = omega (arith, ints)
 
-pub high_clipped : (z : ℤ) (w i : ℕ) → i < clipped z w → pos i <ℤ z
+pub high_clipped : (z : ℤ) (w i : ℕ) → i < clip_to z w → pos i <ℤ z
 high_clipped (pos n) w i h = let e : i < n = omega (arith, h) in omega (arith, ints, e)
 high_clipped (negsuc n) w i h = omega (arith, h)
 
 pub blanked : (old new : List ℕ) (w h v : ℕ) (r : Rect)
-    → FillsBox old new w (clipped r.x1 w) (clipped r.x2 w) (clipped r.y1 h) (clipped r.y2 h) v
+    → FillsBox old new w (clip_to r.x1 w) (clip_to r.x2 w) (clip_to r.y1 h) (clip_to r.y2 h) v
     → (i j : ℕ) → i < w → j < h → at_place new w i j ≡ (if holds r (pos i) (pos j) then v else at_place old w i j)
 blanked old new w h v r f i j hi hj =
     by_test (λ n. at_place new w i j ≡ n) (holds r (pos i) (pos j)) v (at_place old w i j)
@@ -77,12 +77,12 @@ blanked old new w h v r f i j hi hj =
       y2 = high_clipped r.y2 h j b2;
     }))))
 
-subst_box : (old new : List ℕ) (w h v : ℕ) (r : Rect) (a b d e : ℕ) → a ≡ clipped r.x1 w → b ≡ clipped r.x2 w → d ≡ clipped r.y1 h → e ≡ clipped r.y2 h
-    → FillsBox old new w a b d e v → FillsBox old new w (clipped r.x1 w) (clipped r.x2 w) (clipped r.y1 h) (clipped r.y2 h) v
+subst_box : (old new : List ℕ) (w h v : ℕ) (r : Rect) (a b d e : ℕ) → a ≡ clip_to r.x1 w → b ≡ clip_to r.x2 w → d ≡ clip_to r.y1 h → e ≡ clip_to r.y2 h
+    → FillsBox old new w a b d e v → FillsBox old new w (clip_to r.x1 w) (clip_to r.x2 w) (clip_to r.y1 h) (clip_to r.y2 h) v
 subst_box old new w h v r a b d e p q s t f =
-    subst (λ (m : ℕ). FillsBox old new w m (clipped r.x2 w) (clipped r.y1 h) (clipped r.y2 h) v) p
-    (subst (λ (m : ℕ). FillsBox old new w a m (clipped r.y1 h) (clipped r.y2 h) v) q
-    (subst (λ (m : ℕ). FillsBox old new w a b m (clipped r.y2 h) v) s
+    subst (λ (m : ℕ). FillsBox old new w m (clip_to r.x2 w) (clip_to r.y1 h) (clip_to r.y2 h) v) p
+    (subst (λ (m : ℕ). FillsBox old new w a m (clip_to r.y1 h) (clip_to r.y2 h) v) q
+    (subst (λ (m : ℕ). FillsBox old new w a b m (clip_to r.y2 h) v) s
     (subst (λ (m : ℕ). FillsBox old new w a b d m v) t f)))
 
 positive : (w h k : ℕ) → k < w * h → 0 < w
@@ -90,7 +90,7 @@ positive zero h k l = omega (arith, l)
 positive (suc w) h k l = omega arith
 
 pub blanks-filled : (w h : ℕ) (r : Rect) (a b d e : ℕ) (glyphs inks new_glyphs new_inks : List ℕ)
-    → a ≡ clipped r.x1 w → b ≡ clipped r.x2 w → d ≡ clipped r.y1 h → e ≡ clipped r.y2 h
+    → a ≡ clip_to r.x1 w → b ≡ clip_to r.x2 w → d ≡ clip_to r.y1 h → e ≡ clip_to r.y2 h
     → FillsBox glyphs new_glyphs w a b d e 32 → FillsBox inks new_inks w a b d e 0
     → Blanks (record { width = w; height = h; glyphs = glyphs; inks = inks }) (record { width = w; height = h; glyphs = new_glyphs; inks = new_inks }) r
 blanks-filled w h r a b d e glyphs inks new_glyphs new_inks p q s t f g = record {

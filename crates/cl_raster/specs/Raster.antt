@@ -24,8 +24,8 @@ pub record AreCells (width height : ℕ) (glyphs inks : List ℕ) : Type 0 where
   pub are_inks : All IsInk inks
 
 -- a picture of spaces with ink 0
-abbrev pub blank : ℕ → ℕ → Picture
-blank width height =
+abbrev pub blank_picture : ℕ → ℕ → Picture
+blank_picture width height =
     record { width = width; height = height; glyphs = replicate (width * height) 32; inks = replicate (width * height) 0 }
 
 -- what stands in column x of row y
@@ -55,9 +55,9 @@ pub record Blanks (old new : Picture) (rect : Rect) : Type 0 where
   pub inks : (i j : ℕ) → i < old.width → j < old.height → ink_at new i j ≡ (if holds rect (pos i) (pos j) then 0 else ink_at old i j)
 
 -- a number, or the end of 0 to a size that is nearest to it
-abbrev pub clipped : ℤ → ℕ → ℕ
-clipped (pos n) size = min n size
-clipped (negsuc n) size = 0
+abbrev pub clip_to : ℤ → ℕ → ℕ
+clip_to (pos n) size = min n size
+clip_to (negsuc n) size = 0
 
 -- columns x1 to x2 of rows y1 to y2, the ends left out, have this value, and every other place what it had
 pub record FillsBox (old new : List ℕ) (width x1 x2 y1 y2 value : ℕ) : Type 0 where

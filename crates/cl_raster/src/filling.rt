@@ -1,6 +1,6 @@
 //! Writes to cells that lie in rows, one row behind the other.
 ghost use Rattle.std.specs.Prelude.{◌≡◌, ◌+◌, ◌*◌, ◌<◌, ◌≤◌, length, slice_set, vec_len};
-ghost use Rattle.cl_raster.specs.Raster.{Fills, FillsBox, clipped};
+ghost use Rattle.cl_raster.specs.Raster.{Fills, FillsBox, clip_to};
 
 // One place more has this value.
 pub(crate) fn put(cells: &mut Vec<u8>, at: usize, value: u8)
@@ -12,7 +12,7 @@ pub(crate) fn put(cells: &mut Vec<u8>, at: usize, value: u8)
 
 /// The number, or the end of 0 to `size` that is nearest to it.
 pub fn clip(z: i64, size: u16) -> u16
-    ensures value { result ≡ clipped z size }
+    ensures value { result ≡ clip_to z size }
     ensures most { result ≤ size }
 {
     if z < 0 {

@@ -1,7 +1,7 @@
 //! The glyphs and inks of a screen of cells.
 ghost use Rattle.std.specs.Prelude.{◌≡◌, ◌<◌, ◌≤◌, All, IfOk, length};
 ghost use Rattle.cl_outside.specs.Device.{IsGlyph};
-ghost use Rattle.cl_raster.specs.Raster.{Blanks, IsInk, Sets, blank, glyph_at, ink_at, row_of};
+ghost use Rattle.cl_raster.specs.Raster.{Blanks, IsInk, Sets, blank_picture, glyph_at, ink_at, row_of};
 
 use crate::filling::{clip, fill_box, put};
 use cl_outside::Cell;
@@ -34,7 +34,7 @@ impl Raster {
     pub fn new(alloc: Global, width: u16, height: u16) -> Result<Raster, AllocError>
         requires columns { (1 ≤ width) × (width ≤ 512) }
         requires rows { (1 ≤ height) × (height ≤ 256) }
-        ensures { IfOk result (λ r. r ≡ blank width height) }
+        ensures { IfOk result (λ r. r ≡ blank_picture width height) }
     {
         let count = width as usize * height as usize;
         Ok(Raster {
@@ -124,7 +124,7 @@ impl Raster {
 
     /// Blanks every cell.
     pub fn clear(&mut self)
-        ensures { self.new ≡ blank self.old.width self.old.height }
+        ensures { self.new ≡ blank_picture self.old.width self.old.height }
     {
         self.glyphs.fill(b' ');
         self.inks.fill(0);

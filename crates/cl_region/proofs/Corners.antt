@@ -3,7 +3,7 @@ use Rattle.std.proofs.Common.{◌≡◌, ℤ, negsuc, ◌+ℤ◌, ◌≤ℤ◌, 
 use Rattle.std.specs.Prelude.{int_le, int_lt}
 use Rattle.std.proofs.lemmas.Int.{ints, clamps, by_lt_z}
 use Rattle.cl_region.specs.declared.rects.Rect.{Rect}
-use Rattle.cl_region.specs.Places.{Covers, IsEmpty, IsInRange, IsNear, box, common, holds, is_between, is_thin}
+use Rattle.cl_region.specs.Places.{Covers, IsEmpty, IsInRange, IsNear, box, intersection, holds, is_between, is_thin}
 
 pub same_bool : (p q : Bool) → (p ≡ true → q ≡ true) → (q ≡ true → p ≡ true) → p ≡ q
 same_bool true true f g = refl
@@ -61,18 +61,18 @@ pub rect_is : (r : Rect) (a b c d : ℤ) → a ≡ r.x1 → b ≡ r.y1 → c ≡
     → ◌≡◌ {A = Rect} (record { x1 = a; y1 = b; x2 = c; y2 = d }) r
 rect_is r a b c d e f g h = rw (e, f, g, h) refl
 
-pub common-holds : (a b : Rect) (x y : ℤ) → holds (common a b) x y ≡ holds a x y && holds b x y
+pub common-holds : (a b : Rect) (x y : ℤ) → holds (intersection a b) x y ≡ holds a x y && holds b x y
 common-holds a b x y =
-    same_bool (holds (common a b) x y) (holds a x y && holds b x y)
-    (λ h. let w = within (common a b) x y h in
+    same_bool (holds (intersection a b) x y) (holds a x y && holds b x y)
+    (λ h. let w = within (intersection a b) x y h in
     both (holds a x y) (holds b x y)
     (holds_within a x y (record { x1 = omega (arith, ints, clamps, w.x1); x2 = omega (arith, ints, clamps, w.x2); y1 = omega (arith, ints, clamps, w.y1); y2 = omega (arith, ints, clamps, w.y2) }))
     (holds_within b x y (record { x1 = omega (arith, ints, clamps, w.x1); x2 = omega (arith, ints, clamps, w.x2); y1 = omega (arith, ints, clamps, w.y1); y2 = omega (arith, ints, clamps, w.y2) })))
     (λ h. let v = within a x y (and_left (holds a x y) (holds b x y) h) in
     let w = within b x y (and_right (holds a x y) (holds b x y) h) in
-    holds_within (common a b) x y (record { x1 = omega (arith, ints, clamps, v.x1, w.x1); x2 = omega (arith, ints, clamps, v.x2, w.x2); y1 = omega (arith, ints, clamps, v.y1, w.y1); y2 = omega (arith, ints, clamps, v.y2, w.y2) }))
+    holds_within (intersection a b) x y (record { x1 = omega (arith, ints, clamps, v.x1, w.x1); x2 = omega (arith, ints, clamps, v.x2, w.x2); y1 = omega (arith, ints, clamps, v.y1, w.y1); y2 = omega (arith, ints, clamps, v.y2, w.y2) }))
 
-pub common_is : (p a b : Rect) → p ≡ common a b → (x y : ℤ) → holds p x y ≡ holds a x y && holds b x y
+pub common_is : (p a b : Rect) → p ≡ intersection a b → (x y : ℤ) → holds p x y ≡ holds a x y && holds b x y
 common_is p a b e x y = rw e (common-holds a b x y)
 
 -- both bounds are in order

@@ -3,9 +3,9 @@ use Rattle.std.proofs.Common.{◌≡◌, ◌*◌, ◌≤◌, ℤ, ◌≤ℤ◌, 
 use Rattle.std.proofs.Common.{ap, arith, length-append}
 use Rattle.std.proofs.lemmas.Int.{ints, clamps, by_lt_z}
 use Rattle.cl_region.specs.declared.rects.Rect.{Rect}
-use Rattle.cl_region.specs.Places.{common, held, holds, is_thin}
+use Rattle.cl_region.specs.Places.{intersection, one_holds, holds, is_thin}
 use Rattle.cl_region.specs.Pieces.{ArePieces}
-use Rattle.cl_region.specs.Cutting.{kept, around, cut, cut_all}
+use Rattle.cl_region.specs.Cutting.{unless_thin, parts_around, cut_rect, cut_all}
 use Rattle.cl_region.proofs.Corners.{HasCell, Within, and_left, and_right, both, common-holds, corner_held, false_holds, has_cell, holds_within}
 use Rattle.cl_region.proofs.Corners.{same_bool, thin_test, within, wrong}
 
@@ -70,10 +70,10 @@ pub is_not : (b : Bool) → (b ≡ true → ⊥) → not b ≡ true
 is_not true h = absurd (h refl)
 is_not false h = refl
 
-pub held-append : (ps qs : List Rect) (x y : ℤ) → held (ps ++ qs) x y ≡ held ps x y || held qs x y
+pub held-append : (ps qs : List Rect) (x y : ℤ) → one_holds (ps ++ qs) x y ≡ one_holds ps x y || one_holds qs x y
 held-append [] qs x y = refl
 held-append (p ∷ ps) qs x y =
-    ap (λ b. holds p x y || b) (held-append ps qs x y) ∙ sym (or_assoc (holds p x y) (held ps x y) (held qs x y))
+    ap (λ b. holds p x y || b) (held-append ps qs x y) ∙ sym (or_assoc (holds p x y) (one_holds ps x y) (one_holds qs x y))
 
 thin_none : (r : Rect) (x y : ℤ) → is_thin r ≡ true → holds r x y ≡ false
 thin_none r x y h = ((thin_test r (is_thin r) refl).0 h).holds_none x y
@@ -81,9 +81,9 @@ thin_none r x y h = ((thin_test r (is_thin r) refl).0 h).holds_none x y
 thick_cell : (r : Rect) → is_thin r ≡ false → HasCell r
 thick_cell r h = has_cell r (λ e. false_holds (is_thin r) h ((thin_test r (is_thin r) refl).1 e))
 
-pub held-kept : (r : Rect) (x y : ℤ) → held (kept r) x y ≡ holds r x y
+pub held-kept : (r : Rect) (x y : ℤ) → one_holds (unless_thin r) x y ≡ holds r x y
 held-kept r x y =
-    by_test (λ rs. held rs x y ≡ holds r x y) (is_thin r) [] (r ∷ [])
+    by_test (λ rs. one_holds rs x y ≡ holds r x y) (is_thin r) [] (r ∷ [])
     (λ h. sym (thin_none r x y h))
     (λ h. or_false (holds r x y))
 
@@ -108,11 +108,11 @@ abbrev below : Rect → Rect → Rect
 below r part = record r { y1 = part.y2 }
 
 held_around : (r part : Rect) (x y : ℤ)
-    → held (around r part) x y ≡ ((holds (above r part) x y || holds (left_of r part) x y) || holds (right_of r part) x y) || holds (below r part) x y
+    → one_holds (parts_around r part) x y ≡ ((holds (above r part) x y || holds (left_of r part) x y) || holds (right_of r part) x y) || holds (below r part) x y
 held_around r part x y =
-    held-append ((kept (above r part) ++ kept (left_of r part)) ++ kept (right_of r part)) (kept (below r part)) x y
-    ∙ (ap (λ b. b || held (kept (below r part)) x y) (held-append (kept (above r part) ++ kept (left_of r part)) (kept (right_of r part)) x y)
-    ∙ (ap (λ b. (b || held (kept (right_of r part)) x y) || held (kept (below r part)) x y) (held-append (kept (above r part)) (kept (left_of r part)) x y)
+    held-append ((unless_thin (above r part) ++ unless_thin (left_of r part)) ++ unless_thin (right_of r part)) (unless_thin (below r part)) x y
+    ∙ (ap (λ b. b || one_holds (unless_thin (below r part)) x y) (held-append (unless_thin (above r part) ++ unless_thin (left_of r part)) (unless_thin (right_of r part)) x y)
+    ∙ (ap (λ b. (b || one_holds (unless_thin (right_of r part)) x y) || one_holds (unless_thin (below r part)) x y) (held-append (unless_thin (above r part)) (unless_thin (left_of r part)) x y)
     ∙ rw (held-kept (above r part) x y, held-kept (left_of r part) x y, held-kept (right_of r part) x y, held-kept (below r part) x y) refl))
 
 is_outside : (r part : Rect) (x y : ℤ) → IsPart r part → Within r x y → (Within part x y → ⊥) → holds r x y && not (holds part x y) ≡ true
@@ -160,7 +160,7 @@ outside_around r part x y w f =
     (λ far. or_left ((a || b) || d) e (or_right (a || b) d (holds_within (right_of r part) x y (record { x1 = far; x2 = w.x2; y1 = down; y2 = beside }))))))
     (λ low. or_right ((a || b) || d) e (holds_within (below r part) x y (record { x1 = w.x1; x2 = w.x2; y1 = low; y2 = w.y2 }))))
 
-held-around : (r part : Rect) (x y : ℤ) → IsPart r part → held (around r part) x y ≡ holds r x y && not (holds part x y)
+held-around : (r part : Rect) (x y : ℤ) → IsPart r part → one_holds (parts_around r part) x y ≡ holds r x y && not (holds part x y)
 held-around r part x y p =
     held_around r part x y
     ∙ same_bool (((holds (above r part) x y || holds (left_of r part) x y) || holds (right_of r part) x y) || holds (below r part) x y)
@@ -170,100 +170,100 @@ held-around r part x y p =
     (within r x y (and_left (holds r x y) (not (holds part x y)) h))
     (λ w. not_held (holds part x y) (and_right (holds r x y) (not (holds part x y)) h) (holds_within part x y w)))
 
-common_part : (r hole : Rect) → is_thin (common r hole) ≡ false → IsPart r (common r hole)
+common_part : (r hole : Rect) → is_thin (intersection r hole) ≡ false → IsPart r (intersection r hole)
 common_part r hole h = record {
   x1 = omega (arith, ints, clamps);
   y1 = omega (arith, ints, clamps);
   x2 = omega (arith, ints, clamps);
   y2 = omega (arith, ints, clamps);
-  cell = thick_cell (common r hole) h;
+  cell = thick_cell (intersection r hole) h;
 }
 
-pub held-cut : (hole r : Rect) (x y : ℤ) → held (cut hole r) x y ≡ holds r x y && not (holds hole x y)
+pub held-cut : (hole r : Rect) (x y : ℤ) → one_holds (cut_rect hole r) x y ≡ holds r x y && not (holds hole x y)
 held-cut hole r x y =
-    by_test (λ rs. held rs x y ≡ holds r x y && not (holds hole x y)) (is_thin (common r hole)) (kept r) (around r (common r hole))
-    (λ h. held-kept r x y ∙ outside_none (holds r x y) (holds hole x y) (sym (common-holds r hole x y) ∙ thin_none (common r hole) x y h))
-    (λ h. held-around r (common r hole) x y (common_part r hole h)
+    by_test (λ rs. one_holds rs x y ≡ holds r x y && not (holds hole x y)) (is_thin (intersection r hole)) (unless_thin r) (parts_around r (intersection r hole))
+    (λ h. held-kept r x y ∙ outside_none (holds r x y) (holds hole x y) (sym (common-holds r hole x y) ∙ thin_none (intersection r hole) x y h))
+    (λ h. held-around r (intersection r hole) x y (common_part r hole h)
     ∙ (ap (λ b. holds r x y && not b) (common-holds r hole x y) ∙ outside_common (holds r x y) (holds hole x y)))
 
-pub held-cut_all : (hole : Rect) (rs : List Rect) (x y : ℤ) → held (cut_all hole rs) x y ≡ held rs x y && not (holds hole x y)
+pub held-cut_all : (hole : Rect) (rs : List Rect) (x y : ℤ) → one_holds (cut_all hole rs) x y ≡ one_holds rs x y && not (holds hole x y)
 held-cut_all hole [] x y = refl
 held-cut_all hole (r ∷ rs) x y =
-    held-append (cut hole r) (cut_all hole rs) x y
-    ∙ (rw (held-cut hole r x y, held-cut_all hole rs x y) (outside_both (holds r x y) (held rs x y) (not (holds hole x y))))
+    held-append (cut_rect hole r) (cut_all hole rs) x y
+    ∙ (rw (held-cut hole r x y, held-cut_all hole rs x y) (outside_both (holds r x y) (one_holds rs x y) (not (holds hole x y))))
 
-pub pieces-append : (ps qs : List Rect) → ArePieces ps → ArePieces qs → ((x y : ℤ) → held ps x y ≡ true → held qs x y ≡ true → ⊥) → ArePieces (ps ++ qs)
+pub pieces-append : (ps qs : List Rect) → ArePieces ps → ArePieces qs → ((x y : ℤ) → one_holds ps x y ≡ true → one_holds qs x y ≡ true → ⊥) → ArePieces (ps ++ qs)
 pieces-append [] qs a b f = b
 pieces-append (p ∷ ps) qs a b f = (
   a.0,
   record {
     not_both = λ x y h k.
-        or_elim (held ps x y) (held qs x y) (a.1.not_both x y h) (f x y (or_left (holds p x y) (held ps x y) h)) (sym (held-append ps qs x y) ∙ k);
+        or_elim (one_holds ps x y) (one_holds qs x y) (a.1.not_both x y h) (f x y (or_left (holds p x y) (one_holds ps x y) h)) (sym (held-append ps qs x y) ∙ k);
   },
-  pieces-append ps qs a.2 b (λ x y h. f x y (or_right (holds p x y) (held ps x y) h)),
+  pieces-append ps qs a.2 b (λ x y h. f x y (or_right (holds p x y) (one_holds ps x y) h)),
 )
 
-pub pieces-kept : (r : Rect) → ArePieces (kept r)
+pub pieces-kept : (r : Rect) → ArePieces (unless_thin r)
 pieces-kept r =
     by_test ArePieces (is_thin r) [] (r ∷ []) (λ h. tt)
     (λ h. (record { x = r.x1; y = r.y1; is_held = corner_held r (thick_cell r h) }, record { not_both = λ x y h k. wrong k }, tt))
 
-in_kept : (r : Rect) (x y : ℤ) → held (kept r) x y ≡ true → Within r x y
+in_kept : (r : Rect) (x y : ℤ) → one_holds (unless_thin r) x y ≡ true → Within r x y
 in_kept r x y h = within r x y (sym (held-kept r x y) ∙ h)
 
-pieces-around : (r part : Rect) → IsPart r part → ArePieces (around r part)
+pieces-around : (r part : Rect) → IsPart r part → ArePieces (parts_around r part)
 pieces-around r part p =
-    let a = kept (above r part) in
-    let b = kept (left_of r part) in
-    let d = kept (right_of r part) in
-    let e = kept (below r part) in
+    let a = unless_thin (above r part) in
+    let b = unless_thin (left_of r part) in
+    let d = unless_thin (right_of r part) in
+    let e = unless_thin (below r part) in
     pieces-append ((a ++ b) ++ d) e
     (pieces-append (a ++ b) d
     (pieces-append a b (pieces-kept (above r part)) (pieces-kept (left_of r part))
     (λ x y h k. let v = in_kept (above r part) x y h in let w = in_kept (left_of r part) x y k in omega (arith, ints, v.y2, w.y1)))
     (pieces-kept (right_of r part))
     (λ x y h k. let w = in_kept (right_of r part) x y k in
-    or_elim (held a x y) (held b x y)
+    or_elim (one_holds a x y) (one_holds b x y)
     (λ h. let v = in_kept (above r part) x y h in omega (arith, ints, v.y2, w.y1))
     (λ h. let v = in_kept (left_of r part) x y h in omega (arith, ints, v.x2, w.x1, p.cell.columns))
     (sym (held-append a b x y) ∙ h)))
     (pieces-kept (below r part))
     (λ x y h k. let w = in_kept (below r part) x y k in
-    or_elim (held (a ++ b) x y) (held d x y)
-    (λ h. or_elim (held a x y) (held b x y)
+    or_elim (one_holds (a ++ b) x y) (one_holds d x y)
+    (λ h. or_elim (one_holds a x y) (one_holds b x y)
     (λ h. let v = in_kept (above r part) x y h in omega (arith, ints, v.y2, w.y1, p.cell.rows))
     (λ h. let v = in_kept (left_of r part) x y h in omega (arith, ints, v.y2, w.y1))
     (sym (held-append a b x y) ∙ h))
     (λ h. let v = in_kept (right_of r part) x y h in omega (arith, ints, v.y2, w.y1))
     (sym (held-append (a ++ b) d x y) ∙ h))
 
-pub pieces-cut : (hole r : Rect) → ArePieces (cut hole r)
+pub pieces-cut : (hole r : Rect) → ArePieces (cut_rect hole r)
 pieces-cut hole r =
-    by_test ArePieces (is_thin (common r hole)) (kept r) (around r (common r hole))
+    by_test ArePieces (is_thin (intersection r hole)) (unless_thin r) (parts_around r (intersection r hole))
     (λ h. pieces-kept r)
-    (λ h. pieces-around r (common r hole) (common_part r hole h))
+    (λ h. pieces-around r (intersection r hole) (common_part r hole h))
 
 pub pieces-cut_all : (hole : Rect) (rs : List Rect) → ArePieces rs → ArePieces (cut_all hole rs)
 pieces-cut_all hole [] a = tt
 pieces-cut_all hole (r ∷ rs) a =
-    pieces-append (cut hole r) (cut_all hole rs) (pieces-cut hole r) (pieces-cut_all hole rs a.2)
+    pieces-append (cut_rect hole r) (cut_all hole rs) (pieces-cut hole r) (pieces-cut_all hole rs a.2)
     (λ x y h k. a.1.not_both x y
     (and_left (holds r x y) (not (holds hole x y)) (sym (held-cut hole r x y) ∙ h))
-    (and_left (held rs x y) (not (holds hole x y)) (sym (held-cut_all hole rs x y) ∙ k)))
+    (and_left (one_holds rs x y) (not (holds hole x y)) (sym (held-cut_all hole rs x y) ∙ k)))
 
-few_kept : (r : Rect) → length (kept r) ≤ 1
+few_kept : (r : Rect) → length (unless_thin r) ≤ 1
 few_kept r = by_test (λ rs. length rs ≤ 1) (is_thin r) [] (r ∷ []) (λ h. omega arith) (λ h. omega arith)
 
-few_around : (r part : Rect) → length (around r part) ≤ 4
+few_around : (r part : Rect) → length (parts_around r part) ≤ 4
 few_around r part =
     rw (length-append, length-append, length-append)
     (omega (arith, few_kept (above r part), few_kept (left_of r part), few_kept (right_of r part), few_kept (below r part)))
 
-few_cut : (hole r : Rect) → length (cut hole r) ≤ 4
+few_cut : (hole r : Rect) → length (cut_rect hole r) ≤ 4
 few_cut hole r =
-    by_test (λ rs. length rs ≤ 4) (is_thin (common r hole)) (kept r) (around r (common r hole))
+    by_test (λ rs. length rs ≤ 4) (is_thin (intersection r hole)) (unless_thin r) (parts_around r (intersection r hole))
     (λ h. omega (arith, few_kept r))
-    (λ h. few_around r (common r hole))
+    (λ h. few_around r (intersection r hole))
 
 pub few_pieces : (hole : Rect) (rs : List Rect) → length (cut_all hole rs) ≤ 4 * length rs
 few_pieces hole [] = omega arith
@@ -272,14 +272,14 @@ few_pieces hole (r ∷ rs) = rw length-append (omega (arith, few_cut hole r, few
 -- parts of a rectangle, which are what it has outside of the holes once those that are left are taken away too
 pub record IsRest (r : Rect) (holes parts left : List Rect) : Type 0 where
   pub pieces : ArePieces parts
-  pub inside : (x y : ℤ) → held parts x y ≡ true → holds r x y ≡ true
-  pub places : (x y : ℤ) → held parts x y && not (held left x y) ≡ holds r x y && not (held holes x y)
+  pub inside : (x y : ℤ) → one_holds parts x y ≡ true → holds r x y ≡ true
+  pub places : (x y : ℤ) → one_holds parts x y && not (one_holds left x y) ≡ holds r x y && not (one_holds holes x y)
 
-pub rest_first : (r : Rect) (holes : List Rect) → IsRest r holes (kept r) holes
+pub rest_first : (r : Rect) (holes : List Rect) → IsRest r holes (unless_thin r) holes
 rest_first r holes = record {
   pieces = pieces-kept r;
   inside = λ x y h. sym (held-kept r x y) ∙ h;
-  places = λ x y. ap (λ b. b && not (held holes x y)) (held-kept r x y);
+  places = λ x y. ap (λ b. b && not (one_holds holes x y)) (held-kept r x y);
 }
 
 -- a hole that shares no place with the rectangle cuts nothing off
@@ -289,25 +289,25 @@ pub rest_skip : (r : Rect) (holes parts : List Rect) (hole : Rect) (left : List 
 rest_skip r holes parts hole left f h = record {
   pieces = h.pieces;
   inside = h.inside;
-  places = λ x y. outside_other (held parts x y) (holds hole x y) (held left x y) (λ k. f x y (h.inside x y k)) ∙ h.places x y;
+  places = λ x y. outside_other (one_holds parts x y) (holds hole x y) (one_holds left x y) (λ k. f x y (h.inside x y k)) ∙ h.places x y;
 }
 
 pub rest_cut : (r : Rect) (holes parts : List Rect) (hole : Rect) (left : List Rect)
     → IsRest r holes parts (hole ∷ left) → IsRest r holes (cut_all hole parts) left
 rest_cut r holes parts hole left h = record {
   pieces = pieces-cut_all hole parts h.pieces;
-  inside = λ x y k. h.inside x y (and_left (held parts x y) (not (holds hole x y)) (sym (held-cut_all hole parts x y) ∙ k));
+  inside = λ x y k. h.inside x y (and_left (one_holds parts x y) (not (holds hole x y)) (sym (held-cut_all hole parts x y) ∙ k));
   places = λ x y.
-      ap (λ b. b && not (held left x y)) (held-cut_all hole parts x y)
-      ∙ (outside_two (held parts x y) (holds hole x y) (held left x y) ∙ h.places x y);
+      ap (λ b. b && not (one_holds left x y)) (held-cut_all hole parts x y)
+      ∙ (outside_two (one_holds parts x y) (holds hole x y) (one_holds left x y) ∙ h.places x y);
 }
 
 -- the rectangles, and behind them what is new of another one
-pub added_holds : (rs new : List Rect) (r : Rect) → ((x y : ℤ) → held new x y ≡ holds r x y && not (held rs x y))
-    → (x y : ℤ) → held (rs ++ new) x y ≡ held rs x y || holds r x y
-added_holds rs new r h x y = held-append rs new x y ∙ (rw (h x y) (or_new (held rs x y) (holds r x y)))
+pub added_holds : (rs new : List Rect) (r : Rect) → ((x y : ℤ) → one_holds new x y ≡ holds r x y && not (one_holds rs x y))
+    → (x y : ℤ) → one_holds (rs ++ new) x y ≡ one_holds rs x y || holds r x y
+added_holds rs new r h x y = held-append rs new x y ∙ (rw (h x y) (or_new (one_holds rs x y) (holds r x y)))
 
-pub added_pieces : (rs new : List Rect) (r : Rect) → ((x y : ℤ) → held new x y ≡ holds r x y && not (held rs x y))
+pub added_pieces : (rs new : List Rect) (r : Rect) → ((x y : ℤ) → one_holds new x y ≡ holds r x y && not (one_holds rs x y))
     → ArePieces rs → ArePieces new → ArePieces (rs ++ new)
 added_pieces rs new r h a b =
-    pieces-append rs new a b (λ x y k l. not_held (held rs x y) (and_right (holds r x y) (not (held rs x y)) (sym (h x y) ∙ l)) k)
+    pieces-append rs new a b (λ x y k l. not_held (one_holds rs x y) (and_right (holds r x y) (not (one_holds rs x y)) (sym (h x y) ∙ l)) k)

@@ -3,7 +3,7 @@ use Rattle.std.proofs.Common.{◌≡◌, ℤ, Bool, true, false, ◌&&◌, ◌||
 use Rattle.std.specs.Prelude.{OnErr, OnOk}
 use Rattle.std.proofs.lemmas.Int.{ints, clamps, by_lt_z}
 use Rattle.cl_region.specs.declared.rects.Rect.{Rect}
-use Rattle.cl_region.specs.Places.{IsEmpty, box, held, holds}
+use Rattle.cl_region.specs.Places.{IsEmpty, box, one_holds, holds}
 use Rattle.cl_region.specs.Pieces.{ArePieces, ArePiecesOf, IsApart, IsPiece}
 use Rattle.cl_region.specs.Cutting.{Continues, IsBelow, IsBeside}
 use Rattle.cl_region.proofs.Corners.{HasCell, Within, and_left, and_right, both, box-left, box-right, corner_held, false_holds, has_cell}
@@ -92,12 +92,12 @@ pieces_last (p ∷ ps) a h =
       rest.0,
       record {
         not_both = λ x y k l.
-            or_elim (holds p x y) (held ps x y)
-            (λ e. h.1.not_both x y e (places x y ∙ or_right (held ps x y) (holds a x y || false) (or_left (holds a x y) false k)))
+            or_elim (holds p x y) (one_holds ps x y)
+            (λ e. h.1.not_both x y e (places x y ∙ or_right (one_holds ps x y) (holds a x y || false) (or_left (holds a x y) false k)))
             (rest.1.not_both x y k)
             l;
       },
-      (h.0, record { not_both = λ x y k l. h.1.not_both x y k (places x y ∙ or_left (held ps x y) (holds a x y || false) l) }, rest.2),
+      (h.0, record { not_both = λ x y k l. h.1.not_both x y k (places x y ∙ or_left (one_holds ps x y) (holds a x y || false) l) }, rest.2),
     )
 
 joined_pieces : (ps : List Rect) (a w : Rect) → Continues a w → ArePieces (w ∷ (ps ++ a ∷ [])) → ArePieces (box a w ∷ ps)
@@ -109,7 +109,7 @@ joined_pieces ps a w s h =
         not_both = λ x y k l.
             or_elim (holds a x y) (holds w x y)
             (λ e. rest.1.not_both x y e l)
-            (λ e. h.1.not_both x y e (held-append ps (a ∷ []) x y ∙ or_left (held ps x y) (holds a x y || false) l))
+            (λ e. h.1.not_both x y e (held-append ps (a ∷ []) x y ∙ or_left (one_holds ps x y) (holds a x y || false) l))
             (sym (same x y) ∙ k);
       },
       rest.2,
@@ -121,8 +121,8 @@ joined rs ps a w b e s h =
     rw e (record {
       pieces = joined_pieces ps a w s h.pieces;
       places = λ x y.
-          ap (λ b. b || held ps x y) (held-box a w x y s (piece_cell a (pieces_last ps a h.pieces.2).0) (piece_cell w h.pieces.0))
-          ∙ (or_turn (holds a x y) (holds w x y) (held ps x y)
+          ap (λ b. b || one_holds ps x y) (held-box a w x y s (piece_cell a (pieces_last ps a h.pieces.2).0) (piece_cell w h.pieces.0))
+          ∙ (or_turn (holds a x y) (holds w x y) (one_holds ps x y)
           ∙ (ap (λ b. holds w x y || b) (sym (held-append ps (a ∷ []) x y)) ∙ h.places x y));
     })
 
@@ -132,21 +132,21 @@ put_behind rs ps w h = record {
   pieces =
       pieces-append ps (w ∷ []) h.pieces.2 (h.pieces.0, record { not_both = λ x y k l. wrong l }, tt)
       (λ x y k l. h.pieces.1.not_both x y (or_elim (holds w x y) false (λ e. e) (λ e. absurd (wrong e)) l) k);
-  places = λ x y. held-append ps (w ∷ []) x y ∙ (or_swap (held ps x y) (holds w x y) ∙ h.places x y);
+  places = λ x y. held-append ps (w ∷ []) x y ∙ (or_swap (one_holds ps x y) (holds w x y) ∙ h.places x y);
 }
 
 -- one that shares no place with a rectangle is apart from the list exactly where it is from the others
 pub apart_more : (r p : Rect) (ps : List Rect) → ((x : ℤ) × ((y : ℤ) × (holds p x y && holds r x y ≡ true)) → ⊥) → IsApart r (p ∷ ps) ↔ IsApart r ps
 apart_more r p ps f = (
-  (λ h. record { not_both = λ x y k l. h.not_both x y k (or_right (holds p x y) (held ps x y) l) }),
+  (λ h. record { not_both = λ x y k l. h.not_both x y k (or_right (holds p x y) (one_holds ps x y) l) }),
   (λ h. record {
-    not_both = λ x y k. or_elim (holds p x y) (held ps x y) (λ e. f (x, (y, both (holds p x y) (holds r x y) e k))) (h.not_both x y k);
+    not_both = λ x y k. or_elim (holds p x y) (one_holds ps x y) (λ e. f (x, (y, both (holds p x y) (holds r x y) e k))) (h.not_both x y k);
   }),
 )
 
 pub not_apart : (r p : Rect) (ps : List Rect) → (x : ℤ) × ((y : ℤ) × (holds p x y && holds r x y ≡ true)) → IsApart r (p ∷ ps) → ⊥
 not_apart r p ps (x, (y, e)) h =
-    h.not_both x y (and_right (holds p x y) (holds r x y) e) (or_left (holds p x y) (held ps x y) (and_left (holds p x y) (holds r x y) e))
+    h.not_both x y (and_right (holds p x y) (holds r x y) e) (or_left (holds p x y) (one_holds ps x y) (and_left (holds p x y) (holds r x y) e))
 
 -- a rectangle that is not empty holds a place
 pub some_piece : (r : Rect) (b : Bool) → IsTrue b ↔ IsEmpty r → b ≡ false → IsPiece r
@@ -156,8 +156,8 @@ some_piece r b k e =
 
 -- what is put in is a sum, or nothing has changed
 pub put_in_holds : {A E : Type 0} (result : Result A E) (r : Rect) (rs ps : List Rect) → OnOk result (ArePiecesOf (r ∷ rs) ps)
-    → OnOk result ((x y : ℤ) → held ps x y ≡ held rs x y || holds r x y)
-put_in_holds (Ok v) r rs ps h = λ x y. h.places x y ∙ or_comm (holds r x y) (held rs x y)
+    → OnOk result ((x y : ℤ) → one_holds ps x y ≡ one_holds rs x y || holds r x y)
+put_in_holds (Ok v) r rs ps h = λ x y. h.places x y ∙ or_comm (holds r x y) (one_holds rs x y)
 put_in_holds (Err e) r rs ps h = h
 
 pub put_in_pieces : {A E : Type 0} (result : Result A E) (r : Rect) (rs ps : List Rect) → OnOk result (ArePiecesOf (r ∷ rs) ps)

@@ -4,5 +4,5 @@
 mod rects;
 mod regions;
 
-pub use rects::{FURTHEST, Rect, Shift};
+pub use rects::{MAX_COORDINATE, Rect, Shift};
 pub use regions::Region;

@@ -1,6 +1,6 @@
 //! Rectangles of cells.
 ghost use Rattle.std.specs.Prelude.{◌≡◌, ℤ, ◌+ℤ◌, ◌↔◌, ◌&&◌, int_le, not, true, IsTrue};
-ghost use Rattle.cl_region.specs.Places.{FitsMoved, IsEmpty, IsInRange, IsNear, Covers, box, common, holds, is_between, is_thin, moved};
+ghost use Rattle.cl_region.specs.Places.{FitsMoved, IsEmpty, IsInRange, IsNear, Covers, box, intersection, holds, is_between, is_thin, move_rect};
 
 /// The cells with `x1 <= x < x2` and `y1 <= y < y2`, in columns and rows; none where a side is not
 /// positive.
@@ -20,7 +20,7 @@ pub struct Shift {
 }
 
 /// No coordinate of a drawn thing lies further out than this.
-pub const FURTHEST: i64 = 1_000_000;
+pub const MAX_COORDINATE: i64 = 1_000_000;
 
 impl Rect {
     /// Whether this cell is one of the rectangle's.
@@ -47,7 +47,7 @@ impl Rect {
 
     /// The cells that are in both.
     pub fn meet(&self, other: &Rect) -> Rect
-        ensures rect { result ≡ common self.now other.now }
+        ensures rect { result ≡ intersection self.now other.now }
         ensures cells { (x y : ℤ) → holds result x y ≡ holds self.now x y && holds other.now x y }
     {
         Rect {
@@ -60,7 +60,7 @@ impl Rect {
 
     /// Whether some cell is in both.
     pub fn overlaps(&self, other: &Rect) -> bool
-        ensures sides { result ≡ not (is_thin (common self.now other.now)) }
+        ensures sides { result ≡ not (is_thin (intersection self.now other.now)) }
         ensures cells { IsTrue result ↔ ((x : ℤ) × ((y : ℤ) × (holds self.now x y && holds other.now x y ≡ true))) }
     {
         !self.meet(other).is_empty()
@@ -115,7 +115,7 @@ impl Rect {
     /// The same rectangle elsewhere.
     pub fn shifted(&self, by: Shift) -> Rect
         requires { FitsMoved self.now by }
-        ensures { result ≡ moved by self.now }
+        ensures { result ≡ move_rect by self.now }
     {
         Rect {
             x1: self.x1 + by.dx,
@@ -144,7 +144,7 @@ fn fits_moved(z: i64, by: i64) -> bool
     ensures { IsTrue result ↔ IsNear (z +ℤ by) }
 {
     match z.checked_add(by) {
-        Some(sum) => -FURTHEST <= sum && sum <= FURTHEST,
+        Some(sum) => -MAX_COORDINATE <= sum && sum <= MAX_COORDINATE,
         None => false,
     }
 }

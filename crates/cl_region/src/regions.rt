@@ -1,8 +1,8 @@
 //! Regions: sets of cells, kept as rectangles that share none.
 ghost use Rattle.std.specs.Prelude.{◌≡◌, ℤ, ◌*◌, ◌≤◌, ◌&&◌, ◌||◌, ◌++◌, ◌↔◌, [], ◌∷◌, not, length, take, IsTrue, OnOk, OnErr, IfOk};
-ghost use Rattle.cl_region.specs.Places.{held, holds};
+ghost use Rattle.cl_region.specs.Places.{one_holds, holds};
 ghost use Rattle.cl_region.specs.Pieces.{ArePieces, ArePiecesOf, IsApart};
-ghost use Rattle.cl_region.specs.Cutting.{Continues, IsBelow, IsBeside, around, cut, cut_all, kept};
+ghost use Rattle.cl_region.specs.Cutting.{Continues, IsBelow, IsBeside, parts_around, cut_rect, cut_all, unless_thin};
 
 use crate::rects::Rect;
 use std::alloc::{AllocError, Global};
@@ -40,7 +40,7 @@ impl Region {
 
     /// Whether this cell is one of the region's.
     pub fn contains(&self, x: i64, y: i64) -> bool
-        ensures { result ≡ held self.now x y }
+        ensures { result ≡ one_holds self.now x y }
     {
         some_contains(self.rects.as_slice(), x, y)
     }
@@ -55,7 +55,7 @@ impl Region {
 
     /// Adds the cells of a rectangle. Where memory is wanting, nothing changes.
     pub fn add(&mut self, rect: Rect) -> Result<(), AllocError>
-        ensures cells { OnOk result ((x y : ℤ) → held self.new x y ≡ held self.old x y || holds rect x y) }
+        ensures cells { OnOk result ((x y : ℤ) → one_holds self.new x y ≡ one_holds self.old x y || holds rect x y) }
         ensures unchanged { OnErr result (self.new ≡ self.old) }
     {
         if rect.is_empty() {
@@ -72,7 +72,7 @@ impl Region {
     /// Takes the cells of a rectangle away. Each rectangle that was there leaves at most four. Where memory is
     /// wanting, nothing changes.
     pub fn minus(&mut self, rect: Rect) -> Result<(), AllocError>
-        ensures cells { OnOk result ((x y : ℤ) → held self.new x y ≡ held self.old x y && not (holds rect x y)) }
+        ensures cells { OnOk result ((x y : ℤ) → one_holds self.new x y ≡ one_holds self.old x y && not (holds rect x y)) }
         ensures few { length self.new ≤ 4 * length self.old }
         ensures unchanged { OnErr result (self.new ≡ self.old) }
     {
@@ -84,7 +84,7 @@ impl Region {
 
 // Whether one of the rectangles holds the cell.
 fn some_contains(rects: &[Rect], x: i64, y: i64) -> bool
-    ensures { result ≡ held rects.now x y }
+    ensures { result ≡ one_holds rects.now x y }
 {
     for rect in rects {
         if rect.contains(x, y) {
@@ -160,7 +160,7 @@ fn is_below(first: &Rect, next: &Rect) -> bool
 // What a rectangle has outside of each of the others. Only those that share a cell with it cut it.
 fn outside_of_each(alloc: Global, holes: &[Rect], rect: Rect) -> Result<Vec<Rect>, AllocError>
     ensures pieces { IfOk result (λ v. ArePieces v.items) }
-    ensures cells { IfOk result (λ v. (x y : ℤ) → held v.items x y ≡ holds rect x y && not (held holes.now x y)) }
+    ensures cells { IfOk result (λ v. (x y : ℤ) → one_holds v.items x y ≡ holds rect x y && not (one_holds holes.now x y)) }
 {
     let mut parts = one_piece(alloc, rect)?;
     for hole in holes {
@@ -173,7 +173,7 @@ fn outside_of_each(alloc: Global, holes: &[Rect], rect: Rect) -> Result<Vec<Rect
 
 // The rectangle alone, or nothing where it is empty.
 fn one_piece(alloc: Global, rect: Rect) -> Result<Vec<Rect>, AllocError>
-    ensures { IfOk result (λ v. v.items ≡ kept rect) }
+    ensures { IfOk result (λ v. v.items ≡ unless_thin rect) }
 {
     let mut pieces = Vec::new(alloc);
     keep(&mut pieces, rect)?;
@@ -182,7 +182,7 @@ fn one_piece(alloc: Global, rect: Rect) -> Result<Vec<Rect>, AllocError>
 
 // One rectangle more, unless it is empty.
 fn keep(pieces: &mut Vec<Rect>, rect: Rect) -> Result<(), AllocError>
-    ensures { OnOk result (pieces.new.items ≡ pieces.old.items ++ kept rect) }
+    ensures { OnOk result (pieces.new.items ≡ pieces.old.items ++ unless_thin rect) }
 {
     if rect.is_empty() {
         return Ok(());
@@ -204,7 +204,7 @@ fn without(alloc: Global, rects: &[Rect], hole: &Rect) -> Result<Vec<Rect>, Allo
 
 // Pieces more: what a rectangle has outside of another one.
 fn cut(pieces: &mut Vec<Rect>, rect: Rect, hole: &Rect) -> Result<(), AllocError>
-    ensures { OnOk result (pieces.new.items ≡ pieces.old.items ++ cut hole.now rect) }
+    ensures { OnOk result (pieces.new.items ≡ pieces.old.items ++ cut_rect hole.now rect) }
 {
     let middle = rect.meet(hole);
     if middle.is_empty() {
@@ -215,7 +215,7 @@ fn cut(pieces: &mut Vec<Rect>, rect: Rect, hole: &Rect) -> Result<(), AllocError
 
 // Pieces more: what is above, to the left, to the right and below of a part of a rectangle.
 fn keep_around(pieces: &mut Vec<Rect>, rect: Rect, part: Rect) -> Result<(), AllocError>
-    ensures { OnOk result (pieces.new.items ≡ pieces.old.items ++ around rect part) }
+    ensures { OnOk result (pieces.new.items ≡ pieces.old.items ++ parts_around rect part) }
 {
     let beside = Rect {
         y1: part.y1,

@@ -2,7 +2,7 @@ use Rattle.std.proofs.Common.{arith, rules}
 use Rattle.std.proofs.lemmas.Int.{ints, clamps}
 use mir.Syntax.{w64}
 use mir.Val.{SFits}
-use Rattle.cl_region.specs.Places.{common}
+use Rattle.cl_region.specs.Places.{intersection}
 use Rattle.cl_region.proofs.Corners.{rect_is, common_is}
 use Rattle.cl_region.proofs.rects.Rect.meet.Goals as goal
 
@@ -16,7 +16,7 @@ returns-clause-rect c =
     let g : SFits w64 c.args.other.now.y1 = search rules in
     let h : SFits w64 c.args.other.now.x2 = search rules in
     let i : SFits w64 c.args.other.now.y2 = search rules in
-    rect_is (common c.args.self.now c.args.other.now) _ _ _ _
+    rect_is (intersection c.args.self.now c.args.other.now) _ _ _ _
     (omega (arith, ints, clamps, c.max.ensures.value)) (omega (arith, ints, clamps, c.max-2.ensures.value))
     (omega (arith, ints, clamps, c.min.ensures.value)) (omega (arith, ints, clamps, c.min-2.ensures.value))
 
@@ -31,6 +31,6 @@ returns-clause-cells c =
     let h : SFits w64 c.args.other.now.x2 = search rules in
     let i : SFits w64 c.args.other.now.y2 = search rules in
     common_is _ c.args.self.now c.args.other.now
-    (rect_is (common c.args.self.now c.args.other.now) _ _ _ _
+    (rect_is (intersection c.args.self.now c.args.other.now) _ _ _ _
     (omega (arith, ints, clamps, c.max.ensures.value)) (omega (arith, ints, clamps, c.max-2.ensures.value))
     (omega (arith, ints, clamps, c.min.ensures.value)) (omega (arith, ints, clamps, c.min-2.ensures.value)))
