@@ -1,7 +1,7 @@
 //! Items, the cursor, and where an item lies.
 use cl_medium::{
-    Ambient, Drawn, Leaf, draw_box, draw_hline, draw_point, draw_text, draw_vline, enter_room,
-    fill_box, indent, leave_room, newline,
+    Ambient, Drawn, Leaf, LeafShape, columns_of, draw_box, draw_hline, draw_point, draw_text,
+    draw_vline, enter_room, fill_box, indent, leave_room, newline,
 };
 use cl_outside::Cell;
 use cl_region::Shift;
@@ -71,4 +71,40 @@ fn leaves(rt: HostRuntime) {
             assert!(rt; leaf.same(&other));
         }
     }
+}
+
+// A row from the third column on: what stands left of it is not there, and places without an item are none.
+#[test]
+fn rows_are_put_at_once(rt: HostRuntime) {
+    let mut ambient = Ambient::start();
+    let Ok(text) = Text::from_slice(rt.alloc(), b"abcd") else {
+        assert!(rt; false);
+        return;
+    };
+    assert_eq!(rt; columns_of(text.as_slice()), 4);
+    let Drawn::Item(leaf) = draw_text(&mut ambient, &text) else {
+        assert!(rt; false);
+        return;
+    };
+    let mut cells = [Some(Cell::BLANK); 4];
+    if leaf.bounds().fits(STILL) {
+        leaf.put_row(STILL, 2, 0, &mut cells);
+    }
+    assert_eq!(rt;
+        cells[0],
+        Some(Cell {
+            glyph: b'c',
+            ink: 0
+        })
+    );
+    assert_eq!(rt;
+        cells[1],
+        Some(Cell {
+            glyph: b'd',
+            ink: 0
+        })
+    );
+    assert_eq!(rt; cells[2], None);
+    assert!(rt; matches!(leaf.shape(), LeafShape::Text(_)));
+    assert_eq!(rt; leaf.area().width, 4);
 }

@@ -1,7 +1,7 @@
 //! What no clause says: that calls succeed while there is memory, and what is equal hashes alike.
 use cl_value::{Text, Value, Values};
 use std::alloc::{AllocError, Global};
-use std::collections::HashMap;
+use std::collections::{BTreeMap, HashMap};
 use std::test::Fail;
 
 fn text(alloc: Global, bytes: &[u8]) -> Result<Value, AllocError> {
@@ -129,5 +129,31 @@ fn texts_are_keys(rt: HostRuntime) -> Result<(), Fail> {
         numbers.get(&Text::from_slice(alloc, b"nam")?).copied(),
         None
     );
+    Ok(())
+}
+
+#[test]
+fn values_are_sorted(rt: HostRuntime) -> Result<(), Fail> {
+    let alloc = rt.alloc();
+    let mut row = Vec::new(alloc);
+    row.push(rising(alloc, 8)?)?;
+    row.push(rising(alloc, 0)?)?;
+    row.push(rising(alloc, 5)?)?;
+    row.sort()?;
+    assert!(rt; row[0] == rising(alloc, 0)?);
+    assert!(rt; row[1] == rising(alloc, 5)?);
+    assert!(rt; row[2] == rising(alloc, 8)?);
+    Ok(())
+}
+
+#[test]
+fn values_are_keys(rt: HostRuntime) -> Result<(), Fail> {
+    let alloc = rt.alloc();
+    let mut numbers: BTreeMap<Value, u8> = BTreeMap::new(alloc);
+    let _ = numbers.insert(point(alloc)?, 1)?;
+    let _ = numbers.insert(Value::Null, 2)?;
+    let _ = numbers.insert(point(alloc)?, 3)?;
+    assert_eq!(rt; numbers.len(), 2);
+    assert_eq!(rt; numbers.get(&point(alloc)?).copied(), Some(3));
     Ok(())
 }
