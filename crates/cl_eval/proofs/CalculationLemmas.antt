@@ -1,17 +1,16 @@
 -- Arithmetic and comparisons of the numbers that parts give.
-use Rattle.std.proofs.Common.{◌≡◌, ℕ, ℤ, ◌≤◌, Bool, List, [], ◌∷◌, ◌++◌, Option, Some, None, Result, Ok, Err, refl, arith}
+use Rattle.std.proofs.Common.{◌≡◌, ℕ, ℤ, Bool, List, [], ◌∷◌, Option, Result, Ok, Err, refl, arith}
 use Rattle.cl_value.specs.Data.{Data, int, bool}
 use Rattle.cl_value.specs.Value.{data_of}
 use Rattle.cl_syntax.specs.ExprTree.{ExprTree, ExprTrees, none, part}
-use Rattle.cl_application.specs.declared.applications.App.{App}
 use Rattle.cl_syntax.specs.declared.operators.Arithmetic.{Arithmetic}
 use Rattle.cl_syntax.specs.declared.operators.Comparison.{Comparison}
 use Rattle.cl_eval.specs.declared.metering.Meter.{Meter}
 use Rattle.cl_eval.specs.declared.metering.Stop.{Stop}
 use Rattle.cl_eval.specs.declared.metering.Stop.TheVariants.{Trap, Memory}
-use Rattle.cl_eval.specs.Outcome.{Outcome, Gives, Traps, Run, after, give, lift, ◌>>=◌, cost_of}
+use Rattle.cl_eval.specs.Outcome.{Outcome, Gives, Traps, after, give, lift}
 use Rattle.cl_eval.specs.Slots.{Env}
-use Rattle.cl_eval.specs.Operators.{Answer, truth, calculated, compared, arithmetic_of, comparison_of}
+use Rattle.cl_eval.specs.Operators.{Answer, truth, arithmetic_of, comparison_of}
 use Rattle.cl_eval.specs.Meaning.{Go, each}
 use Rattle.cl_eval.specs.Calculation.{number_in, number_of, both, pair_in, numbered, paired, arithmetic_on, comparison_on}
 use Rattle.cl_eval.specs.Agrees.{Agrees, Comes, itself, items_are}

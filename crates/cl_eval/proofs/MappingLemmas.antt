@@ -1,10 +1,10 @@
 -- `map` whose values are not kept once their list is past the limit of size.
-use Rattle.std.proofs.Common.{◌≡◌, ℕ, ◌+◌, ◌≤◌, nat_le, ◌&&◌, Bool, true, false, if◌then◌else◌, List, [], ◌∷◌, ◌++◌, Result, Ok, Err, refl, arith, rules, tests}
-use Rattle.cl_value.specs.Data.{Data, list, items_of, size_of, size_of_items, depth_of_items}
+use Rattle.std.proofs.Common.{◌≡◌, ℕ, ◌+◌, ◌≤◌, nat_le, false, List, [], ◌∷◌, ◌++◌, Err, refl, arith, rules, tests}
+use Rattle.cl_value.specs.Data.{Data, list, items_of, size_of, size_of_items}
 use Rattle.cl_syntax.specs.ExprTree.{ExprTree}
 use Rattle.cl_eval.specs.declared.metering.Meter.{Meter}
 use Rattle.cl_eval.specs.declared.metering.Stop.{Stop}
-use Rattle.cl_eval.specs.Outcome.{Outcome, Gives, Traps, Run, after, lift, ◌>>=◌, cost_of, trap}
+use Rattle.cl_eval.specs.Outcome.{Outcome, Gives, Traps, Run, after, lift, cost_of}
 use Rattle.cl_eval.specs.Slots.{Env}
 use Rattle.cl_eval.specs.Operators.{limited}
 use Rattle.cl_eval.specs.Meaning.{Go, mapped}

@@ -1,4 +1,4 @@
-use Rattle.std.proofs.Common.{◌≡◌, ◌≤◌, ◌+◌, List, ◌∙◌, ◌∷◌, ◌++◌, [], suc, drop, drop-cons, map, ap, sym, arith, if◌then◌else◌}
+use Rattle.std.proofs.Common.{◌≡◌, ◌≤◌, ◌+◌, List, ◌∙◌, ◌∷◌, ◌++◌, [], suc, drop, drop-cons, map, ap, sym, arith}
 use Rattle.std.proofs.lemmas.Result.{err_from_is_err_and}
 use Rattle.cl_value.specs.Value.{data_of}
 use Rattle.cl_value.specs.declared.Value.{Value}
@@ -16,15 +16,15 @@ use Rattle.cl_eval.specs.Standpoint.{meaning_at}
 use Rattle.cl_eval.proofs.EnteringLemmas.{means-entered}
 use Rattle.cl_eval.proofs.CostLemmas.{grows-at}
 use Rattle.cl_eval.proofs.CalculationLemmas.{stop-first_number, stop-second_number, both-numbers, pair-stop, pair-done, as_answer, as_answer-comes}
-use Rattle.cl_eval.proofs.CalculationLemmas.{arithmetic_pair, comparison_pair, truth-done, Agrees-number, number-stop}
+use Rattle.cl_eval.proofs.CalculationLemmas.{arithmetic_pair, comparison_pair}
 use Rattle.cl_eval.proofs.MappingLemmas.{stop-map_behind, full-map_behind, next-map_behind, pass-map_behind, stop-past, more_size}
 use Rattle.cl_eval.proofs.ListLemmas.{rest_whole}
 use Rattle.cl_value.specs.Data.{items_of, size_of, size_of_items}
 use Rattle.cl_eval.specs.Mapping.{map_behind}
 use Rattle.cl_eval.specs.Standpoint.{seen_from}
 use Rattle.cl_eval.proofs.StopLemmas.{stop-each, full-each, stop-every, stop-some, stop-bound, full-bound, stop-let_in, stop-first, stop-second}
-use Rattle.cl_eval.proofs.StopLemmas.{done-second, pair, stop-mapped, full-mapped, stop-filtered, full-filtered, stop-folded, stop-choice, stop-map}
-use Rattle.cl_eval.proofs.StopLemmas.{stop-filter, stop-fold, stop-opening, stop-elements, stop-call, is_memory}
+use Rattle.cl_eval.proofs.StopLemmas.{done-second, pair, stop-filtered, full-filtered, stop-folded, stop-choice, stop-map}
+use Rattle.cl_eval.proofs.StopLemmas.{stop-filter, stop-fold, stop-opening, stop-elements, stop-call}
 use Rattle.cl_eval.proofs.+evaluate.Goals as goal
 
 pub evaluation::evaluate_each-returns-in_err-value-clause-meaning : goal.evaluation::evaluate_each-returns-in_err-value-clause-meaning
