@@ -1,6 +1,7 @@
 #!/usr/bin/env bash
 # Runs a command of nested maps, filters and folds 100 times through the built program, and prints how many forms it enters in a second
-# of user and system processor time. 15 million a second are aimed at. The program is built where it is not yet.
+# of user and system processor time. 15 million a second are aimed at. The program is built where it is not yet. Where valgrind is
+# there, it also prints the processor instructions of a form, which do not hang on the machine's load: 170 are aimed at, at most.
 #
 # FORMS of a run were counted once, by a separate program that evaluates by the rules of docs/language.md and counts each form that it
 # enters; by hand it is the same. The command: `setf`, the outer `fold` with its range of 3 and its 0 are 6. For each of its 500 numbers,
@@ -29,3 +30,17 @@ awk -v forms="$((3 + runs * forms))" '{
     seconds = $1 + $2
     printf "%d forms in %.2f s: %.1f million a second (aim 15)\n", forms, seconds, (seconds > 0 ? forms / seconds / 1000000 : 0)
 }' <<<"$spent"
+
+# the instructions of the program over so many runs of the command
+instructions() {
+    head -n $((2 * $1)) "$files/gestures" |
+        valgrind --tool=callgrind --callgrind-out-file=/dev/null "$program" run "$files/work.clim" 2>&1 >/dev/null |
+        awk '/Collected/ { print $NF }'
+}
+if command -v valgrind >/dev/null; then
+    # what starts and ends the program falls out of the difference
+    awk -v forms="$forms" 'NR == 1 { few = $1 } NR == 2 { more = $1 } END {
+        printf "%.0f instructions a form (aim 170)\n", (more - few) / (2 * forms)
+    }' <<<"$(instructions 1)
+$(instructions 3)"
+fi

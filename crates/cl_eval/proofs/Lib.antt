@@ -2,6 +2,8 @@ pub mod EnteringLemmas
 pub mod SlotLemmas
 pub mod CostLemmas
 pub mod StopLemmas
+pub mod CalculationLemmas
+pub mod MappingLemmas
 pub mod StatementLemmas
 pub mod LimitLemmas
 pub mod NameLemmas

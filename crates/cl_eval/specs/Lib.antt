@@ -5,6 +5,8 @@ pub mod Operators
 pub mod Meaning
 pub mod Standpoint
 pub mod Agrees
+pub mod Calculation
+pub mod Mapping
 pub mod Evaluated
 pub mod Statements
 pub mod Stage

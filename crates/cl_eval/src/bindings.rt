@@ -16,6 +16,7 @@ use cl_value::Value;
 
 /// The body behind bindings.
 #[cycle(evaluate)]
+#[inline(never)]
 pub fn evaluate_let<L: Ledger>(
     here: &Standpoint<'_>,
     bindings: &[Binding],

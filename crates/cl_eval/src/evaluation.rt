@@ -3,19 +3,21 @@ ghost use Rattle.std.specs.Prelude.{◌≡◌, ◌+◌, ◌<◌, ◌^◌, []};
 ghost use Rattle.cl_value.specs.Value.{data_of};
 ghost use Rattle.cl_syntax.specs.ExprTree.{expr_trees_of};
 ghost use Rattle.cl_eval.specs.Meaning.{each, every, listed, parts, some, tested};
-ghost use Rattle.cl_eval.specs.Standpoint.{seen_from};
+ghost use Rattle.cl_eval.specs.Calculation.{tested_parts};
+ghost use Rattle.cl_eval.specs.Standpoint.{lower, seen_from};
 ghost use Rattle.cl_eval.specs.Agrees.{Agrees, itself, items_are};
 
 use crate::bindings::evaluate_let;
-use crate::calls::{call, evaluate_operation};
+use crate::calculation::evaluate_comparison;
+use crate::calls::{evaluate_call, evaluate_operation};
 use crate::metering::{Meter, Stop};
-use crate::operators::{elements, find_value, limit, truth};
+use crate::operators::{elements, find_value, truth};
 use crate::slot_table::Slots;
-use crate::traversal::{filter_over, fold_over, map_over};
+use crate::traversal::{evaluate_filter, evaluate_fold, evaluate_map};
 use crate::variables::Scope;
 use cl_application::App;
 use cl_outside::{Ledger, Steps};
-use cl_syntax::{Expr, ExprKind};
+use cl_syntax::{Expr, ExprKind, Operator};
 use cl_value::{Value, Values};
 use std::alloc::Global;
 
@@ -38,6 +40,22 @@ pub struct Standpoint<'a> {
     pub level: u32,
 }
 
+impl<'a> Standpoint<'a> {
+    /// One level further down.
+    #[inline(always)]
+    pub fn below(&self) -> Standpoint<'a>
+        requires left { 0 < self.now.left }
+        requires level { self.now.level + self.now.left < 2 ^ 32 }
+        ensures { result ≡ lower self.now }
+    {
+        Standpoint {
+            left: self.left - 1,
+            level: self.level + 1,
+            ..*self
+        }
+    }
+}
+
 /// The value of an expression.
 #[cycle(evaluate)]
 pub fn evaluate<L: Ledger>(
@@ -52,17 +70,14 @@ pub fn evaluate<L: Ledger>(
     ensures ledger { steps.new + meter.old.cost ≡ steps.old + meter.new.cost }
 {
     meter.enter(here.left, here.context.budget, here.level, steps)?;
-    let inner = Standpoint {
-        left: here.left - 1,
-        level: here.level + 1,
-        ..*here
-    };
+    let inner = here.below();
     evaluate_parts(&inner, expr, meter, steps)
 }
 
-// The value of a form that was entered.
+/// The value of a form that was entered.
 #[cycle(evaluate)]
-fn evaluate_parts<L: Ledger>(
+#[inline(never)]
+pub fn evaluate_parts<L: Ledger>(
     here: &Standpoint<'_>,
     expr: &Expr,
     meter: &mut Meter,
@@ -88,29 +103,13 @@ fn evaluate_parts<L: Ledger>(
         ExprKind::Let(bindings, body) => evaluate_let(here, bindings, body, meter, steps),
         ExprKind::And(parts) => evaluate_every(here, parts, meter, steps),
         ExprKind::Or(parts) => evaluate_some(here, parts, meter, steps),
-        ExprKind::Map(each) => {
-            let list = evaluate_list(here, &each.list, meter, steps)?;
-            let values = map_over(here, &each.name, list.as_slice(), &each.body, meter, steps)?;
-            limit(Value::List(values))
-        }
-        ExprKind::Filter(each) => {
-            let list = evaluate_list(here, &each.list, meter, steps)?;
-            let values = filter_over(here, &each.name, list.as_slice(), &each.body, meter, steps)?;
-            limit(Value::List(values))
-        }
-        ExprKind::Fold(fold) => {
-            let list = evaluate(here, &fold.list, meter, steps)?;
-            let opening = evaluate(here, &fold.opening, meter, steps)?;
-            let list = elements(list)?;
-            fold_over(here, fold, list.as_slice(), opening, meter, steps)
-        }
+        ExprKind::Map(each) => evaluate_map(here, each, meter, steps),
+        ExprKind::Filter(each) => evaluate_filter(here, each, meter, steps),
+        ExprKind::Fold(fold) => evaluate_fold(here, fold, meter, steps),
         ExprKind::Operation(operator, parts) => {
             evaluate_operation(here, operator, parts, meter, steps)
         }
-        ExprKind::Call(name, parts) => {
-            let values = evaluate_each(here, parts, meter, steps)?;
-            call(here, name, values.as_slice(), meter, steps)
-        }
+        ExprKind::Call(name, parts) => evaluate_call(here, name, parts, meter, steps),
     }
 }
 
@@ -127,8 +126,34 @@ pub fn evaluate_test<L: Ledger>(
         (seen_from here.now tested expr.now meter.old.cost meter.old.deepest) }
     ensures ledger { steps.new + meter.old.cost ≡ steps.old + meter.new.cost }
 {
-    let value = evaluate(here, expr, meter, steps)?;
-    truth(&value)
+    meter.enter(here.left, here.context.budget, here.level, steps)?;
+    let inner = here.below();
+    evaluate_test_parts(&inner, expr, meter, steps)
+}
+
+// Whether a form that was entered is true. A comparison makes no value.
+#[cycle(evaluate)]
+fn evaluate_test_parts<L: Ledger>(
+    here: &Standpoint<'_>,
+    expr: &Expr,
+    meter: &mut Meter,
+    steps: &mut Steps<L>,
+) -> Result<bool, Stop>
+    requires { here.now.level + here.now.left < 2 ^ 32 }
+    ensures meaning { Agrees itself result meter.new
+        (seen_from here.now (tested_parts here.now.context.now.app.now here.now.context.now.slots.now)
+        expr.now meter.old.cost meter.old.deepest) }
+    ensures ledger { steps.new + meter.old.cost ≡ steps.old + meter.new.cost }
+{
+    match &expr.kind {
+        ExprKind::Operation(Operator::Comparison(operator), parts) => {
+            evaluate_comparison(here, *operator, parts, meter, steps)
+        }
+        _ => {
+            let value = evaluate_parts(here, expr, meter, steps)?;
+            truth(&value)
+        }
+    }
 }
 
 /// The list that an expression gives.
@@ -171,6 +196,7 @@ pub fn evaluate_each<L: Ledger>(
 
 // True where each part is, up to the first that is not.
 #[cycle(evaluate)]
+#[inline(never)]
 fn evaluate_every<L: Ledger>(
     here: &Standpoint<'_>,
     parts: &[Expr],
@@ -193,6 +219,7 @@ fn evaluate_every<L: Ledger>(
 
 // False where each part is, up to the first that is not.
 #[cycle(evaluate)]
+#[inline(never)]
 fn evaluate_some<L: Ledger>(
     here: &Standpoint<'_>,
     parts: &[Expr],

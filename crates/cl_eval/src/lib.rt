@@ -2,6 +2,7 @@
 #![tactic(auto)]
 
 mod bindings;
+mod calculation;
 mod calls;
 mod effects;
 mod evaluating;

@@ -1,5 +1,5 @@
 //! Operators on lists.
-ghost use Rattle.std.specs.Prelude.{◌≡◌, ℕ, ◌≤◌, pos, negsuc, ◌+ℤ◌, ◌-ℤ◌, ◌≤ℤ◌, ◌^◌, ◌++◌, ◌∷◌, [], map, Ok, OnOk, IfOk};
+ghost use Rattle.std.specs.Prelude.{◌≡◌, ℕ, ◌≤◌, pos, negsuc, ◌+ℤ◌, ◌-ℤ◌, ◌≤ℤ◌, ◌^◌, ◌++◌, ◌∷◌, [], map, Ok, OnOk, IfOk, if◌then◌else◌};
 ghost use Rattle.cl_value.specs.Data.{items_of, list};
 ghost use Rattle.cl_value.specs.Value.{data_of};
 ghost use Rattle.cl_eval.specs.Operators.{count_to, has_part, limited, list_made, nth_of, numbers_from, range_of, rest_of};
@@ -26,7 +26,7 @@ pub fn list_operation(
         ListOperator::Nth => nth(values),
         ListOperator::Rest => rest(alloc, values),
         ListOperator::Cons => cons(alloc, values),
-        ListOperator::Append => append(values),
+        ListOperator::Append => append(alloc, values),
         ListOperator::Contains => contains(values),
         ListOperator::Range => range(alloc, values),
     }
@@ -36,14 +36,15 @@ pub fn list_operation(
 pub fn copy_all(alloc: Global, values: &[Value]) -> Result<Values, AllocError>
     ensures { IfOk result (λ vs. vs ≡ map data_of values.now) }
 {
-    let mut copies = Values::new(alloc);
+    let mut copies = Vec::with_capacity(alloc, values.len())?;
     add_all(&mut copies, values)?;
-    Ok(copies)
+    Values::from_vec(alloc, copies)
 }
 
 /// Copies of the parts more.
-pub fn add_all(values: &mut Values, parts: &[Value]) -> Result<(), AllocError>
-    ensures { OnOk result (values.new ≡ values.old ++ map data_of parts.now) }
+pub fn add_all(values: &mut Vec<Value>, parts: &[Value]) -> Result<(), AllocError>
+    ensures { OnOk result (map data_of values.new.items
+        ≡ map data_of values.old.items ++ map data_of parts.now) }
 {
     for part in parts {
         add_part(values, part.copy()?)?;
@@ -52,10 +53,25 @@ pub fn add_all(values: &mut Values, parts: &[Value]) -> Result<(), AllocError>
 }
 
 /// One value more.
-pub fn add_part(values: &mut Values, value: Value) -> Result<(), AllocError>
-    ensures { OnOk result (values.new ≡ values.old ++ data_of value ∷ []) }
+pub fn add_part(values: &mut Vec<Value>, value: Value) -> Result<(), AllocError>
+    ensures { OnOk result (map data_of values.new.items
+        ≡ map data_of values.old.items ++ data_of value ∷ []) }
 {
-    values.push(value).map_err(|_| AllocError)
+    values.push(value)?;
+    Ok(())
+}
+
+/// A copy of the value more, where it is kept.
+pub fn add_if(kept: bool, values: &mut Vec<Value>, value: &Value) -> Result<(), AllocError>
+    ensures { OnOk result (map data_of values.new.items ≡ (if kept
+        then map data_of values.old.items ++ data_of value.now ∷ []
+        else map data_of values.old.items)) }
+{
+    if kept {
+        add_part(values, value.copy()?)
+    } else {
+        Ok(())
+    }
 }
 
 fn list(alloc: Global, values: &[Value]) -> Result<Value, Stop>
@@ -117,28 +133,31 @@ fn cons(alloc: Global, values: &[Value]) -> Result<Value, Stop>
 fn with_first(alloc: Global, first: &Value, rest: &Values) -> Result<Values, AllocError>
     ensures { IfOk result (λ vs. vs ≡ data_of first.now ∷ rest.now) }
 {
-    let mut parts = Values::new(alloc);
-    add_part(&mut parts, first.copy()?)?;
+    let mut parts = Vec::with_capacity(alloc, rest.len().saturating_add(1))?;
+    parts.push(first.copy()?)?;
     add_all(&mut parts, rest.as_slice())?;
-    Ok(parts)
+    Values::from_vec(alloc, parts)
 }
 
 #[tactic(auto, using(std::proofs::lemmas::Grind::common_steps, crate::proofs::ListLemmas::list_of_items))]
-fn append(values: &[Value]) -> Result<Value, Stop>
+fn append(alloc: Global, values: &[Value]) -> Result<Value, Stop>
     ensures { Comes data_of result (list_made row.Append (map data_of values.now)) }
 {
     match values {
-        [Value::List(first), Value::List(second)] => limit(Value::List(joined(first, second)?)),
+        [Value::List(first), Value::List(second)] => {
+            limit(Value::List(joined(alloc, first, second)?))
+        }
         _ => Err(Stop::Trap(1)),
     }
 }
 
-fn joined(first: &Values, second: &Values) -> Result<Values, AllocError>
+fn joined(alloc: Global, first: &Values, second: &Values) -> Result<Values, AllocError>
     ensures { IfOk result (λ vs. vs ≡ first.now ++ second.now) }
 {
-    let mut parts = first.copy()?;
+    let mut parts = Vec::with_capacity(alloc, first.len().saturating_add(second.len()))?;
+    add_all(&mut parts, first.as_slice())?;
     add_all(&mut parts, second.as_slice())?;
-    Ok(parts)
+    Values::from_vec(alloc, parts)
 }
 
 #[tactic(auto, using(std::proofs::lemmas::Grind::common_steps, crate::proofs::ListLemmas::list_of_items))]
@@ -201,9 +220,9 @@ fn numbers_from(alloc: Global, first: i64, count: u32) -> Result<Values, AllocEr
     requires { (first +ℤ pos count) ≤ℤ pos (2 ^ 63) }
     ensures { IfOk result (λ vs. vs ≡ numbers_from first count) }
 {
-    let mut numbers = Values::new(alloc);
+    let mut numbers = Vec::with_capacity(alloc, count as usize)?;
     for place in 0..count {
         add_part(&mut numbers, Value::Int(first + i64::from(place)))?;
     }
-    Ok(numbers)
+    Values::from_vec(alloc, numbers)
 }

@@ -3,7 +3,8 @@ ghost use Rattle.std.specs.Prelude.{◌≡◌, ◌≢◌, pos, map, Ok, Err, if�
 ghost use Rattle.cl_value.specs.Data.{int};
 ghost use Rattle.cl_value.specs.Value.{data_of};
 ghost use Rattle.cl_eval.specs.Operators.{arithmetic_of, calculated, compared, comparison_of, is_zero, number, quotient, remainder};
-ghost use Rattle.cl_eval.specs.Agrees.{Comes};
+ghost use Rattle.cl_eval.specs.Calculation.{arithmetic_on, comparison_on, number_in, pair_in};
+ghost use Rattle.cl_eval.specs.Agrees.{Comes, itself};
 
 use crate::metering::Stop;
 use cl_syntax::{Arithmetic, Comparison};
@@ -14,7 +15,10 @@ pub fn arithmetic(operator: Arithmetic, values: &[Value]) -> Result<Value, Stop>
     ensures { Comes data_of result (arithmetic_of operator (map data_of values.now)) }
 {
     match values {
-        [Value::Int(first), Value::Int(second)] => calculate(operator, *first, *second),
+        [Value::Int(first), Value::Int(second)] => {
+            let number = calculate(operator, *first, *second)?;
+            Ok(Value::Int(number))
+        }
         _ => Err(Stop::Trap(1)),
     }
 }
@@ -31,6 +35,46 @@ pub fn comparison(operator: Comparison, values: &[Value]) -> Result<Value, Stop>
     }
 }
 
+/// The number that a value is, where it is one.
+pub fn number_in(value: &Value) -> Option<i64>
+    ensures { result ≡ number_in (data_of value.now) }
+{
+    match value {
+        Value::Int(number) => Some(*number),
+        _ => None,
+    }
+}
+
+/// The two numbers that values are, where they are two and each is one.
+pub fn pair_in(values: &[Value]) -> Option<(i64, i64)>
+    ensures { result ≡ pair_in (map data_of values.now) }
+{
+    match values {
+        [Value::Int(first), Value::Int(second)] => Some((*first, *second)),
+        _ => None,
+    }
+}
+
+/// The arithmetic of two numbers, where they are there.
+pub fn calculate_pair(operator: Arithmetic, pair: Option<(i64, i64)>) -> Result<i64, Stop>
+    ensures { Comes int result (arithmetic_on operator pair) }
+{
+    match pair {
+        Some((first, second)) => calculate(operator, first, second),
+        None => Err(Stop::Trap(1)),
+    }
+}
+
+/// The comparison of two numbers, where they are there.
+pub fn compare_pair(operator: Comparison, pair: Option<(i64, i64)>) -> Result<bool, Stop>
+    ensures { Comes itself result (comparison_on operator pair) }
+{
+    match pair {
+        Some((first, second)) => Ok(compare(operator, first, second)),
+        None => Err(Stop::Trap(1)),
+    }
+}
+
 fn compare(operator: Comparison, first: i64, second: i64) -> bool
     ensures { result ≡ compared operator first second }
 {
@@ -42,32 +86,32 @@ fn compare(operator: Comparison, first: i64, second: i64) -> bool
     }
 }
 
-fn calculate(operator: Arithmetic, first: i64, second: i64) -> Result<Value, Stop>
-    ensures { Comes data_of result (calculated operator first second) }
+fn calculate(operator: Arithmetic, first: i64, second: i64) -> Result<i64, Stop>
+    ensures { Comes int result (calculated operator first second) }
 {
     match operator {
         Arithmetic::Add => number(i128::from(first) + i128::from(second)),
         Arithmetic::Subtract => number(i128::from(first) - i128::from(second)),
         Arithmetic::Multiply => number(i128::from(first) * i128::from(second)),
-        Arithmetic::Least => Ok(Value::Int(first.min(second))),
-        Arithmetic::Greatest => Ok(Value::Int(first.max(second))),
+        Arithmetic::Least => Ok(first.min(second)),
+        Arithmetic::Greatest => Ok(first.max(second)),
         Arithmetic::Quotient => divide(first, second),
         Arithmetic::Remainder => leave(first, second),
     }
 }
 
 // The number where it fits 64 bits.
-fn number(exact: i128) -> Result<Value, Stop>
-    ensures { Comes data_of result (number exact) }
+fn number(exact: i128) -> Result<i64, Stop>
+    ensures { Comes int result (number exact) }
 {
     match i64::try_from(exact) {
-        Ok(number) => Ok(Value::Int(number)),
+        Ok(number) => Ok(number),
         Err(_) => Err(Stop::Trap(2)),
     }
 }
 
-fn divide(first: i64, second: i64) -> Result<Value, Stop>
-    ensures { Comes data_of result
+fn divide(first: i64, second: i64) -> Result<i64, Stop>
+    ensures { Comes int result
         (if is_zero second then Err 3 else number (quotient first second)) }
 {
     if second == 0 {
@@ -77,14 +121,14 @@ fn divide(first: i64, second: i64) -> Result<Value, Stop>
     }
 }
 
-fn leave(first: i64, second: i64) -> Result<Value, Stop>
-    ensures { Comes data_of result
+fn leave(first: i64, second: i64) -> Result<i64, Stop>
+    ensures { Comes int result
         (if is_zero second then Err 3 else Ok (int (remainder first second))) }
 {
     if second == 0 {
         Err(Stop::Trap(3))
     } else {
-        Ok(Value::Int(remainder(first, second)))
+        Ok(remainder(first, second))
     }
 }
 

@@ -1,12 +1,13 @@
 //! The operators, over the values of their parts.
-ghost use Rattle.std.specs.Prelude.{◌≡◌, Ok, pos, ◌++◌, ◌∷◌, [], map, option_map, if◌then◌else◌, IfOk};
+ghost use Rattle.std.specs.Prelude.{◌≡◌, Ok, pos, map, option_map};
 ghost use Rattle.cl_value.specs.Value.{data_of};
 ghost use Rattle.cl_eval.specs.Operators.{elements, equal_of, is_null_of, length_of, limited, not_of, number, operated, or_trap, truth};
+ghost use Rattle.cl_eval.specs.Calculation.{number_of};
 ghost use Rattle.cl_eval.specs.Agrees.{Comes, itself};
 
 use crate::lists::list_operation;
 use crate::metering::Stop;
-use crate::numbers::{arithmetic, comparison};
+use crate::numbers::{arithmetic, comparison, number_in};
 use crate::records::record_operation;
 use crate::texts::text_operation;
 use cl_application::App;
@@ -63,6 +64,17 @@ pub fn find_value(value: Option<&Value>) -> Result<Value, Stop>
     }
 }
 
+/// The number that a value is that was looked for, where it is one; where there is no value, trap 1.
+pub fn find_number(value: Option<&Value>) -> Result<Option<i64>, Stop>
+    ensures { Comes itself result
+        (number_of (or_trap 1 (option_map (λ v. data_of v.now) value.entry))) }
+{
+    match value {
+        Some(value) => Ok(number_in(value)),
+        None => Err(Stop::Trap(1)),
+    }
+}
+
 /// A Bool, where a test is asked for.
 pub fn truth(value: &Value) -> Result<bool, Stop>
     ensures { Comes itself result (truth (data_of value.now)) }
@@ -81,28 +93,6 @@ pub fn elements(value: Value) -> Result<Values, Stop>
     match value {
         Value::List(parts) => Ok(parts),
         _ => Err(Stop::Trap(1)),
-    }
-}
-
-/// One value more.
-pub fn add(values: &mut Values, value: Value) -> Result<(), Stop>
-    ensures { Comes (λ _. values.new) result (Ok (values.old ++ data_of value ∷ [])) }
-{
-    match values.push(value) {
-        Ok(()) => Ok(()),
-        Err(_) => Err(Stop::Memory),
-    }
-}
-
-/// A copy of the value more, where it is kept.
-pub fn add_if(kept: bool, values: &mut Values, value: &Value) -> Result<(), Stop>
-    ensures { Comes (λ _. values.new) result
-        (Ok (if kept then values.old ++ data_of value.now ∷ [] else values.old)) }
-{
-    if kept {
-        add(values, value.copy()?)
-    } else {
-        Ok(())
     }
 }
 

@@ -5,7 +5,7 @@ ghost use Rattle.cl_application.specs.App.{record_named};
 ghost use Rattle.cl_eval.specs.Operators.{changed_at, field_place, made, record_made, value_at, with_part};
 ghost use Rattle.cl_eval.specs.Agrees.{Comes};
 
-use crate::lists::{add_all, add_part, copy_all};
+use crate::lists::{add_all, copy_all};
 use crate::metering::Stop;
 use crate::operators::limit;
 use cl_application::App;
@@ -100,8 +100,9 @@ fn with_part(
     requires { place < length parts.now }
     ensures { IfOk result (λ vs. vs ≡ with_part place (data_of value.now) (map data_of parts.now)) }
 {
-    let mut changed = copy_all(alloc, &parts[..place])?;
-    add_part(&mut changed, value.copy()?)?;
+    let mut changed = Vec::with_capacity(alloc, parts.len())?;
+    add_all(&mut changed, &parts[..place])?;
+    changed.push(value.copy()?)?;
     add_all(&mut changed, &parts[place + 1..])?;
-    Ok(changed)
+    Values::from_vec(alloc, changed)
 }
