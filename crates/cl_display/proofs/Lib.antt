@@ -1,6 +1,6 @@
 pub mod ItemLemmas
 pub mod FormLemmas
-pub mod LimitLemmas
 pub mod CornerLemmas
+pub mod EndLemmas
 pub mod SumLemmas
-pub mod FigureLemmas
+pub mod LimitLemmas

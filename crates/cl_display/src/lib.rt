@@ -8,9 +8,12 @@ mod figures;
 mod forms;
 mod histories;
 mod laws;
+mod parts;
+mod places;
 mod settings;
 
 pub use displays::{Shown, display};
+pub use drawings::MAX_WEIGHT;
 pub use histories::History;
 pub use laws::{
     displays_add_up, extents_hold_what_is_drawn, figures_have_the_area_of_their_parts,
