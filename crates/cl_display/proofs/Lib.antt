@@ -4,3 +4,5 @@ pub mod CornerLemmas
 pub mod EndLemmas
 pub mod SumLemmas
 pub mod LimitLemmas
+pub mod FigureLemmas
+pub mod UseLemmas

@@ -87,11 +87,21 @@ draw_figure most f ds s = draw_parts most (figure_parts f ds) s
 
 -- ---- which values are right
 
--- the kinds and the number of values that each figure asks for
-pub data IsFigure : Figure → List Data → Type 0 where
-  point : (x y : ℤ) (byte : ℕ) → IsFigure figure.Point (value.int x ∷ value.int y ∷ value.text (byte ∷ []) ∷ [])
-  across : (x y length : ℤ) → IsFigure figure.HorizontalLine (value.int x ∷ value.int y ∷ value.int length ∷ [])
-  down : (x y length : ℤ) → IsFigure figure.VerticalLine (value.int x ∷ value.int y ∷ value.int length ∷ [])
-  outline : (x y width height : ℤ) → IsFigure figure.Outline (value.int x ∷ value.int y ∷ value.int width ∷ value.int height ∷ [])
-  filled : (x y width height : ℤ) (byte : ℕ)
-      → IsFigure figure.Filled (value.int x ∷ value.int y ∷ value.int width ∷ value.int height ∷ value.text (byte ∷ []) ∷ [])
+-- a number
+abbrev pub IsNumber : Data → Type 0
+IsNumber (value.int z) = Unit {0}
+IsNumber d = ⊥
+
+-- a text of one byte
+abbrev pub IsByte : Data → Type 0
+IsByte (value.text (byte ∷ [])) = Unit {0}
+IsByte d = ⊥
+
+-- the kinds of the values that a figure asks for, and their number
+abbrev pub IsFigure : Figure → List Data → Type 0
+IsFigure figure.Point (a ∷ b ∷ c ∷ []) = IsNumber a × IsNumber b × IsByte c
+IsFigure figure.HorizontalLine (a ∷ b ∷ c ∷ []) = IsNumber a × IsNumber b × IsNumber c
+IsFigure figure.VerticalLine (a ∷ b ∷ c ∷ []) = IsNumber a × IsNumber b × IsNumber c
+IsFigure figure.Outline (a ∷ b ∷ c ∷ d ∷ []) = IsNumber a × IsNumber b × IsNumber c × IsNumber d
+IsFigure figure.Filled (a ∷ b ∷ c ∷ d ∷ e ∷ []) = IsNumber a × IsNumber b × IsNumber c × IsNumber d × IsByte e
+IsFigure f ds = ⊥

@@ -8,3 +8,4 @@ pub mod Fresh
 pub mod Place
 pub mod Script
 pub mod Agrees
+pub mod Uses

@@ -1,20 +1,26 @@
 //! What the definitions of this crate say. The contracts are the laws.
-ghost use Rattle.std.specs.Prelude.{◌≡◌, ◌+◌, ◌≤◌, ℕ, ℤ, pos, List, [], ◌∷◌};
+ghost use Rattle.std.specs.Prelude.{◌≡◌, ◌+◌, ◌≤◌, ◌↔◌, ℕ, ℤ, pos, List, [], ◌∷◌, Err};
 ghost use Rattle.cl_value.specs.Data as value;
+ghost use Rattle.cl_value.specs.Data.{Data};
+ghost use Rattle.cl_syntax.specs.ExprTree.{ExprTree, ExprTrees};
+ghost use Rattle.cl_syntax.specs.ShapeTree as shape;
 ghost use Rattle.cl_syntax.specs.ShapeTree.{ShapeTree, ShapeTrees};
 ghost use Rattle.cl_application.specs.declared.applications.App.{App};
+ghost use Rattle.cl_syntax.specs.declared.figures.Figure.{Figure};
 ghost use Rattle.cl_syntax.specs.declared.figures.Figure.TheVariants as figure;
 ghost use Rattle.cl_eval.specs.declared.metering.Limits.{Limits};
+ghost use Rattle.cl_eval.specs.Meaning.{Go};
 ghost use Rattle.cl_eval.specs.Outcome.{Gives};
 ghost use Rattle.cl_eval.specs.Slots.{Env, Slots};
 ghost use Rattle.cl_medium.specs.Drawing.{shape_area, point_leaf, hline_leaf, vline_leaf, box_leaf, fill_leaf};
 ghost use Rattle.cl_record.specs.Replays.{drawn};
 ghost use Rattle.cl_display.specs.Drawings.{DrawingAt, cursor_box};
-ghost use Rattle.cl_display.specs.Figures.{draw_figure, draw_shape};
+ghost use Rattle.cl_display.specs.Figures.{IsFigure, draw_figure, draw_shape};
 ghost use Rattle.cl_display.specs.Settings.{enter_room};
-ghost use Rattle.cl_display.specs.Fresh.{Allowance, draws, in_order};
+ghost use Rattle.cl_display.specs.Fresh.{Allowance, Draws, draws, in_order, shape_parts};
 ghost use Rattle.cl_display.specs.Script.{fresh};
 ghost use Rattle.cl_display.specs.Sums.{AddsUp, Holds, HoldsAll, lowest_of};
+ghost use Rattle.cl_display.specs.Uses.{EndsWith, HasUsedMargin, IsPlain, NoneUses, UsesMargin, UsesNeither, UsesOrigin};
 
 /// Forms that end without a trap under some limits, end so under all limits that their cost, their reach and the weight at their
 /// end do not pass, with the same drawing, cost and reach. So does a display.
@@ -61,4 +67,25 @@ pub fn figures_have_the_area_of_their_parts()
         ≡ draw_shape most (box_leaf (shape_area s.ambient x y width height)) (shape_area s.ambient x y width height) s }
     ensures filled { (most : ℕ) (x y width height : ℤ) (byte : ℕ) (s : DrawingAt) → draw_figure most figure.Filled (value.int x ∷ value.int y ∷ value.int width ∷ value.int height ∷ value.text (byte ∷ []) ∷ []) s
         ≡ draw_shape most (fill_leaf (shape_area s.ambient x y width height) byte) (shape_area s.ambient x y width height) s }
+{}
+
+/// A figure of values of other kinds than it asks for, or of more or fewer, stops with trap 1, and no other figure does.
+pub fn figures_refuse_other_values()
+    ensures { (most : ℕ) (f : Figure) (ds : List Data) (s : DrawingAt) → (draw_figure most f ds s ≡ Err 1) ↔ (IsFigure f ds → ⊥) }
+{}
+
+/// Which forms use the margin and the origin that a body starts with, where they end without a trap: a newline, a form that indents
+/// and a room use the margin, and a figure that draws something uses the origin. A room does not use the origin around it, whatever
+/// its body draws. All other forms use neither, but by the forms inside.
+pub fn margin_and_origin_are_used_by_few_forms()
+    ensures newline { (app : App) (allowed : Allowance) (value : Go) (go : Draws) (level : ℕ) (env : Env) (s : DrawingAt) (cost deepest : ℕ)
+        → EndsWith (UsesMargin s) (shape_parts app allowed value go level env shape.Newline s cost deepest).outcome }
+    ensures room { (app : App) (allowed : Allowance) (value : Go) (go : Draws) (level : ℕ) (env : Env) (body : ShapeTrees) (s : DrawingAt) (cost deepest : ℕ)
+        → EndsWith (UsesMargin s) (shape_parts app allowed value go level env (shape.Room body) s cost deepest).outcome }
+    ensures indent { (left : ℕ) (allowed : Allowance) (app : App) (slots : Slots) (value : Go) (level : ℕ) (env : Env) (t : ExprTree) (body : ShapeTrees) (s : DrawingAt) (cost deepest : ℕ)
+        → EndsWith HasUsedMargin (shape_parts app allowed value (draws left allowed app slots) level env (shape.Indent t body) s cost deepest).outcome }
+    ensures figure { (app : App) (allowed : Allowance) (value : Go) (go : Draws) (level : ℕ) (env : Env) (figure : Figure) (ts : ExprTrees) (s : DrawingAt) (cost deepest : ℕ)
+        → EndsWith (UsesOrigin s) (shape_parts app allowed value go level env (shape.Draw figure ts) s cost deepest).outcome }
+    ensures others { (app : App) (allowed : Allowance) (value : Go) (go : Draws) (level : ℕ) (env : Env) (f : ShapeTree) (s : DrawingAt) (cost deepest : ℕ)
+        → IsPlain f → NoneUses go → EndsWith (UsesNeither s) (shape_parts app allowed value go level env f s cost deepest).outcome }
 {}
