@@ -1,33 +1,27 @@
--- A drawing with one more item.
-use Rattle.std.proofs.Common.{◌≡◌, ℕ, ◌≤◌, ◌+◌, true, nat_le, ℤ, List, [], ◌∷◌, ◌++◌, Ok, refl, ap, sym, ◌∙◌, append_assoc, arith}
+-- Parts with one more item, and parts behind one another.
+use Rattle.std.proofs.Common.{◌≡◌, ℕ, ◌≤◌, ◌+◌, true, nat_le, List, [], ◌∷◌, ◌++◌, Ok, refl, ap, sym, ◌∙◌, append_assoc, arith}
 use Rattle.std.proofs.lemmas.Bool.Decides.{nat_tests}
-use Rattle.std.specs.Int.{int_max}
-use Rattle.cl_region.specs.Places.{box}
-use Rattle.cl_region.specs.declared.rects.Rect.{Rect}
 use Rattle.cl_region.specs.declared.rects.Shift.{Shift}
-use Rattle.cl_medium.specs.Leaves.{leaf_bounds, leaf_moved}
+use Rattle.cl_medium.specs.Leaves.{leaf_moved}
 use Rattle.cl_medium.specs.declared.any_leaf.AnyLeaf.{AnyLeaf}
-use Rattle.cl_record.specs.Marks.{Mark, draw, history_marks, marks_of}
-use Rattle.cl_record.specs.Trees.{Tree, leaf}
-use Rattle.cl_display.specs.declared.drawings.Drawing.{Drawing}
-use Rattle.cl_display.specs.Drawings.{added, drawing_of}
+use Rattle.cl_record.specs.Marks.{Mark, history_marks, marks_of}
+use Rattle.cl_record.specs.Trees.{Tree}
+use Rattle.cl_display.specs.Drawings.{DrawingAt, add_item, with_item}
 
 module _ {A : Type 0} (move : Shift → A → A) where
-  pub marks-push : (ts : List (Tree A)) (a : A) → history_marks move (ts ++ leaf a ∷ []) ≡ history_marks move ts ++ draw a ∷ []
-  marks-push [] a = refl
-  marks-push (t ∷ ts) a = ap (λ (ms : List (Mark A)). marks_of move t ++ ms) (marks-push ts a) ∙ sym (append_assoc (marks_of move t) (history_marks move ts) (draw a ∷ []))
+  pub marks-append : (ts us : List (Tree A)) → history_marks move (ts ++ us) ≡ history_marks move ts ++ history_marks move us
+  marks-append [] us = refl
+  marks-append (t ∷ ts) us =
+      ap (λ (ms : List (Mark A)). marks_of move t ++ ms) (marks-append ts us)
+      ∙ sym (append_assoc (marks_of move t) (history_marks move ts) (history_marks move us))
 
-pub added-in : (l : AnyLeaf) (weight whole : ℕ) (d : Drawing) (bounds extent : Rect) (bottom : ℤ) (nodes : List (Tree AnyLeaf))
-    → whole ≡ d.weight + weight → whole ≤ 1000000 → bounds ≡ leaf_bounds l → extent ≡ box d.extent bounds → bottom ≡ int_max d.bottom bounds.y2 → nodes ≡ d.nodes ++ leaf l ∷ []
-    → added l weight (drawing_of d) ≡ Ok (record {
-      ambient = d.ambient;
-      weight = whole;
-      extent = extent;
-      bottom = bottom;
-      margin_used = d.margin_used;
-      origin_used = d.origin_used;
-      marks = history_marks leaf_moved nodes;
-    })
-added-in l weight whole d bounds extent bottom nodes e h f g b k =
-    let fits : nat_le (d.weight + weight) 1000000 ≡ true = grind (arith, nat_tests, e, h) in
-    rw (k, b, g, f, e, fits, marks-push leaf_moved d.nodes l) refl
+-- an item of this weight is added where the whole is not too heavy
+pub add_item-light : (most : ℕ) (l : AnyLeaf) (weight whole : ℕ) (s : DrawingAt) → whole ≡ s.weight + weight → whole ≤ most
+    → add_item most l weight s ≡ Ok (record s { weight = whole; part = with_item l s.part })
+add_item-light most l weight whole s e h =
+    let fits : nat_le (s.weight + weight) most ≡ true = grind (arith, nat_tests, e, h) in
+    rw (e, fits) refl
+
+-- the marks of records behind others
+pub marks_behind : (ts us : List (Tree AnyLeaf)) → history_marks leaf_moved (ts ++ us) ≡ history_marks leaf_moved ts ++ history_marks leaf_moved us
+marks_behind = marks-append leaf_moved

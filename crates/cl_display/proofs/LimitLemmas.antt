@@ -1,132 +1,357 @@
--- A display that ends without a trap under some limits ends so under all limits that its cost and its reach do not pass.
-use Rattle.std.proofs.Common.{◌≡◌, ℕ, zero, suc, ◌+◌, ◌≤◌, ◌==◌, Bool, if◌then◌else◌, nat_le, List, [], ◌∷◌, length, Option, Some, None, Result, Ok, arith, refl}
-use Rattle.cl_value.specs.Data.{Data}
+-- A display that ends without a trap under some limits ends so under all limits that its cost, its reach and its weight do not pass.
+use Rattle.std.proofs.Common.{◌≡◌, ap, ℕ, zero, suc, ◌+◌, ◌≤◌, ◌==◌, Bool, true, false, if◌then◌else◌, nat_le, List, [], ◌∷◌, length, Option, Some, None, Result, Ok, Err, arith, refl}
+use Rattle.std.proofs.lemmas.Bool.Decides.{nat_tests}
+use Rattle.std.specs.Prelude.{pos, int_le, int_lt, ◌||◌}
+use Rattle.cl_value.specs.Data.{Data, text}
 use Rattle.cl_syntax.specs.ShapeTree as shape
 use Rattle.cl_syntax.specs.ShapeTree.{ShapeTree, ShapeTrees, none, form, shape_trees_of}
-use Rattle.cl_syntax.specs.ExprTree.{Bindings}
 use Rattle.cl_application.specs.App.{display_named}
 use Rattle.cl_application.specs.declared.applications.App.{App}
 use Rattle.cl_application.specs.declared.declarations.DisplayDecl.{DisplayDecl}
 use Rattle.cl_eval.specs.declared.metering.Limits.{Limits}
-use Rattle.cl_eval.specs.Outcome.{Gives, ◌>>=◌, give, trap, lift}
+use Rattle.cl_eval.specs.Outcome.{Outcome, Gives, Traps, Run, after, give, trap, lift}
 use Rattle.cl_eval.specs.Slots.{Slots, Env, given}
 use Rattle.cl_eval.specs.Meaning.{Go, bound, each, entering, listed, means, tested}
-use Rattle.cl_eval.proofs.LimitLemmas.{GoGoes, Goes, entered-above, goes-bound, goes-choice, goes-each, goes-entering, goes-give, goes-lift, goes-listed, goes-means, goes-tested, goes-then, goes-trap, never, reaches-deep}
-use Rattle.cl_display.specs.Drawings.{DrawingAt, blank_drawing, figured, indented, ink_back, inked, lined, margin_back, outer_of, room_entered, room_left}
-use Rattle.cl_display.specs.Fresh.{Draws, called, draws, draws_in, for_each, in_order, shape_parts, within, written}
-use Rattle.cl_display.specs.Script.{fresh}
+use Rattle.cl_eval.proofs.LimitLemmas.{GoGoes, Goes, entered-above, goes-bound, goes-each, goes-entering, goes-listed, goes-means, goes-tested, never, no_value}
+use Rattle.cl_medium.specs.Ambients.{AmbientAt}
+use Rattle.cl_medium.specs.Drawing.{text_leaf}
+use Rattle.cl_medium.specs.Items.{bounds_of}
+use Rattle.cl_medium.specs.Leaves.{leaf_bounds}
+use Rattle.cl_medium.specs.declared.any_leaf.AnyLeaf.{AnyLeaf}
+use Rattle.cl_display.specs.Drawings.{DrawingAt, add_item, after_text, blank_drawing, is_in_range, newline, then_to, with_item}
+use Rattle.cl_display.specs.Figures.{area_at, draw_figure, draw_parts, figure_parts, leaf_in, with_origin_used}
+use Rattle.cl_display.specs.declared.figures.FigureParts.{FigureParts}
+use Rattle.cl_display.specs.Settings.{enter_room, indent, leave_room, restore_ink, restore_margin, set_ink}
+use Rattle.cl_display.specs.Outcomes.{Draw, opens_none, run_of, ◌>->◌, ◌>>=◌}
+use Rattle.cl_display.specs.Fresh.{Allowance, Draws, call_display, draws, draws_to, for_each, in_order, shape_parts, within, write_value}
+use Rattle.cl_display.specs.Script.{fresh, whole_allowance}
+use Rattle.cl_display.proofs.SumLemmas.{AddsTo, adds-draw_parts, adds-indent, adds-newline, adds-set_ink, adds-write_value, adds_up}
 
-abbrev DrawsGo : ℕ → ℕ → ℕ → Draws → Draws → Type 0
-DrawsGo budget depth level go go' = (env : Env) (f : ShapeTree) (s : DrawingAt) → Goes budget depth (go level env f s) (go' level env f s)
+-- ---- answers
 
-goes-in_order : (budget depth : ℕ) (go go' : Draws) → (level : ℕ) → DrawsGo budget depth level go go' → (env : Env) (fs : ShapeTrees) (s : DrawingAt)
-    → Goes budget depth (in_order go level env fs s) (in_order go' level env fs s)
-goes-in_order budget depth go go' level g env none s = goes-give budget depth s
-goes-in_order budget depth go go' level g env (form f fs) s =
-    goes-then budget depth (go level env f s) (go' level env f s) (in_order go level env fs) (in_order go' level env fs) (g env f s) (goes-in_order budget depth go go' level g env fs)
+-- an answer that gives a drawing gives it, too, where all may weigh so much as it does
+abbrev Keeps : ℕ → Result DrawingAt ℕ → Result DrawingAt ℕ → Type 0
+Keeps most r r' = (t : DrawingAt) → r ≡ Ok t → t.weight ≤ most → r' ≡ Ok t
 
-goes-for_each : (budget depth : ℕ) (go go' : Draws) → (level : ℕ) → DrawsGo budget depth level go go' → (env : Env) (x : List ℕ) (body : ShapeTrees) (ds : List Data) (s : DrawingAt)
-    → Goes budget depth (for_each go level env x body ds s) (for_each go' level env x body ds s)
-goes-for_each budget depth go go' level g env x body [] s = goes-give budget depth s
-goes-for_each budget depth go go' level g env x body (d ∷ ds) s =
-    goes-then budget depth (in_order go level ((x, d) ∷ env) body s) (in_order go' level ((x, d) ∷ env) body s) (for_each go level env x body ds) (for_each go' level env x body ds)
-    (goes-in_order budget depth go go' level g ((x, d) ∷ env) body s) (goes-for_each budget depth go go' level g env x body ds)
+-- the weight of an answer
+abbrev weight_in : Result DrawingAt ℕ → ℕ
+weight_in (Ok t) = t.weight
+weight_in (Err k) = 0
 
-goes-draws_in : (budget depth : ℕ) (value value' : Go) (go go' : Draws) → (level : ℕ) → GoGoes budget depth level value value' → DrawsGo budget depth level go go'
-    → (bs : Bindings) (body : ShapeTrees) (env : Env) (s : DrawingAt) → Goes budget depth (draws_in value go level bs body env s) (draws_in value' go' level bs body env s)
-goes-draws_in budget depth value value' go go' level v g bs body env s =
-    goes-then budget depth (bound value level bs env) (bound value' level bs env) (λ inner. in_order go level inner body s) (λ inner. in_order go' level inner body s)
-    (goes-bound budget depth value value' level v bs env) (λ inner. goes-in_order budget depth go go' level g inner body s)
+no_drawing : (k : ℕ) (t : DrawingAt) → Err k ≡ Ok t → ⊥
+no_drawing k t p = cc
 
-goes-left : (budget depth : ℕ) (go go' : Draws) → (level : ℕ) → DrawsGo budget depth level go go' → (env : Env) (body : ShapeTrees) (leave : DrawingAt → DrawingAt) (s : DrawingAt)
-    → Goes budget depth (in_order go level env body s >>= λ end. give (leave end)) (in_order go' level env body s >>= λ end. give (leave end))
-goes-left budget depth go go' level g env body leave s =
-    goes-then budget depth (in_order go level env body s) (in_order go' level env body s) (λ end. give (leave end)) (λ end. give (leave end))
-    (goes-in_order budget depth go go' level g env body s) (λ end. goes-give budget depth (leave end))
+-- an answer that does not weigh less than what was there
+abbrev Rises : DrawingAt → Result DrawingAt ℕ → Type 0
+Rises s (Ok t) = s.weight ≤ t.weight
+Rises s (Err k) = Unit {0}
 
-goes-within : (budget depth : ℕ) (go go' : Draws) → (level : ℕ) → DrawsGo budget depth level go go' → (env : Env) (body : ShapeTrees) (r : Result DrawingAt ℕ) (leave : DrawingAt → DrawingAt)
-    → Goes budget depth (within go level env body r leave) (within go' level env body r leave)
-goes-within budget depth go go' level g env body r leave =
-    goes-then budget depth (lift r) (lift r) (λ inner. in_order go level env body inner >>= λ end. give (leave end)) (λ inner. in_order go' level env body inner >>= λ end. give (leave end))
-    (goes-lift budget depth r) (goes-left budget depth go go' level g env body leave)
+-- what adds items does not lose weight
+rises-adds : (w : ℕ) (s : DrawingAt) (r : Result DrawingAt ℕ) → AddsTo w s r → Rises s r
+rises-adds w s (Ok t) a = omega (arith, a.weight)
+rises-adds w s (Err k) a = tt
 
-goes-called : (budget depth : ℕ) (go go' : Draws) → (level : ℕ) → DrawsGo budget depth level go go' → (f : Option DisplayDecl) (s : DrawingAt) (ds : List Data)
-    → Goes budget depth (called go level f ds s) (called go' level f ds s)
-goes-called budget depth go go' level g None s ds = goes-trap budget depth 1
-goes-called budget depth go go' level g (Some f) s ds =
-    goes-choice budget depth (length ds == length f.parameters) (in_order go level (given f.parameters ds) (shape_trees_of f.body) s) (in_order go' level (given f.parameters ds) (shape_trees_of f.body) s) (trap 1) (trap 1)
-    (goes-in_order budget depth go go' level g (given f.parameters ds) (shape_trees_of f.body) s) (goes-trap budget depth 1)
+module _ (most : ℕ) where
+  keeps-item : (b : Bool) (k weight : ℕ) (u s : DrawingAt) → u.weight ≡ s.weight + weight
+      → Keeps most (if b then Ok u else Err k) (if nat_le (s.weight + weight) most then Ok u else Err k)
+  keeps-item true k weight u s e t p h =
+      let same : u.weight ≡ t.weight = ap weight_in p in
+      let fits : nat_le (s.weight + weight) most ≡ true = grind (arith, nat_tests, e, h, same) in
+      rw fits p
+  keeps-item false k weight u s e t p h = absurd (no_drawing k t p)
 
-goes-then_form : (budget depth : ℕ) (go go' : Draws) → (level : ℕ) → DrawsGo budget depth level go go' → (env : Env) (a b : ShapeTree) (s : DrawingAt) (holds : Bool)
-    → Goes budget depth (if holds then go level env a s else go level env b s) (if holds then go' level env a s else go' level env b s)
-goes-then_form budget depth go go' level g env a b s holds =
-    goes-choice budget depth holds (go level env a s) (go' level env a s) (go level env b s) (go' level env b s) (g env a s) (g env b s)
+  keeps-add_item : (w : ℕ) (leaf : AnyLeaf) (weight : ℕ) (s : DrawingAt) → Keeps most (add_item w leaf weight s) (add_item most leaf weight s)
+  keeps-add_item w leaf weight s =
+      keeps-item (nat_le (s.weight + weight) w) 10 weight (record s { weight = s.weight + weight; part = with_item leaf s.part }) s refl
 
-goes-then_body : (budget depth : ℕ) (go go' : Draws) → (level : ℕ) → DrawsGo budget depth level go go' → (env : Env) (body : ShapeTrees) (s : DrawingAt) (holds : Bool)
-    → Goes budget depth (if holds then in_order go level env body s else give s) (if holds then in_order go' level env body s else give s)
-goes-then_body budget depth go go' level g env body s holds =
-    goes-choice budget depth holds (in_order go level env body s) (in_order go' level env body s) (give s) (give s) (goes-in_order budget depth go go' level g env body s) (goes-give budget depth s)
+  keeps-then_to : (a : AmbientAt) (r r' : Result DrawingAt ℕ) → Keeps most r r' → Keeps most (then_to a r) (then_to a r')
+  keeps-then_to a (Ok u) r' g t p h =
+      let same : u.weight ≡ t.weight = ap weight_in p in
+      let goes : r' ≡ Ok u = g u refl (omega (arith, h, same)) in
+      rw goes p
+  keeps-then_to a (Err k) r' g t p h = absurd (no_drawing k t p)
 
--- ---- the rows
+  keeps-origin : (r r' : Result DrawingAt ℕ) → Keeps most r r' → Keeps most (with_origin_used r) (with_origin_used r')
+  keeps-origin (Ok u) r' g t p h =
+      let same : u.weight ≡ t.weight = ap weight_in p in
+      let goes : r' ≡ Ok u = g u refl (omega (arith, h, same)) in
+      rw goes p
+  keeps-origin (Err k) r' g t p h = absurd (no_drawing k t p)
 
-goes-shape_parts : (budget depth : ℕ) (app : App) (value value' : Go) (go go' : Draws) → (level : ℕ) → GoGoes budget depth level value value' → DrawsGo budget depth level go go'
-    → (env : Env) (f : ShapeTree) (s : DrawingAt) → Goes budget depth (shape_parts app value go level env f s) (shape_parts app value' go' level env f s)
-goes-shape_parts budget depth app value value' go go' level v g env (shape.WriteText t) s =
-    goes-then budget depth (value level env t) (value' level env t) (λ d. lift (written s d)) (λ d. lift (written s d)) (v env t) (λ d. goes-lift budget depth (written s d))
-goes-shape_parts budget depth app value value' go go' level v g env shape.Newline s = goes-lift budget depth (lined s)
-goes-shape_parts budget depth app value value' go go' level v g env (shape.Draw figure ts) s =
-    goes-then budget depth (each value level env ts []) (each value' level env ts []) (λ ds. lift (figured figure ds s)) (λ ds. lift (figured figure ds s))
-    (goes-each budget depth value value' level v env ts []) (λ ds. goes-lift budget depth (figured figure ds s))
-goes-shape_parts budget depth app value value' go go' level v g env (shape.Indent t body) s =
-    goes-then budget depth (value level env t) (value' level env t) (λ d. within go level env body (indented d s) (margin_back s.ambient)) (λ d. within go' level env body (indented d s) (margin_back s.ambient))
-    (v env t) (λ d. goes-within budget depth go go' level g env body (indented d s) (margin_back s.ambient))
-goes-shape_parts budget depth app value value' go go' level v g env (shape.Ink t body) s =
-    goes-then budget depth (value level env t) (value' level env t) (λ d. within go level env body (inked d s) (ink_back s.ambient)) (λ d. within go' level env body (inked d s) (ink_back s.ambient))
-    (v env t) (λ d. goes-within budget depth go go' level g env body (inked d s) (ink_back s.ambient))
-goes-shape_parts budget depth app value value' go go' level v g env (shape.Room body) s = goes-within budget depth go go' level g env body (Ok (room_entered s)) (room_left (outer_of s))
-goes-shape_parts budget depth app value value' go go' level v g env (shape.If t a b) s =
-    goes-then budget depth (tested value level env t) (tested value' level env t) (λ holds. if holds then go level env a s else go level env b s) (λ holds. if holds then go' level env a s else go' level env b s)
-    (goes-tested budget depth value value' level v env t) (goes-then_form budget depth go go' level g env a b s)
-goes-shape_parts budget depth app value value' go go' level v g env (shape.When t body) s =
-    goes-then budget depth (tested value level env t) (tested value' level env t) (λ holds. if holds then in_order go level env body s else give s) (λ holds. if holds then in_order go' level env body s else give s)
-    (goes-tested budget depth value value' level v env t) (goes-then_body budget depth go go' level g env body s)
-goes-shape_parts budget depth app value value' go go' level v g env (shape.Let bs body) s = goes-draws_in budget depth value value' go go' level v g bs body env s
-goes-shape_parts budget depth app value value' go go' level v g env (shape.Dolist x t body) s =
-    goes-then budget depth (listed value level env t) (listed value' level env t) (λ ds. for_each go level env x body ds s) (λ ds. for_each go' level env x body ds s)
-    (goes-listed budget depth value value' level v env t) (λ ds. goes-for_each budget depth go go' level g env x body ds s)
-goes-shape_parts budget depth app value value' go go' level v g env (shape.Progn body) s = goes-in_order budget depth go go' level g env body s
-goes-shape_parts budget depth app value value' go go' level v g env (shape.Call f ts) s =
-    goes-then budget depth (each value level env ts []) (each value' level env ts []) (λ ds. called go level (display_named f app) ds s) (λ ds. called go' level (display_named f app) ds s)
-    (goes-each budget depth value value' level v env ts []) (goes-called budget depth go go' level g (display_named f app) s)
+  keeps-choice : (b : Bool) (q q' r r' : Result DrawingAt ℕ) → Keeps most q q' → Keeps most r r' → Keeps most (if b then q else r) (if b then q' else r')
+  keeps-choice true q q' r r' g h = g
+  keeps-choice false q q' r r' g h = h
+
+  keeps-same : (r : Result DrawingAt ℕ) → Keeps most r r
+  keeps-same r t p h = p
+
+  keeps-write_value : (w : ℕ) (s : DrawingAt) (d : Data) → Keeps most (write_value w s d) (write_value most s d)
+  keeps-write_value w s (text []) = keeps-same (Ok s)
+  keeps-write_value w s (text (b ∷ bs)) =
+      let leaf = text_leaf s.ambient (b ∷ bs) in
+      let weight = length (b ∷ bs) + 1 in
+      let after = after_text s.ambient (b ∷ bs) in
+      keeps-choice (is_in_range (leaf_bounds leaf)) (then_to after (add_item w leaf weight s)) (then_to after (add_item most leaf weight s)) (Err 9) (Err 9)
+      (keeps-then_to after (add_item w leaf weight s) (add_item most leaf weight s) (keeps-add_item w leaf weight s)) (keeps-same (Err 9))
+  keeps-write_value w s d = keeps-same (Err 1)
+
+  keeps-draw_parts : (w : ℕ) (parts : Option FigureParts) (s : DrawingAt) → Keeps most (draw_parts w parts s) (draw_parts most parts s)
+  keeps-draw_parts w None s = keeps-same (Err 1)
+  keeps-draw_parts w (Some p) s =
+      let area = area_at s.ambient p in
+      let leaf = leaf_in area p.item in
+      let first = with_origin_used (add_item w leaf 1 s) in
+      let second = with_origin_used (add_item most leaf 1 s) in
+      let drawn = keeps-origin (add_item w leaf 1 s) (add_item most leaf 1 s) (keeps-add_item w leaf 1 s) in
+      let placed = keeps-choice (is_in_range (bounds_of area)) first second (Err 9) (Err 9) drawn (keeps-same (Err 9)) in
+      keeps-choice (int_lt area.width (pos 0) || int_lt area.height (pos 0)) (Err 9) (Err 9) _ _ (keeps-same (Err 9))
+      (keeps-choice (int_le area.width (pos 0) || int_le area.height (pos 0)) (Ok s) (Ok s) _ _ (keeps-same (Ok s)) placed)
+
+-- ---- draws
+
+-- from a cost, a level and a weight to a drawing: none falls, and within the limits the second draw comes to the same
+record Extends (budget depth most : ℕ) (second : Draw) (s : DrawingAt) (c d : ℕ) (t : DrawingAt) (n l : ℕ) : Type 0 where
+  cost : c ≤ n
+  deepest : d ≤ l
+  weight : s.weight ≤ t.weight
+  same : n ≤ budget → l ≤ depth → t.weight ≤ most → (second c d).outcome ≡ Gives t n l
+
+abbrev Widens : (budget depth most : ℕ) → DrawingAt → Draw → Draw → Type 0
+Widens budget depth most s first second =
+    (c d : ℕ) (t : DrawingAt) (n l : ℕ) → (first c d).outcome ≡ Gives t n l → Extends budget depth most second s c d t n l
+
+abbrev AllWiden : (budget depth most level : ℕ) → Draws → Draws → Type 0
+AllWiden budget depth most level go go' =
+    (env : Env) (f : ShapeTree) (s : DrawingAt) → Widens budget depth most s (go level env f s) (go' level env f s)
+
+abbrev cost_at : Outcome DrawingAt → ℕ
+cost_at (Gives s cost deepest) = cost
+cost_at (Traps kind cost deepest) = cost
+
+abbrev deepest_at : Outcome DrawingAt → ℕ
+deepest_at (Gives s cost deepest) = deepest
+deepest_at (Traps kind cost deepest) = deepest
+
+abbrev weight_at : Outcome DrawingAt → ℕ
+weight_at (Gives s cost deepest) = s.weight
+weight_at (Traps kind cost deepest) = 0
+
+module _ (budget depth most : ℕ) where
+  extends-then : (s : DrawingAt) (m m' : Draw) (f f' : DrawingAt → Draw) → Widens budget depth most s m m' → ((t : DrawingAt) → Widens budget depth most t (f t) (f' t))
+      → (c d : ℕ) (o : Outcome DrawingAt) → (m c d).outcome ≡ o → (t : DrawingAt) (n l : ℕ) → after o (λ x. run_of (f x)) ≡ Gives t n l
+      → Extends budget depth most (m' >>= f') s c d t n l
+  extends-then s m m' f f' g h c d (Gives x i j) q t n l p =
+      let first = g c d x i j q in
+      let rest = h x i j t n l p in
+      record {
+        cost = omega (arith, first.cost, rest.cost);
+        deepest = omega (arith, first.deepest, rest.deepest);
+        weight = omega (arith, first.weight, rest.weight);
+        same = λ cheap shallow light.
+            let goes : (m' c d).outcome ≡ Gives x i j =
+            first.same (omega (arith, cheap, rest.cost)) (omega (arith, shallow, rest.deepest)) (omega (arith, light, rest.weight)) in
+            rw goes (rest.same cheap shallow light);
+      }
+  extends-then s m m' f f' g h c d (Traps k i j) q t n l p = absurd (no_value k i j t n l p)
+
+  widens-then : (s : DrawingAt) (m m' : Draw) (f f' : DrawingAt → Draw) → Widens budget depth most s m m' → ((t : DrawingAt) → Widens budget depth most t (f t) (f' t))
+      → Widens budget depth most s (m >>= f) (m' >>= f')
+  widens-then s m m' f f' g h c d t n l p = extends-then s m m' f f' g h c d (m c d).outcome refl t n l p
+
+  extends-value : {A : Type 0} (s : DrawingAt) (m m' : Run A) (f f' : A → Draw) → Goes budget depth m m' → ((x : A) → Widens budget depth most s (f x) (f' x))
+      → (c d : ℕ) (o : Outcome A) → m c d ≡ o → (t : DrawingAt) (n l : ℕ) → after o (λ x. run_of (f x)) ≡ Gives t n l
+      → Extends budget depth most (m' >-> f') s c d t n l
+  extends-value s m m' f f' g h c d (Gives x i j) q t n l p =
+      let first = g c d x i j q in
+      let rest = h x i j t n l p in
+      record {
+        cost = omega (arith, first.cost, rest.cost);
+        deepest = omega (arith, first.deepest, rest.deepest);
+        weight = rest.weight;
+        same = λ cheap shallow light.
+            let goes : m' c d ≡ Gives x i j = first.same (omega (arith, cheap, rest.cost)) (omega (arith, shallow, rest.deepest)) in
+            rw goes (rest.same cheap shallow light);
+      }
+  extends-value s m m' f f' g h c d (Traps k i j) q t n l p = absurd (no_value k i j t n l p)
+
+  widens-value : {A : Type 0} (s : DrawingAt) (m m' : Run A) (f f' : A → Draw) → Goes budget depth m m' → ((x : A) → Widens budget depth most s (f x) (f' x))
+      → Widens budget depth most s (m >-> f) (m' >-> f')
+  widens-value s m m' f f' g h c d t n l p = extends-value s m m' f f' g h c d (m c d) refl t n l p
+
+  widens-lift : (s : DrawingAt) (r r' : Result DrawingAt ℕ) → Rises s r → Keeps most r r' → Widens budget depth most s (opens_none (lift r)) (opens_none (lift r'))
+  widens-lift s (Ok u) r' h k c d t n l p =
+      let cost : c ≡ n = ap cost_at p in
+      let deepest : d ≡ l = ap deepest_at p in
+      let weight : u.weight ≡ t.weight = ap weight_at p in
+      record {
+        cost = omega (arith, cost);
+        deepest = omega (arith, deepest);
+        weight = omega (arith, weight, h);
+        same = λ _ _ light.
+            let goes : r' ≡ Ok u = k u refl (omega (arith, light, weight)) in
+            rw goes p;
+      }
+  widens-lift s (Err e) r' h k c d t n l p = absurd (no_value e c d t n l p)
+
+  widens-trap : (s : DrawingAt) (k : ℕ) → Widens budget depth most s (opens_none (trap k)) (opens_none (trap k))
+  widens-trap s k c d t n l p = absurd (no_value k c d t n l p)
+
+  -- a state of the same weight
+  widens-give : (s u : DrawingAt) → u.weight ≡ s.weight → Widens budget depth most s (opens_none (give u)) (opens_none (give u))
+  widens-give s u e = widens-lift s (Ok u) (Ok u) (omega (arith, e)) (keeps-same most (Ok u))
+
+  widens-choice : (s : DrawingAt) (b : Bool) (m m' k k' : Draw) → Widens budget depth most s m m' → Widens budget depth most s k k'
+      → Widens budget depth most s (if b then m else k) (if b then m' else k')
+  widens-choice s true m m' k k' g h = g
+  widens-choice s false m m' k k' g h = h
+
+  -- a draw from a state that is no lighter
+  widens-from : (s u : DrawingAt) (m m' : Draw) → s.weight ≤ u.weight → Widens budget depth most u m m' → Widens budget depth most s m m'
+  widens-from s u m m' h g c d t n l p =
+      let e = g c d t n l p in
+      record { cost = e.cost; deepest = e.deepest; weight = omega (arith, h, e.weight); same = e.same }
+
+  -- ---- the meaning of the forms inside at a level
+
+  module _ (level : ℕ) (value value' : Go) (go go' : Draws) where
+    widens-in_order : AllWiden budget depth most level go go' → (env : Env) (fs : ShapeTrees) (s : DrawingAt)
+        → Widens budget depth most s (in_order go level env fs s) (in_order go' level env fs s)
+    widens-in_order g env none s = widens-give s s refl
+    widens-in_order g env (form f fs) s =
+        widens-then s (go level env f s) (go' level env f s) (in_order go level env fs) (in_order go' level env fs) (g env f s) (widens-in_order g env fs)
+
+    widens-for_each : AllWiden budget depth most level go go' → (env : Env) (x : List ℕ) (body : ShapeTrees) (ds : List Data) (s : DrawingAt)
+        → Widens budget depth most s (for_each go level env x body ds s) (for_each go' level env x body ds s)
+    widens-for_each g env x body [] s = widens-give s s refl
+    widens-for_each g env x body (d ∷ ds) s =
+        widens-then s (in_order go level ((x, d) ∷ env) body s) (in_order go' level ((x, d) ∷ env) body s)
+        (for_each go level env x body ds) (for_each go' level env x body ds) (widens-in_order g ((x, d) ∷ env) body s) (widens-for_each g env x body ds)
+
+    widens-draws_to : AllWiden budget depth most level go go' → (env : Env) (body : ShapeTrees) (leave : DrawingAt → DrawingAt)
+        → ((t : DrawingAt) → (leave t).weight ≡ t.weight) → (s : DrawingAt)
+        → Widens budget depth most s (draws_to go level env body leave s) (draws_to go' level env body leave s)
+    widens-draws_to g env body leave e s =
+        widens-then s (in_order go level env body s) (in_order go' level env body s) (λ end. opens_none (give (leave end))) (λ end. opens_none (give (leave end)))
+        (widens-in_order g env body s) (λ end. widens-give end (leave end) (e end))
+
+    widens-within : AllWiden budget depth most level go go' → (env : Env) (body : ShapeTrees) (s : DrawingAt) (r : Result DrawingAt ℕ) (leave : DrawingAt → DrawingAt)
+        → Rises s r → ((t : DrawingAt) → (leave t).weight ≡ t.weight)
+        → Widens budget depth most s (within go level env body r leave) (within go' level env body r leave)
+    widens-within g env body s (Ok inner) leave h e =
+        widens-from s inner (draws_to go level env body leave inner) (draws_to go' level env body leave inner) h (widens-draws_to g env body leave e inner)
+    widens-within g env body s (Err k) leave h e = widens-trap s k
+
+    widens-call_display : AllWiden budget depth most level go go' → (f : Option DisplayDecl) (s : DrawingAt) (ds : List Data)
+        → Widens budget depth most s (call_display go level f ds s) (call_display go' level f ds s)
+    widens-call_display g None s ds = widens-trap s 1
+    widens-call_display g (Some f) s ds =
+        widens-choice s (length ds == length f.parameters) (in_order go level (given f.parameters ds) (shape_trees_of f.body) s)
+        (in_order go' level (given f.parameters ds) (shape_trees_of f.body) s) (opens_none (trap 1)) (opens_none (trap 1))
+        (widens-in_order g (given f.parameters ds) (shape_trees_of f.body) s) (widens-trap s 1)
+
+    -- ---- the rows
+
+    widens-shape_parts : (app : App) (allowed allowed' : Allowance) → allowed'.weight ≡ most → GoGoes budget depth level value value' → AllWiden budget depth most level go go'
+        → (env : Env) (f : ShapeTree) (s : DrawingAt)
+        → Widens budget depth most s (shape_parts app allowed value go level env f s) (shape_parts app allowed' value' go' level env f s)
+    widens-shape_parts app allowed allowed' w v g env (shape.WriteText t) s =
+        widens-value s (value level env t) (value' level env t) (λ d. opens_none (lift (write_value allowed.weight s d)))
+        (λ d. opens_none (lift (write_value allowed'.weight s d))) (v env t)
+        (λ d. rw w (widens-lift s (write_value allowed.weight s d) (write_value most s d) (rises-adds allowed.weight s (write_value allowed.weight s d)
+        (adds-write_value allowed.weight s d)) (keeps-write_value most allowed.weight s d)))
+    widens-shape_parts app allowed allowed' w v g env shape.Newline s =
+        widens-lift s (newline s) (newline s) (rises-adds 0 s (newline s) (adds-newline 0 s)) (keeps-same most (newline s))
+    widens-shape_parts app allowed allowed' w v g env (shape.Draw figure ts) s =
+        widens-value s (each value level env ts []) (each value' level env ts []) (λ ds. opens_none (lift (draw_figure allowed.weight figure ds s)))
+        (λ ds. opens_none (lift (draw_figure allowed'.weight figure ds s))) (goes-each budget depth value value' level v env ts [])
+        (λ ds. rw w (widens-lift s (draw_figure allowed.weight figure ds s) (draw_figure most figure ds s) (rises-adds allowed.weight s (draw_figure allowed.weight figure ds s)
+        (adds-draw_parts allowed.weight (figure_parts figure ds) s)) (keeps-draw_parts most allowed.weight (figure_parts figure ds) s)))
+    widens-shape_parts app allowed allowed' w v g env (shape.Indent t body) s =
+        widens-value s (value level env t) (value' level env t) (λ d. within go level env body (indent d s) (restore_margin s.ambient))
+        (λ d. within go' level env body (indent d s) (restore_margin s.ambient)) (v env t)
+        (λ d. widens-within g env body s (indent d s) (restore_margin s.ambient) (rises-adds 0 s (indent d s) (adds-indent 0 d s)) (λ end. refl))
+    widens-shape_parts app allowed allowed' w v g env (shape.Ink t body) s =
+        widens-value s (value level env t) (value' level env t) (λ d. within go level env body (set_ink d s) (restore_ink s.ambient))
+        (λ d. within go' level env body (set_ink d s) (restore_ink s.ambient)) (v env t)
+        (λ d. widens-within g env body s (set_ink d s) (restore_ink s.ambient) (rises-adds 0 s (set_ink d s) (adds-set_ink 0 d s)) (λ end. refl))
+    widens-shape_parts app allowed allowed' w v g env (shape.Room body) s =
+        let leave = leave_room s.ambient s.part in
+        widens-from s (enter_room s) (draws_to go level env body leave (enter_room s)) (draws_to go' level env body leave (enter_room s)) (omega arith)
+        (widens-draws_to g env body leave (λ end. refl) (enter_room s))
+    widens-shape_parts app allowed allowed' w v g env (shape.If t a b) s =
+        widens-value s (tested value level env t) (tested value' level env t) (λ holds. if holds then go level env a s else go level env b s)
+        (λ holds. if holds then go' level env a s else go' level env b s) (goes-tested budget depth value value' level v env t)
+        (λ holds. widens-choice s holds (go level env a s) (go' level env a s) (go level env b s) (go' level env b s) (g env a s) (g env b s))
+    widens-shape_parts app allowed allowed' w v g env (shape.When t body) s =
+        widens-value s (tested value level env t) (tested value' level env t) (λ holds. if holds then in_order go level env body s else opens_none (give s))
+        (λ holds. if holds then in_order go' level env body s else opens_none (give s)) (goes-tested budget depth value value' level v env t)
+        (λ holds. widens-choice s holds (in_order go level env body s) (in_order go' level env body s) (opens_none (give s)) (opens_none (give s))
+        (widens-in_order g env body s) (widens-give s s refl))
+    widens-shape_parts app allowed allowed' w v g env (shape.Let bs body) s =
+        widens-value s (bound value level bs env) (bound value' level bs env) (λ inner. in_order go level inner body s) (λ inner. in_order go' level inner body s)
+        (goes-bound budget depth value value' level v bs env) (λ inner. widens-in_order g inner body s)
+    widens-shape_parts app allowed allowed' w v g env (shape.Dolist x t body) s =
+        widens-value s (listed value level env t) (listed value' level env t) (λ ds. for_each go level env x body ds s) (λ ds. for_each go' level env x body ds s)
+        (goes-listed budget depth value value' level v env t) (λ ds. widens-for_each g env x body ds s)
+    widens-shape_parts app allowed allowed' w v g env (shape.Progn body) s = widens-in_order g env body s
+    widens-shape_parts app allowed allowed' w v g env (shape.Call f ts) s =
+        widens-value s (each value level env ts []) (each value' level env ts []) (λ ds. call_display go level (display_named f app) ds s)
+        (λ ds. call_display go' level (display_named f app) ds s) (goes-each budget depth value value' level v env ts [])
+        (widens-call_display g (display_named f app) s)
 
 -- ---- forms
 
-goes-draws : (left budget left' budget' : ℕ) (app : App) (slots : Slots) (level : ℕ) (env : Env) (f : ShapeTree) (s : DrawingAt)
-    → Goes budget' (level + left') (draws left budget app slots level env f s) (draws left' budget' app slots level env f s)
-goes-draws zero budget left' budget' app slots level env f s c d v n l p = absurd (never (entering 0 budget level c d) v n l p)
-goes-draws (suc left) budget zero budget' app slots level env f s c d v n l p =
-    let at : level ≡ level + 0 = omega arith in
-    let inside = shape_parts app (means left budget app slots) (draws left budget app slots) (level + 1) env f s in
-    let same : Goes budget (level + 1 + left) inside inside =
-    goes-shape_parts budget (level + 1 + left) app (means left budget app slots) (means left budget app slots) (draws left budget app slots) (draws left budget app slots) (level + 1)
-    (goes-means left budget left budget app slots (level + 1)) (goes-draws left budget left budget app slots (level + 1)) env f s in
-    reaches-deep budget' (level + 0) inside (draws zero budget' app slots level env f s) level c d
-    (entering (suc left) budget level c d) (entered-above (nat_le budget c) (suc left == 0) level c d)
-    (λ i j w m k q. record { cost = (same i j w m k q).cost; deepest = (same i j w m k q).deepest; same = λ _ _. q })
-    (λ _. inside) (λ _. refl) at v n l p
-goes-draws (suc left) budget (suc left') budget' app slots level env f s c d v n l p =
-    let deeper : level + 1 + left' ≡ level + suc left' = omega arith in
-    goes-then budget' (level + suc left') (entering (suc left) budget level) (entering (suc left') budget' level)
-    (λ _. shape_parts app (means left budget app slots) (draws left budget app slots) (level + 1) env f s)
-    (λ _. shape_parts app (means left' budget' app slots) (draws left' budget' app slots) (level + 1) env f s)
-    (goes-entering (suc left) budget (suc left') budget' level)
-    (λ _. rw (← deeper) (goes-shape_parts budget' (level + 1 + left') app (means left budget app slots) (means left' budget' app slots) (draws left budget app slots) (draws left' budget' app slots) (level + 1)
-    (goes-means left budget left' budget' app slots (level + 1)) (goes-draws left budget left' budget' app slots (level + 1)) env f s)) c d v n l p
+-- below the depth nothing is reached
+extends-deep : (budget most : ℕ) (s : DrawingAt) (first second : Draw) (b w level k : ℕ) (c d : ℕ) (o : Outcome (Unit {0}))
+    → ((i j : ℕ) → o ≡ Gives tt i j → (c ≤ i) × (d ≤ j) × (level + 1 ≤ j)) → Widens b k w s first first
+    → (t : DrawingAt) (n l : ℕ) → after o (λ _. run_of first) ≡ Gives t n l → Extends budget (level + 0) most second s c d t n l
+extends-deep budget most s first second b w level k c d (Gives x i j) above g t n l p =
+    let entered = above i j refl in
+    let rest = g i j t n l p in
+    record {
+      cost = omega (arith, entered.0, rest.cost);
+      deepest = omega (arith, entered.1, rest.deepest);
+      weight = rest.weight;
+      same = λ cheap shallow light. absurd (omega (arith, entered.2, rest.deepest, shallow));
+    }
+extends-deep budget most s first second b w level k c d (Traps e i j) above g t n l p = absurd (no_value e i j t n l p)
 
-pub goes-fresh : (limits wider : Limits) (app : App) (forms : List ShapeTree) (env : Env) (slots : Slots) (s : DrawingAt) (cost reach : ℕ)
-    → fresh limits app forms env slots ≡ Gives s cost reach → cost ≤ wider.budget → reach ≤ wider.depth → fresh wider app forms env slots ≡ Gives s cost reach
+widens-draws : (left left' : ℕ) (allowed allowed' : Allowance) (app : App) (slots : Slots) (level : ℕ)
+    → AllWiden allowed'.budget (level + left') allowed'.weight level (draws left allowed app slots) (draws left' allowed' app slots)
+widens-draws zero left' allowed allowed' app slots level env f s c d t n l p = absurd (never (entering 0 allowed.budget level c d) t n l p)
+widens-draws (suc left) zero allowed allowed' app slots level env f s c d t n l p =
+    let value = means left allowed.budget app slots in
+    let go = draws left allowed app slots in
+    let inside = shape_parts app allowed value go (level + 1) env f s in
+    extends-deep allowed'.budget allowed'.weight s inside (draws zero allowed' app slots level env f s) allowed.budget allowed.weight level (level + 1 + left) c d
+    (entering (suc left) allowed.budget level c d) (entered-above (nat_le allowed.budget c) (suc left == 0) level c d)
+    (widens-shape_parts allowed.budget (level + 1 + left) allowed.weight (level + 1) value value go go app allowed allowed refl
+    (goes-means left allowed.budget left allowed.budget app slots (level + 1)) (widens-draws left left allowed allowed app slots (level + 1)) env f s) t n l p
+widens-draws (suc left) (suc left') allowed allowed' app slots level env f s c d t n l p =
+    let deeper : level + 1 + left' ≡ level + suc left' = omega arith in
+    let value = means left allowed.budget app slots in
+    let value' = means left' allowed'.budget app slots in
+    let go = draws left allowed app slots in
+    let go' = draws left' allowed' app slots in
+    widens-value allowed'.budget (level + suc left') allowed'.weight s (entering (suc left) allowed.budget level) (entering (suc left') allowed'.budget level)
+    (λ _. shape_parts app allowed value go (level + 1) env f s) (λ _. shape_parts app allowed' value' go' (level + 1) env f s)
+    (goes-entering (suc left) allowed.budget (suc left') allowed'.budget level)
+    (λ _. rw (← deeper) (widens-shape_parts allowed'.budget (level + 1 + left') allowed'.weight (level + 1) value value' go go' app allowed allowed' refl
+    (goes-means left allowed.budget left' allowed'.budget app slots (level + 1)) (widens-draws left left' allowed allowed' app slots (level + 1)) env f s)) c d t n l p
+
+pub widens-forms : (left more : ℕ) (allowed wider : Allowance) (app : App) (slots : Slots) (level : ℕ) (env : Env) (forms : ShapeTrees) (s end : DrawingAt) (cost deepest c d : ℕ)
+    → (in_order (draws left allowed app slots) level env forms s cost deepest).outcome ≡ Gives end c d
+    → c ≤ wider.budget → d ≤ level + more → end.weight ≤ wider.weight
+    → (in_order (draws more wider app slots) level env forms s cost deepest).outcome ≡ Gives end c d
+widens-forms left more allowed wider app slots level env forms s end cost deepest c d p =
+    (widens-in_order wider.budget (level + more) wider.weight level (means left allowed.budget app slots) (means more wider.budget app slots)
+    (draws left allowed app slots) (draws more wider app slots) (widens-draws left more allowed wider app slots level) env forms s cost deepest end c d p).same
+
+pub widens-fresh : (limits wider : Limits) (app : App) (forms : List ShapeTree) (env : Env) (slots : Slots) (s : DrawingAt) (cost reach : ℕ)
+    → (fresh limits app forms env slots).outcome ≡ Gives s cost reach → cost ≤ wider.budget → reach ≤ wider.depth
+    → (fresh wider app forms env slots).outcome ≡ Gives s cost reach
 unfolding fresh
-goes-fresh limits wider app forms env slots s cost reach p cheap shallow =
+widens-fresh limits wider app forms env slots s cost reach p cheap shallow =
     let within : reach ≤ 0 + wider.depth = omega (arith, shallow) in
-    (goes-in_order wider.budget (0 + wider.depth) (draws limits.depth limits.budget app slots) (draws wider.depth wider.budget app slots) 0
-    (goes-draws limits.depth limits.budget wider.depth wider.budget app slots 0) env (shape_trees_of forms) blank_drawing 0 0 s cost reach p).same cheap within
+    widens-forms limits.depth wider.depth (whole_allowance limits) (whole_allowance wider) app slots 0 env (shape_trees_of forms) blank_drawing s 0 0 cost reach p
+    cheap within (adds_up limits app forms env slots s cost reach p).light

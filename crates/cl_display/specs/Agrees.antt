@@ -4,26 +4,27 @@ use Rattle.cl_eval.specs.Outcome.{Outcome, Gives, Traps}
 use Rattle.cl_medium.specs.Leaves.{leaf_moved}
 use Rattle.cl_record.specs.Counts.{count_of}
 use Rattle.cl_record.specs.Marks.{history_marks}
-use Rattle.cl_display.specs.Drawings.{DrawingAt}
+use Rattle.cl_display.specs.Drawings.{DrawingAt, max_weight}
 use Rattle.cl_display.specs.declared.displays.Shown.{Shown}
 use Rattle.cl_display.specs.declared.displays.Shown.TheVariants as shown
 use Rattle.cl_display.specs.Script.{trap_history}
 
 -- the history and the variant that belong to an outcome
 abbrev pub Shows : Shown → Outcome DrawingAt → Type 0
-Shows (shown.Built h) (Gives s cost deepest) = history_marks leaf_moved h ≡ s.marks
+Shows (shown.Built h) (Gives s cost deepest) = history_marks leaf_moved h ≡ s.part.marks
 Shows (shown.Built h) (Traps kind cost deepest) = ⊥
 Shows (shown.Trapped h k) (Gives s cost deepest) = ⊥
 Shows (shown.Trapped h k) (Traps kind cost deepest) = (k ≡ kind) × (history_marks leaf_moved h ≡ trap_history kind)
 Shows shown.Memory o = Unit {0}
 
+-- whether there was no memory
 abbrev pub met_memory : Shown → Bool
 met_memory (shown.Built h) = false
 met_memory (shown.Trapped h k) = false
 met_memory shown.Memory = true
 
--- a history draws at most 1,000,000 items
+-- a history draws no more items than it may weigh
 abbrev pub IsFew : Shown → Type 0
-IsFew (shown.Built h) = count_of (history_marks leaf_moved h) ≤ 1000000
-IsFew (shown.Trapped h k) = count_of (history_marks leaf_moved h) ≤ 1000000
+IsFew (shown.Built h) = count_of (history_marks leaf_moved h) ≤ max_weight
+IsFew (shown.Trapped h k) = count_of (history_marks leaf_moved h) ≤ max_weight
 IsFew shown.Memory = Unit {0}

@@ -1,6 +1,11 @@
 pub mod Drawings
+pub mod Figures
+pub mod Settings
 pub mod Sums
+pub mod Walks
+pub mod Outcomes
 pub mod Fresh
-pub mod DrawnFrom
+pub mod Place
 pub mod Script
 pub mod Agrees
+pub mod Uses

@@ -1,12 +1,11 @@
 -- What the items of a history weigh together, where the lowest of them ends, and what holds them all.
-use Rattle.std.specs.Prelude.{◌≡◌, ℕ, ◌+◌, ◌≤◌, ℤ, ◌≤ℤ◌, List, [], ◌∷◌, length}
-use Rattle.std.specs.Int.{int_max}
+use Rattle.std.specs.Prelude.{◌≡◌, ℕ, ◌+◌, ◌≤◌, ℤ, ◌≤ℤ◌, List, [], ◌∷◌, length, Option, Some, None}
 use Rattle.cl_medium.specs.Items.{Shape, bytes}
 use Rattle.cl_medium.specs.Leaves.{item_of, leaf_bounds}
 use Rattle.cl_medium.specs.declared.any_leaf.AnyLeaf.{AnyLeaf}
 use Rattle.cl_record.specs.Replays.{drawn}
 use Rattle.cl_region.specs.declared.rects.Rect.{Rect}
-use Rattle.cl_display.specs.Drawings.{DrawingAt, highest}
+use Rattle.cl_display.specs.Drawings.{DrawingAt, lower_end, max_weight}
 
 -- a text weighs its bytes and 1, another item 1
 abbrev pub shape_weight : Shape → ℕ
@@ -20,18 +19,18 @@ abbrev pub weight_of : List AnyLeaf → ℕ
 weight_of [] = 0
 weight_of (leaf ∷ items) = item_weight leaf + weight_of items
 
--- the greatest end of an item down
-abbrev pub bottom_of : List AnyLeaf → ℤ
-bottom_of [] = highest
-bottom_of (leaf ∷ items) = int_max (leaf_bounds leaf).y2 (bottom_of items)
+-- the greatest end of an item down, if there is an item
+abbrev pub lowest_of : List AnyLeaf → Option ℤ
+lowest_of [] = None
+lowest_of (leaf ∷ items) = lower_end (Some (leaf_bounds leaf).y2) (lowest_of items)
 
--- a drawing weighs what its items weigh together, which is not too much; it ends where the lowest of them does; and it has at most
--- 1,000,000 items
+-- a drawing weighs what its items weigh together, which is not too much; it ends where the lowest of them does; and it has no more
+-- items than it may weigh
 pub record AddsUp (s : DrawingAt) : Type 0 where
-  pub weight : s.weight ≡ weight_of (drawn s.marks)
-  pub light : s.weight ≤ 1000000
-  pub bottom : s.bottom ≡ bottom_of (drawn s.marks)
-  pub count : length (drawn s.marks) ≤ 1000000
+  pub weight : s.weight ≡ weight_of (drawn s.part.marks)
+  pub light : s.weight ≤ max_weight
+  pub lowest : s.part.lowest ≡ lowest_of (drawn s.part.marks)
+  pub count : length (drawn s.part.marks) ≤ max_weight
 
 -- the corners of a rectangle lie within those of another one, also where it has no cells
 pub record Holds (outer inner : Rect) : Type 0 where

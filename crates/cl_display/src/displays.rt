@@ -6,9 +6,11 @@ ghost use Rattle.cl_record.specs.Marks.{history_marks};
 ghost use Rattle.cl_display.specs.Script.{fresh, trap_history};
 ghost use Rattle.cl_display.specs.Agrees.{IsFew, Shows, met_memory};
 
-use crate::drawings::{Drawing, push_leaf};
+use crate::drawings::{Drawing, MAX_WEIGHT};
 use crate::forms::draw_all;
 use crate::histories::History;
+use crate::parts::push_leaf;
+use crate::places::Place;
 use cl_application::App;
 use cl_eval::{Context, Env, Limits, Meter, Scope, Slots, Standpoint, Stop};
 use cl_medium::{Ambient, Drawn, draw_text};
@@ -41,10 +43,10 @@ pub fn display<L: Ledger>(
     steps: &mut Steps<L>,
 ) -> Shown
     requires { limits.depth ≤ 512 }
-    ensures shows { Shows result (fresh limits app.now forms.now env.now slots.now) }
+    ensures shows { Shows result (fresh limits app.now forms.now env.now slots.now).outcome }
     ensures few { IsFew result }
     ensures ledger { RisesBy (met_memory result) steps.old steps.new
-        (cost_of (fresh limits app.now forms.now env.now slots.now)) }
+        (cost_of (fresh limits app.now forms.now env.now slots.now).outcome) }
 {
     let context = Context {
         alloc,
@@ -55,14 +57,17 @@ pub fn display<L: Ledger>(
     let mut meter = Meter::new();
     let mut drawing = Drawing::blank(alloc);
     let scope = Scope::Given(env);
-    let here = Standpoint {
-        context: &context,
-        scope: &scope,
-        left: limits.depth,
-        level: 0,
+    let place = Place {
+        here: Standpoint {
+            context: &context,
+            scope: &scope,
+            left: limits.depth,
+            level: 0,
+        },
+        max_weight: MAX_WEIGHT,
     };
-    match draw_all(&here, forms, &mut drawing, &mut meter, steps) {
-        Ok(()) => Shown::Built(History::from_nodes(drawing.nodes)),
+    match draw_all(&place, forms, &mut drawing, &mut meter, steps) {
+        Ok(()) => Shown::Built(History::from_nodes(drawing.part.nodes)),
         Err(Stop::Trap(kind)) => match trapped(alloc, kind) {
             Ok(history) => Shown::Trapped(history, kind),
             Err(_) => Shown::Memory,

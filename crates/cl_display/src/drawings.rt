@@ -1,35 +1,26 @@
 //! What display forms draw.
-ghost use Rattle.std.specs.Prelude.{◌≡◌, ◌+◌, ◌<◌, ◌≤◌, ◌∷◌, ◌++◌, [], MatchOption, OnErr, OnOk};
+ghost use Rattle.std.specs.Prelude.{◌≡◌, ◌+◌, ◌<◌, ◌≤◌, MatchOption, Ok};
 ghost use Rattle.cl_value.specs.Value.{data_of};
 ghost use Rattle.cl_eval.specs.Agrees.{Comes, always};
-ghost use Rattle.cl_region.specs.Places.{IsInRange};
-ghost use Rattle.cl_medium.specs.Leaves.{leaf_bounds};
-ghost use Rattle.cl_record.specs.Trees.{leaf};
-ghost use Rattle.cl_display.specs.Drawings.{added, blank_drawing, cursor_to, drawing_of, drawn, lined};
-ghost use Rattle.cl_display.specs.Fresh.{written};
+ghost use Rattle.cl_display.specs.Drawings.{add_item, blank_drawing, cursor_to, drawing_of, join, newline, part_of, start, write_text};
+ghost use Rattle.cl_display.specs.Fresh.{write_value};
 
-use crate::extents::{Bottom, Extent};
+use crate::parts::Part;
 use cl_eval::Stop;
-use cl_medium::{Ambient, AnyLeaf, Drawn, Leaf, draw_text, newline};
-use cl_record::{Node, Nodes};
+use cl_medium::{Ambient, AnyLeaf, Drawn, draw_text, newline};
 use cl_value::{Text, Value};
-use std::alloc::{AllocError, Global};
+use std::alloc::Global;
 
 /// No history weighs more.
-pub const HEAVY: u64 = 1_000_000;
+pub const MAX_WEIGHT: u64 = 1_000_000;
 
-/// A display so far: the state that is drawn from, the weight of what was drawn, its extent, the greatest
-/// end of an item down since the origin was set, whether the margin and the origin of the start were
-/// used, and the records of what was drawn.
+/// A display so far: the state that is drawn from, the weight of what was drawn, and what the present
+/// body drew.
 #[derive(Drop)]
 pub struct Drawing {
     pub ambient: Ambient,
     pub weight: u64,
-    pub extent: Extent,
-    pub bottom: Bottom,
-    pub margin_used: bool,
-    pub origin_used: bool,
-    pub nodes: Nodes<AnyLeaf>,
+    pub part: Part,
 }
 
 impl Drawing {
@@ -41,33 +32,48 @@ impl Drawing {
         Drawing {
             ambient,
             weight: 0,
-            extent: Extent::at_cursor(&ambient),
-            bottom: Bottom::highest(),
-            margin_used: false,
-            origin_used: false,
-            nodes: Nodes::new(alloc),
+            part: Part::start(alloc, &ambient),
         }
     }
 
-    /// Draws a text at the cursor.
-    pub fn write(&mut self, value: &Value) -> Result<(), Stop>
+    /// Starts a new part at the cursor, and gives the one before.
+    pub fn start(&mut self, alloc: Global) -> Part
+        ensures inside { drawing_of self.new ≡ start (drawing_of self.old) }
+        ensures outer { part_of result ≡ (drawing_of self.old).part }
+    {
+        let inner = Part::start(alloc, &self.ambient);
+        std::mem::replace(&mut self.part, inner)
+    }
+
+    /// Puts the part that was drawn last behind the one around it.
+    pub fn join(&mut self, outer: Part) -> Result<(), Stop>
         ensures { Comes (always (drawing_of self.new)) result
-            (written (drawing_of self.old) (data_of value.now)) }
+            (Ok (join (part_of outer) (drawing_of self.old))) }
+    {
+        let inner = std::mem::replace(&mut self.part, outer);
+        self.part.join(inner)?;
+        Ok(())
+    }
+
+    /// Draws a text at the cursor, where all together weighs no more than the most.
+    pub fn write(&mut self, most: u64, value: &Value) -> Result<(), Stop>
+        ensures { Comes (always (drawing_of self.new)) result
+            (write_value most (drawing_of self.old) (data_of value.now)) }
     {
         match value {
-            Value::Text(text) => self.write_text(text),
+            Value::Text(text) => self.write_text(most, text),
             _ => Err(Stop::Trap(1)),
         }
     }
 
-    fn write_text(&mut self, text: &Text) -> Result<(), Stop>
+    fn write_text(&mut self, most: u64, text: &Text) -> Result<(), Stop>
         ensures { Comes (always (drawing_of self.new)) result
-            (drawn text.now (drawing_of self.old)) }
+            (write_text most text.now (drawing_of self.old)) }
     {
         let mut ambient = self.ambient;
         match draw_text(&mut ambient, text) {
             Drawn::Item(leaf) => {
-                self.add(leaf, text.as_slice().len() as u64 + 1)?;
+                self.add(most, leaf, text.as_slice().len() as u64 + 1)?;
                 self.move_to(ambient);
                 Ok(())
             }
@@ -79,29 +85,26 @@ impl Drawing {
 
     /// Moves the cursor to the margin of the next row.
     pub fn newline(&mut self) -> Result<(), Stop>
-        ensures { Comes (always (drawing_of self.new)) result (lined (drawing_of self.old)) }
+        ensures { Comes (always (drawing_of self.new)) result (newline (drawing_of self.old)) }
     {
         let mut ambient = self.ambient;
         if !newline(&mut ambient) {
             return Err(Stop::Trap(9));
         }
-        self.margin_used = true;
+        self.part.margin_used = true;
         self.move_to(ambient);
         Ok(())
     }
 
     // One more item of this weight.
-    pub(crate) fn add(&mut self, leaf: AnyLeaf, weight: u64) -> Result<(), Stop>
+    pub(crate) fn add(&mut self, most: u64, leaf: AnyLeaf, weight: u64) -> Result<(), Stop>
         ensures { Comes (always (drawing_of self.new)) result
-            (added leaf weight (drawing_of self.old)) }
+            (add_item most leaf weight (drawing_of self.old)) }
     {
-        let Some(whole) = heavier(self.weight, weight) else {
+        let Some(whole) = heavier(most, self.weight, weight) else {
             return Err(Stop::Trap(10));
         };
-        let bounds = leaf.bounds();
-        push_leaf(&mut self.nodes, leaf)?;
-        self.extent.take(&bounds);
-        self.bottom.take(&bounds);
+        self.part.push(leaf)?;
         self.weight = whole;
         Ok(())
     }
@@ -110,25 +113,16 @@ impl Drawing {
     fn move_to(&mut self, ambient: Ambient)
         ensures { drawing_of self.new ≡ cursor_to ambient (drawing_of self.old) }
     {
-        self.extent.take_cursor(&ambient);
+        self.part.take_cursor(&ambient);
         self.ambient = ambient;
     }
 }
 
-// The sum of two weights, where it is not too heavy.
-fn heavier(weight: u64, more: u64) -> Option<u64>
-    ensures { MatchOption result (1000000 < weight + more)
-        (λ sum. (sum ≡ weight + more) × (sum ≤ 1000000)) }
+// The sum of two weights, where it is no more than the most.
+fn heavier(most: u64, weight: u64, more: u64) -> Option<u64>
+    ensures { MatchOption result (most < weight + more)
+        (λ sum. (sum ≡ weight + more) × (sum ≤ most)) }
 {
     let sum = weight.checked_add(more)?;
-    if sum <= HEAVY { Some(sum) } else { None }
-}
-
-// An item behind the other records.
-pub(crate) fn push_leaf(nodes: &mut Nodes<AnyLeaf>, item: AnyLeaf) -> Result<(), AllocError>
-    requires { IsInRange (leaf_bounds item) }
-    ensures ok { OnOk result (nodes.new ≡ nodes.old ++ leaf item ∷ []) }
-    ensures err { OnErr result (nodes.new ≡ nodes.old) }
-{
-    nodes.push(Node::Leaf(item))
+    if sum <= most { Some(sum) } else { None }
 }

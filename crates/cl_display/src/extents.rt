@@ -1,8 +1,9 @@
-//! The extent of a drawing.
-ghost use Rattle.std.specs.Prelude.{◌≡◌};
-ghost use Rattle.std.specs.Int.{int_max};
+//! The extent of a drawing, and the lowest end of its items.
+ghost use Rattle.std.specs.Prelude.{◌≡◌, Some, None};
+ghost use Rattle.std.specs.Option.{unwrap_or};
 ghost use Rattle.cl_region.specs.Places.{IsInRange, IsNear, box};
-ghost use Rattle.cl_display.specs.Drawings.{cursor_box, highest, margin_box};
+ghost use Rattle.cl_display.specs.Drawings.{cursor_box, lower_end};
+ghost use Rattle.cl_display.specs.Settings.{margin_box};
 
 use cl_medium::Ambient;
 use cl_region::Rect;
@@ -67,52 +68,62 @@ impl Extent {
     }
 }
 
-/// The greatest end of an item down, or -1,000,000 where there is no item yet.
+/// The greatest end of an item down, if there is an item. It is from -1,000,000 to 1,000,000.
 #[derive(Drop)]
-pub struct Bottom {
-    end: i64,
+pub struct Lowest {
+    end: Option<i64>,
 }
 
-impl Model for Bottom {
-    ghost use Rattle.std.specs.Prelude.{ℤ};
+impl Model for Lowest {
+    ghost use Rattle.std.specs.Prelude.{Option, ℤ, IfSome};
     ghost use Rattle.cl_region.specs.Places.{IsNear};
 
-    ghost Value = { ℤ };
+    ghost Value = { Option ℤ };
 
-    ghost view = { λ b. b.end };
+    ghost view = { λ l. l.end };
 
-    ghost invariant = { λ b. IsNear b.end };
+    ghost invariant = { λ l. IfSome l.end IsNear };
 }
 
-impl Bottom {
+impl Lowest {
     /// No item yet.
-    pub fn highest() -> Bottom
-        ensures { result ≡ highest }
+    pub fn none() -> Lowest
+        ensures { result ≡ None }
     {
-        Bottom { end: -1_000_000 }
+        Lowest { end: None }
     }
 
-    /// The end.
-    pub fn get(&self) -> i64
-        ensures value { result ≡ self.now }
+    /// The end, or else this row.
+    pub fn unwrap_or(&self, row: i64) -> i64
+        requires { IsNear row }
+        ensures value { result ≡ unwrap_or self.now row }
         ensures range { IsNear result }
     {
-        self.end
+        self.end.unwrap_or(row)
     }
 
     /// Takes in an item with these bounds.
     pub fn take(&mut self, bounds: &Rect)
         requires { IsInRange bounds.now }
-        ensures { self.new ≡ int_max self.old bounds.now.y2 }
+        ensures { self.new ≡ lower_end self.old (Some bounds.now.y2) }
     {
-        self.end = self.end.max(bounds.y2);
+        self.end = match self.end {
+            Some(end) => Some(end.max(bounds.y2)),
+            None => Some(bounds.y2),
+        };
     }
 
     /// Takes in what another took in.
-    pub fn join(&mut self, other: &Bottom)
-        ensures { self.new ≡ int_max other.now self.old }
+    pub fn join(&mut self, other: &Lowest)
+        ensures { self.new ≡ lower_end self.old other.now }
     {
-        self.end = other.end.max(self.end);
+        let Some(end) = other.end else {
+            return;
+        };
+        self.end = match self.end {
+            Some(before) => Some(before.max(end)),
+            None => Some(end),
+        };
     }
 }
 

@@ -1,17 +1,36 @@
 //! Figures, which are drawn from the origin and leave the cursor.
-ghost use Rattle.std.specs.Prelude.{◌≡◌, map};
+ghost use Rattle.std.specs.Prelude.{◌≡◌, Some, map};
 ghost use Rattle.cl_value.specs.Value.{data_of};
 ghost use Rattle.cl_eval.specs.Agrees.{Comes, always};
 ghost use Rattle.cl_medium.specs.Drawing.{IsDrawn};
 ghost use Rattle.cl_medium.specs.declared.any_leaf.AnyLeaf.{AnyLeaf};
 ghost use Rattle.cl_medium.specs.declared.areas.Area.{Area};
-ghost use Rattle.cl_display.specs.Drawings.{byte_of, drawing_of, figured, filled, filled_at, number_of, outlined, outlined_at, pointed, pointed_at, ruled_across, ruled_across_at, ruled_down, ruled_down_at, shaped};
+ghost use Rattle.cl_display.specs.Drawings.{drawing_of};
+ghost use Rattle.cl_display.specs.Figures.{area_at, byte_of, draw_figure, draw_parts, draw_shape, figure_parts, leaf_in, number_of, parts_at};
 
 use crate::drawings::Drawing;
 use cl_eval::Stop;
-use cl_medium::{Drawn, draw_box, draw_hline, draw_point, draw_vline, fill_box};
+use cl_medium::{Ambient, Drawn, draw_box, draw_hline, draw_point, draw_vline, fill_box};
 use cl_syntax::Figure;
 use cl_value::Value;
+
+/// What a figure draws, by its length, or by its width and height, and by a byte.
+#[derive(Clone, Copy)]
+pub enum FigureItem {
+    Point(u8),
+    HorizontalLine(i64),
+    VerticalLine(i64),
+    Outline(i64, i64),
+    Filled(i64, i64, u8),
+}
+
+/// The place of a figure from the origin, and what it draws there.
+#[derive(Clone, Copy)]
+pub struct FigureParts {
+    pub x: i64,
+    pub y: i64,
+    pub item: FigureItem,
+}
 
 fn number_in(value: &Value) -> Option<i64>
     ensures { result ≡ number_of (data_of value.now) }
@@ -35,210 +54,84 @@ fn byte_in(value: &Value) -> Option<u8>
     }
 }
 
+// The parts of a figure by its values, if they are of the right kinds and as many as it asks for.
+fn figure_parts(figure: Figure, values: &[Value]) -> Option<FigureParts>
+    ensures { result ≡ figure_parts figure (map data_of values.now) }
+{
+    match (figure, values) {
+        (Figure::Point, [x, y, text]) => parts_at(x, y, FigureItem::Point(byte_in(text)?)),
+        (Figure::HorizontalLine, [x, y, length]) => {
+            parts_at(x, y, FigureItem::HorizontalLine(number_in(length)?))
+        }
+        (Figure::VerticalLine, [x, y, length]) => {
+            parts_at(x, y, FigureItem::VerticalLine(number_in(length)?))
+        }
+        (Figure::Outline, [x, y, width, height]) => {
+            let item = FigureItem::Outline(number_in(width)?, number_in(height)?);
+            parts_at(x, y, item)
+        }
+        (Figure::Filled, [x, y, width, height, text]) => {
+            let item = FigureItem::Filled(number_in(width)?, number_in(height)?, byte_in(text)?);
+            parts_at(x, y, item)
+        }
+        _ => None,
+    }
+}
+
+// What is drawn so far from the origin, if these are numbers.
+fn parts_at(x: &Value, y: &Value, item: FigureItem) -> Option<FigureParts>
+    ensures { result ≡ parts_at (data_of x.now) (data_of y.now) item }
+{
+    Some(FigureParts {
+        x: number_in(x)?,
+        y: number_in(y)?,
+        item,
+    })
+}
+
+// A figure, drawn from the origin.
+fn draw(ambient: &Ambient, parts: FigureParts) -> Drawn
+    ensures { IsDrawn (leaf_in (area_at ambient.now parts) parts.item) (area_at ambient.now parts) result }
+{
+    let FigureParts { x, y, item } = parts;
+    match item {
+        FigureItem::Point(byte) => draw_point(ambient, x, y, byte),
+        FigureItem::HorizontalLine(length) => draw_hline(ambient, x, y, length),
+        FigureItem::VerticalLine(length) => draw_vline(ambient, x, y, length),
+        FigureItem::Outline(width, height) => draw_box(ambient, x, y, width, height),
+        FigureItem::Filled(width, height, byte) => fill_box(ambient, x, y, width, height, byte),
+    }
+}
+
 impl Drawing {
-    /// Draws a figure by the values of its parts: its place, its sizes, and a text of one byte.
-    pub fn figure(&mut self, figure: Figure, values: &[Value]) -> Result<(), Stop>
+    /// Draws a figure by the values of its parts, where all together weighs no more than the most.
+    pub fn figure(&mut self, most: u64, figure: Figure, values: &[Value]) -> Result<(), Stop>
         ensures { Comes (always (drawing_of self.new)) result
-            (figured figure (map data_of values.now) (drawing_of self.old)) }
+            (draw_figure most figure (map data_of values.now) (drawing_of self.old)) }
     {
-        match figure {
-            Figure::Point => self.point(values),
-            Figure::HorizontalLine => self.line_across(values),
-            Figure::VerticalLine => self.line_down(values),
-            Figure::Outline => self.outline(values),
-            Figure::Filled => self.filled(values),
+        match figure_parts(figure, values) {
+            Some(parts) => self.figure_of(most, parts),
+            None => Err(Stop::Trap(1)),
         }
     }
 
-    fn point(&mut self, values: &[Value]) -> Result<(), Stop>
+    fn figure_of(&mut self, most: u64, parts: FigureParts) -> Result<(), Stop>
         ensures { Comes (always (drawing_of self.new)) result
-            (pointed (map data_of values.now) (drawing_of self.old)) }
+            (draw_parts most (Some parts) (drawing_of self.old)) }
     {
-        match values {
-            [x, y, text] => self.point_at(number_in(x), number_in(y), byte_in(text)),
-            _ => Err(Stop::Trap(1)),
-        }
-    }
-
-    fn point_at(&mut self, x: Option<i64>, y: Option<i64>, byte: Option<u8>) -> Result<(), Stop>
-        ensures { Comes (always (drawing_of self.new)) result
-            (pointed_at x y byte (drawing_of self.old)) }
-    {
-        let Some(x) = x else {
-            return Err(Stop::Trap(1));
-        };
-        let Some(y) = y else {
-            return Err(Stop::Trap(1));
-        };
-        let Some(byte) = byte else {
-            return Err(Stop::Trap(1));
-        };
         let ambient = self.ambient;
-        self.add_shape(draw_point(&ambient, x, y, byte))
-    }
-
-    fn line_across(&mut self, values: &[Value]) -> Result<(), Stop>
-        ensures { Comes (always (drawing_of self.new)) result
-            (ruled_across (map data_of values.now) (drawing_of self.old)) }
-    {
-        match values {
-            [x, y, length] => self.line_across_at(number_in(x), number_in(y), number_in(length)),
-            _ => Err(Stop::Trap(1)),
-        }
-    }
-
-    fn line_across_at(
-        &mut self,
-        x: Option<i64>,
-        y: Option<i64>,
-        length: Option<i64>,
-    ) -> Result<(), Stop>
-        ensures { Comes (always (drawing_of self.new)) result
-            (ruled_across_at x y length (drawing_of self.old)) }
-    {
-        let Some(x) = x else {
-            return Err(Stop::Trap(1));
-        };
-        let Some(y) = y else {
-            return Err(Stop::Trap(1));
-        };
-        let Some(length) = length else {
-            return Err(Stop::Trap(1));
-        };
-        let ambient = self.ambient;
-        self.add_shape(draw_hline(&ambient, x, y, length))
-    }
-
-    fn line_down(&mut self, values: &[Value]) -> Result<(), Stop>
-        ensures { Comes (always (drawing_of self.new)) result
-            (ruled_down (map data_of values.now) (drawing_of self.old)) }
-    {
-        match values {
-            [x, y, length] => self.line_down_at(number_in(x), number_in(y), number_in(length)),
-            _ => Err(Stop::Trap(1)),
-        }
-    }
-
-    fn line_down_at(
-        &mut self,
-        x: Option<i64>,
-        y: Option<i64>,
-        length: Option<i64>,
-    ) -> Result<(), Stop>
-        ensures { Comes (always (drawing_of self.new)) result
-            (ruled_down_at x y length (drawing_of self.old)) }
-    {
-        let Some(x) = x else {
-            return Err(Stop::Trap(1));
-        };
-        let Some(y) = y else {
-            return Err(Stop::Trap(1));
-        };
-        let Some(length) = length else {
-            return Err(Stop::Trap(1));
-        };
-        let ambient = self.ambient;
-        self.add_shape(draw_vline(&ambient, x, y, length))
-    }
-
-    #[tactic(auto, using(crate::proofs::FigureLemmas::outlined_counts))]
-    fn outline(&mut self, values: &[Value]) -> Result<(), Stop>
-        ensures { Comes (always (drawing_of self.new)) result
-            (outlined (map data_of values.now) (drawing_of self.old)) }
-    {
-        match values {
-            [x, y, width, height] => self.outline_at(
-                number_in(x),
-                number_in(y),
-                number_in(width),
-                number_in(height),
-            ),
-            _ => Err(Stop::Trap(1)),
-        }
-    }
-
-    fn outline_at(
-        &mut self,
-        x: Option<i64>,
-        y: Option<i64>,
-        width: Option<i64>,
-        height: Option<i64>,
-    ) -> Result<(), Stop>
-        ensures { Comes (always (drawing_of self.new)) result
-            (outlined_at x y width height (drawing_of self.old)) }
-    {
-        let Some(x) = x else {
-            return Err(Stop::Trap(1));
-        };
-        let Some(y) = y else {
-            return Err(Stop::Trap(1));
-        };
-        let Some(width) = width else {
-            return Err(Stop::Trap(1));
-        };
-        let Some(height) = height else {
-            return Err(Stop::Trap(1));
-        };
-        let ambient = self.ambient;
-        self.add_shape(draw_box(&ambient, x, y, width, height))
-    }
-
-    #[tactic(auto, using(crate::proofs::FigureLemmas::filled_counts))]
-    fn filled(&mut self, values: &[Value]) -> Result<(), Stop>
-        ensures { Comes (always (drawing_of self.new)) result
-            (filled (map data_of values.now) (drawing_of self.old)) }
-    {
-        match values {
-            [x, y, width, height, text] => self.filled_at(
-                number_in(x),
-                number_in(y),
-                number_in(width),
-                number_in(height),
-                byte_in(text),
-            ),
-            _ => Err(Stop::Trap(1)),
-        }
-    }
-
-    fn filled_at(
-        &mut self,
-        x: Option<i64>,
-        y: Option<i64>,
-        width: Option<i64>,
-        height: Option<i64>,
-        byte: Option<u8>,
-    ) -> Result<(), Stop>
-        ensures { Comes (always (drawing_of self.new)) result
-            (filled_at x y width height byte (drawing_of self.old)) }
-    {
-        let Some(x) = x else {
-            return Err(Stop::Trap(1));
-        };
-        let Some(y) = y else {
-            return Err(Stop::Trap(1));
-        };
-        let Some(width) = width else {
-            return Err(Stop::Trap(1));
-        };
-        let Some(height) = height else {
-            return Err(Stop::Trap(1));
-        };
-        let Some(byte) = byte else {
-            return Err(Stop::Trap(1));
-        };
-        let ambient = self.ambient;
-        self.add_shape(fill_box(&ambient, x, y, width, height, byte))
+        self.add_shape(most, draw(&ambient, parts))
     }
 
     // What was drawn from the origin.
-    fn add_shape(&mut self, drawn: Drawn) -> Result<(), Stop>
+    fn add_shape(&mut self, most: u64, drawn: Drawn) -> Result<(), Stop>
         ensures { (leaf : AnyLeaf) (area : Area) → IsDrawn leaf area drawn
-            → Comes (always (drawing_of self.new)) result (shaped leaf area (drawing_of self.old)) }
+            → Comes (always (drawing_of self.new)) result (draw_shape most leaf area (drawing_of self.old)) }
     {
         match drawn {
             Drawn::Item(leaf) => {
-                self.add(leaf, 1)?;
-                self.origin_used = true;
+                self.add(most, leaf, 1)?;
+                self.part.origin_used = true;
                 Ok(())
             }
             Drawn::Nothing => Ok(()),

@@ -7,11 +7,13 @@ ghost use Rattle.cl_application.specs.App.{display_named};
 ghost use Rattle.cl_eval.specs.Scope.{variables_of};
 ghost use Rattle.cl_eval.specs.Standpoint.{meaning_at};
 ghost use Rattle.cl_eval.specs.Agrees.{Agrees, always, itself};
-ghost use Rattle.cl_display.specs.Drawings.{drawing_of, indented, ink_back, inked, margin_back, outer_of, room_entered, room_left};
-ghost use Rattle.cl_display.specs.Fresh.{called, draws_in, for_each, in_order, shape_parts, within};
-ghost use Rattle.cl_display.specs.DrawnFrom.{drawn_from, draws_at};
+ghost use Rattle.cl_display.specs.Drawings.{drawing_of};
+ghost use Rattle.cl_display.specs.Settings.{enter_room, indent, leave_room, restore_ink, restore_margin, set_ink};
+ghost use Rattle.cl_display.specs.Fresh.{call_display, draws_in, draws_to, for_each, in_order, shape_parts, within};
+ghost use Rattle.cl_display.specs.Place.{allowance_at, draw_from, draws_at};
 
 use crate::drawings::Drawing;
+use crate::places::Place;
 use cl_eval::{
     Meter, Scope, Standpoint, Stop, evaluate, evaluate_bindings, evaluate_each, evaluate_list,
     evaluate_test,
@@ -23,23 +25,27 @@ use cl_value::{Text, Value};
 // One form.
 #[cycle(draw)]
 fn draw<L: Ledger>(
-    here: &Standpoint<'_>,
+    place: &Place<'_>,
     form: &Shape,
     drawing: &mut Drawing,
     meter: &mut Meter,
     steps: &mut Steps<L>,
 ) -> Result<(), Stop>
-    requires { here.now.level + here.now.left < 2 ^ 32 }
+    requires { place.now.here.level + place.now.here.left < 2 ^ 32 }
     ensures meaning { Agrees (always (drawing_of drawing.new)) result meter.new
-        (drawn_from here.now itself form.now (drawing_of drawing.old) meter.old.cost
-        meter.old.deepest) }
+        (draw_from place.now itself form.now (drawing_of drawing.old) meter.old.cost
+        meter.old.deepest).outcome }
     ensures ledger { steps.new + meter.old.cost ≡ steps.old + meter.new.cost }
 {
+    let here = &place.here;
     meter.enter(here.left, here.context.budget, here.level, steps)?;
-    let inner = Standpoint {
-        left: here.left - 1,
-        level: here.level + 1,
-        ..*here
+    let inner = Place {
+        here: Standpoint {
+            left: here.left - 1,
+            level: here.level + 1,
+            ..*here
+        },
+        ..*place
     };
     draw_parts(&inner, form, drawing, meter, steps)
 }
@@ -47,55 +53,55 @@ fn draw<L: Ledger>(
 // A form that was entered.
 #[cycle(draw)]
 fn draw_parts<L: Ledger>(
-    here: &Standpoint<'_>,
+    place: &Place<'_>,
     form: &Shape,
     drawing: &mut Drawing,
     meter: &mut Meter,
     steps: &mut Steps<L>,
 ) -> Result<(), Stop>
-    requires { here.now.level + here.now.left < 2 ^ 32 }
+    requires { place.now.here.level + place.now.here.left < 2 ^ 32 }
     ensures meaning { Agrees (always (drawing_of drawing.new)) result meter.new
-        (drawn_from here.now (shape_parts here.now.context.now.app.now (meaning_at here.now))
+        (draw_from place.now (shape_parts place.now.here.context.now.app.now (allowance_at place.now) (meaning_at place.now.here))
         form.now (drawing_of drawing.old) meter.old.cost
-        meter.old.deepest) }
+        meter.old.deepest).outcome }
     ensures ledger { steps.new + meter.old.cost ≡ steps.old + meter.new.cost }
 {
     match &form.kind {
         ShapeKind::WriteText(text) => {
-            let text = evaluate(here, text, meter, steps)?;
-            drawing.write(&text)
+            let text = evaluate(&place.here, text, meter, steps)?;
+            drawing.write(place.max_weight, &text)
         }
         ShapeKind::Newline => drawing.newline(),
         ShapeKind::Draw(figure, parts) => {
-            let values = evaluate_each(here, parts, meter, steps)?;
-            drawing.figure(*figure, values.as_slice())
+            let values = evaluate_each(&place.here, parts, meter, steps)?;
+            drawing.figure(place.max_weight, *figure, values.as_slice())
         }
         ShapeKind::Indent(number, body) => {
-            let number = evaluate(here, number, meter, steps)?;
-            draw_indented(here, &number, body.as_slice(), drawing, meter, steps)
+            let number = evaluate(&place.here, number, meter, steps)?;
+            draw_indented(place, &number, body.as_slice(), drawing, meter, steps)
         }
         ShapeKind::Ink(number, body) => {
-            let number = evaluate(here, number, meter, steps)?;
-            draw_in_ink(here, &number, body.as_slice(), drawing, meter, steps)
+            let number = evaluate(&place.here, number, meter, steps)?;
+            draw_in_ink(place, &number, body.as_slice(), drawing, meter, steps)
         }
-        ShapeKind::Room(body) => draw_in_room(here, body.as_slice(), drawing, meter, steps),
+        ShapeKind::Room(body) => draw_in_room(place, body.as_slice(), drawing, meter, steps),
         ShapeKind::If(choice) => {
             let ShapeChoice { test, then, other } = &**choice;
-            if evaluate_test(here, test, meter, steps)? {
-                draw(here, then, drawing, meter, steps)
+            if evaluate_test(&place.here, test, meter, steps)? {
+                draw(place, then, drawing, meter, steps)
             } else {
-                draw(here, other, drawing, meter, steps)
+                draw(place, other, drawing, meter, steps)
             }
         }
         ShapeKind::When(test, body) => {
-            if evaluate_test(here, test, meter, steps)? {
-                draw_all(here, body.as_slice(), drawing, meter, steps)
+            if evaluate_test(&place.here, test, meter, steps)? {
+                draw_all(place, body.as_slice(), drawing, meter, steps)
             } else {
                 Ok(())
             }
         }
         ShapeKind::Let(bindings, body) => draw_in(
-            here,
+            place,
             bindings,
             body.as_slice(),
             drawing,
@@ -103,9 +109,9 @@ fn draw_parts<L: Ledger>(
             steps,
         ),
         ShapeKind::Dolist(name, list, body) => {
-            let list = evaluate_list(here, list, meter, steps)?;
+            let list = evaluate_list(&place.here, list, meter, steps)?;
             draw_each(
-                here,
+                place,
                 name,
                 list.as_slice(),
                 body.as_slice(),
@@ -114,10 +120,10 @@ fn draw_parts<L: Ledger>(
                 steps,
             )
         }
-        ShapeKind::Progn(body) => draw_all(here, body.as_slice(), drawing, meter, steps),
+        ShapeKind::Progn(body) => draw_all(place, body.as_slice(), drawing, meter, steps),
         ShapeKind::Call(name, parts) => {
-            let values = evaluate_each(here, parts, meter, steps)?;
-            call(here, name, values.as_slice(), drawing, meter, steps)
+            let values = evaluate_each(&place.here, parts, meter, steps)?;
+            call(place, name, values.as_slice(), drawing, meter, steps)
         }
     }
 }
@@ -125,20 +131,20 @@ fn draw_parts<L: Ledger>(
 // Forms in order.
 #[cycle(draw)]
 pub(crate) fn draw_all<L: Ledger>(
-    here: &Standpoint<'_>,
+    place: &Place<'_>,
     forms: &[Shape],
     drawing: &mut Drawing,
     meter: &mut Meter,
     steps: &mut Steps<L>,
 ) -> Result<(), Stop>
-    requires { here.now.level + here.now.left < 2 ^ 32 }
+    requires { place.now.here.level + place.now.here.left < 2 ^ 32 }
     ensures meaning { Agrees (always (drawing_of drawing.new)) result meter.new
-        (drawn_from here.now in_order (shape_trees_of forms.now) (drawing_of drawing.old) meter.old.cost
-        meter.old.deepest) }
+        (draw_from place.now in_order (shape_trees_of forms.now) (drawing_of drawing.old) meter.old.cost
+        meter.old.deepest).outcome }
     ensures ledger { steps.new + meter.old.cost ≡ steps.old + meter.new.cost }
 {
     for form in forms {
-        draw(here, form, drawing, meter, steps)?;
+        draw(place, form, drawing, meter, steps)?;
     }
     Ok(())
 }
@@ -146,25 +152,29 @@ pub(crate) fn draw_all<L: Ledger>(
 // The forms behind bindings.
 #[cycle(draw)]
 fn draw_in<L: Ledger>(
-    here: &Standpoint<'_>,
+    place: &Place<'_>,
     bindings: &[Binding],
     body: &[Shape],
     drawing: &mut Drawing,
     meter: &mut Meter,
     steps: &mut Steps<L>,
 ) -> Result<(), Stop>
-    requires { here.now.level + here.now.left < 2 ^ 32 }
+    requires { place.now.here.level + place.now.here.left < 2 ^ 32 }
     ensures meaning { Agrees (always (drawing_of drawing.new)) result meter.new
-        (draws_in (meaning_at here.now) (draws_at here.now) here.now.level (bindings_of bindings.now)
-        (shape_trees_of body.now) (variables_of here.now.scope.now)
-        (drawing_of drawing.old) meter.old.cost meter.old.deepest) }
+        (draws_in (meaning_at place.now.here) (draws_at place.now) place.now.here.level (bindings_of bindings.now)
+        (shape_trees_of body.now) (variables_of place.now.here.scope.now)
+        (drawing_of drawing.old) meter.old.cost
+        meter.old.deepest).outcome }
     ensures ledger { steps.new + meter.old.cost ≡ steps.old + meter.new.cost }
 {
-    let frame = evaluate_bindings(here, bindings, meter, steps)?;
-    let scope = Scope::Frame(&frame, &*here.scope);
-    let inner = Standpoint {
-        scope: &scope,
-        ..*here
+    let frame = evaluate_bindings(&place.here, bindings, meter, steps)?;
+    let scope = Scope::Frame(&frame, &*place.here.scope);
+    let inner = Place {
+        here: Standpoint {
+            scope: &scope,
+            ..place.here
+        },
+        ..*place
     };
     draw_all(&inner, body, drawing, meter, steps)
 }
@@ -172,7 +182,7 @@ fn draw_in<L: Ledger>(
 // The forms for each of these values.
 #[cycle(draw)]
 fn draw_each<L: Ledger>(
-    here: &Standpoint<'_>,
+    place: &Place<'_>,
     name: &Text,
     list: &[Value],
     body: &[Shape],
@@ -180,17 +190,21 @@ fn draw_each<L: Ledger>(
     meter: &mut Meter,
     steps: &mut Steps<L>,
 ) -> Result<(), Stop>
-    requires { here.now.level + here.now.left < 2 ^ 32 }
+    requires { place.now.here.level + place.now.here.left < 2 ^ 32 }
     ensures meaning { Agrees (always (drawing_of drawing.new)) result meter.new
-        (drawn_from here.now for_each name.now (shape_trees_of body.now) (map data_of list.now)
-        (drawing_of drawing.old) meter.old.cost meter.old.deepest) }
+        (draw_from place.now for_each name.now (shape_trees_of body.now) (map data_of list.now)
+        (drawing_of drawing.old) meter.old.cost
+        meter.old.deepest).outcome }
     ensures ledger { steps.new + meter.old.cost ≡ steps.old + meter.new.cost }
 {
     for item in list {
-        let scope = Scope::Bound(&*name, item, &*here.scope);
-        let inner = Standpoint {
-            scope: &scope,
-            ..*here
+        let scope = Scope::Bound(&*name, item, &*place.here.scope);
+        let inner = Place {
+            here: Standpoint {
+                scope: &scope,
+                ..place.here
+            },
+            ..*place
         };
         draw_all(&inner, body, drawing, meter, steps)?;
     }
@@ -200,26 +214,30 @@ fn draw_each<L: Ledger>(
 // A display's forms, where its parameters are all that they see.
 #[cycle(draw)]
 fn call<L: Ledger>(
-    here: &Standpoint<'_>,
+    place: &Place<'_>,
     name: &Text,
     values: &[Value],
     drawing: &mut Drawing,
     meter: &mut Meter,
     steps: &mut Steps<L>,
 ) -> Result<(), Stop>
-    requires { here.now.level + here.now.left < 2 ^ 32 }
+    requires { place.now.here.level + place.now.here.left < 2 ^ 32 }
     ensures meaning { Agrees (always (drawing_of drawing.new)) result meter.new
-        (called (draws_at here.now) here.now.level
-        (display_named name.now here.now.context.now.app.now) (map data_of values.now)
-        (drawing_of drawing.old) meter.old.cost meter.old.deepest) }
+        (call_display (draws_at place.now) place.now.here.level
+        (display_named name.now place.now.here.context.now.app.now) (map data_of values.now)
+        (drawing_of drawing.old) meter.old.cost
+        meter.old.deepest).outcome }
     ensures ledger { steps.new + meter.old.cost ≡ steps.old + meter.new.cost }
 {
-    match here.context.app.shape_of(name.as_slice()) {
+    match place.here.context.app.shape_of(name.as_slice()) {
         Some(display) if display.parameters.len() == values.len() => {
             let scope = Scope::Parameters(&display.parameters, &*values);
-            let inner = Standpoint {
-                scope: &scope,
-                ..*here
+            let inner = Place {
+                here: Standpoint {
+                    scope: &scope,
+                    ..place.here
+                },
+                ..*place
             };
             draw_all(&inner, display.body.as_slice(), drawing, meter, steps)
         }
@@ -230,23 +248,24 @@ fn call<L: Ledger>(
 // The forms with this number more at the margin.
 #[cycle(draw)]
 fn draw_indented<L: Ledger>(
-    here: &Standpoint<'_>,
+    place: &Place<'_>,
     number: &Value,
     body: &[Shape],
     drawing: &mut Drawing,
     meter: &mut Meter,
     steps: &mut Steps<L>,
 ) -> Result<(), Stop>
-    requires { here.now.level + here.now.left < 2 ^ 32 }
+    requires { place.now.here.level + place.now.here.left < 2 ^ 32 }
     ensures meaning { Agrees (always (drawing_of drawing.new)) result meter.new
-        (drawn_from here.now within (shape_trees_of body.now)
-        (indented (data_of number.now) (drawing_of drawing.old))
-        (margin_back (drawing_of drawing.old).ambient) meter.old.cost meter.old.deepest) }
+        (draw_from place.now within (shape_trees_of body.now)
+        (indent (data_of number.now) (drawing_of drawing.old))
+        (restore_margin (drawing_of drawing.old).ambient) meter.old.cost
+        meter.old.deepest).outcome }
     ensures ledger { steps.new + meter.old.cost ≡ steps.old + meter.new.cost }
 {
     let before = drawing.ambient;
     drawing.indent(number)?;
-    draw_all(here, body, drawing, meter, steps)?;
+    draw_all(place, body, drawing, meter, steps)?;
     drawing.restore_margin(&before);
     Ok(())
 }
@@ -254,23 +273,24 @@ fn draw_indented<L: Ledger>(
 // The forms in this ink.
 #[cycle(draw)]
 fn draw_in_ink<L: Ledger>(
-    here: &Standpoint<'_>,
+    place: &Place<'_>,
     number: &Value,
     body: &[Shape],
     drawing: &mut Drawing,
     meter: &mut Meter,
     steps: &mut Steps<L>,
 ) -> Result<(), Stop>
-    requires { here.now.level + here.now.left < 2 ^ 32 }
+    requires { place.now.here.level + place.now.here.left < 2 ^ 32 }
     ensures meaning { Agrees (always (drawing_of drawing.new)) result meter.new
-        (drawn_from here.now within (shape_trees_of body.now)
-        (inked (data_of number.now) (drawing_of drawing.old))
-        (ink_back (drawing_of drawing.old).ambient) meter.old.cost meter.old.deepest) }
+        (draw_from place.now within (shape_trees_of body.now)
+        (set_ink (data_of number.now) (drawing_of drawing.old))
+        (restore_ink (drawing_of drawing.old).ambient) meter.old.cost
+        meter.old.deepest).outcome }
     ensures ledger { steps.new + meter.old.cost ≡ steps.old + meter.new.cost }
 {
     let before = drawing.ambient;
-    drawing.take_ink(number)?;
-    draw_all(here, body, drawing, meter, steps)?;
+    drawing.set_ink(number)?;
+    draw_all(place, body, drawing, meter, steps)?;
     drawing.restore_ink(&before);
     Ok(())
 }
@@ -278,21 +298,21 @@ fn draw_in_ink<L: Ledger>(
 // The forms in a room.
 #[cycle(draw)]
 fn draw_in_room<L: Ledger>(
-    here: &Standpoint<'_>,
+    place: &Place<'_>,
     body: &[Shape],
     drawing: &mut Drawing,
     meter: &mut Meter,
     steps: &mut Steps<L>,
 ) -> Result<(), Stop>
-    requires { here.now.level + here.now.left < 2 ^ 32 }
+    requires { place.now.here.level + place.now.here.left < 2 ^ 32 }
     ensures meaning { Agrees (always (drawing_of drawing.new)) result meter.new
-        (drawn_from here.now within (shape_trees_of body.now)
-        (Ok (room_entered (drawing_of drawing.old)))
-        (room_left (outer_of (drawing_of drawing.old))) meter.old.cost meter.old.deepest) }
+        (draw_from place.now draws_to (shape_trees_of body.now)
+        (leave_room (drawing_of drawing.old).ambient (drawing_of drawing.old).part)
+        (enter_room (drawing_of drawing.old)) meter.old.cost
+        meter.old.deepest).outcome }
     ensures ledger { steps.new + meter.old.cost ≡ steps.old + meter.new.cost }
 {
-    let outer = drawing.enter_room();
-    draw_all(here, body, drawing, meter, steps)?;
-    drawing.leave_room(&outer);
-    Ok(())
+    let outer = drawing.enter_room(place.here.context.alloc);
+    draw_all(place, body, drawing, meter, steps)?;
+    drawing.leave_room(outer)
 }

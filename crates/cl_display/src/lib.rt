@@ -8,11 +8,15 @@ mod figures;
 mod forms;
 mod histories;
 mod laws;
+mod parts;
+mod places;
 mod settings;
 
 pub use displays::{Shown, display};
+pub use drawings::MAX_WEIGHT;
 pub use histories::History;
 pub use laws::{
     displays_add_up, extents_hold_what_is_drawn, figures_have_the_area_of_their_parts,
-    limits_can_be_wider, rooms_end_below_their_items,
+    figures_refuse_other_values, limits_can_be_wider, margin_and_origin_are_used_by_few_forms,
+    rooms_end_below_their_items,
 };

@@ -1,28 +1,29 @@
 //! What display forms set for their bodies, and how the bodies are left.
-ghost use Rattle.std.specs.Prelude.{◌≡◌};
+ghost use Rattle.std.specs.Prelude.{◌≡◌, Ok};
 ghost use Rattle.cl_value.specs.Value.{data_of};
 ghost use Rattle.cl_eval.specs.Agrees.{Comes, always};
-ghost use Rattle.cl_display.specs.Drawings.{drawing_of, indented, ink_back, inked, margin_back, outer_of, room_entered, room_left};
+ghost use Rattle.cl_display.specs.Drawings.{drawing_of, part_of};
+ghost use Rattle.cl_display.specs.Settings.{close_room, enter_room, indent, leave_room, restore_ink, restore_margin, set_ink};
 
 use crate::drawings::Drawing;
-use crate::extents::Bottom;
+use crate::parts::Part;
 use cl_eval::Stop;
 use cl_medium::{Ambient, enter_room, indent, leave_room};
 use cl_value::Value;
+use std::alloc::Global;
 
-/// What was before a room, which it does not leave as it finds it.
+/// What was around a room at its entry: what was drawn from there, and what had been drawn.
 #[derive(Drop)]
 pub struct Outer {
     pub ambient: Ambient,
-    pub bottom: Bottom,
-    pub origin_used: bool,
+    pub part: Part,
 }
 
 impl Drawing {
     /// Adds a number to the margin.
     pub fn indent(&mut self, value: &Value) -> Result<(), Stop>
         ensures { Comes (always (drawing_of self.new)) result
-            (indented (data_of value.now) (drawing_of self.old)) }
+            (indent (data_of value.now) (drawing_of self.old)) }
     {
         let Value::Int(number) = value else {
             return Err(Stop::Trap(1));
@@ -31,16 +32,16 @@ impl Drawing {
         if !indent(&mut ambient, *number) {
             return Err(Stop::Trap(9));
         }
-        self.extent.take_margin(&ambient);
-        self.margin_used = true;
+        self.part.extent.take_margin(&ambient);
+        self.part.margin_used = true;
         self.ambient = ambient;
         Ok(())
     }
 
-    /// Takes one of the eight inks.
-    pub fn take_ink(&mut self, value: &Value) -> Result<(), Stop>
+    /// Sets one of the eight inks.
+    pub fn set_ink(&mut self, value: &Value) -> Result<(), Stop>
         ensures { Comes (always (drawing_of self.new)) result
-            (inked (data_of value.now) (drawing_of self.old)) }
+            (set_ink (data_of value.now) (drawing_of self.old)) }
     {
         let Value::Int(number) = value else {
             return Err(Stop::Trap(1));
@@ -57,40 +58,51 @@ impl Drawing {
 
     /// Takes the margin of before.
     pub fn restore_margin(&mut self, before: &Ambient)
-        ensures { drawing_of self.new ≡ margin_back before.now (drawing_of self.old) }
+        ensures { drawing_of self.new ≡ restore_margin before.now (drawing_of self.old) }
     {
         self.ambient.margin = before.margin;
     }
 
     /// Takes the ink of before.
     pub fn restore_ink(&mut self, before: &Ambient)
-        ensures { drawing_of self.new ≡ ink_back before.now (drawing_of self.old) }
+        ensures { drawing_of self.new ≡ restore_ink before.now (drawing_of self.old) }
     {
         self.ambient.ink = before.ink;
     }
 
-    /// Sets the origin to the cursor. No item is drawn in the room yet.
-    pub fn enter_room(&mut self) -> Outer
-        ensures inside { drawing_of self.new ≡ room_entered (drawing_of self.old) }
-        ensures before { result ≡ outer_of (drawing_of self.old) }
+    /// Sets the origin to the cursor, and starts a new part there. It gives what was before.
+    pub fn enter_room(&mut self, alloc: Global) -> Outer
+        ensures inside { drawing_of self.new ≡ enter_room (drawing_of self.old) }
+        ensures ambient { result.ambient ≡ (drawing_of self.old).ambient }
+        ensures part { part_of result.part ≡ (drawing_of self.old).part }
     {
+        let before = enter_room(&mut self.ambient);
         Outer {
-            ambient: enter_room(&mut self.ambient),
-            bottom: std::mem::replace(&mut self.bottom, Bottom::highest()),
-            origin_used: self.origin_used,
+            ambient: before,
+            part: self.start(alloc),
         }
     }
 
-    /// Restores the origin, and sets the cursor to the margin below the items of the room.
-    pub fn leave_room(&mut self, outer: &Outer)
-        ensures { drawing_of self.new ≡ room_left outer.now (drawing_of self.old) }
+    /// Restores the origin, sets the cursor to the margin below the items of the room, and puts the
+    /// part of the room behind the one around it.
+    pub fn leave_room(&mut self, outer: Outer) -> Result<(), Stop>
+        ensures { Comes (always (drawing_of self.new)) result
+            (Ok (leave_room outer.ambient (part_of outer.part) (drawing_of self.old))) }
     {
+        self.close_room(&outer.ambient);
+        self.join(outer.part)
+    }
+
+    // Ends a room, whose part is not yet behind the one around it.
+    fn close_room(&mut self, before: &Ambient)
+        ensures { drawing_of self.new ≡ close_room before.now (drawing_of self.old) }
+    {
+        let row = self.part.lowest.unwrap_or(before.y);
         let mut ambient = self.ambient;
-        leave_room(&mut ambient, &outer.ambient, self.bottom.get());
-        self.extent.take_cursor(&ambient);
+        leave_room(&mut ambient, before, row);
+        self.part.take_cursor(&ambient);
+        self.part.margin_used = true;
+        self.part.origin_used = false;
         self.ambient = ambient;
-        self.bottom.join(&outer.bottom);
-        self.margin_used = true;
-        self.origin_used = outer.origin_used;
     }
 }

@@ -11,3 +11,8 @@ module _ {A : Type 0} (bounds : A → Rect) where
       → StaysInRange bounds v (tree_of n) → StayInRange bounds v (forest_of (ns ++ n ∷ []))
   stay-push v [] n h k = (k, tt)
   stay-push v (m ∷ ns) n h k = (h.0, stay-push v ns n h.1 k)
+
+  pub stay-append : (v : Shift) (ns ms : List (Node A)) → StayInRange bounds v (forest_of ns)
+      → StayInRange bounds v (forest_of ms) → StayInRange bounds v (forest_of (ns ++ ms))
+  stay-append v [] ms h k = k
+  stay-append v (n ∷ ns) ms h k = (h.0, stay-append v ns ms h.1 k)

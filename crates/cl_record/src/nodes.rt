@@ -293,6 +293,21 @@ impl<L: Leaf> Nodes<L> {
         Ok(())
     }
 
+    /// Puts the other records behind its own. Where it holds none, it takes the row as it is, without memory.
+    /// Where memory is wanting, the others are given up.
+    pub fn append(&mut self, other: Nodes<L>) -> Result<(), AllocError>
+        ensures ok { OnOk result (self.new ≡ self.old ++ other) }
+        ensures err { OnErr result (self.new ≡ self.old) }
+    {
+        let mut items = other.items;
+        if self.items.is_empty() {
+            self.items = items;
+            return Ok(());
+        }
+        self.items.append(&mut items)?;
+        Ok(())
+    }
+
     /// Gives all records up.
     pub fn clear(&mut self)
         ensures { self.new ≡ [] }

@@ -21,7 +21,7 @@ pub record IsPainted (p : Pane) : Type 0 where
 -- the history and the report after settling, by what evaluating the display came to
 abbrev pub SettlesTo : Option (List (Mark AnyLeaf)) → Option (List (Mark AnyLeaf)) → Outcome DrawingAt → PaneReport → Type 0
 SettlesTo old new (Gives s cost deepest) (report.Shown r) =
-    (new ≡ Some s.marks) × (r ≡ record { kept = 0; moved = 0; drawn = count_of s.marks; erased = count_of (marks_in old) })
+    (new ≡ Some s.part.marks) × (r ≡ record { kept = 0; moved = 0; drawn = count_of s.part.marks; erased = count_of (marks_in old) })
 SettlesTo old new (Gives s cost deepest) (report.Trapped k) = ⊥
 SettlesTo old new (Traps kind cost deepest) (report.Shown r) = ⊥
 SettlesTo old new (Traps kind cost deepest) (report.Trapped k) = (k ≡ kind) × (new ≡ Some (trap_history kind))

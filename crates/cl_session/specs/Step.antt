@@ -141,7 +141,7 @@ memory_line name = codes "pane " ++ name ++ codes " memory"
 
 -- the line of a pane whose display was evaluated: nothing is kept, its items are drawn and so many are erased
 abbrev pub pane_line : List ℕ → ℕ → Outcome DrawingAt → List ℕ
-pane_line name erased (Gives s cost deepest) = report_line name 0 0 (count_of s.marks) erased
+pane_line name erased (Gives s cost deepest) = report_line name 0 0 (count_of s.part.marks) erased
 pane_line name erased (Traps kind cost deepest) = trap_line name kind
 
 -- a pane that is settled has its script, or is blank where it met want of memory

@@ -10,16 +10,17 @@ use Rattle.cl_syntax.specs.ExprTree.{expr_trees_of}
 use Rattle.cl_syntax.specs.declared.display_forms.Shape.{Shape}
 use Rattle.cl_eval.specs.Scope.{variables_of}
 use Rattle.cl_eval.specs.Standpoint.{meaning_at}
-use Rattle.cl_display.specs.Drawings.{drawing_of, indented, ink_back, inked, margin_back, outer_of, room_left}
-use Rattle.cl_display.specs.DrawnFrom.{draws_at}
-use Rattle.cl_display.proofs.FormLemmas.{draws-entered, grows-at, stop-call, stop-choice, stop-dolist, stop-draws_in, stop-figure, stop-for_each}
-use Rattle.cl_display.proofs.FormLemmas.{stop-in_order, stop-indent, stop-ink, stop-set, stop-when, stop-within}
+use Rattle.cl_display.specs.Drawings.{drawing_of}
+use Rattle.cl_display.specs.Settings.{indent, leave_room, restore_ink, restore_margin, set_ink}
+use Rattle.cl_display.specs.Place.{allowance_at, draws_at}
+use Rattle.cl_display.proofs.FormLemmas.{draws-entered, grows-at, stop-call, stop-choice, stop-dolist, stop-draws_in, stop-draws_to, stop-figure}
+use Rattle.cl_display.proofs.FormLemmas.{stop-for_each, stop-in_order, stop-indent, stop-ink, stop-set, stop-when}
 use Rattle.cl_display.proofs.forms.+draw.Goals as goal
 
 pub draw-returns-clause-meaning : goal.draw-returns-clause-meaning
 draw-returns-clause-meaning g t c =
-    rw (draws-entered c.args.here.now.left c.args.here.now.context.now.budget c.args.here.now.context.now.app.now
-    c.args.here.now.context.now.slots.now c.args.here.now.level (variables_of c.args.here.now.scope.now) c.args.form.now
+    rw (draws-entered c.args.place.now.here.left (allowance_at c.args.place.now) c.args.place.now.here.context.now.app.now
+    c.args.place.now.here.context.now.slots.now c.args.place.now.here.level (variables_of c.args.place.now.here.scope.now) c.args.form.now
     (drawing_of c.args.drawing.now)
     c.args.meter.now.cost c.args.meter.now.deepest _ _ c.in_ok-enter.ensures.meaning)
     c.draw_parts.ensures.meaning
@@ -32,7 +33,7 @@ draw_all-returns-in_err-draw-clause-meaning g t c =
     let step : drop at c.args.forms.now ≡ c.form-item.result ∷ rest =
     drop-cons c.args.forms.now at c.form-item.result c.loop-form-test.true ∙ ap (λ (a : Shape). a ∷ rest) (sym c.form-item.is) in
     rw (p.1, p.2, ← c.loop-form.invariant.meaning, step)
-    (stop-in_order (draws_at c.args.here.now) (grows-at c.args.here.now) c.args.here.now.level (variables_of c.args.here.now.scope.now)
+    (stop-in_order (draws_at c.args.place.now) (grows-at c.args.place.now) c.args.place.now.here.level (variables_of c.args.place.now.here.scope.now)
     c.form-item.result (shape_trees_of rest) (drawing_of c.loop-form.drawing) (drawing_of c.draw.new.drawing)
     c.in_err-draw.field-0.0 c.draw.new.meter c.loop-form.meter.cost c.loop-form.meter.deepest c.in_err-draw.ensures.meaning)
 
@@ -44,7 +45,7 @@ draw_each-returns-in_err-draw_all-clause-meaning g t c =
     let step : drop at c.args.list.now ≡ c.item-item.result ∷ rest =
     drop-cons c.args.list.now at c.item-item.result c.loop-item-test.true ∙ ap (λ (a : Value). a ∷ rest) (sym c.item-item.is) in
     rw (p.1, p.2, ← c.loop-item.invariant.meaning, step)
-    (stop-for_each (draws_at c.args.here.now) (grows-at c.args.here.now) c.args.here.now.level (variables_of c.args.here.now.scope.now)
+    (stop-for_each (draws_at c.args.place.now) (grows-at c.args.place.now) c.args.place.now.here.level (variables_of c.args.place.now.here.scope.now)
     c.args.name.now (shape_trees_of c.args.body.now) (data_of c.item-item.result) (map data_of rest) (drawing_of c.loop-item.drawing)
     (drawing_of c.draw_all.new.drawing)
     c.in_err-draw_all.field-0.0 c.draw_all.new.meter c.loop-item.meter.cost c.loop-item.meter.deepest c.in_err-draw_all.ensures.meaning)
@@ -53,9 +54,9 @@ pub draw_in-returns-in_err-frame-clause-meaning : goal.draw_in-returns-in_err-fr
 draw_in-returns-in_err-frame-clause-meaning g t c =
     let p = err_from_is_err_and c.from_residual.result c.from_residual.ensures.1 in
     rw (p.1, p.2)
-    (stop-draws_in (meaning_at c.args.here.now) (draws_at c.args.here.now) (grows-at c.args.here.now) c.args.here.now.level
-    (bindings_of c.args.bindings.now) (shape_trees_of c.args.body.now) (variables_of c.args.here.now.scope.now)
-    (variables_of c.args.here.now.scope.now) (drawing_of c.args.drawing.now) (drawing_of c.args.drawing.now)
+    (stop-draws_in (meaning_at c.args.place.now.here) (draws_at c.args.place.now) (grows-at c.args.place.now) c.args.place.now.here.level
+    (bindings_of c.args.bindings.now) (shape_trees_of c.args.body.now) (variables_of c.args.place.now.here.scope.now)
+    (variables_of c.args.place.now.here.scope.now) (drawing_of c.args.drawing.now) (drawing_of c.args.drawing.now)
     c.in_err-frame.field-0.0 c.evaluate_bindings.new.meter c.args.meter.now.cost c.args.meter.now.deepest c.in_err-frame.ensures.meaning)
 
 pub draw_parts-returns-in_err-evaluate_test-in-If-clause-meaning : goal.draw_parts-returns-in_err-evaluate_test-in-If-clause-meaning
@@ -64,8 +65,8 @@ draw_parts-returns-in_err-evaluate_test-in-If-clause-meaning g t c =
     let whole : c.args.form.now ≡ shape.If c.in-If.choice.value.test c.in-If.choice.value.then c.in-If.choice.value.other = sym c.form.view_is ∙ ap shape_tree_of c.in-If.is in
     let stop = rw c.deref-in-If.ensures at c.in_err-evaluate_test-in-If.ensures.meaning in
     rw (p.1, p.2, whole)
-    (stop-choice c.args.here.now.context.now.app.now (meaning_at c.args.here.now) (draws_at c.args.here.now) (grows-at c.args.here.now)
-    c.args.here.now.level (variables_of c.args.here.now.scope.now) c.in-If.choice.value.test c.in-If.choice.value.then c.in-If.choice.value.other
+    (stop-choice c.args.place.now.here.context.now.app.now (allowance_at c.args.place.now) (meaning_at c.args.place.now.here) (draws_at c.args.place.now) (grows-at c.args.place.now)
+    c.args.place.now.here.level (variables_of c.args.place.now.here.scope.now) c.in-If.choice.value.test c.in-If.choice.value.then c.in-If.choice.value.other
     (drawing_of c.args.drawing.now) (drawing_of c.args.drawing.now)
     c.in_err-evaluate_test-in-If.field-0.0 c.evaluate_test.new.meter c.args.meter.now.cost c.args.meter.now.deepest stop)
 
@@ -74,8 +75,8 @@ draw_parts-returns-in_err-evaluate_test-in-When-clause-meaning g t c =
     let p = err_from_is_err_and c.from_residual-in_err-evaluate_test-in-When.result c.from_residual-in_err-evaluate_test-in-When.ensures.1 in
     let whole : c.args.form.now ≡ shape.When c.in-When.test (shape_trees_of c.in-When.body) = sym c.form.view_is ∙ ap shape_tree_of c.in-When.is in
     rw (p.1, p.2, whole)
-    (stop-when c.args.here.now.context.now.app.now (meaning_at c.args.here.now) (draws_at c.args.here.now) (grows-at c.args.here.now)
-    c.args.here.now.level (variables_of c.args.here.now.scope.now) c.in-When.test (shape_trees_of c.in-When.body) (drawing_of c.args.drawing.now)
+    (stop-when c.args.place.now.here.context.now.app.now (allowance_at c.args.place.now) (meaning_at c.args.place.now.here) (draws_at c.args.place.now) (grows-at c.args.place.now)
+    c.args.place.now.here.level (variables_of c.args.place.now.here.scope.now) c.in-When.test (shape_trees_of c.in-When.body) (drawing_of c.args.drawing.now)
     (drawing_of c.args.drawing.now)
     c.in_err-evaluate_test-in-When.field-0.0 c.evaluate_test-in-When.new.meter c.args.meter.now.cost c.args.meter.now.deepest c.in_err-evaluate_test-in-When.ensures.meaning)
 
@@ -84,8 +85,8 @@ draw_parts-returns-in_err-list-in-Dolist-clause-meaning g t c =
     let p = err_from_is_err_and c.from_residual-in_err-list-in-Dolist.result c.from_residual-in_err-list-in-Dolist.ensures.1 in
     let whole : c.args.form.now ≡ shape.Dolist c.in-Dolist.name c.in-Dolist.list (shape_trees_of c.in-Dolist.body) = sym c.form.view_is ∙ ap shape_tree_of c.in-Dolist.is in
     rw (p.1, p.2, whole)
-    (stop-dolist c.args.here.now.context.now.app.now (meaning_at c.args.here.now) (draws_at c.args.here.now) (grows-at c.args.here.now)
-    c.args.here.now.level (variables_of c.args.here.now.scope.now) c.in-Dolist.name c.in-Dolist.list (shape_trees_of c.in-Dolist.body)
+    (stop-dolist c.args.place.now.here.context.now.app.now (allowance_at c.args.place.now) (meaning_at c.args.place.now.here) (draws_at c.args.place.now) (grows-at c.args.place.now)
+    c.args.place.now.here.level (variables_of c.args.place.now.here.scope.now) c.in-Dolist.name c.in-Dolist.list (shape_trees_of c.in-Dolist.body)
     (drawing_of c.args.drawing.now) (drawing_of c.args.drawing.now)
     c.in_err-list-in-Dolist.field-0.0 c.evaluate_list.new.meter c.args.meter.now.cost c.args.meter.now.deepest c.in_err-list-in-Dolist.ensures.meaning)
 
@@ -94,8 +95,8 @@ draw_parts-returns-in_err-values-in-Call-clause-meaning g t c =
     let p = err_from_is_err_and c.from_residual-in_err-values-in-Call.result c.from_residual-in_err-values-in-Call.ensures.1 in
     let whole : c.args.form.now ≡ shape.Call c.in-Call.name (expr_trees_of c.in-Call.parts.items) = sym c.form.view_is ∙ ap shape_tree_of c.in-Call.is in
     rw (p.1, p.2, whole)
-    (stop-call c.args.here.now.context.now.app.now (meaning_at c.args.here.now) (draws_at c.args.here.now) (grows-at c.args.here.now)
-    c.args.here.now.level (variables_of c.args.here.now.scope.now) c.in-Call.name (expr_trees_of c.in-Call.parts.items)
+    (stop-call c.args.place.now.here.context.now.app.now (allowance_at c.args.place.now) (meaning_at c.args.place.now.here) (draws_at c.args.place.now) (grows-at c.args.place.now)
+    c.args.place.now.here.level (variables_of c.args.place.now.here.scope.now) c.in-Call.name (expr_trees_of c.in-Call.parts.items)
     (drawing_of c.args.drawing.now) (drawing_of c.args.drawing.now)
     c.in_err-values-in-Call.field-0.0 c.evaluate_each-in-Call.new.meter c.args.meter.now.cost c.args.meter.now.deepest (rw
     c.deref-in-Call.ensures.value at c.in_err-values-in-Call.ensures.meaning))
@@ -105,8 +106,8 @@ draw_parts-returns-in_err-values-in-Draw-clause-meaning g t c =
     let p = err_from_is_err_and c.from_residual-in_err-values-in-Draw.result c.from_residual-in_err-values-in-Draw.ensures.1 in
     let whole : c.args.form.now ≡ shape.Draw c.in-Draw.figure (expr_trees_of c.in-Draw.parts.items) = sym c.form.view_is ∙ ap shape_tree_of c.in-Draw.is in
     rw (p.1, p.2, whole)
-    (stop-figure c.args.here.now.context.now.app.now (meaning_at c.args.here.now) (draws_at c.args.here.now) c.args.here.now.level
-    (variables_of c.args.here.now.scope.now) c.in-Draw.figure (expr_trees_of c.in-Draw.parts.items) (drawing_of c.args.drawing.now)
+    (stop-figure c.args.place.now.here.context.now.app.now (allowance_at c.args.place.now) (meaning_at c.args.place.now.here) (draws_at c.args.place.now) c.args.place.now.here.level
+    (variables_of c.args.place.now.here.scope.now) c.in-Draw.figure (expr_trees_of c.in-Draw.parts.items) (drawing_of c.args.drawing.now)
     (drawing_of c.args.drawing.now)
     c.in_err-values-in-Draw.field-0.0 c.evaluate_each.new.meter c.args.meter.now.cost c.args.meter.now.deepest (rw c.deref.ensures.value at
     c.in_err-values-in-Draw.ensures.meaning))
@@ -116,8 +117,8 @@ draw_parts-returns-in_err-number-in-Indent-clause-meaning g t c =
     let p = err_from_is_err_and c.from_residual-in_err-number-in-Indent.result c.from_residual-in_err-number-in-Indent.ensures.1 in
     let whole : c.args.form.now ≡ shape.Indent c.in-Indent.number (shape_trees_of c.in-Indent.body) = sym c.form.view_is ∙ ap shape_tree_of c.in-Indent.is in
     rw (p.1, p.2, whole)
-    (stop-indent c.args.here.now.context.now.app.now (meaning_at c.args.here.now) (draws_at c.args.here.now) (grows-at c.args.here.now)
-    c.args.here.now.level (variables_of c.args.here.now.scope.now) c.in-Indent.number (shape_trees_of c.in-Indent.body)
+    (stop-indent c.args.place.now.here.context.now.app.now (allowance_at c.args.place.now) (meaning_at c.args.place.now.here) (draws_at c.args.place.now) (grows-at c.args.place.now)
+    c.args.place.now.here.level (variables_of c.args.place.now.here.scope.now) c.in-Indent.number (shape_trees_of c.in-Indent.body)
     (drawing_of c.args.drawing.now) (drawing_of c.args.drawing.now)
     c.in_err-number-in-Indent.field-0.0 c.evaluate-in-Indent.new.meter c.args.meter.now.cost c.args.meter.now.deepest c.in_err-number-in-Indent.ensures.meaning)
 
@@ -126,8 +127,8 @@ draw_parts-returns-in_err-number-in-Ink-clause-meaning g t c =
     let p = err_from_is_err_and c.from_residual-in_err-number-in-Ink.result c.from_residual-in_err-number-in-Ink.ensures.1 in
     let whole : c.args.form.now ≡ shape.Ink c.in-Ink.number (shape_trees_of c.in-Ink.body) = sym c.form.view_is ∙ ap shape_tree_of c.in-Ink.is in
     rw (p.1, p.2, whole)
-    (stop-ink c.args.here.now.context.now.app.now (meaning_at c.args.here.now) (draws_at c.args.here.now) (grows-at c.args.here.now)
-    c.args.here.now.level (variables_of c.args.here.now.scope.now) c.in-Ink.number (shape_trees_of c.in-Ink.body) (drawing_of c.args.drawing.now)
+    (stop-ink c.args.place.now.here.context.now.app.now (allowance_at c.args.place.now) (meaning_at c.args.place.now.here) (draws_at c.args.place.now) (grows-at c.args.place.now)
+    c.args.place.now.here.level (variables_of c.args.place.now.here.scope.now) c.in-Ink.number (shape_trees_of c.in-Ink.body) (drawing_of c.args.drawing.now)
     (drawing_of c.args.drawing.now)
     c.in_err-number-in-Ink.field-0.0 c.evaluate-in-Ink.new.meter c.args.meter.now.cost c.args.meter.now.deepest c.in_err-number-in-Ink.ensures.meaning)
 
@@ -135,35 +136,35 @@ pub draw_indented-returns-in_err-indent-clause-meaning : goal.draw_indented-retu
 draw_indented-returns-in_err-indent-clause-meaning g t c =
     let p = err_from_is_err_and c.from_residual.result c.from_residual.ensures.1 in
     rw (p.1, p.2)
-    (stop-set (draws_at c.args.here.now) (grows-at c.args.here.now) c.args.here.now.level (variables_of c.args.here.now.scope.now)
-    (shape_trees_of c.args.body.now) (indented (data_of c.args.number.now) (drawing_of c.args.drawing.now))
-    (margin_back (drawing_of c.args.drawing.now).ambient) (drawing_of c.indent.new.self) (drawing_of c.indent.new.self)
+    (stop-set (draws_at c.args.place.now) (grows-at c.args.place.now) c.args.place.now.here.level (variables_of c.args.place.now.here.scope.now)
+    (shape_trees_of c.args.body.now) (indent (data_of c.args.number.now) (drawing_of c.args.drawing.now))
+    (restore_margin (drawing_of c.args.drawing.now).ambient) (drawing_of c.indent.new.self) (drawing_of c.indent.new.self)
     c.in_err-indent.field-0.0 c.args.meter.now c.in_err-indent.ensures)
 
 pub draw_indented-returns-in_err-draw_all-clause-meaning : goal.draw_indented-returns-in_err-draw_all-clause-meaning
 draw_indented-returns-in_err-draw_all-clause-meaning g t c =
     let p = err_from_is_err_and c.from_residual-in_err-draw_all.result c.from_residual-in_err-draw_all.ensures.1 in
     rw (p.1, p.2, c.in_ok-indent.ensures)
-    (stop-within (draws_at c.args.here.now) (grows-at c.args.here.now) c.args.here.now.level (variables_of c.args.here.now.scope.now)
-    (shape_trees_of c.args.body.now) (drawing_of c.indent.new.self) (margin_back (drawing_of c.args.drawing.now).ambient)
+    (stop-draws_to (draws_at c.args.place.now) c.args.place.now.here.level (variables_of c.args.place.now.here.scope.now)
+    (shape_trees_of c.args.body.now) (drawing_of c.indent.new.self) (restore_margin (drawing_of c.args.drawing.now).ambient)
     (drawing_of c.draw_all.new.drawing)
     c.in_err-draw_all.field-0.0 c.draw_all.new.meter c.args.meter.now.cost c.args.meter.now.deepest c.in_err-draw_all.ensures.meaning)
 
-pub draw_in_ink-returns-in_err-take_ink-clause-meaning : goal.draw_in_ink-returns-in_err-take_ink-clause-meaning
-draw_in_ink-returns-in_err-take_ink-clause-meaning g t c =
+pub draw_in_ink-returns-in_err-set_ink-clause-meaning : goal.draw_in_ink-returns-in_err-set_ink-clause-meaning
+draw_in_ink-returns-in_err-set_ink-clause-meaning g t c =
     let p = err_from_is_err_and c.from_residual.result c.from_residual.ensures.1 in
     rw (p.1, p.2)
-    (stop-set (draws_at c.args.here.now) (grows-at c.args.here.now) c.args.here.now.level (variables_of c.args.here.now.scope.now)
-    (shape_trees_of c.args.body.now) (inked (data_of c.args.number.now) (drawing_of c.args.drawing.now))
-    (ink_back (drawing_of c.args.drawing.now).ambient) (drawing_of c.take_ink.new.self) (drawing_of c.take_ink.new.self)
-    c.in_err-take_ink.field-0.0 c.args.meter.now c.in_err-take_ink.ensures)
+    (stop-set (draws_at c.args.place.now) (grows-at c.args.place.now) c.args.place.now.here.level (variables_of c.args.place.now.here.scope.now)
+    (shape_trees_of c.args.body.now) (set_ink (data_of c.args.number.now) (drawing_of c.args.drawing.now))
+    (restore_ink (drawing_of c.args.drawing.now).ambient) (drawing_of c.set_ink.new.self) (drawing_of c.set_ink.new.self)
+    c.in_err-set_ink.field-0.0 c.args.meter.now c.in_err-set_ink.ensures)
 
 pub draw_in_ink-returns-in_err-draw_all-clause-meaning : goal.draw_in_ink-returns-in_err-draw_all-clause-meaning
 draw_in_ink-returns-in_err-draw_all-clause-meaning g t c =
     let p = err_from_is_err_and c.from_residual-in_err-draw_all.result c.from_residual-in_err-draw_all.ensures.1 in
-    rw (p.1, p.2, c.in_ok-take_ink.ensures)
-    (stop-within (draws_at c.args.here.now) (grows-at c.args.here.now) c.args.here.now.level (variables_of c.args.here.now.scope.now)
-    (shape_trees_of c.args.body.now) (drawing_of c.take_ink.new.self) (ink_back (drawing_of c.args.drawing.now).ambient)
+    rw (p.1, p.2, c.in_ok-set_ink.ensures)
+    (stop-draws_to (draws_at c.args.place.now) c.args.place.now.here.level (variables_of c.args.place.now.here.scope.now)
+    (shape_trees_of c.args.body.now) (drawing_of c.set_ink.new.self) (restore_ink (drawing_of c.args.drawing.now).ambient)
     (drawing_of c.draw_all.new.drawing)
     c.in_err-draw_all.field-0.0 c.draw_all.new.meter c.args.meter.now.cost c.args.meter.now.deepest c.in_err-draw_all.ensures.meaning)
 
@@ -171,7 +172,7 @@ pub draw_in_room-returns-in_err-draw_all-clause-meaning : goal.draw_in_room-retu
 draw_in_room-returns-in_err-draw_all-clause-meaning g t c =
     let p = err_from_is_err_and c.from_residual.result c.from_residual.ensures.1 in
     rw (p.1, p.2, ← c.enter_room-outer.ensures.inside)
-    (stop-within (draws_at c.args.here.now) (grows-at c.args.here.now) c.args.here.now.level (variables_of c.args.here.now.scope.now)
-    (shape_trees_of c.args.body.now) (drawing_of c.enter_room-outer.new.self) (room_left (outer_of (drawing_of c.args.drawing.now)))
+    (stop-draws_to (draws_at c.args.place.now) c.args.place.now.here.level (variables_of c.args.place.now.here.scope.now)
+    (shape_trees_of c.args.body.now) (drawing_of c.enter_room-outer.new.self) (leave_room (drawing_of c.args.drawing.now).ambient (drawing_of c.args.drawing.now).part)
     (drawing_of c.draw_all.new.drawing)
     c.in_err-draw_all.field-0.0 c.draw_all.new.meter c.args.meter.now.cost c.args.meter.now.deepest c.in_err-draw_all.ensures.meaning)
