@@ -2,8 +2,7 @@
 use Rattle.std.proofs.Common.{◌≡◌, ap, ℤ, List, [], ◌∷◌, ◌++◌, Option, Some, None, arith, refl, sym, ◌∙◌}
 use Rattle.std.proofs.lemmas.Int.{ints, clamps}
 use Rattle.std.specs.Int.{int_max}
-use Rattle.cl_medium.specs.Leaves.{leaf_bounds}
-use Rattle.cl_medium.specs.declared.any_leaf.AnyLeaf.{AnyLeaf}
+use Rattle.cl_medium.specs.Items.{item_bounds, Item}
 use Rattle.cl_display.specs.Drawings.{lower_end}
 use Rattle.cl_display.specs.Sums.{lowest_of}
 
@@ -20,8 +19,8 @@ lower_end-assoc (Some x) (Some y) (Some z) = ap (λ (n : ℤ). Some n) (max-asso
     max-assoc : (x y z : ℤ) → int_max (int_max x y) z ≡ int_max x (int_max y z)
     max-assoc x y z = omega (arith, ints, clamps)
 
-pub lowest_of-behind : (xs ys : List AnyLeaf) → lowest_of (xs ++ ys) ≡ lower_end (lowest_of xs) (lowest_of ys)
+pub lowest_of-behind : (xs ys : List Item) → lowest_of (xs ++ ys) ≡ lower_end (lowest_of xs) (lowest_of ys)
 lowest_of-behind [] ys = refl
 lowest_of-behind (x ∷ xs) ys =
-    ap (λ (e : Option ℤ). lower_end (Some (leaf_bounds x).y2) e) (lowest_of-behind xs ys)
-    ∙ sym (lower_end-assoc (Some (leaf_bounds x).y2) (lowest_of xs) (lowest_of ys))
+    ap (λ (e : Option ℤ). lower_end (Some (item_bounds x).y2) e) (lowest_of-behind xs ys)
+    ∙ sym (lower_end-assoc (Some (item_bounds x).y2) (lowest_of xs) (lowest_of ys))

@@ -7,9 +7,8 @@ use Rattle.cl_value.specs.Data as value
 use Rattle.cl_value.specs.Data.{Data}
 use Rattle.cl_syntax.specs.declared.figures.Figure.{Figure}
 use Rattle.cl_syntax.specs.declared.figures.Figure.TheVariants as figure
-use Rattle.cl_medium.specs.Items.{bounds_of}
+use Rattle.cl_medium.specs.Items.{bounds_of, Item}
 use Rattle.cl_medium.specs.declared.areas.Area.{Area}
-use Rattle.cl_medium.specs.declared.any_leaf.AnyLeaf.{AnyLeaf}
 use Rattle.cl_display.specs.Drawings.{DrawingAt, add_item, is_in_range, with_item}
 use Rattle.cl_display.specs.Figures.{IsByte, IsFigure, IsNumber, area_at, byte_of, draw_figure, draw_parts, draw_shape, figure_parts, leaf_in, number_of, parts_at, with_origin_used}
 use Rattle.cl_display.specs.declared.figures.FigureItem.{FigureItem}
@@ -35,7 +34,7 @@ other_range p = cc
 other_end : (s : DrawingAt) → NotTrap1 (Ok s)
 other_end s p = cc
 
-other_shape : (most : ℕ) (leaf : AnyLeaf) (area : Area) (s : DrawingAt) → NotTrap1 (draw_shape most leaf area s)
+other_shape : (most : ℕ) (leaf : Item) (area : Area) (s : DrawingAt) → NotTrap1 (draw_shape most leaf area s)
 other_shape most leaf area s =
     other_choice (int_lt area.width (pos 0) || int_lt area.height (pos 0)) (Err 9) _ other_range
     (other_choice (int_le area.width (pos 0) || int_le area.height (pos 0)) (Ok s) _ (other_end s)

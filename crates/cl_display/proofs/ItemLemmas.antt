@@ -2,8 +2,7 @@
 use Rattle.std.proofs.Common.{◌≡◌, ℕ, ◌≤◌, ◌+◌, true, nat_le, List, [], ◌∷◌, ◌++◌, Ok, refl, ap, sym, ◌∙◌, append_assoc, arith}
 use Rattle.std.proofs.lemmas.Bool.Decides.{nat_tests}
 use Rattle.cl_region.specs.declared.rects.Shift.{Shift}
-use Rattle.cl_medium.specs.Leaves.{leaf_moved}
-use Rattle.cl_medium.specs.declared.any_leaf.AnyLeaf.{AnyLeaf}
+use Rattle.cl_medium.specs.Items.{move_item, Item}
 use Rattle.cl_record.specs.Marks.{Mark, history_marks, marks_of}
 use Rattle.cl_record.specs.Trees.{Tree}
 use Rattle.cl_display.specs.Drawings.{DrawingAt, add_item, with_item}
@@ -16,12 +15,12 @@ module _ {A : Type 0} (move : Shift → A → A) where
       ∙ sym (append_assoc (marks_of move t) (history_marks move ts) (history_marks move us))
 
 -- an item of this weight is added where the whole is not too heavy
-pub add_item-light : (most : ℕ) (l : AnyLeaf) (weight whole : ℕ) (s : DrawingAt) → whole ≡ s.weight + weight → whole ≤ most
+pub add_item-light : (most : ℕ) (l : Item) (weight whole : ℕ) (s : DrawingAt) → whole ≡ s.weight + weight → whole ≤ most
     → add_item most l weight s ≡ Ok (record s { weight = whole; part = with_item l s.part })
 add_item-light most l weight whole s e h =
     let fits : nat_le (s.weight + weight) most ≡ true = grind (arith, nat_tests, e, h) in
     rw (e, fits) refl
 
 -- the marks of records behind others
-pub marks_behind : (ts us : List (Tree AnyLeaf)) → history_marks leaf_moved (ts ++ us) ≡ history_marks leaf_moved ts ++ history_marks leaf_moved us
-marks_behind = marks-append leaf_moved
+pub marks_behind : (ts us : List (Tree Item)) → history_marks move_item (ts ++ us) ≡ history_marks move_item ts ++ history_marks move_item us
+marks_behind = marks-append move_item

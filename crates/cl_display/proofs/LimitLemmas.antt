@@ -15,9 +15,7 @@ use Rattle.cl_eval.specs.Meaning.{Go, bound, each, entering, listed, means, test
 use Rattle.cl_eval.proofs.LimitLemmas.{GoGoes, Goes, entered-above, goes-bound, goes-each, goes-entering, goes-listed, goes-means, goes-tested, never, no_value}
 use Rattle.cl_medium.specs.Ambients.{AmbientAt}
 use Rattle.cl_medium.specs.Drawing.{text_leaf}
-use Rattle.cl_medium.specs.Items.{bounds_of}
-use Rattle.cl_medium.specs.Leaves.{leaf_bounds}
-use Rattle.cl_medium.specs.declared.any_leaf.AnyLeaf.{AnyLeaf}
+use Rattle.cl_medium.specs.Items.{bounds_of, item_bounds, Item}
 use Rattle.cl_display.specs.Drawings.{DrawingAt, add_item, after_text, blank_drawing, is_in_range, newline, then_to, with_item}
 use Rattle.cl_display.specs.Figures.{area_at, draw_figure, draw_parts, figure_parts, leaf_in, with_origin_used}
 use Rattle.cl_display.specs.declared.figures.FigureParts.{FigureParts}
@@ -60,7 +58,7 @@ module _ (most : ℕ) where
       rw fits p
   keeps-item false k weight u s e t p h = absurd (no_drawing k t p)
 
-  keeps-add_item : (w : ℕ) (leaf : AnyLeaf) (weight : ℕ) (s : DrawingAt) → Keeps most (add_item w leaf weight s) (add_item most leaf weight s)
+  keeps-add_item : (w : ℕ) (leaf : Item) (weight : ℕ) (s : DrawingAt) → Keeps most (add_item w leaf weight s) (add_item most leaf weight s)
   keeps-add_item w leaf weight s =
       keeps-item (nat_le (s.weight + weight) w) 10 weight (record s { weight = s.weight + weight; part = with_item leaf s.part }) s refl
 
@@ -91,7 +89,7 @@ module _ (most : ℕ) where
       let leaf = text_leaf s.ambient (b ∷ bs) in
       let weight = length (b ∷ bs) + 1 in
       let after = after_text s.ambient (b ∷ bs) in
-      keeps-choice (is_in_range (leaf_bounds leaf)) (then_to after (add_item w leaf weight s)) (then_to after (add_item most leaf weight s)) (Err 9) (Err 9)
+      keeps-choice (is_in_range (item_bounds leaf)) (then_to after (add_item w leaf weight s)) (then_to after (add_item most leaf weight s)) (Err 9) (Err 9)
       (keeps-then_to after (add_item w leaf weight s) (add_item most leaf weight s) (keeps-add_item w leaf weight s)) (keeps-same (Err 9))
   keeps-write_value w s d = keeps-same (Err 1)
 

@@ -17,9 +17,9 @@ use Rattle.cl_eval.specs.Slots.{Slots, Env, given}
 use Rattle.cl_eval.specs.Meaning.{Go, bound, each, entering, listed, means, tested}
 use Rattle.cl_medium.specs.Drawing.{text_leaf}
 use Rattle.cl_medium.specs.Ambients.{AmbientAt, after_indent, after_newline, ambient_start}
-use Rattle.cl_medium.specs.Items.{Shape, bounds_of, bytes, filled as fill_shape, line, outlined as outline_shape}
-use Rattle.cl_medium.specs.Leaves.{item_of, leaf_bounds, leaf_moved}
-use Rattle.cl_medium.specs.declared.any_leaf.AnyLeaf.{AnyLeaf}
+use Rattle.cl_medium.specs.Items.{Item, bounds_of, item_bounds, move_item}
+use Rattle.cl_medium.specs.declared.shapes.LeafShape.{LeafShape}
+use Rattle.cl_medium.specs.declared.shapes.LeafShape.TheVariants as leaf_shape
 use Rattle.cl_medium.specs.declared.areas.Area.{Area}
 use Rattle.cl_region.specs.Places.{box}
 use Rattle.cl_record.specs.Marks.{draw, history_marks}
@@ -41,7 +41,7 @@ use Rattle.cl_display.proofs.EndLemmas.{lower_end-assoc, lower_end-none, lowest_
 use Rattle.cl_display.specs.Sums.{AddsUp, Holds, HoldsAll, item_weight, lowest_of, shape_weight, weight_of}
 
 -- what was drawn between two states of a part
-pub record PartAdds (s t : PartAt) (items : List AnyLeaf) : Type 0 where
+pub record PartAdds (s t : PartAt) (items : List Item) : Type 0 where
   pub behind : items_in t.marks ≡ items_in s.marks ++ items
   pub lowest : t.lowest ≡ lower_end s.lowest (lowest_of items)
   pub wider : Holds t.extent s.extent
@@ -51,7 +51,7 @@ pub record PartAdds (s t : PartAt) (items : List AnyLeaf) : Type 0 where
 
 -- what was drawn between two states, where all may weigh so much
 pub record Adds (most : ℕ) (s t : DrawingAt) : Type 0 where
-  pub items : List AnyLeaf
+  pub items : List Item
   pub part : PartAdds s.part t.part items
   pub weight : t.weight ≡ s.weight + weight_of items
   pub light : s.weight ≤ most → t.weight ≤ most
@@ -59,7 +59,7 @@ pub record Adds (most : ℕ) (s t : DrawingAt) : Type 0 where
 
 -- ---- lists of items
 
-weight_of-behind : (xs ys : List AnyLeaf) → weight_of (xs ++ ys) ≡ weight_of xs + weight_of ys
+weight_of-behind : (xs ys : List Item) → weight_of (xs ++ ys) ≡ weight_of xs + weight_of ys
 weight_of-behind [] ys = omega arith
 weight_of-behind (x ∷ xs) ys = omega (arith, weight_of-behind xs ys)
 
@@ -77,9 +77,9 @@ part-none s t m l e mu ou = record {
   origin = ou;
 }
 
-part-then : (s t u : PartAt) (xs ys : List AnyLeaf) → PartAdds s t xs → PartAdds t u ys → PartAdds s u (xs ++ ys)
+part-then : (s t u : PartAt) (xs ys : List Item) → PartAdds s t xs → PartAdds t u ys → PartAdds s u (xs ++ ys)
 part-then s t u xs ys p q = record {
-  behind = q.behind ∙ ap (λ (l : List AnyLeaf). l ++ ys) p.behind ∙ append_assoc (items_in s.marks) xs ys;
+  behind = q.behind ∙ ap (λ (l : List Item). l ++ ys) p.behind ∙ append_assoc (items_in s.marks) xs ys;
   lowest =
       q.lowest ∙ ap (λ (e : Option ℤ). lower_end e (lowest_of ys)) p.lowest ∙ lower_end-assoc s.lowest (lowest_of xs) (lowest_of ys)
       ∙ sym (ap (λ (e : Option ℤ). lower_end s.lowest e) (lowest_of-behind xs ys));
@@ -90,10 +90,10 @@ part-then s t u xs ys p q = record {
 }
 
 -- an inner part that started blank comes behind the outer one
-part-join : (a : AmbientAt) (s t : PartAt) (items : List AnyLeaf) → items_in t.marks ≡ items → t.lowest ≡ lowest_of items → HoldsAll t.extent items
+part-join : (a : AmbientAt) (s t : PartAt) (items : List Item) → items_in t.marks ≡ items → t.lowest ≡ lowest_of items → HoldsAll t.extent items
     → PartAdds s (join_parts s t) items
 part-join a s t items b l w = record {
-  behind = drawn-append s.marks t.marks ∙ ap (λ (is : List AnyLeaf). items_in s.marks ++ is) b;
+  behind = drawn-append s.marks t.marks ∙ ap (λ (is : List Item). items_in s.marks ++ is) b;
   lowest = ap (λ (e : Option ℤ). lower_end s.lowest e) l;
   wider = box-first s.extent t.extent;
   within = holds_all-then (box s.extent t.extent) t.extent items (box-second s.extent t.extent) w;
@@ -171,26 +171,26 @@ module _ (most : ℕ) where
 
   -- ---- what one form draws
 
-  adds-item : (b : Bool) (leaf : AnyLeaf) (weight : ℕ) (s : DrawingAt) → nat_le (s.weight + weight) most ≡ b → weight ≡ item_weight leaf
+  adds-item : (b : Bool) (leaf : Item) (weight : ℕ) (s : DrawingAt) → nat_le (s.weight + weight) most ≡ b → weight ≡ item_weight leaf
       → AddsTo s (if b then Ok (record s { weight = s.weight + weight; part = with_item leaf s.part }) else Err 10)
   adds-item true leaf weight s h e = record {
     items = leaf ∷ [];
     part = record {
       behind = drawn-append s.part.marks (draw leaf ∷ []);
       lowest = refl;
-      wider = box-first s.part.extent (leaf_bounds leaf);
-      within = (box-second s.part.extent (leaf_bounds leaf), tt);
+      wider = box-first s.part.extent (item_bounds leaf);
+      within = (box-second s.part.extent (item_bounds leaf), tt);
       margin = λ g. g;
       origin = λ g. g;
     };
     weight = omega (arith, e);
     light = λ g. grind (arith, nat_tests, h);
     cursor = λ g.
-        holds-then (box s.part.extent (leaf_bounds leaf)) s.part.extent (cursor_box s.ambient) (box-first s.part.extent (leaf_bounds leaf)) g;
+        holds-then (box s.part.extent (item_bounds leaf)) s.part.extent (cursor_box s.ambient) (box-first s.part.extent (item_bounds leaf)) g;
   }
   adds-item false leaf weight s h e = tt
 
-  adds-add_item : (leaf : AnyLeaf) (weight : ℕ) (s : DrawingAt) → weight ≡ item_weight leaf → AddsTo s (add_item most leaf weight s)
+  adds-add_item : (leaf : Item) (weight : ℕ) (s : DrawingAt) → weight ≡ item_weight leaf → AddsTo s (add_item most leaf weight s)
   adds-add_item leaf weight s e = adds-item (nat_le (s.weight + weight) most) leaf weight s refl e
 
   -- the cursor elsewhere
@@ -226,7 +226,7 @@ module _ (most : ℕ) where
   adds-write_text (b ∷ bs) s =
       let leaf = text_leaf s.ambient (b ∷ bs) in
       let added = add_item most leaf (length (b ∷ bs) + 1) s in
-      adds-where s (is_in_range (leaf_bounds leaf)) 9 (then_to (after_text s.ambient (b ∷ bs)) added)
+      adds-where s (is_in_range (item_bounds leaf)) 9 (then_to (after_text s.ambient (b ∷ bs)) added)
       (adds-moved (after_text s.ambient (b ∷ bs)) s added (adds-add_item leaf (length (b ∷ bs) + 1) s refl))
 
   pub adds-write_value : (s : DrawingAt) (d : Data) → AddsTo s (write_value most s d)
@@ -241,7 +241,7 @@ module _ (most : ℕ) where
       (adds-none s used (part-none s.part (with_margin_used s.part) refl refl (holds-itself s.part.extent) (λ h. refl) (λ h. h)) refl (λ h. h))
       (adds-cursor (after_newline s.ambient) used))
 
-  adds-draw_shape : (leaf : AnyLeaf) (area : Area) (s : DrawingAt) → 1 ≡ item_weight leaf → AddsTo s (draw_shape most leaf area s)
+  adds-draw_shape : (leaf : Item) (area : Area) (s : DrawingAt) → 1 ≡ item_weight leaf → AddsTo s (draw_shape most leaf area s)
   adds-draw_shape leaf area s e =
       adds-unless s (int_lt area.width (pos 0) || int_lt area.height (pos 0)) 9 _
       (adds-or_none s (int_le area.width (pos 0) || int_le area.height (pos 0)) _
@@ -383,15 +383,16 @@ module _ (most : ℕ) where
 
 -- ---- displays
 
-count-weight : (items : List AnyLeaf) → length items ≤ weight_of items
+count-weight : (items : List Item) → length items ≤ weight_of items
 count-weight [] = omega arith
-count-weight (leaf ∷ items) = omega (arith, count-weight items, one-least (item_of leaf).shape)
+count-weight (leaf ∷ items) = omega (arith, count-weight items, one-least leaf.shape)
   where
-    one-least : (s : Shape) → 1 ≤ shape_weight s
-    one-least (bytes bs) = omega arith
-    one-least (fill_shape byte) = omega arith
-    one-least (line direction) = omega arith
-    one-least outline_shape = omega arith
+    one-least : (s : LeafShape) → 1 ≤ shape_weight s
+    one-least (leaf_shape.Text text) = omega arith
+    one-least (leaf_shape.Point byte) = omega arith
+    one-least (leaf_shape.Line direction) = omega arith
+    one-least leaf_shape.Outline = omega arith
+    one-least (leaf_shape.Fill byte) = omega arith
 
 -- what a display adds up to
 pub adds-blank : (s : DrawingAt) → Adds max_weight blank_drawing s → AddsUp s
@@ -435,6 +436,6 @@ room-ends left allowed app slots level env body s end cost deepest c d p =
 
 pub few-shown : (limits : Limits) (app : App) (fs : List ShapeTree) (env : Env) (slots : Slots) (d : Drawing) (cost reach : ℕ)
     → (in_order (draws limits.depth (whole_allowance limits) app slots) 0 env (shape_trees_of fs) blank_drawing 0 0).outcome ≡ Gives (drawing_of d) cost reach
-    → length (items_in (history_marks leaf_moved d.part.nodes)) ≤ max_weight
+    → length (items_in (history_marks move_item d.part.nodes)) ≤ max_weight
 few-shown limits app fs env slots d cost reach p =
     (adds-blank (drawing_of d) (adds-body limits.depth (whole_allowance limits) app slots 0 env (shape_trees_of fs) blank_drawing (drawing_of d) 0 0 cost reach p)).count

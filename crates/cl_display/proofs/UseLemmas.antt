@@ -15,9 +15,7 @@ use Rattle.cl_eval.specs.Slots.{Slots, Env, given}
 use Rattle.cl_eval.specs.Meaning.{Go, bound, each, listed, tested}
 use Rattle.cl_medium.specs.Ambients.{AmbientAt, after_indent, after_newline}
 use Rattle.cl_medium.specs.Drawing.{text_leaf}
-use Rattle.cl_medium.specs.Items.{bounds_of}
-use Rattle.cl_medium.specs.Leaves.{leaf_bounds}
-use Rattle.cl_medium.specs.declared.any_leaf.AnyLeaf.{AnyLeaf}
+use Rattle.cl_medium.specs.Items.{bounds_of, item_bounds, Item}
 use Rattle.cl_medium.specs.declared.areas.Area.{Area}
 use Rattle.cl_display.specs.Drawings.{DrawingAt, add_item, after_text, cursor_to, is_in_range, is_near, newline, then_to, with_item, with_margin_used}
 use Rattle.cl_display.specs.Figures.{area_at, draw_figure, draw_parts, draw_shape, figure_parts, leaf_in, with_origin_used}
@@ -49,7 +47,7 @@ gives-or P false q r g h = h
 neither : (s t : DrawingAt) → t.part.margin_used ≡ s.part.margin_used → t.part.origin_used ≡ s.part.origin_used → UsesNeither s t
 neither s t m o = record { margin = m; origin = o }
 
-text-item : (b : Bool) (a : AmbientAt) (leaf : AnyLeaf) (weight : ℕ) (s : DrawingAt)
+text-item : (b : Bool) (a : AmbientAt) (leaf : Item) (weight : ℕ) (s : DrawingAt)
     → GivesWith (UsesNeither s) (then_to a (if b then Ok (record s { weight = weight; part = with_item leaf s.part }) else Err 10))
 text-item true a leaf weight s = record { margin = refl; origin = refl }
 text-item false a leaf weight s = tt
@@ -59,7 +57,7 @@ text-unused most s (text []) = record { margin = refl; origin = refl }
 text-unused most s (text (b ∷ bs)) =
     let leaf = text_leaf s.ambient (b ∷ bs) in
     let weight = s.weight + (length (b ∷ bs) + 1) in
-    gives-where (UsesNeither s) (is_in_range (leaf_bounds leaf)) 9 (then_to (after_text s.ambient (b ∷ bs)) (add_item most leaf (length (b ∷ bs) + 1) s))
+    gives-where (UsesNeither s) (is_in_range (item_bounds leaf)) 9 (then_to (after_text s.ambient (b ∷ bs)) (add_item most leaf (length (b ∷ bs) + 1) s))
     (text-item (nat_le weight most) (after_text s.ambient (b ∷ bs)) leaf weight s)
 text-unused most s d = tt
 
@@ -79,12 +77,12 @@ indent-used s (int n) =
     (Ok (record s { ambient = after_indent s.ambient n; part = with_margin (after_indent s.ambient n) s.part })) (record { margin = refl; origin = refl })
 indent-used s d = tt
 
-figure-item : (b : Bool) (leaf : AnyLeaf) (weight : ℕ) (s : DrawingAt)
+figure-item : (b : Bool) (leaf : Item) (weight : ℕ) (s : DrawingAt)
     → GivesWith (UsesOrigin s) (with_origin_used (if b then Ok (record s { weight = weight; part = with_item leaf s.part }) else Err 10))
 figure-item true leaf weight s = record { margin = refl; origin = inr refl }
 figure-item false leaf weight s = tt
 
-shape-used : (most : ℕ) (leaf : AnyLeaf) (area : Area) (s : DrawingAt) → GivesWith (UsesOrigin s) (draw_shape most leaf area s)
+shape-used : (most : ℕ) (leaf : Item) (area : Area) (s : DrawingAt) → GivesWith (UsesOrigin s) (draw_shape most leaf area s)
 shape-used most leaf area s =
     gives-unless (UsesOrigin s) (int_lt area.width (pos 0) || int_lt area.height (pos 0)) 9 _
     (gives-or (UsesOrigin s) (int_le area.width (pos 0) || int_le area.height (pos 0)) (Ok s) _ (record { margin = refl; origin = inl refl })

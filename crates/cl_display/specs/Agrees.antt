@@ -1,7 +1,7 @@
 -- What the evaluation of a display answers, against what the definition says.
 use Rattle.std.specs.Prelude.{◌≡◌, ◌≤◌, Bool, true, false}
 use Rattle.cl_eval.specs.Outcome.{Outcome, Gives, Traps}
-use Rattle.cl_medium.specs.Leaves.{leaf_moved}
+use Rattle.cl_medium.specs.Items.{move_item}
 use Rattle.cl_record.specs.Counts.{count_of}
 use Rattle.cl_record.specs.Marks.{history_marks}
 use Rattle.cl_display.specs.Drawings.{DrawingAt, max_weight}
@@ -11,10 +11,10 @@ use Rattle.cl_display.specs.Script.{trap_history}
 
 -- the history and the variant that belong to an outcome
 abbrev pub Shows : Shown → Outcome DrawingAt → Type 0
-Shows (shown.Built h) (Gives s cost deepest) = history_marks leaf_moved h ≡ s.part.marks
+Shows (shown.Built h) (Gives s cost deepest) = history_marks move_item h ≡ s.part.marks
 Shows (shown.Built h) (Traps kind cost deepest) = ⊥
 Shows (shown.Trapped h k) (Gives s cost deepest) = ⊥
-Shows (shown.Trapped h k) (Traps kind cost deepest) = (k ≡ kind) × (history_marks leaf_moved h ≡ trap_history kind)
+Shows (shown.Trapped h k) (Traps kind cost deepest) = (k ≡ kind) × (history_marks move_item h ≡ trap_history kind)
 Shows shown.Memory o = Unit {0}
 
 -- whether there was no memory
@@ -25,6 +25,6 @@ met_memory shown.Memory = true
 
 -- a history draws no more items than it may weigh
 abbrev pub IsFew : Shown → Type 0
-IsFew (shown.Built h) = count_of (history_marks leaf_moved h) ≤ max_weight
-IsFew (shown.Trapped h k) = count_of (history_marks leaf_moved h) ≤ max_weight
+IsFew (shown.Built h) = count_of (history_marks move_item h) ≤ max_weight
+IsFew (shown.Trapped h k) = count_of (history_marks move_item h) ≤ max_weight
 IsFew shown.Memory = Unit {0}

@@ -5,8 +5,7 @@ use Rattle.cl_region.specs.Places.{box}
 use Rattle.cl_region.specs.declared.rects.Rect.{Rect}
 use Rattle.cl_medium.specs.Ambients.{AmbientAt, after_newline, ambient_start}
 use Rattle.cl_medium.specs.Drawing.{text_leaf}
-use Rattle.cl_medium.specs.Leaves.{leaf_bounds, leaf_moved}
-use Rattle.cl_medium.specs.declared.any_leaf.AnyLeaf.{AnyLeaf}
+use Rattle.cl_medium.specs.Items.{item_bounds, move_item, Item}
 use Rattle.cl_record.specs.Marks.{Mark, draw, history_marks}
 use Rattle.cl_display.specs.declared.drawings.Drawing.{Drawing}
 use Rattle.cl_display.specs.declared.parts.Part.{Part}
@@ -19,7 +18,7 @@ pub record PartAt : Type 0 where
   pub lowest : Option ℤ
   pub margin_used : Bool
   pub origin_used : Bool
-  pub marks : List (Mark AnyLeaf)
+  pub marks : List (Mark Item)
 
 -- what goes through the bodies: the cursor, margin, origin and ink, and the weight of all marks; and what the present body drew
 pub record DrawingAt : Type 0 where
@@ -33,7 +32,7 @@ part_of p = record {
   lowest = p.lowest;
   margin_used = p.margin_used;
   origin_used = p.origin_used;
-  marks = history_marks leaf_moved p.nodes;
+  marks = history_marks move_item p.nodes;
 }
 
 abbrev pub drawing_of : Drawing → DrawingAt
@@ -106,15 +105,15 @@ abbrev pub cursor_to : AmbientAt → DrawingAt → DrawingAt
 cursor_to a s = record s { ambient = a; part = with_cursor a s.part }
 
 -- a part with one more item
-abbrev pub with_item : AnyLeaf → PartAt → PartAt
+abbrev pub with_item : Item → PartAt → PartAt
 with_item leaf p = record p {
-  extent = box p.extent (leaf_bounds leaf);
-  lowest = lower_end p.lowest (Some (leaf_bounds leaf).y2);
+  extent = box p.extent (item_bounds leaf);
+  lowest = lower_end p.lowest (Some (item_bounds leaf).y2);
   marks = p.marks ++ draw leaf ∷ [];
 }
 
 -- one more item of this weight, where all together do not weigh more than the most
-abbrev pub add_item : (most : ℕ) → AnyLeaf → (weight : ℕ) → DrawingAt → Result DrawingAt ℕ
+abbrev pub add_item : (most : ℕ) → Item → (weight : ℕ) → DrawingAt → Result DrawingAt ℕ
 add_item most leaf weight s =
     if nat_le (s.weight + weight) most then Ok (record s { weight = s.weight + weight; part = with_item leaf s.part }) else Err 10
 
@@ -130,7 +129,7 @@ after_text a text = record a { x = a.x +ℤ pos (length text) }
 -- a text in the range, which weighs its bytes and 1, with the cursor behind it
 abbrev pub place_text : (most : ℕ) → List ℕ → DrawingAt → Result DrawingAt ℕ
 place_text most text s =
-    if is_in_range (leaf_bounds (text_leaf s.ambient text))
+    if is_in_range (item_bounds (text_leaf s.ambient text))
     then then_to (after_text s.ambient text) (add_item most (text_leaf s.ambient text) (length text + 1) s)
     else Err 9
 

@@ -7,9 +7,8 @@ use Rattle.cl_syntax.specs.declared.figures.Figure.{Figure}
 use Rattle.cl_syntax.specs.declared.figures.Figure.TheVariants as figure
 use Rattle.cl_medium.specs.Ambients.{AmbientAt}
 use Rattle.cl_medium.specs.Drawing.{shape_area, point_leaf, hline_leaf, vline_leaf, box_leaf, fill_leaf}
-use Rattle.cl_medium.specs.Items.{bounds_of}
+use Rattle.cl_medium.specs.Items.{bounds_of, Item}
 use Rattle.cl_medium.specs.declared.areas.Area.{Area}
-use Rattle.cl_medium.specs.declared.any_leaf.AnyLeaf.{AnyLeaf}
 use Rattle.cl_display.specs.declared.figures.FigureItem.{FigureItem}
 use Rattle.cl_display.specs.declared.figures.FigureItem.TheVariants as item
 use Rattle.cl_display.specs.declared.figures.FigureParts.{FigureParts}
@@ -57,7 +56,7 @@ abbrev pub area_at : AmbientAt → FigureParts → Area
 area_at a p = item_area a p.x p.y p.item
 
 -- what is drawn in an area
-abbrev pub leaf_in : Area → FigureItem → AnyLeaf
+abbrev pub leaf_in : Area → FigureItem → Item
 leaf_in area (item.Point byte) = point_leaf area byte
 leaf_in area (item.HorizontalLine length) = hline_leaf area
 leaf_in area (item.VerticalLine length) = vline_leaf area
@@ -70,7 +69,7 @@ with_origin_used (Ok s) = Ok (record s { part = record s.part { origin_used = tr
 with_origin_used (Err k) = Err k
 
 -- an item in an area: no negative size, nothing for a size of 0, the range, the weight of 1; it uses the origin
-abbrev pub draw_shape : (most : ℕ) → AnyLeaf → Area → DrawingAt → Result DrawingAt ℕ
+abbrev pub draw_shape : (most : ℕ) → Item → Area → DrawingAt → Result DrawingAt ℕ
 draw_shape most leaf area s =
     if int_lt area.width (pos 0) || int_lt area.height (pos 0) then Err 9
     else (if int_le area.width (pos 0) || int_le area.height (pos 0) then Ok s

@@ -9,7 +9,7 @@ use Rattle.cl_eval.specs.Outcome.{Outcome, Gives, Traps}
 use Rattle.cl_eval.specs.Slots.{Slots, Env}
 use Rattle.cl_medium.specs.Ambients.{ambient_start}
 use Rattle.cl_medium.specs.Drawing.{text_leaf}
-use Rattle.cl_medium.specs.declared.any_leaf.AnyLeaf.{AnyLeaf}
+use Rattle.cl_medium.specs.Items.{Item}
 use Rattle.cl_record.specs.Marks.{Mark, draw}
 use Rattle.cl_display.specs.Drawings.{DrawingAt, blank_drawing, max_weight}
 use Rattle.cl_display.specs.Fresh.{Allowance, draws, in_order}
@@ -25,16 +25,16 @@ fresh limits app forms env slots =
     in_order (draws limits.depth (whole_allowance limits) app slots) 0 env (shape_trees_of forms) blank_drawing 0 0
 
 -- the one mark of a display that trapped
-abbrev pub trap_history : ℕ → List (Mark AnyLeaf)
+abbrev pub trap_history : ℕ → List (Mark Item)
 trap_history kind = draw (text_leaf ambient_start (codes "trap " ++ decimal kind)) ∷ []
 
 -- the marks of the history that a display leaves
-abbrev pub history_of : Outcome DrawingAt → List (Mark AnyLeaf)
+abbrev pub history_of : Outcome DrawingAt → List (Mark Item)
 history_of (Gives s cost deepest) = s.part.marks
 history_of (Traps kind cost deepest) = trap_history kind
 
 -- the marks of these forms
-abbrev pub script : Limits → App → List ShapeTree → Env → Slots → List (Mark AnyLeaf)
+abbrev pub script : Limits → App → List ShapeTree → Env → Slots → List (Mark Item)
 script limits app forms env slots = history_of (fresh limits app forms env slots).outcome
 
 -- ---- the pane of a frame: the forms of its display, with no variables
@@ -44,5 +44,5 @@ abbrev pub pane_fresh : Limits → App → Slots → Outcome DrawingAt
 pane_fresh limits app slots = (fresh limits app (pane_forms app) [] slots).outcome
 
 -- its marks
-abbrev pub pane_script : Limits → App → Slots → List (Mark AnyLeaf)
+abbrev pub pane_script : Limits → App → Slots → List (Mark Item)
 pane_script limits app slots = history_of (pane_fresh limits app slots)

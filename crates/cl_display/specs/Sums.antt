@@ -1,28 +1,28 @@
 -- What the items of a history weigh together, where the lowest of them ends, and what holds them all.
 use Rattle.std.specs.Prelude.{◌≡◌, ℕ, ◌+◌, ◌≤◌, ℤ, ◌≤ℤ◌, List, [], ◌∷◌, length, Option, Some, None}
-use Rattle.cl_medium.specs.Items.{Shape, bytes}
-use Rattle.cl_medium.specs.Leaves.{item_of, leaf_bounds}
-use Rattle.cl_medium.specs.declared.any_leaf.AnyLeaf.{AnyLeaf}
+use Rattle.cl_medium.specs.Items.{Item, item_bounds}
+use Rattle.cl_medium.specs.declared.shapes.LeafShape.{LeafShape}
+use Rattle.cl_medium.specs.declared.shapes.LeafShape.TheVariants.{Text}
 use Rattle.cl_record.specs.Replays.{drawn}
 use Rattle.cl_region.specs.declared.rects.Rect.{Rect}
 use Rattle.cl_display.specs.Drawings.{DrawingAt, lower_end, max_weight}
 
 -- a text weighs its bytes and 1, another item 1
-abbrev pub shape_weight : Shape → ℕ
-shape_weight (bytes text) = length text + 1
+abbrev pub shape_weight : LeafShape → ℕ
+shape_weight (Text text) = length text + 1
 shape_weight shape = 1
 
-abbrev pub item_weight : AnyLeaf → ℕ
-item_weight leaf = shape_weight (item_of leaf).shape
+abbrev pub item_weight : Item → ℕ
+item_weight leaf = shape_weight leaf.shape
 
-abbrev pub weight_of : List AnyLeaf → ℕ
+abbrev pub weight_of : List Item → ℕ
 weight_of [] = 0
 weight_of (leaf ∷ items) = item_weight leaf + weight_of items
 
 -- the greatest end of an item down, if there is an item
-abbrev pub lowest_of : List AnyLeaf → Option ℤ
+abbrev pub lowest_of : List Item → Option ℤ
 lowest_of [] = None
-lowest_of (leaf ∷ items) = lower_end (Some (leaf_bounds leaf).y2) (lowest_of items)
+lowest_of (leaf ∷ items) = lower_end (Some (item_bounds leaf).y2) (lowest_of items)
 
 -- a drawing weighs what its items weigh together, which is not too much; it ends where the lowest of them does; and it has no more
 -- items than it may weigh
@@ -40,6 +40,6 @@ pub record Holds (outer inner : Rect) : Type 0 where
   pub bottom : inner.y2 ≤ℤ outer.y2
 
 -- the corners of each item lie within those of a rectangle
-abbrev pub HoldsAll : Rect → List AnyLeaf → Type 0
+abbrev pub HoldsAll : Rect → List Item → Type 0
 HoldsAll outer [] = Unit {0}
-HoldsAll outer (leaf ∷ items) = Holds outer (leaf_bounds leaf) × HoldsAll outer items
+HoldsAll outer (leaf ∷ items) = Holds outer (item_bounds leaf) × HoldsAll outer items

@@ -1,7 +1,7 @@
 //! Evaluation of display forms.
 ghost use Rattle.std.specs.Prelude.{◌≡◌, ◌≤◌, IfOk};
 ghost use Rattle.cl_eval.specs.Outcome.{RisesBy, cost_of};
-ghost use Rattle.cl_medium.specs.Leaves.{leaf_moved};
+ghost use Rattle.cl_medium.specs.Items.{move_item};
 ghost use Rattle.cl_record.specs.Marks.{history_marks};
 ghost use Rattle.cl_display.specs.Script.{fresh, trap_history};
 ghost use Rattle.cl_display.specs.Agrees.{IsFew, Shows, met_memory};
@@ -78,7 +78,7 @@ pub fn display<L: Ledger>(
 
 // The history of a display that trapped.
 fn trapped(alloc: Global, kind: u8) -> Result<History, AllocError>
-    ensures { IfOk result (λ h. history_marks leaf_moved h ≡ trap_history kind) }
+    ensures { IfOk result (λ h. history_marks move_item h ≡ trap_history kind) }
 {
     let message = format!(in alloc; "trap {kind}")?;
     let text = Text::from_slice(alloc, message.as_bytes())?;

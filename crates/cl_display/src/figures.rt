@@ -3,7 +3,7 @@ ghost use Rattle.std.specs.Prelude.{◌≡◌, Some, map};
 ghost use Rattle.cl_value.specs.Value.{data_of};
 ghost use Rattle.cl_eval.specs.Agrees.{Comes, always};
 ghost use Rattle.cl_medium.specs.Drawing.{IsDrawn};
-ghost use Rattle.cl_medium.specs.declared.any_leaf.AnyLeaf.{AnyLeaf};
+ghost use Rattle.cl_medium.specs.Items.{Item};
 ghost use Rattle.cl_medium.specs.declared.areas.Area.{Area};
 ghost use Rattle.cl_display.specs.Drawings.{drawing_of};
 ghost use Rattle.cl_display.specs.Figures.{area_at, byte_of, draw_figure, draw_parts, draw_shape, figure_parts, leaf_in, number_of, parts_at};
@@ -125,7 +125,7 @@ impl Drawing {
 
     // What was drawn from the origin.
     fn add_shape(&mut self, most: u64, drawn: Drawn) -> Result<(), Stop>
-        ensures { (leaf : AnyLeaf) (area : Area) → IsDrawn leaf area drawn
+        ensures { (leaf : Item) (area : Area) → IsDrawn leaf area drawn
             → Comes (always (drawing_of self.new)) result (draw_shape most leaf area (drawing_of self.old)) }
     {
         match drawn {

@@ -2,7 +2,7 @@
 ghost use Rattle.std.specs.Prelude.{◌≡◌, ◌∷◌, ◌++◌, [], Ok, OnErr, OnOk};
 ghost use Rattle.cl_eval.specs.Agrees.{Comes, always};
 ghost use Rattle.cl_region.specs.Places.{IsInRange};
-ghost use Rattle.cl_medium.specs.Leaves.{leaf_bounds};
+ghost use Rattle.cl_medium.specs.Items.{item_bounds};
 ghost use Rattle.cl_record.specs.Trees.{leaf};
 ghost use Rattle.cl_display.specs.Drawings.{join_parts, part_of, start_part, with_cursor, with_item};
 
@@ -73,7 +73,7 @@ impl Part {
 
 // An item behind the other records.
 pub(crate) fn push_leaf(nodes: &mut Nodes<AnyLeaf>, item: AnyLeaf) -> Result<(), AllocError>
-    requires { IsInRange (leaf_bounds item) }
+    requires { IsInRange (item_bounds item) }
     ensures ok { OnOk result (nodes.new ≡ nodes.old ++ leaf item ∷ []) }
     ensures err { OnErr result (nodes.new ≡ nodes.old) }
 {

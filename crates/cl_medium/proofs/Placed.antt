@@ -9,8 +9,7 @@ use Rattle.cl_medium.specs.declared.areas.Area.{Area}
 use Rattle.cl_medium.specs.Ambients.{AmbientAt, CursorMoved, IsAmbient, OriginMoved}
 use Rattle.cl_medium.specs.Drawing.{shape_area, text_area, text_leaf}
 use Rattle.cl_medium.specs.ItemLaws.{swapped}
-use Rattle.cl_medium.specs.Items.{IsArea, move_area}
-use Rattle.cl_medium.specs.Items.{move_item}
+use Rattle.cl_medium.specs.Items.{IsArea, move_area, move_item}
 use Rattle.cl_medium.proofs.Sizes.{area_is}
 
 pub placed_shape : (m : AmbientAt) (x y w h p q k l : ℤ) → IsAmbient m → pos 0 ≤ℤ w → pos 0 ≤ℤ h

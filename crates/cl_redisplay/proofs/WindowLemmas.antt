@@ -2,9 +2,7 @@
 use Rattle.std.proofs.Common.{◌≡◌, ℕ, ◌+◌, ◌-◌, ◌<◌, ◌≤◌, ℤ, pos, true, List, [], refl, sym, ◌∙◌, ap, subst, arith}
 use Rattle.std.proofs.lemmas.Bool.Decides.{nat_tests}
 use Rattle.std.proofs.lemmas.Int.{ints}
-use Rattle.cl_medium.specs.Items.{Painted}
-use Rattle.cl_medium.specs.Items.{item_cell}
-use Rattle.cl_medium.specs.Items.{Item}
+use Rattle.cl_medium.specs.Items.{Painted, item_cell, Item}
 use Rattle.cl_raster.specs.Raster.{Picture}
 use Rattle.cl_record.specs.Marks.{Mark}
 use Rattle.cl_record.specs.Replays.{drawn, painted}

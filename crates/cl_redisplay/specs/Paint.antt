@@ -1,8 +1,6 @@
 -- Painting in an area of a screen: each of its places has the cell of the last item that paints it, else a space with ink 0.
 use Rattle.std.specs.Prelude.{◌≡◌, ℕ, zero, suc, ◌+◌, ◌-◌, ◌<◌, ◌≤◌, pos, Bool, true, false, ◌&&◌, nat_le, nat_lt, if◌then◌else◌, List, [], ◌∷◌}
-use Rattle.cl_medium.specs.Items.{Painted}
-use Rattle.cl_medium.specs.Items.{item_cell}
-use Rattle.cl_medium.specs.Items.{Item}
+use Rattle.cl_medium.specs.Items.{Painted, item_cell, Item}
 use Rattle.cl_raster.specs.Raster.{Picture, SameSize, glyph_at, ink_at}
 use Rattle.cl_region.specs.declared.rects.Rect.{Rect}
 use Rattle.cl_record.specs.Marks.{Mark}

@@ -1,8 +1,7 @@
 -- A row of cells that show some marks is the row of these marks.
 use Rattle.std.proofs.Common.{◌≡◌, ℕ, zero, suc, ◌+◌, ◌-◌, ◌*◌, ◌<◌, List, ◌∷◌, length, slice_index, take, drop, map, refl, sym, ◌∙◌, ap, arith, add-zero, zero-add, drop-cons, length-drop}
 use Rattle.std.proofs.lemmas.List.{length-take}
-use Rattle.cl_medium.specs.Items.{Painted}
-use Rattle.cl_medium.specs.declared.any_leaf.AnyLeaf.{AnyLeaf}
+use Rattle.cl_medium.specs.Items.{Painted, Item}
 use Rattle.cl_raster.specs.Raster.{Picture, row_of}
 use Rattle.cl_record.specs.Marks.{Mark}
 use Rattle.cl_redisplay.specs.Paint.{Shows, digit_in, glyph_in, ink_digit, row_from, rows_from, shown_at, shown_ink_row, shown_row, told_row}
@@ -11,7 +10,7 @@ use Rattle.cl_redisplay.specs.declared.areas.Area.{Area}
 abbrev ink_in : Painted → ℕ
 ink_in cell = cell.ink
 
-take-row_from : (tell : Painted → ℕ) (area : Area) (marks : List (Mark AnyLeaf)) (cells : List ℕ) (y k x n : ℕ) → length (take n (drop k cells)) ≡ n
+take-row_from : (tell : Painted → ℕ) (area : Area) (marks : List (Mark Item)) (cells : List ℕ) (y k x n : ℕ) → length (take n (drop k cells)) ≡ n
     → ((i : ℕ) → i < n → slice_index cells (k + i) ≡ tell (shown_at area marks (x + i) y))
     → take n (drop k cells) ≡ row_from tell area marks y x n
 take-row_from tell area marks cells y k x zero h f = refl
@@ -27,7 +26,7 @@ take-row_from tell area marks cells y k x (suc n) h f =
     let next : suc k ≡ k + 1 = omega arith in
     rw (drop-cons cells k 0, next, first, rest)
 
-told : (tell : Painted → ℕ) (area : Area) (marks : List (Mark AnyLeaf)) (cells : List ℕ) (width y : ℕ) (row : List ℕ)
+told : (tell : Painted → ℕ) (area : Area) (marks : List (Mark Item)) (cells : List ℕ) (width y : ℕ) (row : List ℕ)
     → ((i : ℕ) → i < width → slice_index cells (y * width + i) ≡ tell (shown_at area marks i y))
     → row ≡ row_of cells width y → length row ≡ width → row ≡ told_row tell area marks width y
 told tell area marks cells width y row f is count =
@@ -36,22 +35,22 @@ told tell area marks cells width y row f is count =
     let counted : length (take width (drop (y * width) cells)) ≡ width = sym (ap length here) ∙ count in
     here ∙ take-row_from tell area marks cells y (y * width) 0 width counted (λ i within. rw zero-add (f i within))
 
-pub row-shown_row : (area : Area) (marks : List (Mark AnyLeaf)) (p : Picture) (y : ℕ) (row : List ℕ) → Shows p area marks → y < p.height
+pub row-shown_row : (area : Area) (marks : List (Mark Item)) (p : Picture) (y : ℕ) (row : List ℕ) → Shows p area marks → y < p.height
     → row ≡ row_of p.glyphs p.width y → length row ≡ p.width → row ≡ shown_row area marks p.width y
 row-shown_row area marks p y row shows less is count =
     told glyph_in area marks p.glyphs p.width y row (λ i within. ap glyph_in (shows.cells i y within less)) is count
 
-digits_from : (area : Area) (marks : List (Mark AnyLeaf)) (y x n : ℕ) → map ink_digit (row_from ink_in area marks y x n) ≡ row_from digit_in area marks y x n
+digits_from : (area : Area) (marks : List (Mark Item)) (y x n : ℕ) → map ink_digit (row_from ink_in area marks y x n) ≡ row_from digit_in area marks y x n
 digits_from area marks y x zero = refl
 digits_from area marks y x (suc n) = ap (λ (row : List ℕ). ink_digit (shown_at area marks x y).ink ∷ row) (digits_from area marks y (x + 1) n)
 
-pub row-shown_ink_row : (area : Area) (marks : List (Mark AnyLeaf)) (p : Picture) (y : ℕ) (row : List ℕ) → Shows p area marks → y < p.height
+pub row-shown_ink_row : (area : Area) (marks : List (Mark Item)) (p : Picture) (y : ℕ) (row : List ℕ) → Shows p area marks → y < p.height
     → row ≡ row_of p.inks p.width y → length row ≡ p.width → map ink_digit row ≡ shown_ink_row area marks p.width y
 row-shown_ink_row area marks p y row shows less is count =
     ap (λ (r : List ℕ). map ink_digit r) (told ink_in area marks p.inks p.width y row (λ i within. ap ink_in (shows.cells i y within less)) is count)
     ∙ digits_from area marks y 0 p.width
 
-pub rows_from-next : (tell : Painted → ℕ) (area : Area) (marks : List (Mark AnyLeaf)) (width y end : ℕ) → y < end
+pub rows_from-next : (tell : Painted → ℕ) (area : Area) (marks : List (Mark Item)) (width y end : ℕ) → y < end
     → rows_from tell area marks width y (end - y) ≡ told_row tell area marks width y ∷ rows_from tell area marks width (y + 1) (end - (y + 1))
 rows_from-next tell area marks width y end h =
     let next : end - y ≡ suc (end - (y + 1)) = omega arith in

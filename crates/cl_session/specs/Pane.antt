@@ -1,7 +1,7 @@
 -- What a pane of a session is, and what settling it comes to.
 use Rattle.std.specs.Prelude.{◌≡◌, Option, Some, None, List}
 use Rattle.cl_eval.specs.Outcome.{Outcome, Gives, Traps}
-use Rattle.cl_medium.specs.declared.any_leaf.AnyLeaf.{AnyLeaf}
+use Rattle.cl_medium.specs.Items.{Item}
 use Rattle.cl_record.specs.Counts.{count_of}
 use Rattle.cl_record.specs.Marks.{Mark}
 use Rattle.cl_redisplay.specs.Paint.{LiesIn, Shows}
@@ -19,7 +19,7 @@ pub record IsPainted (p : Pane) : Type 0 where
   pub counted : p.items ≡ count_of (marks_in (marks_of_pane p.history))
 
 -- the history and the report after settling, by what evaluating the display came to
-abbrev pub SettlesTo : Option (List (Mark AnyLeaf)) → Option (List (Mark AnyLeaf)) → Outcome DrawingAt → PaneReport → Type 0
+abbrev pub SettlesTo : Option (List (Mark Item)) → Option (List (Mark Item)) → Outcome DrawingAt → PaneReport → Type 0
 SettlesTo old new (Gives s cost deepest) (report.Shown r) =
     (new ≡ Some s.part.marks) × (r ≡ record { kept = 0; moved = 0; drawn = count_of s.part.marks; erased = count_of (marks_in old) })
 SettlesTo old new (Gives s cost deepest) (report.Trapped k) = ⊥

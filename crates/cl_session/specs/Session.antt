@@ -4,7 +4,7 @@ use Rattle.cl_application.specs.App.{pane_of}
 use Rattle.cl_application.specs.declared.applications.App.{App}
 use Rattle.cl_eval.specs.Slots.{Slots}
 use Rattle.cl_eval.specs.declared.metering.Limits.{Limits}
-use Rattle.cl_medium.specs.declared.any_leaf.AnyLeaf.{AnyLeaf}
+use Rattle.cl_medium.specs.Items.{Item}
 use Rattle.cl_record.specs.Marks.{Mark}
 use Rattle.cl_display.specs.Script.{pane_script}
 use Rattle.cl_gesture.specs.declared.answers.Gesture.{Gesture}
@@ -20,7 +20,7 @@ abbrev pub world_of : Session → Slots → World
 world_of session slots = record { slots = slots; line = session.line; pane = marks_of_pane session.pane.history }
 
 -- the history is the script of these slots, unless it is blank
-abbrev pub IsCurrent : App → Limits → Slots → Option (List (Mark AnyLeaf)) → Type 0
+abbrev pub IsCurrent : App → Limits → Slots → Option (List (Mark Item)) → Type 0
 IsCurrent app limits slots history = (history ≡ None) ⊎ (history ≡ Some (pane_script limits app slots))
 
 -- A session fits an application and slots: its screen is as large as the frame, its pane is where the frame has it, the cells there
@@ -36,7 +36,7 @@ pub record Fits (app : App) (slots : Slots) (session : Session) : Type 0 where
   pub none_waits : session.outgoing ≡ []
 
 -- the history and the lines of a pane that is settled where that is due or where it is blank
-pub record SettlesIf (due : Bool) (app : App) (limits : Limits) (slots : Slots) (old new : Option (List (Mark AnyLeaf))) (report : PaneReport) : Type 0 where
+pub record SettlesIf (due : Bool) (app : App) (limits : Limits) (slots : Slots) (old new : Option (List (Mark Item))) (report : PaneReport) : Type 0 where
   pub history : new ≡ (settled_if (due || is_none old) app limits slots old (met_memory report)).pane
   pub lines : report_lines (pane_of app).name report ≡ (settled_if (due || is_none old) app limits slots old (met_memory report)).lines
 

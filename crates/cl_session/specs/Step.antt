@@ -14,7 +14,7 @@ use Rattle.cl_load.specs.SlotTypes.{is_member}
 use Rattle.cl_display.specs.Drawings.{DrawingAt}
 use Rattle.cl_display.specs.Script.{history_of, pane_fresh, pane_script}
 use Rattle.std.specs.Str.{str_eq_ignore_ascii_case}
-use Rattle.cl_medium.specs.declared.any_leaf.AnyLeaf.{AnyLeaf}
+use Rattle.cl_medium.specs.Items.{Item}
 use Rattle.cl_record.specs.Lines.{item_line, lines_from}
 use Rattle.cl_record.specs.Marks.{Mark}
 use Rattle.cl_record.specs.Counts.{count_of}
@@ -119,7 +119,7 @@ handled_or_not app limits w g false = handled app limits w g
 
 -- what becomes of the pane: its history, its line, and the cost
 pub record Settled : Type 0 where
-  pub pane : Option (List (Mark AnyLeaf))
+  pub pane : Option (List (Mark Item))
   pub lines : List (List ℕ)
   pub cost : ℕ
 
@@ -145,13 +145,13 @@ pane_line name erased (Gives s cost deepest) = report_line name 0 0 (count_of s.
 pane_line name erased (Traps kind cost deepest) = trap_line name kind
 
 -- a pane that is settled has its script, or is blank where it met want of memory
-abbrev pub settled : App → Outcome DrawingAt → List (Mark AnyLeaf) → Bool → Settled
+abbrev pub settled : App → Outcome DrawingAt → List (Mark Item) → Bool → Settled
 settled app shown old true = record { pane = None; lines = memory_line (pane_of app).name ∷ []; cost = cost_of shown }
 settled app shown old false =
     record { pane = Some (history_of shown); lines = pane_line (pane_of app).name (count_of old) shown ∷ []; cost = cost_of shown }
 
 -- a pane is settled where a command committed, and tried again where it is blank
-abbrev pub settled_if : Bool → App → Limits → Slots → Option (List (Mark AnyLeaf)) → Bool → Settled
+abbrev pub settled_if : Bool → App → Limits → Slots → Option (List (Mark Item)) → Bool → Settled
 settled_if true app limits slots pane met = settled app (pane_fresh limits app slots) (marks_in pane) met
 settled_if false app limits slots pane met = record { pane = pane; lines = []; cost = 0 }
 

@@ -2,7 +2,7 @@
 ghost use Rattle.std.specs.Prelude.{◌≡◌, ◌≤◌, ◌<◌, ◌+◌, All, IfOk, Some, None, map};
 ghost use Rattle.cl_eval.specs.Outcome.{RisesBy, cost_of};
 ghost use Rattle.cl_display.specs.Script.{pane_fresh};
-ghost use Rattle.cl_medium.specs.Leaves.{leaf_moved};
+ghost use Rattle.cl_medium.specs.Items.{move_item};
 ghost use Rattle.cl_raster.specs.Raster.{IsInk, SameSize};
 ghost use Rattle.cl_record.specs.Counts.{count_of};
 ghost use Rattle.cl_record.specs.Marks.{history_marks};
@@ -66,8 +66,8 @@ impl Pane {
     // Shows a history, and says how many items it draws.
     fn show(&mut self, history: History) -> u64
         requires painted { IsPainted self.old }
-        requires few { count_of (history_marks leaf_moved history) ≤ 1000000 }
-        ensures count { result ≡ count_of (history_marks leaf_moved history) }
+        requires few { count_of (history_marks move_item history) ≤ 1000000 }
+        ensures count { result ≡ count_of (history_marks move_item history) }
         ensures history { self.new.history ≡ Some history }
         ensures painted { IsPainted self.new }
         ensures size { SameSize self.old.screen self.new.screen }
