@@ -23,5 +23,6 @@ add_item-light most l weight whole s e h =
     rw (e, fits) refl
 
 -- the marks of records behind others
-pub marks_behind : (ts us : List (Tree AnyLeaf)) → history_marks leaf_moved (ts ++ us) ≡ history_marks leaf_moved ts ++ history_marks leaf_moved us
+pub marks_behind : (ts us : List (Tree AnyLeaf)) → history_marks leaf_moved (ts ++ us) ≡ history_marks leaf_moved ts ++ history_marks
+    leaf_moved us
 marks_behind = marks-append leaf_moved
