@@ -18,10 +18,22 @@ holds-then a b c p q = record {
 }
 
 pub box-first : (a b : Rect) → Holds (box a b) a
-box-first a b = record { left = omega (arith, ints, clamps); top = omega (arith, ints, clamps); right = omega (arith, ints, clamps); bottom = omega (arith, ints, clamps) }
+box-first a b = record {
+  left = omega (arith, ints, clamps);
+  top = omega (arith, ints, clamps);
+  right =
+      omega (arith, ints, clamps);
+  bottom = omega (arith, ints, clamps);
+}
 
 pub box-second : (a b : Rect) → Holds (box a b) b
-box-second a b = record { left = omega (arith, ints, clamps); top = omega (arith, ints, clamps); right = omega (arith, ints, clamps); bottom = omega (arith, ints, clamps) }
+box-second a b = record {
+  left = omega (arith, ints, clamps);
+  top = omega (arith, ints, clamps);
+  right =
+      omega (arith, ints, clamps);
+  bottom = omega (arith, ints, clamps);
+}
 
 pub holds_all-then : (a b : Rect) (xs : List Item) → Holds a b → HoldsAll b xs → HoldsAll a xs
 holds_all-then a b [] p q = tt

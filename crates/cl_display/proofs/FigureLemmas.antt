@@ -1,5 +1,6 @@
 -- A figure of values that it does not ask for is refused by trap 1, and no other figure is.
-use Rattle.std.proofs.Common.{◌≡◌, ℕ, ◌+◌, pos, Bool, true, false, if◌then◌else◌, List, [], ◌∷◌, Option, Some, None, Result, Ok, Err, nat_le, refl}
+use Rattle.std.proofs.Common.{◌≡◌, ℕ, ◌+◌, pos, Bool, true, false, if◌then◌else◌, List, [], ◌∷◌, Option, Some, None, Result, Ok, Err}
+use Rattle.std.proofs.Common.{nat_le, refl}
 use Rattle.std.specs.Option.{option_and_then}
 use Rattle.std.specs.Prelude.{◌⊎◌, ◌↔◌, int_le, int_lt, ◌||◌}
 use mathlib.Core.Logic.{inl, inr}
@@ -10,7 +11,8 @@ use Rattle.cl_syntax.specs.declared.figures.Figure.TheVariants as figure
 use Rattle.cl_medium.specs.Items.{bounds_of, Item}
 use Rattle.cl_medium.specs.declared.areas.Area.{Area}
 use Rattle.cl_display.specs.Drawings.{DrawingAt, add_item, is_in_range, with_item}
-use Rattle.cl_display.specs.Figures.{IsByte, IsFigure, IsNumber, area_at, byte_of, draw_figure, draw_parts, draw_shape, figure_parts, leaf_in, number_of, parts_at, with_origin_used}
+use Rattle.cl_display.specs.Figures.{IsByte, IsFigure, IsNumber, area_at, byte_of, draw_figure, draw_parts, draw_shape, figure_parts}
+use Rattle.cl_display.specs.Figures.{leaf_in, number_of, parts_at, with_origin_used}
 use Rattle.cl_display.specs.declared.figures.FigureItem.{FigureItem}
 use Rattle.cl_display.specs.declared.figures.FigureItem.TheVariants as item
 use Rattle.cl_display.specs.declared.figures.FigureParts.{FigureParts}
@@ -83,7 +85,11 @@ found-figure figure.Filled (a ∷ b ∷ c ∷ d ∷ e ∷ []) h =
     let w = found-number c h.2 in
     let t = found-number d h.3 in
     let byte = found-byte e h.4 in
-    record { value = record { x = x.value; y = y.value; item = item.Filled w.value t.value byte.value }; is = rw (w.is, t.is, byte.is, x.is, y.is) refl }
+    record {
+      value = record { x = x.value; y = y.value; item = item.Filled w.value t.value byte.value };
+      is =
+          rw (w.is, t.is, byte.is, x.is, y.is) refl;
+    }
 found-figure f ds h = absurd h
 
 -- ---- wrong values
@@ -129,8 +135,10 @@ wrong-figure figure.Outline (a ∷ b ∷ c ∷ d ∷ []) h =
     (λ l height. wrong-place a b (item.Outline width height) (λ m n. h (m, n, k, l))))
 wrong-figure figure.Filled (a ∷ b ∷ c ∷ d ∷ e ∷ []) h =
     either-none (number_of c)
-    (λ width. option_and_then (λ height. option_and_then (λ byte. parts_at a b (item.Filled width height byte)) (byte_of e)) (number_of d)) (number-or c)
-    (λ k width. either-none (number_of d) (λ height. option_and_then (λ byte. parts_at a b (item.Filled width height byte)) (byte_of e)) (number-or d)
+    (λ width. option_and_then (λ height. option_and_then (λ byte. parts_at a b (item.Filled width height byte)) (byte_of e)) (number_of d))
+    (number-or c)
+    (λ k width. either-none (number_of d) (λ height. option_and_then (λ byte. parts_at a b (item.Filled width height byte)) (byte_of e))
+    (number-or d)
     (λ l height. either-none (byte_of e) (λ byte. parts_at a b (item.Filled width height byte)) (byte-or e)
     (λ i byte. wrong-place a b (item.Filled width height byte) (λ m n. h (m, n, k, l, i)))))
 wrong-figure f ds h = refl

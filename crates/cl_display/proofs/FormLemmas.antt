@@ -1,5 +1,6 @@
 -- Display forms: the cost never falls, a form that could be entered draws what its parts draw, and a part that stops, stops the whole.
-use Rattle.std.proofs.Common.{◌≡◌, ℕ, zero, suc, ◌+◌, ◌-◌, ◌==◌, Bool, true, false, if◌then◌else◌, nat_le, List, [], ◌∷◌, ◌++◌, refl, ap, length, Option, Some, None}
+use Rattle.std.proofs.Common.{◌≡◌, ℕ, zero, suc, ◌+◌, ◌-◌, ◌==◌, Bool, true, false, if◌then◌else◌, nat_le, List, [], ◌∷◌, ◌++◌, refl, ap}
+use Rattle.std.proofs.Common.{length, Option, Some, None}
 use Rattle.std.proofs.Common.{Result, Ok, Err, arith}
 use Rattle.cl_value.specs.Data.{Data}
 use Rattle.cl_value.specs.Value.{data_of}
@@ -24,7 +25,8 @@ use Rattle.cl_display.specs.Drawings.{DrawingAt, newline}
 use Rattle.cl_display.specs.Figures.{draw_figure}
 use Rattle.cl_display.specs.Settings.{enter_room, indent, leave_room, restore_ink, restore_margin, set_ink}
 use Rattle.cl_display.specs.Outcomes.{Draw, DrawOutcome, opens_none, run_of, ◌>->◌, ◌>>=◌}
-use Rattle.cl_display.specs.Fresh.{Allowance, Draws, call_display, draws, draws_in, draws_to, for_each, in_order, shape_parts, within, write_value}
+use Rattle.cl_display.specs.Fresh.{Allowance, Draws, call_display, draws, draws_in, draws_to, for_each, in_order, shape_parts, within}
+use Rattle.cl_display.specs.Fresh.{write_value}
 use Rattle.cl_display.specs.Place.{allowance_at, draws_at}
 use Rattle.cl_display.specs.declared.places.Place.{Place}
 
@@ -44,7 +46,8 @@ draw-choice : (b : Bool) (m n : Draw) → DrawGrows m → DrawGrows n → DrawGr
 draw-choice true m n g h = g
 draw-choice false m n g h = h
 
-pub grows-in_order : (go : Draws) → DrawsGrow go → (level : ℕ) (env : Env) (body : ShapeTrees) (s : DrawingAt) → DrawGrows (in_order go level env body s)
+pub grows-in_order : (go : Draws) → DrawsGrow go → (level : ℕ) (env : Env) (body : ShapeTrees) (s : DrawingAt)
+    → DrawGrows (in_order go level env body s)
 grows-in_order go g level env none s = grows-give s
 grows-in_order go g level env (form f rest) s =
     draw-then (go level env f s) (in_order go level env rest) (g level env f s) (grows-in_order go g level env rest)
@@ -56,7 +59,8 @@ grows-for_each go g level env x body (d ∷ ds) s =
     draw-then (in_order go level ((x, d) ∷ env) body s) (for_each go level env x body ds) (grows-in_order go g level ((x, d) ∷ env) body s)
     (grows-for_each go g level env x body ds)
 
-pub grows-draws_in : (value : Go) → GoGrows value → (go : Draws) → DrawsGrow go → (level : ℕ) (bs : Bindings) (body : ShapeTrees) (env : Env) (s : DrawingAt)
+pub grows-draws_in : (value : Go) → GoGrows value → (go : Draws) → DrawsGrow go
+    → (level : ℕ) (bs : Bindings) (body : ShapeTrees) (env : Env) (s : DrawingAt)
     → DrawGrows (draws_in value go level bs body env s)
 grows-draws_in value v go g level bs body env s =
     value-then (bound value level bs env) (λ inner. in_order go level inner body s) (grows-bound value v level bs env)
@@ -66,17 +70,22 @@ pub grows-call_display : (go : Draws) → DrawsGrow go → (level : ℕ) (f : Op
     → DrawGrows (call_display go level f ds s)
 grows-call_display go g level None s ds = λ c d. omega arith
 grows-call_display go g level (Some f) s ds =
-    draw-choice (length ds == length f.parameters) (in_order go level (given f.parameters ds) (shape_trees_of f.body) s) (opens_none (trap 1))
+    draw-choice (length ds == length f.parameters) (in_order go level (given f.parameters ds) (shape_trees_of f.body) s)
+    (opens_none (trap 1))
     (grows-in_order go g level (given f.parameters ds) (shape_trees_of f.body) s) (λ c d. omega arith)
 
-pub grows-draws_to : (go : Draws) → DrawsGrow go → (level : ℕ) (env : Env) (body : ShapeTrees) (leave : DrawingAt → DrawingAt) (s : DrawingAt)
+pub grows-draws_to : (go : Draws) → DrawsGrow go → (level : ℕ) (env : Env) (body : ShapeTrees) (leave : DrawingAt → DrawingAt)
+    (s : DrawingAt)
     → DrawGrows (draws_to go level env body leave s)
 grows-draws_to go g level env body leave s =
-    draw-then (in_order go level env body s) (λ end. opens_none (give (leave end))) (grows-in_order go g level env body s) (λ end. grows-give (leave end))
+    draw-then (in_order go level env body s) (λ end. opens_none (give (leave end))) (grows-in_order go g level env body s)
+    (λ end. grows-give (leave end))
 
-pub grows-within : (go : Draws) → DrawsGrow go → (level : ℕ) (env : Env) (body : ShapeTrees) (r : Result DrawingAt ℕ) (leave : DrawingAt → DrawingAt)
+pub grows-within : (go : Draws) → DrawsGrow go → (level : ℕ) (env : Env) (body : ShapeTrees) (r : Result DrawingAt ℕ)
+    (leave : DrawingAt → DrawingAt)
     → DrawGrows (within go level env body r leave)
-grows-within go g level env body r leave = value-then (lift r) (draws_to go level env body leave) (grows-lift r) (grows-draws_to go g level env body leave)
+grows-within go g level env body r leave = value-then (lift r) (draws_to go level env body leave) (grows-lift r)
+    (grows-draws_to go g level env body leave)
 
 pub grows-then_form : (go : Draws) → DrawsGrow go → (level : ℕ) (env : Env) (a b : ShapeTree) (s : DrawingAt) (holds : Bool)
     → DrawGrows (if holds then go level env a s else go level env b s)
@@ -87,13 +96,16 @@ pub grows-then_body : (go : Draws) → DrawsGrow go → (level : ℕ) (env : Env
 grows-then_body go g level env body s holds =
     draw-choice holds (in_order go level env body s) (opens_none (give s)) (grows-in_order go g level env body s) (grows-give s)
 
-grows-shape_parts : (app : App) (allowed : Allowance) (value : Go) → GoGrows value → (go : Draws) → DrawsGrow go → (level : ℕ) (env : Env) (f : ShapeTree) (s : DrawingAt)
+grows-shape_parts : (app : App) (allowed : Allowance) (value : Go) → GoGrows value → (go : Draws) → DrawsGrow go
+    → (level : ℕ) (env : Env) (f : ShapeTree) (s : DrawingAt)
     → DrawGrows (shape_parts app allowed value go level env f s)
 grows-shape_parts app allowed value v go g level env (shape.WriteText t) s =
-    value-then (value level env t) (λ d. opens_none (lift (write_value allowed.weight s d))) (v level env t) (λ d. grows-lift (write_value allowed.weight s d))
+    value-then (value level env t) (λ d. opens_none (lift (write_value allowed.weight s d))) (v level env t)
+    (λ d. grows-lift (write_value allowed.weight s d))
 grows-shape_parts app allowed value v go g level env shape.Newline s = grows-lift (newline s)
 grows-shape_parts app allowed value v go g level env (shape.Draw figure ts) s =
-    value-then (each value level env ts []) (λ ds. opens_none (lift (draw_figure allowed.weight figure ds s))) (grows-each value v level env ts [])
+    value-then (each value level env ts []) (λ ds. opens_none (lift (draw_figure allowed.weight figure ds s)))
+    (grows-each value v level env ts [])
     (λ ds. grows-lift (draw_figure allowed.weight figure ds s))
 grows-shape_parts app allowed value v go g level env (shape.Indent t body) s =
     value-then (value level env t) (λ d. within go level env body (indent d s) (restore_margin s.ambient)) (v level env t)
@@ -101,12 +113,14 @@ grows-shape_parts app allowed value v go g level env (shape.Indent t body) s =
 grows-shape_parts app allowed value v go g level env (shape.Ink t body) s =
     value-then (value level env t) (λ d. within go level env body (set_ink d s) (restore_ink s.ambient)) (v level env t)
     (λ d. grows-within go g level env body (set_ink d s) (restore_ink s.ambient))
-grows-shape_parts app allowed value v go g level env (shape.Room body) s = grows-draws_to go g level env body (leave_room s.ambient s.part) (enter_room s)
+grows-shape_parts app allowed value v go g level env (shape.Room body) s =
+    grows-draws_to go g level env body (leave_room s.ambient s.part) (enter_room s)
 grows-shape_parts app allowed value v go g level env (shape.If t a b) s =
     value-then (tested value level env t) (λ holds. if holds then go level env a s else go level env b s) (grows-tested value v level env t)
     (grows-then_form go g level env a b s)
 grows-shape_parts app allowed value v go g level env (shape.When t body) s =
-    value-then (tested value level env t) (λ holds. if holds then in_order go level env body s else opens_none (give s)) (grows-tested value v level env t)
+    value-then (tested value level env t) (λ holds. if holds then in_order go level env body s else opens_none (give s))
+    (grows-tested value v level env t)
     (grows-then_body go g level env body s)
 grows-shape_parts app allowed value v go g level env (shape.Let bs body) s = grows-draws_in value v go g level bs body env s
 grows-shape_parts app allowed value v go g level env (shape.Dolist x t body) s =
@@ -132,10 +146,12 @@ grows-at place = grows-draws place.here.left (allowance_at place) place.here.con
 
 -- ---- entering
 
-pub draws-entered : (left : ℕ) (allowed : Allowance) (app : App) (slots : Slots) (level : ℕ) (env : Env) (f : ShapeTree) (s : DrawingAt) (cost deepest c d : ℕ)
+pub draws-entered : (left : ℕ) (allowed : Allowance) (app : App) (slots : Slots) (level : ℕ) (env : Env) (f : ShapeTree) (s : DrawingAt)
+    (cost deepest c d : ℕ)
     → entering left allowed.budget level cost deepest ≡ Gives tt c d
     → (draws left allowed app slots level env f s cost deepest).outcome
-    ≡ (shape_parts app allowed (means (left - 1) allowed.budget app slots) (draws (left - 1) allowed app slots) (level + 1) env f s c d).outcome
+    ≡ (shape_parts app allowed (means (left - 1) allowed.budget app slots) (draws (left - 1) allowed app slots) (level + 1) env f s c
+    d).outcome
 draws-entered zero allowed app slots level env f s cost deepest c d p = absurd (no_entry (nat_le allowed.budget cost) cost deepest c d p)
 draws-entered (suc n) allowed app slots level env f s cost deepest c d p =
     let less : suc n - 1 ≡ n = omega arith in
@@ -152,11 +168,13 @@ stop-draw : (s s' : DrawingAt) (e : Stop) (m : Meter) (first : Draw) (f : Drawin
 stop-draw s s' e m first f c d g =
     Agrees-stop (always {A = Unit {0}} s) (always {A = Unit {0}} s') e m (first c d).outcome (λ t. run_of (f t)) g
 
-stop-value : {A B : Type 0} (h : A → B) (s : DrawingAt) (e : Stop) (m : Meter) (first : Run B) (f : B → Draw) (c d : ℕ) → ((x : B) → DrawGrows (f x))
+stop-value : {A B : Type 0} (h : A → B) (s : DrawingAt) (e : Stop) (m : Meter) (first : Run B) (f : B → Draw) (c d : ℕ)
+    → ((x : B) → DrawGrows (f x))
     → Agrees h (Err e) m (first c d) → StopsAt s e m ((first >-> f) c d)
 stop-value h s e m first f c d g = Agrees-stop h (always {A = Unit {0}} s) e m (first c d) (λ x. run_of (f x)) g
 
-pub stop-in_order : (go : Draws) → DrawsGrow go → (level : ℕ) (env : Env) (a : ShapeTree) (rest : ShapeTrees) (s s' : DrawingAt) (e : Stop) (m : Meter) (c d : ℕ)
+pub stop-in_order : (go : Draws) → DrawsGrow go → (level : ℕ) (env : Env) (a : ShapeTree) (rest : ShapeTrees) (s s' : DrawingAt) (e : Stop)
+    (m : Meter) (c d : ℕ)
     → StopsAt s' e m (go level env a s c d) → StopsAt s' e m (in_order go level env (form a rest) s c d)
 stop-in_order go g level env a rest s s' e m c d =
     stop-draw s' s' e m (go level env a s) (in_order go level env rest) c d (grows-in_order go g level env rest)
@@ -165,17 +183,20 @@ pub stop-for_each : (go : Draws) → DrawsGrow go → (level : ℕ) (env : Env) 
     (s s' : DrawingAt) (e : Stop) (m : Meter) (c d : ℕ)
     → StopsAt s' e m (in_order go level ((x, v) ∷ env) body s c d) → StopsAt s' e m (for_each go level env x body (v ∷ ds) s c d)
 stop-for_each go g level env x body v ds s s' e m c d =
-    stop-draw s' s' e m (in_order go level ((x, v) ∷ env) body s) (for_each go level env x body ds) c d (grows-for_each go g level env x body ds)
+    stop-draw s' s' e m (in_order go level ((x, v) ∷ env) body s) (for_each go level env x body ds) c d
+    (grows-for_each go g level env x body ds)
 
 pub stop-draws_in : (value : Go) (go : Draws) → DrawsGrow go → (level : ℕ) (bs : Bindings) (body : ShapeTrees) (env around : Env)
     (s s' : DrawingAt) (e : Stop) (m : Meter) (c d : ℕ)
-    → Agrees (λ frame. frame ++ around) (Err e) m (bound value level bs env c d) → StopsAt s' e m (draws_in value go level bs body env s c d)
+    → Agrees (λ frame. frame ++ around) (Err e) m (bound value level bs env c d)
+    → StopsAt s' e m (draws_in value go level bs body env s c d)
 stop-draws_in value go g level bs body env around s s' e m c d =
     stop-value (λ frame. frame ++ around) s' e m (bound value level bs env) (λ inner. in_order go level inner body s) c d
     (λ inner. grows-in_order go g level inner body s)
 
 -- what could not be set stops the form
-pub stop-set : (go : Draws) → DrawsGrow go → (level : ℕ) (env : Env) (body : ShapeTrees) (r : Result DrawingAt ℕ) (leave : DrawingAt → DrawingAt)
+pub stop-set : (go : Draws) → DrawsGrow go → (level : ℕ) (env : Env) (body : ShapeTrees) (r : Result DrawingAt ℕ)
+    (leave : DrawingAt → DrawingAt)
     (s' s'' : DrawingAt) (e : Stop) (m : Meter)
     → Comes {A = Unit {0}} (always s') (Err e) r → StopsAt s'' e m (within go level env body r leave m.cost m.deepest)
 stop-set go g level env body r leave s' s'' (Trap k) m p = rw p refl
@@ -210,47 +231,62 @@ left-draws_to go level env body inner end after leave (Err Memory) m c d p q = r
 
 pub stop-figure : (app : App) (allowed : Allowance) (value : Go) (go : Draws) → (level : ℕ) (env : Env) (figure : Figure) (ts : ExprTrees)
     (s s' : DrawingAt) (e : Stop) (m : Meter) (c d : ℕ)
-    → Agrees items_are (Err e) m (each value level env ts [] c d) → StopsAt s' e m (shape_parts app allowed value go level env (shape.Draw figure ts) s c d)
+    → Agrees items_are (Err e) m (each value level env ts [] c d)
+    → StopsAt s' e m (shape_parts app allowed value go level env (shape.Draw figure ts) s c d)
 stop-figure app allowed value go level env figure ts s s' e m c d =
     stop-value items_are s' e m (each value level env ts []) (λ ds. opens_none (lift (draw_figure allowed.weight figure ds s))) c d
     (λ ds. grows-lift (draw_figure allowed.weight figure ds s))
 
-pub stop-indent : (app : App) (allowed : Allowance) (value : Go) (go : Draws) → DrawsGrow go → (level : ℕ) (env : Env) (t : ExprTree) (body : ShapeTrees)
+pub stop-indent : (app : App) (allowed : Allowance) (value : Go) (go : Draws) → DrawsGrow go
+    → (level : ℕ) (env : Env) (t : ExprTree) (body : ShapeTrees)
     (s s' : DrawingAt) (e : Stop) (m : Meter) (c d : ℕ)
-    → Agrees data_of (Err e) m (value level env t c d) → StopsAt s' e m (shape_parts app allowed value go level env (shape.Indent t body) s c d)
+    → Agrees data_of (Err e) m (value level env t c d) → StopsAt s' e m
+    (shape_parts app allowed value go level env (shape.Indent t body) s c d)
 stop-indent app allowed value go g level env t body s s' e m c d =
     stop-value data_of s' e m (value level env t) (λ v. within go level env body (indent v s) (restore_margin s.ambient)) c d
     (λ v. grows-within go g level env body (indent v s) (restore_margin s.ambient))
 
-pub stop-ink : (app : App) (allowed : Allowance) (value : Go) (go : Draws) → DrawsGrow go → (level : ℕ) (env : Env) (t : ExprTree) (body : ShapeTrees)
+pub stop-ink : (app : App) (allowed : Allowance) (value : Go) (go : Draws) → DrawsGrow go
+    → (level : ℕ) (env : Env) (t : ExprTree) (body : ShapeTrees)
     (s s' : DrawingAt) (e : Stop) (m : Meter) (c d : ℕ)
-    → Agrees data_of (Err e) m (value level env t c d) → StopsAt s' e m (shape_parts app allowed value go level env (shape.Ink t body) s c d)
+    → Agrees data_of (Err e) m (value level env t c d) → StopsAt s' e m
+    (shape_parts app allowed value go level env (shape.Ink t body) s c d)
 stop-ink app allowed value go g level env t body s s' e m c d =
     stop-value data_of s' e m (value level env t) (λ v. within go level env body (set_ink v s) (restore_ink s.ambient)) c d
     (λ v. grows-within go g level env body (set_ink v s) (restore_ink s.ambient))
 
-pub stop-choice : (app : App) (allowed : Allowance) (value : Go) (go : Draws) → DrawsGrow go → (level : ℕ) (env : Env) (t : ExprTree) (a b : ShapeTree)
+pub stop-choice : (app : App) (allowed : Allowance) (value : Go) (go : Draws) → DrawsGrow go
+    → (level : ℕ) (env : Env) (t : ExprTree) (a b : ShapeTree)
     (s s' : DrawingAt) (e : Stop) (m : Meter) (c d : ℕ)
-    → Agrees itself (Err e) m (tested value level env t c d) → StopsAt s' e m (shape_parts app allowed value go level env (shape.If t a b) s c d)
+    → Agrees itself (Err e) m (tested value level env t c d) → StopsAt s' e m
+    (shape_parts app allowed value go level env (shape.If t a b) s c d)
 stop-choice app allowed value go g level env t a b s s' e m c d =
-    stop-value itself s' e m (tested value level env t) (λ holds. if holds then go level env a s else go level env b s) c d (grows-then_form go g level env a b s)
+    stop-value itself s' e m (tested value level env t) (λ holds. if holds then go level env a s else go level env b s) c d
+    (grows-then_form go g level env a b s)
 
-pub stop-when : (app : App) (allowed : Allowance) (value : Go) (go : Draws) → DrawsGrow go → (level : ℕ) (env : Env) (t : ExprTree) (body : ShapeTrees)
+pub stop-when : (app : App) (allowed : Allowance) (value : Go) (go : Draws) → DrawsGrow go
+    → (level : ℕ) (env : Env) (t : ExprTree) (body : ShapeTrees)
     (s s' : DrawingAt) (e : Stop) (m : Meter) (c d : ℕ)
-    → Agrees itself (Err e) m (tested value level env t c d) → StopsAt s' e m (shape_parts app allowed value go level env (shape.When t body) s c d)
+    → Agrees itself (Err e) m (tested value level env t c d) → StopsAt s' e m
+    (shape_parts app allowed value go level env (shape.When t body) s c d)
 stop-when app allowed value go g level env t body s s' e m c d =
     stop-value itself s' e m (tested value level env t) (λ holds. if holds then in_order go level env body s else opens_none (give s)) c d
     (grows-then_body go g level env body s)
 
-pub stop-dolist : (app : App) (allowed : Allowance) (value : Go) (go : Draws) → DrawsGrow go → (level : ℕ) (env : Env) (x : List ℕ) (t : ExprTree) (body : ShapeTrees)
+pub stop-dolist : (app : App) (allowed : Allowance) (value : Go) (go : Draws) → DrawsGrow go
+    → (level : ℕ) (env : Env) (x : List ℕ) (t : ExprTree) (body : ShapeTrees)
     (s s' : DrawingAt) (e : Stop) (m : Meter) (c d : ℕ)
-    → Agrees itself (Err e) m (listed value level env t c d) → StopsAt s' e m (shape_parts app allowed value go level env (shape.Dolist x t body) s c d)
+    → Agrees itself (Err e) m (listed value level env t c d) → StopsAt s' e m
+    (shape_parts app allowed value go level env (shape.Dolist x t body) s c d)
 stop-dolist app allowed value go g level env x t body s s' e m c d =
-    stop-value itself s' e m (listed value level env t) (λ ds. for_each go level env x body ds s) c d (λ ds. grows-for_each go g level env x body ds s)
+    stop-value itself s' e m (listed value level env t) (λ ds. for_each go level env x body ds s) c d
+    (λ ds. grows-for_each go g level env x body ds s)
 
-pub stop-call : (app : App) (allowed : Allowance) (value : Go) (go : Draws) → DrawsGrow go → (level : ℕ) (env : Env) (f : List ℕ) (ts : ExprTrees)
+pub stop-call : (app : App) (allowed : Allowance) (value : Go) (go : Draws) → DrawsGrow go
+    → (level : ℕ) (env : Env) (f : List ℕ) (ts : ExprTrees)
     (s s' : DrawingAt) (e : Stop) (m : Meter) (c d : ℕ)
-    → Agrees items_are (Err e) m (each value level env ts [] c d) → StopsAt s' e m (shape_parts app allowed value go level env (shape.Call f ts) s c d)
+    → Agrees items_are (Err e) m (each value level env ts [] c d)
+    → StopsAt s' e m (shape_parts app allowed value go level env (shape.Call f ts) s c d)
 stop-call app allowed value go g level env f ts s s' e m c d =
     stop-value items_are s' e m (each value level env ts []) (λ ds. call_display go level (display_named f app) ds s) c d
     (grows-call_display go g level (display_named f app) s)

@@ -22,5 +22,6 @@ add_item-light most l weight whole s e h =
     rw (e, fits) refl
 
 -- the marks of records behind others
-pub marks_behind : (ts us : List (Tree Item)) → history_marks move_item (ts ++ us) ≡ history_marks move_item ts ++ history_marks move_item us
+pub marks_behind : (ts us : List (Tree Item)) → history_marks move_item (ts ++ us) ≡ history_marks move_item ts ++ history_marks
+    move_item us
 marks_behind = marks-append move_item

@@ -1,5 +1,6 @@
 -- A display that ends without a trap under some limits ends so under all limits that its cost, its reach and its weight do not pass.
-use Rattle.std.proofs.Common.{◌≡◌, ap, ℕ, zero, suc, ◌+◌, ◌≤◌, ◌==◌, Bool, true, false, if◌then◌else◌, nat_le, List, [], ◌∷◌, length, Option, Some, None, Result, Ok, Err, arith, refl}
+use Rattle.std.proofs.Common.{◌≡◌, ap, ℕ, zero, suc, ◌+◌, ◌≤◌, ◌==◌, Bool, true, false, if◌then◌else◌, nat_le, List, [], ◌∷◌, length}
+use Rattle.std.proofs.Common.{Option, Some, None, Result, Ok, Err, arith, refl}
 use Rattle.std.proofs.lemmas.Bool.Decides.{nat_tests}
 use Rattle.std.specs.Prelude.{pos, int_le, int_lt, ◌||◌}
 use Rattle.cl_value.specs.Data.{Data, text}
@@ -12,7 +13,8 @@ use Rattle.cl_eval.specs.declared.metering.Limits.{Limits}
 use Rattle.cl_eval.specs.Outcome.{Outcome, Gives, Traps, Run, after, give, trap, lift}
 use Rattle.cl_eval.specs.Slots.{Slots, Env, given}
 use Rattle.cl_eval.specs.Meaning.{Go, bound, each, entering, listed, means, tested}
-use Rattle.cl_eval.proofs.LimitLemmas.{GoGoes, Goes, entered-above, goes-bound, goes-each, goes-entering, goes-listed, goes-means, goes-tested, never, no_value}
+use Rattle.cl_eval.proofs.LimitLemmas.{GoGoes, Goes, entered-above, goes-bound, goes-each, goes-entering, goes-listed, goes-means}
+use Rattle.cl_eval.proofs.LimitLemmas.{goes-tested, never, no_value}
 use Rattle.cl_medium.specs.Ambients.{AmbientAt}
 use Rattle.cl_medium.specs.Drawing.{text_leaf}
 use Rattle.cl_medium.specs.Items.{bounds_of, item_bounds, Item}
@@ -58,7 +60,8 @@ module _ (most : ℕ) where
       rw fits p
   keeps-item false k weight u s e t p h = absurd (no_drawing k t p)
 
-  keeps-add_item : (w : ℕ) (leaf : Item) (weight : ℕ) (s : DrawingAt) → Keeps most (add_item w leaf weight s) (add_item most leaf weight s)
+  keeps-add_item : (w : ℕ) (leaf : Item) (weight : ℕ) (s : DrawingAt)
+      → Keeps most (add_item w leaf weight s) (add_item most leaf weight s)
   keeps-add_item w leaf weight s =
       keeps-item (nat_le (s.weight + weight) w) 10 weight (record s { weight = s.weight + weight; part = with_item leaf s.part }) s refl
 
@@ -76,7 +79,8 @@ module _ (most : ℕ) where
       rw goes p
   keeps-origin (Err k) r' g t p h = absurd (no_drawing k t p)
 
-  keeps-choice : (b : Bool) (q q' r r' : Result DrawingAt ℕ) → Keeps most q q' → Keeps most r r' → Keeps most (if b then q else r) (if b then q' else r')
+  keeps-choice : (b : Bool) (q q' r r' : Result DrawingAt ℕ) → Keeps most q q' → Keeps most r r'
+      → Keeps most (if b then q else r) (if b then q' else r')
   keeps-choice true q q' r r' g h = g
   keeps-choice false q q' r r' g h = h
 
@@ -89,7 +93,8 @@ module _ (most : ℕ) where
       let leaf = text_leaf s.ambient (b ∷ bs) in
       let weight = length (b ∷ bs) + 1 in
       let after = after_text s.ambient (b ∷ bs) in
-      keeps-choice (is_in_range (item_bounds leaf)) (then_to after (add_item w leaf weight s)) (then_to after (add_item most leaf weight s)) (Err 9) (Err 9)
+      keeps-choice (is_in_range (item_bounds leaf)) (then_to after (add_item w leaf weight s)) (then_to after (add_item most leaf weight s))
+      (Err 9) (Err 9)
       (keeps-then_to after (add_item w leaf weight s) (add_item most leaf weight s) (keeps-add_item w leaf weight s)) (keeps-same (Err 9))
   keeps-write_value w s d = keeps-same (Err 1)
 
@@ -135,7 +140,8 @@ weight_at (Gives s cost deepest) = s.weight
 weight_at (Traps kind cost deepest) = 0
 
 module _ (budget depth most : ℕ) where
-  extends-then : (s : DrawingAt) (m m' : Draw) (f f' : DrawingAt → Draw) → Widens budget depth most s m m' → ((t : DrawingAt) → Widens budget depth most t (f t) (f' t))
+  extends-then : (s : DrawingAt) (m m' : Draw) (f f' : DrawingAt → Draw) → Widens budget depth most s m m'
+      → ((t : DrawingAt) → Widens budget depth most t (f t) (f' t))
       → (c d : ℕ) (o : Outcome DrawingAt) → (m c d).outcome ≡ o → (t : DrawingAt) (n l : ℕ) → after o (λ x. run_of (f x)) ≡ Gives t n l
       → Extends budget depth most (m' >>= f') s c d t n l
   extends-then s m m' f f' g h c d (Gives x i j) q t n l p =
@@ -152,11 +158,13 @@ module _ (budget depth most : ℕ) where
       }
   extends-then s m m' f f' g h c d (Traps k i j) q t n l p = absurd (no_value k i j t n l p)
 
-  widens-then : (s : DrawingAt) (m m' : Draw) (f f' : DrawingAt → Draw) → Widens budget depth most s m m' → ((t : DrawingAt) → Widens budget depth most t (f t) (f' t))
+  widens-then : (s : DrawingAt) (m m' : Draw) (f f' : DrawingAt → Draw) → Widens budget depth most s m m'
+      → ((t : DrawingAt) → Widens budget depth most t (f t) (f' t))
       → Widens budget depth most s (m >>= f) (m' >>= f')
   widens-then s m m' f f' g h c d t n l p = extends-then s m m' f f' g h c d (m c d).outcome refl t n l p
 
-  extends-value : {A : Type 0} (s : DrawingAt) (m m' : Run A) (f f' : A → Draw) → Goes budget depth m m' → ((x : A) → Widens budget depth most s (f x) (f' x))
+  extends-value : {A : Type 0} (s : DrawingAt) (m m' : Run A) (f f' : A → Draw) → Goes budget depth m m'
+      → ((x : A) → Widens budget depth most s (f x) (f' x))
       → (c d : ℕ) (o : Outcome A) → m c d ≡ o → (t : DrawingAt) (n l : ℕ) → after o (λ x. run_of (f x)) ≡ Gives t n l
       → Extends budget depth most (m' >-> f') s c d t n l
   extends-value s m m' f f' g h c d (Gives x i j) q t n l p =
@@ -172,11 +180,13 @@ module _ (budget depth most : ℕ) where
       }
   extends-value s m m' f f' g h c d (Traps k i j) q t n l p = absurd (no_value k i j t n l p)
 
-  widens-value : {A : Type 0} (s : DrawingAt) (m m' : Run A) (f f' : A → Draw) → Goes budget depth m m' → ((x : A) → Widens budget depth most s (f x) (f' x))
+  widens-value : {A : Type 0} (s : DrawingAt) (m m' : Run A) (f f' : A → Draw) → Goes budget depth m m'
+      → ((x : A) → Widens budget depth most s (f x) (f' x))
       → Widens budget depth most s (m >-> f) (m' >-> f')
   widens-value s m m' f f' g h c d t n l p = extends-value s m m' f f' g h c d (m c d) refl t n l p
 
-  widens-lift : (s : DrawingAt) (r r' : Result DrawingAt ℕ) → Rises s r → Keeps most r r' → Widens budget depth most s (opens_none (lift r)) (opens_none (lift r'))
+  widens-lift : (s : DrawingAt) (r r' : Result DrawingAt ℕ) → Rises s r → Keeps most r r'
+      → Widens budget depth most s (opens_none (lift r)) (opens_none (lift r'))
   widens-lift s (Ok u) r' h k c d t n l p =
       let cost : c ≡ n = ap cost_at p in
       let deepest : d ≡ l = ap deepest_at p in
@@ -216,27 +226,33 @@ module _ (budget depth most : ℕ) where
         → Widens budget depth most s (in_order go level env fs s) (in_order go' level env fs s)
     widens-in_order g env none s = widens-give s s refl
     widens-in_order g env (form f fs) s =
-        widens-then s (go level env f s) (go' level env f s) (in_order go level env fs) (in_order go' level env fs) (g env f s) (widens-in_order g env fs)
+        widens-then s (go level env f s) (go' level env f s) (in_order go level env fs) (in_order go' level env fs) (g env f s)
+        (widens-in_order g env fs)
 
-    widens-for_each : AllWiden budget depth most level go go' → (env : Env) (x : List ℕ) (body : ShapeTrees) (ds : List Data) (s : DrawingAt)
+    widens-for_each : AllWiden budget depth most level go go' → (env : Env) (x : List ℕ) (body : ShapeTrees) (ds : List Data)
+        (s : DrawingAt)
         → Widens budget depth most s (for_each go level env x body ds s) (for_each go' level env x body ds s)
     widens-for_each g env x body [] s = widens-give s s refl
     widens-for_each g env x body (d ∷ ds) s =
         widens-then s (in_order go level ((x, d) ∷ env) body s) (in_order go' level ((x, d) ∷ env) body s)
-        (for_each go level env x body ds) (for_each go' level env x body ds) (widens-in_order g ((x, d) ∷ env) body s) (widens-for_each g env x body ds)
+        (for_each go level env x body ds) (for_each go' level env x body ds) (widens-in_order g ((x, d) ∷ env) body s)
+        (widens-for_each g env x body ds)
 
     widens-draws_to : AllWiden budget depth most level go go' → (env : Env) (body : ShapeTrees) (leave : DrawingAt → DrawingAt)
         → ((t : DrawingAt) → (leave t).weight ≡ t.weight) → (s : DrawingAt)
         → Widens budget depth most s (draws_to go level env body leave s) (draws_to go' level env body leave s)
     widens-draws_to g env body leave e s =
-        widens-then s (in_order go level env body s) (in_order go' level env body s) (λ end. opens_none (give (leave end))) (λ end. opens_none (give (leave end)))
+        widens-then s (in_order go level env body s) (in_order go' level env body s) (λ end. opens_none (give (leave end)))
+        (λ end. opens_none (give (leave end)))
         (widens-in_order g env body s) (λ end. widens-give end (leave end) (e end))
 
-    widens-within : AllWiden budget depth most level go go' → (env : Env) (body : ShapeTrees) (s : DrawingAt) (r : Result DrawingAt ℕ) (leave : DrawingAt → DrawingAt)
+    widens-within : AllWiden budget depth most level go go' → (env : Env) (body : ShapeTrees) (s : DrawingAt) (r : Result DrawingAt ℕ)
+        (leave : DrawingAt → DrawingAt)
         → Rises s r → ((t : DrawingAt) → (leave t).weight ≡ t.weight)
         → Widens budget depth most s (within go level env body r leave) (within go' level env body r leave)
     widens-within g env body s (Ok inner) leave h e =
-        widens-from s inner (draws_to go level env body leave inner) (draws_to go' level env body leave inner) h (widens-draws_to g env body leave e inner)
+        widens-from s inner (draws_to go level env body leave inner) (draws_to go' level env body leave inner) h
+        (widens-draws_to g env body leave e inner)
     widens-within g env body s (Err k) leave h e = widens-trap s k
 
     widens-call_display : AllWiden budget depth most level go go' → (f : Option DisplayDecl) (s : DrawingAt) (ds : List Data)
@@ -249,47 +265,61 @@ module _ (budget depth most : ℕ) where
 
     -- ---- the rows
 
-    widens-shape_parts : (app : App) (allowed allowed' : Allowance) → allowed'.weight ≡ most → GoGoes budget depth level value value' → AllWiden budget depth most level go go'
+    widens-shape_parts : (app : App) (allowed allowed' : Allowance) → allowed'.weight ≡ most → GoGoes budget depth level value value'
+        → AllWiden budget depth most level go go'
         → (env : Env) (f : ShapeTree) (s : DrawingAt)
         → Widens budget depth most s (shape_parts app allowed value go level env f s) (shape_parts app allowed' value' go' level env f s)
     widens-shape_parts app allowed allowed' w v g env (shape.WriteText t) s =
         widens-value s (value level env t) (value' level env t) (λ d. opens_none (lift (write_value allowed.weight s d)))
         (λ d. opens_none (lift (write_value allowed'.weight s d))) (v env t)
-        (λ d. rw w (widens-lift s (write_value allowed.weight s d) (write_value most s d) (rises-adds allowed.weight s (write_value allowed.weight s d)
+        (λ d. rw w (widens-lift s (write_value allowed.weight s d) (write_value most s d)
+        (rises-adds allowed.weight s (write_value allowed.weight s d)
         (adds-write_value allowed.weight s d)) (keeps-write_value most allowed.weight s d)))
     widens-shape_parts app allowed allowed' w v g env shape.Newline s =
         widens-lift s (newline s) (newline s) (rises-adds 0 s (newline s) (adds-newline 0 s)) (keeps-same most (newline s))
     widens-shape_parts app allowed allowed' w v g env (shape.Draw figure ts) s =
-        widens-value s (each value level env ts []) (each value' level env ts []) (λ ds. opens_none (lift (draw_figure allowed.weight figure ds s)))
+        widens-value s (each value level env ts []) (each value' level env ts [])
+        (λ ds. opens_none (lift (draw_figure allowed.weight figure ds s)))
         (λ ds. opens_none (lift (draw_figure allowed'.weight figure ds s))) (goes-each budget depth value value' level v env ts [])
-        (λ ds. rw w (widens-lift s (draw_figure allowed.weight figure ds s) (draw_figure most figure ds s) (rises-adds allowed.weight s (draw_figure allowed.weight figure ds s)
+        (λ ds. rw w (widens-lift s (draw_figure allowed.weight figure ds s) (draw_figure most figure ds s)
+        (rises-adds allowed.weight s (draw_figure allowed.weight figure ds s)
         (adds-draw_parts allowed.weight (figure_parts figure ds) s)) (keeps-draw_parts most allowed.weight (figure_parts figure ds) s)))
     widens-shape_parts app allowed allowed' w v g env (shape.Indent t body) s =
         widens-value s (value level env t) (value' level env t) (λ d. within go level env body (indent d s) (restore_margin s.ambient))
         (λ d. within go' level env body (indent d s) (restore_margin s.ambient)) (v env t)
-        (λ d. widens-within g env body s (indent d s) (restore_margin s.ambient) (rises-adds 0 s (indent d s) (adds-indent 0 d s)) (λ end. refl))
+        (λ d. widens-within g env body s (indent d s) (restore_margin s.ambient) (rises-adds 0 s (indent d s) (adds-indent 0 d s))
+        (λ end. refl))
     widens-shape_parts app allowed allowed' w v g env (shape.Ink t body) s =
         widens-value s (value level env t) (value' level env t) (λ d. within go level env body (set_ink d s) (restore_ink s.ambient))
         (λ d. within go' level env body (set_ink d s) (restore_ink s.ambient)) (v env t)
-        (λ d. widens-within g env body s (set_ink d s) (restore_ink s.ambient) (rises-adds 0 s (set_ink d s) (adds-set_ink 0 d s)) (λ end. refl))
+        (λ d. widens-within g env body s (set_ink d s) (restore_ink s.ambient) (rises-adds 0 s (set_ink d s) (adds-set_ink 0 d s))
+        (λ end. refl))
     widens-shape_parts app allowed allowed' w v g env (shape.Room body) s =
         let leave = leave_room s.ambient s.part in
-        widens-from s (enter_room s) (draws_to go level env body leave (enter_room s)) (draws_to go' level env body leave (enter_room s)) (omega arith)
+        widens-from s (enter_room s) (draws_to go level env body leave (enter_room s)) (draws_to go' level env body leave (enter_room s))
+        (omega arith)
         (widens-draws_to g env body leave (λ end. refl) (enter_room s))
     widens-shape_parts app allowed allowed' w v g env (shape.If t a b) s =
-        widens-value s (tested value level env t) (tested value' level env t) (λ holds. if holds then go level env a s else go level env b s)
+        widens-value s (tested value level env t) (tested value' level env t)
+        (λ holds. if holds then go level env a s else go level env b s)
         (λ holds. if holds then go' level env a s else go' level env b s) (goes-tested budget depth value value' level v env t)
-        (λ holds. widens-choice s holds (go level env a s) (go' level env a s) (go level env b s) (go' level env b s) (g env a s) (g env b s))
+        (λ holds. widens-choice s holds (go level env a s) (go' level env a s) (go level env b s) (go' level env b s) (g env a s)
+        (g env b s))
     widens-shape_parts app allowed allowed' w v g env (shape.When t body) s =
-        widens-value s (tested value level env t) (tested value' level env t) (λ holds. if holds then in_order go level env body s else opens_none (give s))
-        (λ holds. if holds then in_order go' level env body s else opens_none (give s)) (goes-tested budget depth value value' level v env t)
-        (λ holds. widens-choice s holds (in_order go level env body s) (in_order go' level env body s) (opens_none (give s)) (opens_none (give s))
+        widens-value s (tested value level env t) (tested value' level env t)
+        (λ holds. if holds then in_order go level env body s else opens_none (give s))
+        (λ holds. if holds then in_order go' level env body s else opens_none (give s))
+        (goes-tested budget depth value value' level v env t)
+        (λ holds. widens-choice s holds (in_order go level env body s) (in_order go' level env body s) (opens_none (give s))
+        (opens_none (give s))
         (widens-in_order g env body s) (widens-give s s refl))
     widens-shape_parts app allowed allowed' w v g env (shape.Let bs body) s =
-        widens-value s (bound value level bs env) (bound value' level bs env) (λ inner. in_order go level inner body s) (λ inner. in_order go' level inner body s)
+        widens-value s (bound value level bs env) (bound value' level bs env) (λ inner. in_order go level inner body s)
+        (λ inner. in_order go' level inner body s)
         (goes-bound budget depth value value' level v bs env) (λ inner. widens-in_order g inner body s)
     widens-shape_parts app allowed allowed' w v g env (shape.Dolist x t body) s =
-        widens-value s (listed value level env t) (listed value' level env t) (λ ds. for_each go level env x body ds s) (λ ds. for_each go' level env x body ds s)
+        widens-value s (listed value level env t) (listed value' level env t) (λ ds. for_each go level env x body ds s)
+        (λ ds. for_each go' level env x body ds s)
         (goes-listed budget depth value value' level v env t) (λ ds. widens-for_each g env x body ds s)
     widens-shape_parts app allowed allowed' w v g env (shape.Progn body) s = widens-in_order g env body s
     widens-shape_parts app allowed allowed' w v g env (shape.Call f ts) s =
@@ -321,29 +351,37 @@ widens-draws (suc left) zero allowed allowed' app slots level env f s c d t n l 
     let value = means left allowed.budget app slots in
     let go = draws left allowed app slots in
     let inside = shape_parts app allowed value go (level + 1) env f s in
-    extends-deep allowed'.budget allowed'.weight s inside (draws zero allowed' app slots level env f s) allowed.budget allowed.weight level (level + 1 + left) c d
+    extends-deep allowed'.budget allowed'.weight s inside (draws zero allowed' app slots level env f s) allowed.budget allowed.weight level
+    (level + 1 + left) c d
     (entering (suc left) allowed.budget level c d) (entered-above (nat_le allowed.budget c) (suc left == 0) level c d)
     (widens-shape_parts allowed.budget (level + 1 + left) allowed.weight (level + 1) value value go go app allowed allowed refl
-    (goes-means left allowed.budget left allowed.budget app slots (level + 1)) (widens-draws left left allowed allowed app slots (level + 1)) env f s) t n l p
+    (goes-means left allowed.budget left allowed.budget app slots (level + 1))
+    (widens-draws left left allowed allowed app slots (level + 1)) env f s) t n l p
 widens-draws (suc left) (suc left') allowed allowed' app slots level env f s c d t n l p =
     let deeper : level + 1 + left' ≡ level + suc left' = omega arith in
     let value = means left allowed.budget app slots in
     let value' = means left' allowed'.budget app slots in
     let go = draws left allowed app slots in
     let go' = draws left' allowed' app slots in
-    widens-value allowed'.budget (level + suc left') allowed'.weight s (entering (suc left) allowed.budget level) (entering (suc left') allowed'.budget level)
+    widens-value allowed'.budget (level + suc left') allowed'.weight s (entering (suc left) allowed.budget level)
+    (entering (suc left') allowed'.budget level)
     (λ _. shape_parts app allowed value go (level + 1) env f s) (λ _. shape_parts app allowed' value' go' (level + 1) env f s)
     (goes-entering (suc left) allowed.budget (suc left') allowed'.budget level)
-    (λ _. rw (← deeper) (widens-shape_parts allowed'.budget (level + 1 + left') allowed'.weight (level + 1) value value' go go' app allowed allowed' refl
-    (goes-means left allowed.budget left' allowed'.budget app slots (level + 1)) (widens-draws left left' allowed allowed' app slots (level + 1)) env f s)) c d t n l p
+    (λ _. rw (← deeper) (widens-shape_parts allowed'.budget (level + 1 + left') allowed'.weight (level + 1) value value' go go' app allowed
+    allowed' refl
+    (goes-means left allowed.budget left' allowed'.budget app slots (level + 1))
+    (widens-draws left left' allowed allowed' app slots (level + 1)) env f s)) c d t n l p
 
-pub widens-forms : (left more : ℕ) (allowed wider : Allowance) (app : App) (slots : Slots) (level : ℕ) (env : Env) (forms : ShapeTrees) (s end : DrawingAt) (cost deepest c d : ℕ)
+pub widens-forms : (left more : ℕ) (allowed wider : Allowance) (app : App) (slots : Slots) (level : ℕ) (env : Env) (forms : ShapeTrees)
+    (s end : DrawingAt) (cost deepest c d : ℕ)
     → (in_order (draws left allowed app slots) level env forms s cost deepest).outcome ≡ Gives end c d
     → c ≤ wider.budget → d ≤ level + more → end.weight ≤ wider.weight
     → (in_order (draws more wider app slots) level env forms s cost deepest).outcome ≡ Gives end c d
 widens-forms left more allowed wider app slots level env forms s end cost deepest c d p =
-    (widens-in_order wider.budget (level + more) wider.weight level (means left allowed.budget app slots) (means more wider.budget app slots)
-    (draws left allowed app slots) (draws more wider app slots) (widens-draws left more allowed wider app slots level) env forms s cost deepest end c d p).same
+    (widens-in_order wider.budget (level + more) wider.weight level (means left allowed.budget app slots)
+    (means more wider.budget app slots)
+    (draws left allowed app slots) (draws more wider app slots) (widens-draws left more allowed wider app slots level) env forms s cost
+    deepest end c d p).same
 
 pub widens-fresh : (limits wider : Limits) (app : App) (forms : List ShapeTree) (env : Env) (slots : Slots) (s : DrawingAt) (cost reach : ℕ)
     → (fresh limits app forms env slots).outcome ≡ Gives s cost reach → cost ≤ wider.budget → reach ≤ wider.depth
@@ -351,5 +389,6 @@ pub widens-fresh : (limits wider : Limits) (app : App) (forms : List ShapeTree) 
 unfolding fresh
 widens-fresh limits wider app forms env slots s cost reach p cheap shallow =
     let within : reach ≤ 0 + wider.depth = omega (arith, shallow) in
-    widens-forms limits.depth wider.depth (whole_allowance limits) (whole_allowance wider) app slots 0 env (shape_trees_of forms) blank_drawing s 0 0 cost reach p
+    widens-forms limits.depth wider.depth (whole_allowance limits) (whole_allowance wider) app slots 0 env (shape_trees_of forms)
+    blank_drawing s 0 0 cost reach p
     cheap within (adds_up limits app forms env slots s cost reach p).light

@@ -1,6 +1,7 @@
 -- What forms draw: items behind those that were there, the weight of these, and the lowest end of these. What used the margin or the
 -- origin stays so.
-use Rattle.std.proofs.Common.{◌≡◌, ◌∙◌, ap, sym, ℕ, zero, suc, ◌+◌, ◌≤◌, ◌==◌, ℤ, pos, ◌+ℤ◌, Bool, true, false, if◌then◌else◌, nat_le, List, []}
+use Rattle.std.proofs.Common.{◌≡◌, ◌∙◌, ap, sym, ℕ, zero, suc, ◌+◌, ◌≤◌, ◌==◌, ℤ, pos, ◌+ℤ◌, Bool, true, false, if◌then◌else◌, nat_le, List}
+use Rattle.std.proofs.Common.{[]}
 use Rattle.std.proofs.Common.{◌∷◌, ◌++◌, length, Option, Some, None, Result, Ok, Err, append_assoc, append-nil, arith, refl, subst}
 use Rattle.std.proofs.lemmas.Bool.Decides.{nat_tests}
 use Rattle.std.specs.Prelude.{negsuc, int_le, int_lt, ◌||◌}
@@ -25,16 +26,20 @@ use Rattle.cl_region.specs.Places.{box}
 use Rattle.cl_record.specs.Marks.{draw, history_marks}
 use Rattle.cl_record.specs.Replays.{drawn as items_in}
 use Rattle.cl_record.proofs.Replayed.{drawn-append}
-use Rattle.cl_display.specs.Drawings.{DrawingAt, PartAt, add_item, after_text, blank_drawing, cursor_box, cursor_to, drawing_of, is_in_range, is_near}
-use Rattle.cl_display.specs.Drawings.{join_parts, lower_end, max_weight, newline, then_to, with_cursor, with_item, with_margin_used, write_text}
+use Rattle.cl_display.specs.Drawings.{DrawingAt, PartAt, add_item, after_text, blank_drawing, cursor_box, cursor_to, drawing_of}
+use Rattle.cl_display.specs.Drawings.{is_in_range, is_near}
+use Rattle.cl_display.specs.Drawings.{join_parts, lower_end, max_weight, newline, then_to, with_cursor, with_item, with_margin_used}
+use Rattle.cl_display.specs.Drawings.{write_text}
 use Rattle.cl_display.specs.Figures.{area_at, draw_figure, draw_parts, draw_shape, figure_parts, leaf_in, with_origin_used}
 use Rattle.cl_display.specs.declared.figures.FigureItem.{FigureItem}
 use Rattle.cl_display.specs.declared.figures.FigureItem.TheVariants as item
 use Rattle.cl_display.specs.declared.figures.FigureParts.{FigureParts}
-use Rattle.cl_display.specs.Settings.{behind_room, enter_room, indent, leave_room, margin_box, restore_ink, restore_margin, room_part, set_ink, with_ink, with_margin}
+use Rattle.cl_display.specs.Settings.{behind_room, enter_room, indent, leave_room, margin_box, restore_ink, restore_margin, room_part}
+use Rattle.cl_display.specs.Settings.{set_ink, with_ink, with_margin}
 use Rattle.cl_display.specs.declared.drawings.Drawing.{Drawing}
 use Rattle.cl_display.specs.Outcomes.{Draw, opens_none, run_of, ◌>->◌, ◌>>=◌}
-use Rattle.cl_display.specs.Fresh.{Allowance, Draws, call_display, draws, draws_in, draws_to, for_each, in_order, shape_parts, within, write_value}
+use Rattle.cl_display.specs.Fresh.{Allowance, Draws, call_display, draws, draws_in, draws_to, for_each, in_order, shape_parts, within}
+use Rattle.cl_display.specs.Fresh.{write_value}
 use Rattle.cl_display.specs.Script.{fresh, whole_allowance}
 use Rattle.cl_display.proofs.CornerLemmas.{box-first, box-second, holds-itself, holds-then, holds_all-behind, holds_all-then}
 use Rattle.cl_display.proofs.EndLemmas.{lower_end-assoc, lower_end-none, lowest_of-behind}
@@ -90,7 +95,8 @@ part-then s t u xs ys p q = record {
 }
 
 -- an inner part that started blank comes behind the outer one
-part-join : (a : AmbientAt) (s t : PartAt) (items : List Item) → items_in t.marks ≡ items → t.lowest ≡ lowest_of items → HoldsAll t.extent items
+part-join : (a : AmbientAt) (s t : PartAt) (items : List Item) → items_in t.marks ≡ items → t.lowest ≡ lowest_of items
+    → HoldsAll t.extent items
     → PartAdds s (join_parts s t) items
 part-join a s t items b l w = record {
   behind = drawn-append s.marks t.marks ∙ ap (λ (is : List Item). items_in s.marks ++ is) b;
@@ -151,7 +157,8 @@ module _ (most : ℕ) where
   adds-run : (s : DrawingAt) (m : Draw) (f : DrawingAt → Draw) → AddsRun s m → ((t : DrawingAt) → AddsRun t (f t)) → AddsRun s (m >>= f)
   adds-run s m f g h c d = adds-behind s f h (m c d).outcome (g c d)
 
-  adds-value : {A : Type 0} (s : DrawingAt) (o : Outcome A) (f : A → Draw) → ((x : A) → AddsRun s (f x)) → AddsOut s (after o (λ x. run_of (f x)))
+  adds-value : {A : Type 0} (s : DrawingAt) (o : Outcome A) (f : A → Draw) → ((x : A) → AddsRun s (f x))
+      → AddsOut s (after o (λ x. run_of (f x)))
   adds-value s (Gives x c d) f h = h x c d
   adds-value s (Traps kind c d) f h = tt
 
@@ -186,7 +193,8 @@ module _ (most : ℕ) where
     weight = omega (arith, e);
     light = λ g. grind (arith, nat_tests, h);
     cursor = λ g.
-        holds-then (box s.part.extent (item_bounds leaf)) s.part.extent (cursor_box s.ambient) (box-first s.part.extent (item_bounds leaf)) g;
+        holds-then (box s.part.extent (item_bounds leaf)) s.part.extent (cursor_box s.ambient) (box-first s.part.extent (item_bounds leaf))
+        g;
   }
   adds-item false leaf weight s h e = tt
 
@@ -196,7 +204,8 @@ module _ (most : ℕ) where
   -- the cursor elsewhere
   adds-cursor : (a : AmbientAt) (s : DrawingAt) → Adds most s (cursor_to a s)
   adds-cursor a s =
-      adds-none s (cursor_to a s) (part-none s.part (with_cursor a s.part) refl refl (box-first s.part.extent (cursor_box a)) (λ h. h) (λ h. h)) refl
+      adds-none s (cursor_to a s) (part-none s.part (with_cursor a s.part) refl refl (box-first s.part.extent (cursor_box a)) (λ h. h)
+      (λ h. h)) refl
       (λ h. box-second s.part.extent (cursor_box a))
 
   adds-moved : (a : AmbientAt) (s : DrawingAt) (r : Result DrawingAt ℕ) → AddsTo s r → AddsTo s (then_to a r)
@@ -238,14 +247,16 @@ module _ (most : ℕ) where
       let used : DrawingAt = record s { part = with_margin_used s.part } in
       adds-where s (is_near (s.ambient.y +ℤ pos 1)) 9 (Ok (cursor_to (after_newline s.ambient) used))
       (adds-then s used (cursor_to (after_newline s.ambient) used)
-      (adds-none s used (part-none s.part (with_margin_used s.part) refl refl (holds-itself s.part.extent) (λ h. refl) (λ h. h)) refl (λ h. h))
+      (adds-none s used (part-none s.part (with_margin_used s.part) refl refl (holds-itself s.part.extent) (λ h. refl) (λ h. h)) refl
+      (λ h. h))
       (adds-cursor (after_newline s.ambient) used))
 
   adds-draw_shape : (leaf : Item) (area : Area) (s : DrawingAt) → 1 ≡ item_weight leaf → AddsTo s (draw_shape most leaf area s)
   adds-draw_shape leaf area s e =
       adds-unless s (int_lt area.width (pos 0) || int_lt area.height (pos 0)) 9 _
       (adds-or_none s (int_le area.width (pos 0) || int_le area.height (pos 0)) _
-      (adds-where s (is_in_range (bounds_of area)) 9 (with_origin_used (add_item most leaf 1 s)) (adds-origin s (add_item most leaf 1 s) (adds-add_item leaf 1 s e))))
+      (adds-where s (is_in_range (bounds_of area)) 9 (with_origin_used (add_item most leaf 1 s))
+      (adds-origin s (add_item most leaf 1 s) (adds-add_item leaf 1 s e))))
 
   light-figure : (area : Area) (i : FigureItem) → 1 ≡ item_weight (leaf_in area i)
   light-figure area (item.Point byte) = refl
@@ -278,15 +289,18 @@ module _ (most : ℕ) where
   abbrev pub AllAdd : Draws → Type 0
   AllAdd go = (level : ℕ) (env : Env) (f : ShapeTree) (s : DrawingAt) → AddsRun s (go level env f s)
 
-  pub adds-in_order : (go : Draws) → AllAdd go → (level : ℕ) (env : Env) (fs : ShapeTrees) (s : DrawingAt) → AddsRun s (in_order go level env fs s)
+  pub adds-in_order : (go : Draws) → AllAdd go → (level : ℕ) (env : Env) (fs : ShapeTrees) (s : DrawingAt)
+      → AddsRun s (in_order go level env fs s)
   adds-in_order go g level env none s = adds-give s
-  adds-in_order go g level env (form f fs) s = adds-run s (go level env f s) (in_order go level env fs) (g level env f s) (adds-in_order go g level env fs)
+  adds-in_order go g level env (form f fs) s = adds-run s (go level env f s) (in_order go level env fs) (g level env f s)
+      (adds-in_order go g level env fs)
 
   adds-for_each : (go : Draws) → AllAdd go → (level : ℕ) (env : Env) (x : List ℕ) (body : ShapeTrees) (ds : List Data) (s : DrawingAt)
       → AddsRun s (for_each go level env x body ds s)
   adds-for_each go g level env x body [] s = adds-give s
   adds-for_each go g level env x body (d ∷ ds) s =
-      adds-run s (in_order go level ((x, d) ∷ env) body s) (for_each go level env x body ds) (adds-in_order go g level ((x, d) ∷ env) body s)
+      adds-run s (in_order go level ((x, d) ∷ env) body s) (for_each go level env x body ds)
+      (adds-in_order go g level ((x, d) ∷ env) body s)
       (adds-for_each go g level env x body ds)
 
   -- a body from a state that has the same items, left so that the items stay
@@ -295,7 +309,8 @@ module _ (most : ℕ) where
   adds-draws_to go g level env body leave s h =
       adds-run s (in_order go level env body s) (λ end. opens_none (give (leave end))) (adds-in_order go g level env body s) (λ t c d. h t)
 
-  adds-within : (go : Draws) → AllAdd go → (level : ℕ) (env : Env) (body : ShapeTrees) (s : DrawingAt) (r : Result DrawingAt ℕ) (leave : DrawingAt → DrawingAt)
+  adds-within : (go : Draws) → AllAdd go → (level : ℕ) (env : Env) (body : ShapeTrees) (s : DrawingAt) (r : Result DrawingAt ℕ)
+      (leave : DrawingAt → DrawingAt)
       → AddsTo s r → ((t : DrawingAt) → Adds most t (leave t)) → AddsRun s (within go level env body r leave)
   adds-within go g level env body s (Ok inner) leave p h c d =
       adds-further s inner p (draws_to go level env body leave inner c d).outcome (adds-draws_to go g level env body leave inner h c d)
@@ -311,7 +326,8 @@ module _ (most : ℕ) where
         items = p.items;
         part =
             part-join behind s.part inner p.items p.part.behind p.part.lowest
-            (holds_all-then (box t.part.extent (cursor_box behind)) t.part.extent p.items (box-first t.part.extent (cursor_box behind)) p.part.within);
+            (holds_all-then (box t.part.extent (cursor_box behind)) t.part.extent p.items (box-first t.part.extent (cursor_box behind))
+            p.part.within);
         weight = p.weight;
         light = p.light;
         cursor = λ h.
@@ -336,16 +352,20 @@ module _ (most : ℕ) where
   adds-draws_in value go g level bs body env s =
       adds-given s (bound value level bs env) (λ inner. in_order go level inner body s) (λ inner. adds-in_order go g level inner body s)
 
-  adds-call_display : (go : Draws) → AllAdd go → (level : ℕ) (f : Option DisplayDecl) (ds : List Data) (s : DrawingAt) → AddsRun s (call_display go level f ds s)
+  adds-call_display : (go : Draws) → AllAdd go → (level : ℕ) (f : Option DisplayDecl) (ds : List Data) (s : DrawingAt)
+      → AddsRun s (call_display go level f ds s)
   adds-call_display go g level None ds s = λ c d. tt
   adds-call_display go g level (Some f) ds s =
-      adds-choice s (length ds == length f.parameters) (in_order go level (given f.parameters ds) (shape_trees_of f.body) s) (opens_none (trap 1))
+      adds-choice s (length ds == length f.parameters) (in_order go level (given f.parameters ds) (shape_trees_of f.body) s)
+      (opens_none (trap 1))
       (adds-in_order go g level (given f.parameters ds) (shape_trees_of f.body) s) (λ c d. tt)
 
-  adds-shape_parts : (app : App) (budget : ℕ) (value : Go) (go : Draws) → AllAdd go → (level : ℕ) (env : Env) (f : ShapeTree) (s : DrawingAt)
+  adds-shape_parts : (app : App) (budget : ℕ) (value : Go) (go : Draws) → AllAdd go
+      → (level : ℕ) (env : Env) (f : ShapeTree) (s : DrawingAt)
       → AddsRun s (shape_parts app (record { budget = budget; weight = most }) value go level env f s)
   adds-shape_parts app budget value go g level env (shape.WriteText t) s =
-      adds-given s (value level env t) (λ d. opens_none (lift (write_value most s d))) (λ d. adds-lift s (write_value most s d) (adds-write_value s d))
+      adds-given s (value level env t) (λ d. opens_none (lift (write_value most s d)))
+      (λ d. adds-lift s (write_value most s d) (adds-write_value s d))
   adds-shape_parts app budget value go g level env shape.Newline s = adds-lift s (newline s) (adds-newline s)
   adds-shape_parts app budget value go g level env (shape.Draw figure ts) s =
       adds-given s (each value level env ts []) (λ ds. opens_none (lift (draw_figure most figure ds s)))
@@ -364,7 +384,8 @@ module _ (most : ℕ) where
       (λ holds. adds-choice s holds (go level env a s) (go level env b s) (g level env a s) (g level env b s))
   adds-shape_parts app budget value go g level env (shape.When t body) s =
       adds-given s (tested value level env t) (λ holds. if holds then in_order go level env body s else opens_none (give s))
-      (λ holds. adds-choice s holds (in_order go level env body s) (opens_none (give s)) (adds-in_order go g level env body s) (adds-give s))
+      (λ holds. adds-choice s holds (in_order go level env body s) (opens_none (give s)) (adds-in_order go g level env body s)
+      (adds-give s))
   adds-shape_parts app budget value go g level env (shape.Let bs body) s = adds-draws_in value go g level bs body env s
   adds-shape_parts app budget value go g level env (shape.Dolist x t body) s =
       adds-given s (listed value level env t) (λ ds. for_each go level env x body ds s) (λ ds. adds-for_each go g level env x body ds s)
@@ -379,7 +400,8 @@ module _ (most : ℕ) where
       let allowed : Allowance = record { budget = budget; weight = most } in
       adds-given s (entering (suc left) budget level)
       (λ _. shape_parts app allowed (means left budget app slots) (draws left allowed app slots) (level + 1) env f s)
-      (λ _. adds-shape_parts app budget (means left budget app slots) (draws left allowed app slots) (adds-draws left budget app slots) (level + 1) env f s)
+      (λ _. adds-shape_parts app budget (means left budget app slots) (draws left allowed app slots) (adds-draws left budget app slots)
+      (level + 1) env f s)
 
 -- ---- displays
 
@@ -404,30 +426,38 @@ adds-blank s p = record {
 }
 
 -- what holds all that a display draws
-pub holds-blank : (s : DrawingAt) → Adds max_weight blank_drawing s → HoldsAll s.part.extent (items_in s.part.marks) × Holds s.part.extent (cursor_box s.ambient)
+pub holds-blank : (s : DrawingAt) → Adds max_weight blank_drawing s
+    → HoldsAll s.part.extent (items_in s.part.marks) × Holds s.part.extent (cursor_box s.ambient)
 holds-blank s p = (rw p.part.behind p.part.within, p.cursor (holds-itself (cursor_box ambient_start)))
 
-pub adds-fresh : (limits : Limits) (app : App) (fs : List ShapeTree) (env : Env) (slots : Slots) → AddsOut max_weight blank_drawing (fresh limits app fs env slots).outcome
+pub adds-fresh : (limits : Limits) (app : App) (fs : List ShapeTree) (env : Env) (slots : Slots)
+    → AddsOut max_weight blank_drawing (fresh limits app fs env slots).outcome
 unfolding fresh
 adds-fresh limits app fs env slots =
-    adds-in_order max_weight (draws limits.depth (whole_allowance limits) app slots) (adds-draws max_weight limits.depth limits.budget app slots) 0 env (shape_trees_of fs) blank_drawing 0 0
+    adds-in_order max_weight (draws limits.depth (whole_allowance limits) app slots)
+    (adds-draws max_weight limits.depth limits.budget app slots) 0 env (shape_trees_of fs) blank_drawing 0 0
 
 pub adds_up : (limits : Limits) (app : App) (fs : List ShapeTree) (env : Env) (slots : Slots) (s : DrawingAt) (cost reach : ℕ)
     → (fresh limits app fs env slots).outcome ≡ Gives s cost reach → AddsUp s
-adds_up limits app fs env slots s cost reach p = adds-blank s (subst (AddsOut max_weight blank_drawing) p (adds-fresh limits app fs env slots))
+adds_up limits app fs env slots s cost reach p = adds-blank s (subst (AddsOut max_weight blank_drawing) p
+    (adds-fresh limits app fs env slots))
 
 pub holds_drawn : (limits : Limits) (app : App) (fs : List ShapeTree) (env : Env) (slots : Slots) (s : DrawingAt) (cost reach : ℕ)
     → (fresh limits app fs env slots).outcome ≡ Gives s cost reach
     → HoldsAll s.part.extent (items_in s.part.marks) × Holds s.part.extent (cursor_box s.ambient)
-holds_drawn limits app fs env slots s cost reach p = holds-blank s (subst (AddsOut max_weight blank_drawing) p (adds-fresh limits app fs env slots))
+holds_drawn limits app fs env slots s cost reach p = holds-blank s
+    (subst (AddsOut max_weight blank_drawing) p (adds-fresh limits app fs env slots))
 
-pub adds-body : (left : ℕ) (allowed : Allowance) (app : App) (slots : Slots) (level : ℕ) (env : Env) (body : ShapeTrees) (s end : DrawingAt) (cost deepest c d : ℕ)
+pub adds-body : (left : ℕ) (allowed : Allowance) (app : App) (slots : Slots) (level : ℕ) (env : Env) (body : ShapeTrees) (s end : DrawingAt)
+    (cost deepest c d : ℕ)
     → (in_order (draws left allowed app slots) level env body s cost deepest).outcome ≡ Gives end c d → Adds allowed.weight s end
 adds-body left allowed app slots level env body s end cost deepest c d p =
     subst (AddsOut allowed.weight s) p
-    (adds-in_order allowed.weight (draws left allowed app slots) (adds-draws allowed.weight left allowed.budget app slots) level env body s cost deepest)
+    (adds-in_order allowed.weight (draws left allowed app slots) (adds-draws allowed.weight left allowed.budget app slots) level env body s
+    cost deepest)
 
-pub room-ends : (left : ℕ) (allowed : Allowance) (app : App) (slots : Slots) (level : ℕ) (env : Env) (body : ShapeTrees) (s end : DrawingAt) (cost deepest c d : ℕ)
+pub room-ends : (left : ℕ) (allowed : Allowance) (app : App) (slots : Slots) (level : ℕ) (env : Env) (body : ShapeTrees) (s end : DrawingAt)
+    (cost deepest c d : ℕ)
     → (in_order (draws left allowed app slots) level env body (enter_room s) cost deepest).outcome ≡ Gives end c d
     → end.part.lowest ≡ lowest_of (items_in end.part.marks)
 room-ends left allowed app slots level env body s end cost deepest c d p =
@@ -435,7 +465,9 @@ room-ends left allowed app slots level env body s end cost deepest c d p =
     rw added.part.behind added.part.lowest
 
 pub few-shown : (limits : Limits) (app : App) (fs : List ShapeTree) (env : Env) (slots : Slots) (d : Drawing) (cost reach : ℕ)
-    → (in_order (draws limits.depth (whole_allowance limits) app slots) 0 env (shape_trees_of fs) blank_drawing 0 0).outcome ≡ Gives (drawing_of d) cost reach
+    → (in_order (draws limits.depth (whole_allowance limits) app slots) 0 env (shape_trees_of fs) blank_drawing 0 0).outcome ≡ Gives
+    (drawing_of d) cost reach
     → length (items_in (history_marks move_item d.part.nodes)) ≤ max_weight
 few-shown limits app fs env slots d cost reach p =
-    (adds-blank (drawing_of d) (adds-body limits.depth (whole_allowance limits) app slots 0 env (shape_trees_of fs) blank_drawing (drawing_of d) 0 0 cost reach p)).count
+    (adds-blank (drawing_of d) (adds-body limits.depth (whole_allowance limits) app slots 0 env (shape_trees_of fs) blank_drawing
+    (drawing_of d) 0 0 cost reach p)).count

@@ -1,5 +1,6 @@
 -- Which forms use the margin and the origin that a body starts with.
-use Rattle.std.proofs.Common.{◌≡◌, ℕ, ◌+◌, ◌==◌, pos, ◌+ℤ◌, Bool, true, false, if◌then◌else◌, nat_le, List, [], ◌∷◌, length, Option, Some, None, Result, Ok, Err, refl, ◌∙◌}
+use Rattle.std.proofs.Common.{◌≡◌, ℕ, ◌+◌, ◌==◌, pos, ◌+ℤ◌, Bool, true, false, if◌then◌else◌, nat_le, List, [], ◌∷◌, length, Option, Some}
+use Rattle.std.proofs.Common.{None, Result, Ok, Err, refl, ◌∙◌}
 use Rattle.std.specs.Prelude.{negsuc, int_le, int_lt, ◌||◌}
 use mathlib.Core.Logic.{inl, inr}
 use Rattle.cl_value.specs.Data.{Data, int, text}
@@ -17,7 +18,8 @@ use Rattle.cl_medium.specs.Ambients.{AmbientAt, after_indent, after_newline}
 use Rattle.cl_medium.specs.Drawing.{text_leaf}
 use Rattle.cl_medium.specs.Items.{bounds_of, item_bounds, Item}
 use Rattle.cl_medium.specs.declared.areas.Area.{Area}
-use Rattle.cl_display.specs.Drawings.{DrawingAt, add_item, after_text, cursor_to, is_in_range, is_near, newline, then_to, with_item, with_margin_used}
+use Rattle.cl_display.specs.Drawings.{DrawingAt, add_item, after_text, cursor_to, is_in_range, is_near, newline, then_to, with_item}
+use Rattle.cl_display.specs.Drawings.{with_margin_used}
 use Rattle.cl_display.specs.Figures.{area_at, draw_figure, draw_parts, draw_shape, figure_parts, leaf_in, with_origin_used}
 use Rattle.cl_display.specs.declared.figures.FigureParts.{FigureParts}
 use Rattle.cl_display.specs.Settings.{enter_room, indent, leave_room, restore_ink, restore_margin, set_ink, with_ink, with_margin}
@@ -57,7 +59,8 @@ text-unused most s (text []) = record { margin = refl; origin = refl }
 text-unused most s (text (b ∷ bs)) =
     let leaf = text_leaf s.ambient (b ∷ bs) in
     let weight = s.weight + (length (b ∷ bs) + 1) in
-    gives-where (UsesNeither s) (is_in_range (item_bounds leaf)) 9 (then_to (after_text s.ambient (b ∷ bs)) (add_item most leaf (length (b ∷ bs) + 1) s))
+    gives-where (UsesNeither s) (is_in_range (item_bounds leaf)) 9
+    (then_to (after_text s.ambient (b ∷ bs)) (add_item most leaf (length (b ∷ bs) + 1) s))
     (text-item (nat_le weight most) (after_text s.ambient (b ∷ bs)) leaf weight s)
 text-unused most s d = tt
 
@@ -68,13 +71,15 @@ ink-unused s d = tt
 
 newline-used : (s : DrawingAt) → GivesWith (UsesMargin s) (newline s)
 newline-used s =
-    gives-where (UsesMargin s) (is_near (s.ambient.y +ℤ pos 1)) 9 (Ok (cursor_to (after_newline s.ambient) (record s { part = with_margin_used s.part })))
+    gives-where (UsesMargin s) (is_near (s.ambient.y +ℤ pos 1)) 9
+    (Ok (cursor_to (after_newline s.ambient) (record s { part = with_margin_used s.part })))
     (record { margin = refl; origin = refl })
 
 indent-used : (s : DrawingAt) (d : Data) → GivesWith (UsesMargin s) (indent d s)
 indent-used s (int n) =
     gives-where (UsesMargin s) (is_near (s.ambient.margin +ℤ n)) 9
-    (Ok (record s { ambient = after_indent s.ambient n; part = with_margin (after_indent s.ambient n) s.part })) (record { margin = refl; origin = refl })
+    (Ok (record s { ambient = after_indent s.ambient n; part = with_margin (after_indent s.ambient n) s.part }))
+    (record { margin = refl; origin = refl })
 indent-used s d = tt
 
 figure-item : (b : Bool) (leaf : Item) (weight : ℕ) (s : DrawingAt)
@@ -85,8 +90,10 @@ figure-item false leaf weight s = tt
 shape-used : (most : ℕ) (leaf : Item) (area : Area) (s : DrawingAt) → GivesWith (UsesOrigin s) (draw_shape most leaf area s)
 shape-used most leaf area s =
     gives-unless (UsesOrigin s) (int_lt area.width (pos 0) || int_lt area.height (pos 0)) 9 _
-    (gives-or (UsesOrigin s) (int_le area.width (pos 0) || int_le area.height (pos 0)) (Ok s) _ (record { margin = refl; origin = inl refl })
-    (gives-where (UsesOrigin s) (is_in_range (bounds_of area)) 9 (with_origin_used (add_item most leaf 1 s)) (figure-item (nat_le (s.weight + 1) most) leaf (s.weight + 1) s)))
+    (gives-or (UsesOrigin s) (int_le area.width (pos 0) || int_le area.height (pos 0)) (Ok s) _
+    (record { margin = refl; origin = inl refl })
+    (gives-where (UsesOrigin s) (is_in_range (bounds_of area)) 9 (with_origin_used (add_item most leaf 1 s))
+    (figure-item (nat_le (s.weight + 1) most) leaf (s.weight + 1) s)))
 
 figure-used : (most : ℕ) (parts : Option FigureParts) (s : DrawingAt) → GivesWith (UsesOrigin s) (draw_parts most parts s)
 figure-used most None s = tt
@@ -99,22 +106,26 @@ ends-lift P (Ok t) c d h = h
 ends-lift P (Err k) c d h = tt
 
 -- behind values, which use nothing
-ends-value : {A : Type 0} (P : DrawingAt → Type 0) (o : Outcome A) (f : A → Draw) → ((x : A) (c d : ℕ) → EndsWith P (f x c d).outcome) → EndsWith P (after o (λ x. run_of (f x)))
+ends-value : {A : Type 0} (P : DrawingAt → Type 0) (o : Outcome A) (f : A → Draw) → ((x : A) (c d : ℕ) → EndsWith P (f x c d).outcome)
+    → EndsWith P (after o (λ x. run_of (f x)))
 ends-value P (Gives x c d) f h = h x c d
 ends-value P (Traps k c d) f h = tt
 
-ends-choice : (P : DrawingAt → Type 0) (b : Bool) (m n : Draw) (c d : ℕ) → EndsWith P (m c d).outcome → EndsWith P (n c d).outcome → EndsWith P ((if b then m else n) c d).outcome
+ends-choice : (P : DrawingAt → Type 0) (b : Bool) (m n : Draw) (c d : ℕ) → EndsWith P (m c d).outcome → EndsWith P (n c d).outcome
+    → EndsWith P ((if b then m else n) c d).outcome
 ends-choice P true m n c d g h = g
 ends-choice P false m n c d g h = h
 
 -- behind a draw of which this holds
-ends-behind : (P Q : DrawingAt → Type 0) (o : Outcome DrawingAt) (f : DrawingAt → Draw) → EndsWith P o → ((t : DrawingAt) → P t → (c d : ℕ) → EndsWith Q (f t c d).outcome)
+ends-behind : (P Q : DrawingAt → Type 0) (o : Outcome DrawingAt) (f : DrawingAt → Draw) → EndsWith P o
+    → ((t : DrawingAt) → P t → (c d : ℕ) → EndsWith Q (f t c d).outcome)
     → EndsWith Q (after o (λ t. run_of (f t)))
 ends-behind P Q (Gives t c d) f g h = h t g c d
 ends-behind P Q (Traps k c d) f g h = tt
 
 -- the answer of which this holds, and a draw from there
-ends-set : (P Q : DrawingAt → Type 0) (r : Result DrawingAt ℕ) (c d : ℕ) (f : DrawingAt → Draw) → GivesWith P r → ((t : DrawingAt) → P t → EndsWith Q (f t c d).outcome)
+ends-set : (P Q : DrawingAt → Type 0) (r : Result DrawingAt ℕ) (c d : ℕ) (f : DrawingAt → Draw) → GivesWith P r
+    → ((t : DrawingAt) → P t → EndsWith Q (f t c d).outcome)
     → EndsWith Q (after (lift r c d) (λ t. run_of (f t)))
 ends-set P Q (Ok t) c d f g h = h t g
 ends-set P Q (Err k) c d f g h = tt
@@ -128,13 +139,15 @@ weaker s t (Traps k c d) p q = tt
 
 -- ---- forms that use neither
 
-unused-in_order : (go : Draws) → NoneUses go → (level : ℕ) (env : Env) (fs : ShapeTrees) (s : DrawingAt) (c d : ℕ) → EndsWith (UsesNeither s) (in_order go level env fs s c d).outcome
+unused-in_order : (go : Draws) → NoneUses go → (level : ℕ) (env : Env) (fs : ShapeTrees) (s : DrawingAt) (c d : ℕ)
+    → EndsWith (UsesNeither s) (in_order go level env fs s c d).outcome
 unused-in_order go g level env none s c d = neither s s refl refl
 unused-in_order go g level env (form f fs) s c d =
     ends-behind (UsesNeither s) (UsesNeither s) (go level env f s c d).outcome (in_order go level env fs) (g level env f s c d)
     (λ t p i j. weaker s t (in_order go level env fs t i j).outcome p (unused-in_order go g level env fs t i j))
 
-unused-for_each : (go : Draws) → NoneUses go → (level : ℕ) (env : Env) (x : List ℕ) (body : ShapeTrees) (ds : List Data) (s : DrawingAt) (c d : ℕ)
+unused-for_each : (go : Draws) → NoneUses go → (level : ℕ) (env : Env) (x : List ℕ) (body : ShapeTrees) (ds : List Data) (s : DrawingAt)
+    (c d : ℕ)
     → EndsWith (UsesNeither s) (for_each go level env x body ds s c d).outcome
 unused-for_each go g level env x body [] s c d = neither s s refl refl
 unused-for_each go g level env x body (v ∷ ds) s c d =
@@ -146,34 +159,41 @@ unused-call : (go : Draws) → NoneUses go → (level : ℕ) (f : Option Display
     → EndsWith (UsesNeither s) (call_display go level f ds s c d).outcome
 unused-call go g level None ds s c d = tt
 unused-call go g level (Some f) ds s c d =
-    ends-choice (UsesNeither s) (length ds == length f.parameters) (in_order go level (given f.parameters ds) (shape_trees_of f.body) s) (opens_none (trap 1)) c d
+    ends-choice (UsesNeither s) (length ds == length f.parameters) (in_order go level (given f.parameters ds) (shape_trees_of f.body) s)
+    (opens_none (trap 1)) c d
     (unused-in_order go g level (given f.parameters ds) (shape_trees_of f.body) s c d) tt
 
 unused-ink : (go : Draws) → NoneUses go → (level : ℕ) (env : Env) (body : ShapeTrees) (s : DrawingAt) (v : Data) (c d : ℕ)
     → EndsWith (UsesNeither s) (within go level env body (set_ink v s) (restore_ink s.ambient) c d).outcome
 unused-ink go g level env body s v c d =
     ends-set (UsesNeither s) (UsesNeither s) (set_ink v s) c d (draws_to go level env body (restore_ink s.ambient)) (ink-unused s v)
-    (λ t p. ends-behind (UsesNeither s) (UsesNeither s) (in_order go level env body t c d).outcome (λ end. opens_none (give (restore_ink s.ambient end)))
+    (λ t p. ends-behind (UsesNeither s) (UsesNeither s) (in_order go level env body t c d).outcome
+    (λ end. opens_none (give (restore_ink s.ambient end)))
     (weaker s t (in_order go level env body t c d).outcome p (unused-in_order go g level env body t c d))
     (λ end q i j. neither s (restore_ink s.ambient end) q.margin q.origin))
 
-pub plain-unused : (app : App) (allowed : Allowance) (value : Go) (go : Draws) (level : ℕ) (env : Env) (f : ShapeTree) (s : DrawingAt) (cost deepest : ℕ)
+pub plain-unused : (app : App) (allowed : Allowance) (value : Go) (go : Draws) (level : ℕ) (env : Env) (f : ShapeTree) (s : DrawingAt)
+    (cost deepest : ℕ)
     → IsPlain f → NoneUses go → EndsWith (UsesNeither s) (shape_parts app allowed value go level env f s cost deepest).outcome
 plain-unused app allowed value go level env (shape.WriteText t) s c d h g =
     ends-value (UsesNeither s) (value level env t c d) (λ v. opens_none (lift (write_value allowed.weight s v)))
     (λ v i j. ends-lift (UsesNeither s) (write_value allowed.weight s v) i j (text-unused allowed.weight s v))
 plain-unused app allowed value go level env (shape.Ink t body) s c d h g =
-    ends-value (UsesNeither s) (value level env t c d) (λ v. within go level env body (set_ink v s) (restore_ink s.ambient)) (unused-ink go g level env body s)
+    ends-value (UsesNeither s) (value level env t c d) (λ v. within go level env body (set_ink v s) (restore_ink s.ambient))
+    (unused-ink go g level env body s)
 plain-unused app allowed value go level env (shape.If t a b) s c d h g =
     ends-value (UsesNeither s) (tested value level env t c d) (λ holds. if holds then go level env a s else go level env b s)
     (λ holds i j. ends-choice (UsesNeither s) holds (go level env a s) (go level env b s) i j (g level env a s i j) (g level env b s i j))
 plain-unused app allowed value go level env (shape.When t body) s c d h g =
     ends-value (UsesNeither s) (tested value level env t c d) (λ holds. if holds then in_order go level env body s else opens_none (give s))
-    (λ holds i j. ends-choice (UsesNeither s) holds (in_order go level env body s) (opens_none (give s)) i j (unused-in_order go g level env body s i j) (neither s s refl refl))
+    (λ holds i j. ends-choice (UsesNeither s) holds (in_order go level env body s) (opens_none (give s)) i j
+    (unused-in_order go g level env body s i j) (neither s s refl refl))
 plain-unused app allowed value go level env (shape.Let bs body) s c d h g =
-    ends-value (UsesNeither s) (bound value level bs env c d) (λ inner. in_order go level inner body s) (λ inner i j. unused-in_order go g level inner body s i j)
+    ends-value (UsesNeither s) (bound value level bs env c d) (λ inner. in_order go level inner body s)
+    (λ inner i j. unused-in_order go g level inner body s i j)
 plain-unused app allowed value go level env (shape.Dolist x t body) s c d h g =
-    ends-value (UsesNeither s) (listed value level env t c d) (λ ds. for_each go level env x body ds s) (λ ds i j. unused-for_each go g level env x body ds s i j)
+    ends-value (UsesNeither s) (listed value level env t c d) (λ ds. for_each go level env x body ds s)
+    (λ ds i j. unused-for_each go g level env x body ds s i j)
 plain-unused app allowed value go level env (shape.Progn body) s c d h g = unused-in_order go g level env body s c d
 plain-unused app allowed value go level env (shape.Call f ts) s c d h g =
     ends-value (UsesNeither s) (each value level env ts [] c d) (λ ds. call_display go level (display_named f app) ds s)
@@ -186,34 +206,55 @@ pub newline-uses : (app : App) (allowed : Allowance) (value : Go) (go : Draws) (
     → EndsWith (UsesMargin s) (shape_parts app allowed value go level env shape.Newline s cost deepest).outcome
 newline-uses app allowed value go level env s c d = ends-lift (UsesMargin s) (newline s) c d (newline-used s)
 
-pub figure-uses : (app : App) (allowed : Allowance) (value : Go) (go : Draws) (level : ℕ) (env : Env) (figure : Figure) (ts : ExprTrees) (s : DrawingAt) (cost deepest : ℕ)
+pub figure-uses : (app : App) (allowed : Allowance) (value : Go) (go : Draws) (level : ℕ) (env : Env) (figure : Figure) (ts : ExprTrees)
+    (s : DrawingAt) (cost deepest : ℕ)
     → EndsWith (UsesOrigin s) (shape_parts app allowed value go level env (shape.Draw figure ts) s cost deepest).outcome
 figure-uses app allowed value go level env figure ts s c d =
     ends-value (UsesOrigin s) (each value level env ts [] c d) (λ ds. opens_none (lift (draw_figure allowed.weight figure ds s)))
-    (λ ds i j. ends-lift (UsesOrigin s) (draw_figure allowed.weight figure ds s) i j (figure-used allowed.weight (figure_parts figure ds) s))
+    (λ ds i j. ends-lift (UsesOrigin s) (draw_figure allowed.weight figure ds s) i j
+    (figure-used allowed.weight (figure_parts figure ds) s))
 
 ends-left : (P : DrawingAt → Type 0) (o : Outcome DrawingAt) (leave : DrawingAt → DrawingAt) → ((t : DrawingAt) → P (leave t))
     → EndsWith P (after o (λ t. run_of (opens_none (give (leave t)))))
 ends-left P (Gives t c d) leave h = h t
 ends-left P (Traps k c d) leave h = tt
 
-pub room-uses : (app : App) (allowed : Allowance) (value : Go) (go : Draws) (level : ℕ) (env : Env) (body : ShapeTrees) (s : DrawingAt) (cost deepest : ℕ)
+pub room-uses : (app : App) (allowed : Allowance) (value : Go) (go : Draws) (level : ℕ) (env : Env) (body : ShapeTrees) (s : DrawingAt)
+    (cost deepest : ℕ)
     → EndsWith (UsesMargin s) (shape_parts app allowed value go level env (shape.Room body) s cost deepest).outcome
 room-uses app allowed value go level env body s c d =
-    ends-left (UsesMargin s) (in_order go level env body (enter_room s) c d).outcome (leave_room s.ambient s.part) (λ t. record { margin = refl; origin = refl })
+    ends-left (UsesMargin s) (in_order go level env body (enter_room s) c d).outcome (leave_room s.ambient s.part)
+    (λ t. record { margin = refl; origin = refl })
 
 -- what is used stays used
 margin-stays : (most : ℕ) (s : DrawingAt) (o : Outcome DrawingAt) → AddsOut most s o → HasUsedMargin s → EndsWith HasUsedMargin o
 margin-stays most s (Gives t c d) p h = p.part.margin h
 margin-stays most s (Traps k c d) p h = tt
 
-pub indent-uses : (left : ℕ) (allowed : Allowance) (app : App) (slots : Slots) (value : Go) (level : ℕ) (env : Env) (t : ExprTree) (body : ShapeTrees) (s : DrawingAt) (cost deepest : ℕ)
-    → EndsWith HasUsedMargin (shape_parts app allowed value (draws left allowed app slots) level env (shape.Indent t body) s cost deepest).outcome
+pub indent-uses : (left : ℕ) (allowed : Allowance) (app : App) (slots : Slots) (value : Go) (level : ℕ) (env : Env) (t : ExprTree)
+    (body : ShapeTrees) (s : DrawingAt) (cost deepest : ℕ)
+    → EndsWith HasUsedMargin (shape_parts app allowed value (draws left allowed app slots) level env (shape.Indent t body) s cost
+    deepest).outcome
 indent-uses left allowed app slots value level env t body s c d =
     let go = draws left allowed app slots in
     ends-value HasUsedMargin (value level env t c d) (λ v. within go level env body (indent v s) (restore_margin s.ambient))
-    (λ v i j. ends-set (UsesMargin s) HasUsedMargin (indent v s) i j (draws_to go level env body (restore_margin s.ambient)) (indent-used s v)
-    (λ u p. ends-behind HasUsedMargin HasUsedMargin (in_order go level env body u i j).outcome (λ end. opens_none (give (restore_margin s.ambient end)))
+    (λ v i j. ends-set (UsesMargin s) HasUsedMargin (indent v s) i j (draws_to go level env body (restore_margin s.ambient))
+    (indent-used s v)
+    (λ u p. ends-behind HasUsedMargin HasUsedMargin (in_order go level env body u i j).outcome
+    (λ end. opens_none (give (restore_margin s.ambient end)))
     (margin-stays allowed.weight u (in_order go level env body u i j).outcome
     (adds-in_order allowed.weight go (adds-draws allowed.weight left allowed.budget app slots) level env body u i j) p.margin)
     (λ end q k l. q)))
+
+-- forms inside that use no origin leave it unused
+pub indent-alone : (app : App) (allowed : Allowance) (value : Go) (go : Draws) (level : ℕ) (env : Env) (t : ExprTree) (body : ShapeTrees)
+    (s : DrawingAt) (cost deepest : ℕ)
+    → NoneUses go → EndsWith (UsesMargin s) (shape_parts app allowed value go level env (shape.Indent t body) s cost deepest).outcome
+indent-alone app allowed value go level env t body s c d g =
+    ends-value (UsesMargin s) (value level env t c d) (λ v. within go level env body (indent v s) (restore_margin s.ambient))
+    (λ v i j. ends-set (UsesMargin s) (UsesMargin s) (indent v s) i j (draws_to go level env body (restore_margin s.ambient))
+    (indent-used s v)
+    (λ u p. ends-behind (UsesNeither u) (UsesMargin s) (in_order go level env body u i j).outcome
+    (λ end. opens_none (give (restore_margin s.ambient end)))
+    (unused-in_order go g level env body u i j)
+    (λ end q k l. record { margin = q.margin ∙ p.margin; origin = q.origin ∙ p.origin })))

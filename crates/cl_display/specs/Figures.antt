@@ -38,7 +38,8 @@ figure_parts figure.VerticalLine (a ∷ b ∷ c ∷ []) = option_and_then (λ le
 figure_parts figure.Outline (a ∷ b ∷ c ∷ d ∷ []) =
     option_and_then (λ width. option_and_then (λ height. parts_at a b (item.Outline width height)) (number_of d)) (number_of c)
 figure_parts figure.Filled (a ∷ b ∷ c ∷ d ∷ e ∷ []) =
-    option_and_then (λ width. option_and_then (λ height. option_and_then (λ byte. parts_at a b (item.Filled width height byte)) (byte_of e)) (number_of d)) (number_of c)
+    option_and_then (λ width. option_and_then (λ height. option_and_then (λ byte. parts_at a b (item.Filled width height byte)) (byte_of e))
+    (number_of d)) (number_of c)
 figure_parts f ds = None
 
 -- ---- its drawing

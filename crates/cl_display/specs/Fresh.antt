@@ -60,7 +60,8 @@ call_display go level (Some f) ds s =
 
 -- a form that was entered, by what is allowed and by the meaning of its expressions and of the forms inside
 abbrev pub shape_parts : App → Allowance → Go → Draws → ℕ → Env → ShapeTree → DrawingAt → Draw
-shape_parts app allowed value go level env (shape.WriteText t) s = value level env t >-> λ d. opens_none (lift (write_value allowed.weight s d))
+shape_parts app allowed value go level env (shape.WriteText t) s =
+    value level env t >-> λ d. opens_none (lift (write_value allowed.weight s d))
 shape_parts app allowed value go level env shape.Newline s = opens_none (lift (newline s))
 shape_parts app allowed value go level env (shape.Draw figure ts) s =
     each value level env ts [] >-> λ ds. opens_none (lift (draw_figure allowed.weight figure ds s))
@@ -69,13 +70,15 @@ shape_parts app allowed value go level env (shape.Indent t body) s =
 shape_parts app allowed value go level env (shape.Ink t body) s =
     value level env t >-> λ d. within go level env body (set_ink d s) (restore_ink s.ambient)
 shape_parts app allowed value go level env (shape.Room body) s = draws_to go level env body (leave_room s.ambient s.part) (enter_room s)
-shape_parts app allowed value go level env (shape.If t f g) s = tested value level env t >-> λ holds. if holds then go level env f s else go level env g s
+shape_parts app allowed value go level env (shape.If t f g) s =
+    tested value level env t >-> λ holds. if holds then go level env f s else go level env g s
 shape_parts app allowed value go level env (shape.When t body) s =
     tested value level env t >-> λ holds. if holds then in_order go level env body s else opens_none (give s)
 shape_parts app allowed value go level env (shape.Let bs body) s = draws_in value go level bs body env s
 shape_parts app allowed value go level env (shape.Dolist x t body) s = listed value level env t >-> λ ds. for_each go level env x body ds s
 shape_parts app allowed value go level env (shape.Progn body) s = in_order go level env body s
-shape_parts app allowed value go level env (shape.Call f ts) s = each value level env ts [] >-> λ ds. call_display go level (display_named f app) ds s
+shape_parts app allowed value go level env (shape.Call f ts) s =
+    each value level env ts [] >-> λ ds. call_display go level (display_named f app) ds s
 
 -- a form, where so many levels are left, below this level
 abbrev pub draws : ℕ → Allowance → App → Slots → Draws

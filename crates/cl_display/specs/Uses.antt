@@ -33,7 +33,8 @@ HasUsedMargin t = t.part.margin_used ≡ true
 
 -- none of the forms inside uses either
 abbrev pub NoneUses : Draws → Type 0
-NoneUses go = (level : ℕ) (env : Env) (f : ShapeTree) (s : DrawingAt) (cost deepest : ℕ) → EndsWith (UsesNeither s) (go level env f s cost deepest).outcome
+NoneUses go = (level : ℕ) (env : Env) (f : ShapeTree) (s : DrawingAt) (cost deepest : ℕ)
+    → EndsWith (UsesNeither s) (go level env f s cost deepest).outcome
 
 -- the forms that use neither but by the forms inside
 abbrev pub IsPlain : ShapeTree → Type 0

@@ -76,7 +76,7 @@ pub fn figures_refuse_other_values()
 
 /// Which forms use the margin and the origin that a body starts with, where they end without a trap: a newline, a form that indents
 /// and a room use the margin, and a figure that draws something uses the origin. A room does not use the origin around it, whatever
-/// its body draws. All other forms use neither, but by the forms inside.
+/// its body draws, and a form that indents does so by the forms inside alone. All other forms use neither, but by the forms inside.
 pub fn margin_and_origin_are_used_by_few_forms()
     ensures newline { (app : App) (allowed : Allowance) (value : Go) (go : Draws) (level : ℕ) (env : Env) (s : DrawingAt) (cost deepest : ℕ)
         → EndsWith (UsesMargin s) (shape_parts app allowed value go level env shape.Newline s cost deepest).outcome }
@@ -84,6 +84,8 @@ pub fn margin_and_origin_are_used_by_few_forms()
         → EndsWith (UsesMargin s) (shape_parts app allowed value go level env (shape.Room body) s cost deepest).outcome }
     ensures indent { (left : ℕ) (allowed : Allowance) (app : App) (slots : Slots) (value : Go) (level : ℕ) (env : Env) (t : ExprTree) (body : ShapeTrees) (s : DrawingAt) (cost deepest : ℕ)
         → EndsWith HasUsedMargin (shape_parts app allowed value (draws left allowed app slots) level env (shape.Indent t body) s cost deepest).outcome }
+    ensures indent_alone { (app : App) (allowed : Allowance) (value : Go) (go : Draws) (level : ℕ) (env : Env) (t : ExprTree) (body : ShapeTrees) (s : DrawingAt) (cost deepest : ℕ)
+        → NoneUses go → EndsWith (UsesMargin s) (shape_parts app allowed value go level env (shape.Indent t body) s cost deepest).outcome }
     ensures figure { (app : App) (allowed : Allowance) (value : Go) (go : Draws) (level : ℕ) (env : Env) (figure : Figure) (ts : ExprTrees) (s : DrawingAt) (cost deepest : ℕ)
         → EndsWith (UsesOrigin s) (shape_parts app allowed value go level env (shape.Draw figure ts) s cost deepest).outcome }
     ensures others { (app : App) (allowed : Allowance) (value : Go) (go : Draws) (level : ℕ) (env : Env) (f : ShapeTree) (s : DrawingAt) (cost deepest : ℕ)

@@ -13,7 +13,8 @@ use Rattle.cl_eval.specs.Standpoint.{meaning_at}
 use Rattle.cl_display.specs.Drawings.{drawing_of}
 use Rattle.cl_display.specs.Settings.{indent, leave_room, restore_ink, restore_margin, set_ink}
 use Rattle.cl_display.specs.Place.{allowance_at, draws_at}
-use Rattle.cl_display.proofs.FormLemmas.{draws-entered, grows-at, stop-call, stop-choice, stop-dolist, stop-draws_in, stop-draws_to, stop-figure}
+use Rattle.cl_display.proofs.FormLemmas.{draws-entered, grows-at, stop-call, stop-choice, stop-dolist, stop-draws_in, stop-draws_to}
+use Rattle.cl_display.proofs.FormLemmas.{stop-figure}
 use Rattle.cl_display.proofs.FormLemmas.{stop-for_each, stop-in_order, stop-indent, stop-ink, stop-set, stop-when}
 use Rattle.cl_display.proofs.forms.+draw.Goals as goal
 
@@ -33,7 +34,8 @@ draw_all-returns-in_err-draw-clause-meaning g t c =
     let step : drop at c.args.forms.now ≡ c.form-item.result ∷ rest =
     drop-cons c.args.forms.now at c.form-item.result c.loop-form-test.true ∙ ap (λ (a : Shape). a ∷ rest) (sym c.form-item.is) in
     rw (p.1, p.2, ← c.loop-form.invariant.meaning, step)
-    (stop-in_order (draws_at c.args.place.now) (grows-at c.args.place.now) c.args.place.now.here.level (variables_of c.args.place.now.here.scope.now)
+    (stop-in_order (draws_at c.args.place.now) (grows-at c.args.place.now) c.args.place.now.here.level
+    (variables_of c.args.place.now.here.scope.now)
     c.form-item.result (shape_trees_of rest) (drawing_of c.loop-form.drawing) (drawing_of c.draw.new.drawing)
     c.in_err-draw.field-0.0 c.draw.new.meter c.loop-form.meter.cost c.loop-form.meter.deepest c.in_err-draw.ensures.meaning)
 
@@ -45,7 +47,8 @@ draw_each-returns-in_err-draw_all-clause-meaning g t c =
     let step : drop at c.args.list.now ≡ c.item-item.result ∷ rest =
     drop-cons c.args.list.now at c.item-item.result c.loop-item-test.true ∙ ap (λ (a : Value). a ∷ rest) (sym c.item-item.is) in
     rw (p.1, p.2, ← c.loop-item.invariant.meaning, step)
-    (stop-for_each (draws_at c.args.place.now) (grows-at c.args.place.now) c.args.place.now.here.level (variables_of c.args.place.now.here.scope.now)
+    (stop-for_each (draws_at c.args.place.now) (grows-at c.args.place.now) c.args.place.now.here.level
+    (variables_of c.args.place.now.here.scope.now)
     c.args.name.now (shape_trees_of c.args.body.now) (data_of c.item-item.result) (map data_of rest) (drawing_of c.loop-item.drawing)
     (drawing_of c.draw_all.new.drawing)
     c.in_err-draw_all.field-0.0 c.draw_all.new.meter c.loop-item.meter.cost c.loop-item.meter.deepest c.in_err-draw_all.ensures.meaning)
@@ -62,40 +65,54 @@ draw_in-returns-in_err-frame-clause-meaning g t c =
 pub draw_parts-returns-in_err-evaluate_test-in-If-clause-meaning : goal.draw_parts-returns-in_err-evaluate_test-in-If-clause-meaning
 draw_parts-returns-in_err-evaluate_test-in-If-clause-meaning g t c =
     let p = err_from_is_err_and c.from_residual-in_err-evaluate_test-in-If.result c.from_residual-in_err-evaluate_test-in-If.ensures.1 in
-    let whole : c.args.form.now ≡ shape.If c.in-If.choice.value.test c.in-If.choice.value.then c.in-If.choice.value.other = sym c.form.view_is ∙ ap shape_tree_of c.in-If.is in
+    let whole : c.args.form.now ≡ shape.If c.in-If.choice.value.test c.in-If.choice.value.then c.in-If.choice.value.other =
+    sym c.form.view_is ∙ ap shape_tree_of c.in-If.is in
     let stop = rw c.deref-in-If.ensures at c.in_err-evaluate_test-in-If.ensures.meaning in
     rw (p.1, p.2, whole)
-    (stop-choice c.args.place.now.here.context.now.app.now (allowance_at c.args.place.now) (meaning_at c.args.place.now.here) (draws_at c.args.place.now) (grows-at c.args.place.now)
-    c.args.place.now.here.level (variables_of c.args.place.now.here.scope.now) c.in-If.choice.value.test c.in-If.choice.value.then c.in-If.choice.value.other
+    (stop-choice c.args.place.now.here.context.now.app.now (allowance_at c.args.place.now) (meaning_at c.args.place.now.here)
+    (draws_at c.args.place.now) (grows-at c.args.place.now)
+    c.args.place.now.here.level (variables_of c.args.place.now.here.scope.now) c.in-If.choice.value.test c.in-If.choice.value.then
+    c.in-If.choice.value.other
     (drawing_of c.args.drawing.now) (drawing_of c.args.drawing.now)
     c.in_err-evaluate_test-in-If.field-0.0 c.evaluate_test.new.meter c.args.meter.now.cost c.args.meter.now.deepest stop)
 
 pub draw_parts-returns-in_err-evaluate_test-in-When-clause-meaning : goal.draw_parts-returns-in_err-evaluate_test-in-When-clause-meaning
 draw_parts-returns-in_err-evaluate_test-in-When-clause-meaning g t c =
-    let p = err_from_is_err_and c.from_residual-in_err-evaluate_test-in-When.result c.from_residual-in_err-evaluate_test-in-When.ensures.1 in
-    let whole : c.args.form.now ≡ shape.When c.in-When.test (shape_trees_of c.in-When.body) = sym c.form.view_is ∙ ap shape_tree_of c.in-When.is in
+    let p = err_from_is_err_and c.from_residual-in_err-evaluate_test-in-When.result
+    c.from_residual-in_err-evaluate_test-in-When.ensures.1 in
+    let whole : c.args.form.now ≡ shape.When c.in-When.test (shape_trees_of c.in-When.body) =
+    sym c.form.view_is ∙ ap shape_tree_of c.in-When.is in
     rw (p.1, p.2, whole)
-    (stop-when c.args.place.now.here.context.now.app.now (allowance_at c.args.place.now) (meaning_at c.args.place.now.here) (draws_at c.args.place.now) (grows-at c.args.place.now)
-    c.args.place.now.here.level (variables_of c.args.place.now.here.scope.now) c.in-When.test (shape_trees_of c.in-When.body) (drawing_of c.args.drawing.now)
+    (stop-when c.args.place.now.here.context.now.app.now (allowance_at c.args.place.now) (meaning_at c.args.place.now.here)
+    (draws_at c.args.place.now) (grows-at c.args.place.now)
+    c.args.place.now.here.level (variables_of c.args.place.now.here.scope.now) c.in-When.test (shape_trees_of c.in-When.body)
     (drawing_of c.args.drawing.now)
-    c.in_err-evaluate_test-in-When.field-0.0 c.evaluate_test-in-When.new.meter c.args.meter.now.cost c.args.meter.now.deepest c.in_err-evaluate_test-in-When.ensures.meaning)
+    (drawing_of c.args.drawing.now)
+    c.in_err-evaluate_test-in-When.field-0.0 c.evaluate_test-in-When.new.meter c.args.meter.now.cost c.args.meter.now.deepest
+    c.in_err-evaluate_test-in-When.ensures.meaning)
 
 pub draw_parts-returns-in_err-list-in-Dolist-clause-meaning : goal.draw_parts-returns-in_err-list-in-Dolist-clause-meaning
 draw_parts-returns-in_err-list-in-Dolist-clause-meaning g t c =
     let p = err_from_is_err_and c.from_residual-in_err-list-in-Dolist.result c.from_residual-in_err-list-in-Dolist.ensures.1 in
-    let whole : c.args.form.now ≡ shape.Dolist c.in-Dolist.name c.in-Dolist.list (shape_trees_of c.in-Dolist.body) = sym c.form.view_is ∙ ap shape_tree_of c.in-Dolist.is in
+    let whole : c.args.form.now ≡ shape.Dolist c.in-Dolist.name c.in-Dolist.list (shape_trees_of c.in-Dolist.body) =
+    sym c.form.view_is ∙ ap shape_tree_of c.in-Dolist.is in
     rw (p.1, p.2, whole)
-    (stop-dolist c.args.place.now.here.context.now.app.now (allowance_at c.args.place.now) (meaning_at c.args.place.now.here) (draws_at c.args.place.now) (grows-at c.args.place.now)
-    c.args.place.now.here.level (variables_of c.args.place.now.here.scope.now) c.in-Dolist.name c.in-Dolist.list (shape_trees_of c.in-Dolist.body)
+    (stop-dolist c.args.place.now.here.context.now.app.now (allowance_at c.args.place.now) (meaning_at c.args.place.now.here)
+    (draws_at c.args.place.now) (grows-at c.args.place.now)
+    c.args.place.now.here.level (variables_of c.args.place.now.here.scope.now) c.in-Dolist.name c.in-Dolist.list
+    (shape_trees_of c.in-Dolist.body)
     (drawing_of c.args.drawing.now) (drawing_of c.args.drawing.now)
-    c.in_err-list-in-Dolist.field-0.0 c.evaluate_list.new.meter c.args.meter.now.cost c.args.meter.now.deepest c.in_err-list-in-Dolist.ensures.meaning)
+    c.in_err-list-in-Dolist.field-0.0 c.evaluate_list.new.meter c.args.meter.now.cost c.args.meter.now.deepest
+    c.in_err-list-in-Dolist.ensures.meaning)
 
 pub draw_parts-returns-in_err-values-in-Call-clause-meaning : goal.draw_parts-returns-in_err-values-in-Call-clause-meaning
 draw_parts-returns-in_err-values-in-Call-clause-meaning g t c =
     let p = err_from_is_err_and c.from_residual-in_err-values-in-Call.result c.from_residual-in_err-values-in-Call.ensures.1 in
-    let whole : c.args.form.now ≡ shape.Call c.in-Call.name (expr_trees_of c.in-Call.parts.items) = sym c.form.view_is ∙ ap shape_tree_of c.in-Call.is in
+    let whole : c.args.form.now ≡ shape.Call c.in-Call.name (expr_trees_of c.in-Call.parts.items) =
+    sym c.form.view_is ∙ ap shape_tree_of c.in-Call.is in
     rw (p.1, p.2, whole)
-    (stop-call c.args.place.now.here.context.now.app.now (allowance_at c.args.place.now) (meaning_at c.args.place.now.here) (draws_at c.args.place.now) (grows-at c.args.place.now)
+    (stop-call c.args.place.now.here.context.now.app.now (allowance_at c.args.place.now) (meaning_at c.args.place.now.here)
+    (draws_at c.args.place.now) (grows-at c.args.place.now)
     c.args.place.now.here.level (variables_of c.args.place.now.here.scope.now) c.in-Call.name (expr_trees_of c.in-Call.parts.items)
     (drawing_of c.args.drawing.now) (drawing_of c.args.drawing.now)
     c.in_err-values-in-Call.field-0.0 c.evaluate_each-in-Call.new.meter c.args.meter.now.cost c.args.meter.now.deepest (rw
@@ -104,9 +121,11 @@ draw_parts-returns-in_err-values-in-Call-clause-meaning g t c =
 pub draw_parts-returns-in_err-values-in-Draw-clause-meaning : goal.draw_parts-returns-in_err-values-in-Draw-clause-meaning
 draw_parts-returns-in_err-values-in-Draw-clause-meaning g t c =
     let p = err_from_is_err_and c.from_residual-in_err-values-in-Draw.result c.from_residual-in_err-values-in-Draw.ensures.1 in
-    let whole : c.args.form.now ≡ shape.Draw c.in-Draw.figure (expr_trees_of c.in-Draw.parts.items) = sym c.form.view_is ∙ ap shape_tree_of c.in-Draw.is in
+    let whole : c.args.form.now ≡ shape.Draw c.in-Draw.figure (expr_trees_of c.in-Draw.parts.items) =
+    sym c.form.view_is ∙ ap shape_tree_of c.in-Draw.is in
     rw (p.1, p.2, whole)
-    (stop-figure c.args.place.now.here.context.now.app.now (allowance_at c.args.place.now) (meaning_at c.args.place.now.here) (draws_at c.args.place.now) c.args.place.now.here.level
+    (stop-figure c.args.place.now.here.context.now.app.now (allowance_at c.args.place.now) (meaning_at c.args.place.now.here)
+    (draws_at c.args.place.now) c.args.place.now.here.level
     (variables_of c.args.place.now.here.scope.now) c.in-Draw.figure (expr_trees_of c.in-Draw.parts.items) (drawing_of c.args.drawing.now)
     (drawing_of c.args.drawing.now)
     c.in_err-values-in-Draw.field-0.0 c.evaluate_each.new.meter c.args.meter.now.cost c.args.meter.now.deepest (rw c.deref.ensures.value at
@@ -115,28 +134,36 @@ draw_parts-returns-in_err-values-in-Draw-clause-meaning g t c =
 pub draw_parts-returns-in_err-number-in-Indent-clause-meaning : goal.draw_parts-returns-in_err-number-in-Indent-clause-meaning
 draw_parts-returns-in_err-number-in-Indent-clause-meaning g t c =
     let p = err_from_is_err_and c.from_residual-in_err-number-in-Indent.result c.from_residual-in_err-number-in-Indent.ensures.1 in
-    let whole : c.args.form.now ≡ shape.Indent c.in-Indent.number (shape_trees_of c.in-Indent.body) = sym c.form.view_is ∙ ap shape_tree_of c.in-Indent.is in
+    let whole : c.args.form.now ≡ shape.Indent c.in-Indent.number (shape_trees_of c.in-Indent.body) =
+    sym c.form.view_is ∙ ap shape_tree_of c.in-Indent.is in
     rw (p.1, p.2, whole)
-    (stop-indent c.args.place.now.here.context.now.app.now (allowance_at c.args.place.now) (meaning_at c.args.place.now.here) (draws_at c.args.place.now) (grows-at c.args.place.now)
+    (stop-indent c.args.place.now.here.context.now.app.now (allowance_at c.args.place.now) (meaning_at c.args.place.now.here)
+    (draws_at c.args.place.now) (grows-at c.args.place.now)
     c.args.place.now.here.level (variables_of c.args.place.now.here.scope.now) c.in-Indent.number (shape_trees_of c.in-Indent.body)
     (drawing_of c.args.drawing.now) (drawing_of c.args.drawing.now)
-    c.in_err-number-in-Indent.field-0.0 c.evaluate-in-Indent.new.meter c.args.meter.now.cost c.args.meter.now.deepest c.in_err-number-in-Indent.ensures.meaning)
+    c.in_err-number-in-Indent.field-0.0 c.evaluate-in-Indent.new.meter c.args.meter.now.cost c.args.meter.now.deepest
+    c.in_err-number-in-Indent.ensures.meaning)
 
 pub draw_parts-returns-in_err-number-in-Ink-clause-meaning : goal.draw_parts-returns-in_err-number-in-Ink-clause-meaning
 draw_parts-returns-in_err-number-in-Ink-clause-meaning g t c =
     let p = err_from_is_err_and c.from_residual-in_err-number-in-Ink.result c.from_residual-in_err-number-in-Ink.ensures.1 in
-    let whole : c.args.form.now ≡ shape.Ink c.in-Ink.number (shape_trees_of c.in-Ink.body) = sym c.form.view_is ∙ ap shape_tree_of c.in-Ink.is in
+    let whole : c.args.form.now ≡ shape.Ink c.in-Ink.number (shape_trees_of c.in-Ink.body) =
+    sym c.form.view_is ∙ ap shape_tree_of c.in-Ink.is in
     rw (p.1, p.2, whole)
-    (stop-ink c.args.place.now.here.context.now.app.now (allowance_at c.args.place.now) (meaning_at c.args.place.now.here) (draws_at c.args.place.now) (grows-at c.args.place.now)
-    c.args.place.now.here.level (variables_of c.args.place.now.here.scope.now) c.in-Ink.number (shape_trees_of c.in-Ink.body) (drawing_of c.args.drawing.now)
+    (stop-ink c.args.place.now.here.context.now.app.now (allowance_at c.args.place.now) (meaning_at c.args.place.now.here)
+    (draws_at c.args.place.now) (grows-at c.args.place.now)
+    c.args.place.now.here.level (variables_of c.args.place.now.here.scope.now) c.in-Ink.number (shape_trees_of c.in-Ink.body)
     (drawing_of c.args.drawing.now)
-    c.in_err-number-in-Ink.field-0.0 c.evaluate-in-Ink.new.meter c.args.meter.now.cost c.args.meter.now.deepest c.in_err-number-in-Ink.ensures.meaning)
+    (drawing_of c.args.drawing.now)
+    c.in_err-number-in-Ink.field-0.0 c.evaluate-in-Ink.new.meter c.args.meter.now.cost c.args.meter.now.deepest
+    c.in_err-number-in-Ink.ensures.meaning)
 
 pub draw_indented-returns-in_err-indent-clause-meaning : goal.draw_indented-returns-in_err-indent-clause-meaning
 draw_indented-returns-in_err-indent-clause-meaning g t c =
     let p = err_from_is_err_and c.from_residual.result c.from_residual.ensures.1 in
     rw (p.1, p.2)
-    (stop-set (draws_at c.args.place.now) (grows-at c.args.place.now) c.args.place.now.here.level (variables_of c.args.place.now.here.scope.now)
+    (stop-set (draws_at c.args.place.now) (grows-at c.args.place.now) c.args.place.now.here.level
+    (variables_of c.args.place.now.here.scope.now)
     (shape_trees_of c.args.body.now) (indent (data_of c.args.number.now) (drawing_of c.args.drawing.now))
     (restore_margin (drawing_of c.args.drawing.now).ambient) (drawing_of c.indent.new.self) (drawing_of c.indent.new.self)
     c.in_err-indent.field-0.0 c.args.meter.now c.in_err-indent.ensures)
@@ -154,7 +181,8 @@ pub draw_in_ink-returns-in_err-set_ink-clause-meaning : goal.draw_in_ink-returns
 draw_in_ink-returns-in_err-set_ink-clause-meaning g t c =
     let p = err_from_is_err_and c.from_residual.result c.from_residual.ensures.1 in
     rw (p.1, p.2)
-    (stop-set (draws_at c.args.place.now) (grows-at c.args.place.now) c.args.place.now.here.level (variables_of c.args.place.now.here.scope.now)
+    (stop-set (draws_at c.args.place.now) (grows-at c.args.place.now) c.args.place.now.here.level
+    (variables_of c.args.place.now.here.scope.now)
     (shape_trees_of c.args.body.now) (set_ink (data_of c.args.number.now) (drawing_of c.args.drawing.now))
     (restore_ink (drawing_of c.args.drawing.now).ambient) (drawing_of c.set_ink.new.self) (drawing_of c.set_ink.new.self)
     c.in_err-set_ink.field-0.0 c.args.meter.now c.in_err-set_ink.ensures)
@@ -173,6 +201,7 @@ draw_in_room-returns-in_err-draw_all-clause-meaning g t c =
     let p = err_from_is_err_and c.from_residual.result c.from_residual.ensures.1 in
     rw (p.1, p.2, ← c.enter_room-outer.ensures.inside)
     (stop-draws_to (draws_at c.args.place.now) c.args.place.now.here.level (variables_of c.args.place.now.here.scope.now)
-    (shape_trees_of c.args.body.now) (drawing_of c.enter_room-outer.new.self) (leave_room (drawing_of c.args.drawing.now).ambient (drawing_of c.args.drawing.now).part)
+    (shape_trees_of c.args.body.now) (drawing_of c.enter_room-outer.new.self)
+    (leave_room (drawing_of c.args.drawing.now).ambient (drawing_of c.args.drawing.now).part)
     (drawing_of c.draw_all.new.drawing)
     c.in_err-draw_all.field-0.0 c.draw_all.new.meter c.args.meter.now.cost c.args.meter.now.deepest c.in_err-draw_all.ensures.meaning)

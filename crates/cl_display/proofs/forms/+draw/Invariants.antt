@@ -35,14 +35,18 @@ decreases-call g l = l.place.now.here.left * 2 ^ 66 + 3
 
 abbrev pub invariant-draw_all-loop-form : goal.invariant-draw_all-loop-form
 invariant-draw_all-loop-form g l = record {
-  meaning : (draw_from l.place in_order (shape_trees_of (drop l.form-index l.forms)) (drawing_of l.drawing) l.meter.cost l.meter.deepest).outcome
-      ≡ (draw_from l.place in_order (shape_trees_of l.forms) (drawing_of l.initial.drawing) l.initial.meter.cost l.initial.meter.deepest).outcome;
+  meaning : (draw_from l.place in_order (shape_trees_of (drop l.form-index l.forms)) (drawing_of l.drawing) l.meter.cost
+      l.meter.deepest).outcome
+      ≡ (draw_from l.place in_order (shape_trees_of l.forms) (drawing_of l.initial.drawing) l.initial.meter.cost
+      l.initial.meter.deepest).outcome;
   ledger : l.steps + l.initial.meter.cost ≡ l.initial.steps + l.meter.cost;
 }
 
 abbrev pub invariant-draw_each-loop-item : goal.invariant-draw_each-loop-item
 invariant-draw_each-loop-item g l = record {
-  meaning : (draw_from l.place for_each l.name (shape_trees_of l.body) (map data_of (drop l.item-index l.list)) (drawing_of l.drawing) l.meter.cost l.meter.deepest).outcome
-      ≡ (draw_from l.place for_each l.name (shape_trees_of l.body) (map data_of l.list) (drawing_of l.initial.drawing) l.initial.meter.cost l.initial.meter.deepest).outcome;
+  meaning : (draw_from l.place for_each l.name (shape_trees_of l.body) (map data_of (drop l.item-index l.list)) (drawing_of l.drawing)
+      l.meter.cost l.meter.deepest).outcome
+      ≡ (draw_from l.place for_each l.name (shape_trees_of l.body) (map data_of l.list) (drawing_of l.initial.drawing) l.initial.meter.cost
+      l.initial.meter.deepest).outcome;
   ledger : l.steps + l.initial.meter.cost ≡ l.initial.steps + l.meter.cost;
 }
