@@ -1,9 +1,8 @@
 //! Records of output: what was drawn, as a tree of presentations and updates with leaves, and its replay.
 #![tactic(auto)]
 
+mod branches;
 mod canvases;
-mod counting;
-mod fitting;
 mod heads;
 mod histories;
 mod labels;
@@ -12,12 +11,15 @@ mod nodes;
 mod printing;
 mod replaying;
 mod shifts;
+mod summaries;
 mod values;
 
+pub use branches::{Piece, Presented};
 pub use canvases::Canvas;
 pub use heads::{Head, Measures};
 pub use histories::History;
 pub use labels::Label;
 pub use lines::Printable;
-pub use nodes::{Node, Nodes, Piece, Presented};
+pub use nodes::{Node, Nodes};
 pub use shifts::STILL;
+pub use summaries::{Summary, around};
