@@ -15,6 +15,9 @@ use Rattle.cl_record.specs.Trees.{Tree, Trees, are_bare, is_bare, leaf, none, pi
 pub shift_is : (v : Shift) (a b : ℤ) → a ≡ v.dx → b ≡ v.dy → ◌≡◌ {A = Shift} (record { dx = a; dy = b }) v
 shift_is v a b e f = rw (e, f) refl
 
+pub place_is : (P : Point → Type 0) (x y a b : ℤ) → a ≡ x → b ≡ y → P (record { x = a; y = b }) → P (record { x = x; y = y })
+place_is P x y a b e f h = rw (← e, ← f) h
+
 joined_up : (a b c : ℤ) → (a +ℤ b) +ℤ c ≡ a +ℤ (b +ℤ c)
 joined_up a b c = omega (arith, ints)
 

@@ -1,5 +1,5 @@
 -- Where trees that hold together may stand.
-use Rattle.std.proofs.Common.{◌≡◌, ℤ, ◌+ℤ◌, ◌≤ℤ◌, Bool, true, false, List, [], ◌∷◌, ◌++◌, length, Option, Some, None, refl, ◌∙◌, ap, sym, subst, arith}
+use Rattle.std.proofs.Common.{◌≡◌, ◌↔◌, ℤ, ◌+ℤ◌, ◌≤ℤ◌, Bool, true, false, List, [], ◌∷◌, ◌++◌, length, Option, Some, None, refl, ◌∙◌, ap, sym, subst, arith}
 use Rattle.std.specs.Prelude.{IfSome, ◌&&◌, not, if◌then◌else◌, is_none, is_some}
 use Rattle.std.specs.Int.{int_max, int_min}
 use Rattle.std.specs.Option.{option_map}
@@ -12,7 +12,7 @@ use Rattle.cl_record.specs.Boxes.{around, extent_box, items_box, join_boxes, mov
 use Rattle.cl_record.specs.Heads.{HeadAt}
 use Rattle.cl_record.specs.Labels.{LabelAt}
 use Rattle.cl_record.specs.Marks.{Mark, all_moved, begins, closes, draw, marks_of, marks_of_all, opens}
-use Rattle.cl_record.specs.Ranges.{ArePlaced, AreSound, HoldsCorners, HoldsPoint, IsMeasured, IsPlaceOf, IsPlaced, IsSound, StayInRange, StaysInRange}
+use Rattle.cl_record.specs.Ranges.{AreInRange, ArePlaced, AreSound, HoldsCorners, HoldsPoint, IsMeasured, IsPlaceOf, IsPlaced, IsSound, StayInRange, StaysInRange}
 use Rattle.cl_record.specs.Replays.{drawn}
 use Rattle.cl_record.specs.Shifts.{IsFar, IsShift, joined, still}
 use Rattle.cl_record.specs.Trees.{Tree, Trees, are_bare, is_bare, leaf, none, piece, shown, tree}
@@ -112,6 +112,36 @@ module _ {A : Type 0} (bounds : A → Rect) where
   items-fit v (opens l ∷ ms) h = items-fit v ms h
   items-fit v (begins k ∷ ms) h = items-fit v ms (fits-second v (Some k.measures.extent) (extent_box bounds ms) h)
   items-fit v (closes ∷ ms) h = items-fit v ms h
+
+-- ---- what is in the range as it stands
+
+range-first : (o p : Option Rect) → IfSome (join_boxes around o p) IsInRange → IfSome o IsInRange
+range-first None p h = tt
+range-first (Some a) None h = h
+range-first (Some a) (Some b) h = subst IsInRange (moved-still a) (around-first still a b (subst IsInRange (sym (moved-still (around a b))) h))
+
+range-second : (o p : Option Rect) → IfSome (join_boxes around o p) IsInRange → IfSome p IsInRange
+range-second None p h = h
+range-second (Some a) None h = tt
+range-second (Some a) (Some b) h = subst IsInRange (moved-still b) (around-second still a b (subst IsInRange (sym (moved-still (around a b))) h))
+
+fits-moved : (v : Shift) (o : Option Rect) → Fits v o ↔ IfSome (option_map (moved v) o) IsInRange
+fits-moved v None = ((λ h. h), (λ h. h))
+fits-moved v (Some r) = ((λ h. h), (λ h. h))
+
+module _ {A : Type 0} (bounds : A → Rect) where
+  pub all-range : (ms : List (Mark A)) → IfSome (extent_box bounds ms) IsInRange ↔ AreInRange bounds ms
+  all-range [] = ((λ h. tt), (λ h. tt))
+  all-range (draw a ∷ ms) = (
+    (λ h. (range-first (Some (bounds a)) (extent_box bounds ms) h, (all-range ms).0 (range-second (Some (bounds a)) (extent_box bounds ms) h))),
+    (λ h. range-join (Some (bounds a)) (extent_box bounds ms) h.0 ((all-range ms).1 h.1)),
+  )
+  all-range (opens l ∷ ms) = all-range ms
+  all-range (begins k ∷ ms) = (
+    (λ h. (range-first (Some k.measures.extent) (extent_box bounds ms) h, (all-range ms).0 (range-second (Some k.measures.extent) (extent_box bounds ms) h))),
+    (λ h. range-join (Some k.measures.extent) (extent_box bounds ms) h.0 ((all-range ms).1 h.1)),
+  )
+  all-range (closes ∷ ms) = all-range ms
 
 -- ---- a choice of places
 
@@ -294,6 +324,24 @@ module _ {A : Type 0} (bounds : A → Rect) (move : Shift → A → A) (bounds_m
   moves-shown v p l ts e s h =
       let both = shown-some v p (extent_box bounds (marks_of_all move ts)) e (row-range ts s.0) (fits-shown v p l ts h) in
       record { shift = both.0; sound = (s.0, both.1) }
+
+  -- ---- laws
+
+  pub fits-all : (v : Shift) (ms : List (Mark A)) → Fits v (extent_box bounds ms) ↔ AreInRange bounds (all_moved move v ms)
+  fits-all v ms =
+      let moves = extent_box-move bounds move bounds_move v ms in
+      let both = fits-moved v (extent_box bounds ms) in
+      let all = all-range bounds (all_moved move v ms) in (
+        (λ h. all.0 (subst (λ (o : Option Rect). IfSome o IsInRange) (sym moves) (both.0 h))),
+        (λ h. both.1 (subst (λ (o : Option Rect). IfSome o IsInRange) moves (all.1 h))),
+      )
+
+  pub fits-extent : (v p : Shift) (k : HeadAt) (ts : Trees A) → IsSound bounds move (piece k p ts)
+      → StaysInRange bounds move v (piece k p ts) ↔ IsInRange (moved (joined p v) k.measures.extent)
+  fits-extent v p k ts s = (
+    (λ h. fits-piece v p k ts s.1.0 h),
+    (λ h. subst (λ (o : Option Rect). Fits v o) (sym (extent-piece k p ts s.1.0)) (subst IsInRange (sym (moved_twice p v k.measures.extent)) h)),
+  )
 
   -- ---- what is bare
 

@@ -1,11 +1,11 @@
 -- Which trees hold together, and where they may stand.
-use Rattle.std.specs.Prelude.{◌≡◌, ℤ, ◌≤ℤ◌, Option, Some, None, IfSome}
+use Rattle.std.specs.Prelude.{◌≡◌, ℤ, ◌≤ℤ◌, List, [], ◌∷◌, Option, Some, None, IfSome}
 use Rattle.cl_region.specs.Places.{IsInRange, moved}
 use Rattle.cl_region.specs.declared.rects.Rect.{Rect}
 use Rattle.cl_region.specs.declared.rects.Shift.{Shift}
 use Rattle.cl_record.specs.Boxes.{extent_box, summary_of}
-use Rattle.cl_record.specs.Heads.{HeadAt, Point}
-use Rattle.cl_record.specs.Marks.{marks_of, marks_of_all}
+use Rattle.cl_record.specs.Heads.{HeadAt, MeasuresAt, Point}
+use Rattle.cl_record.specs.Marks.{Mark, begins, closes, draw, marks_of, marks_of_all, opens}
 use Rattle.cl_record.specs.Shifts.{IsShift, still}
 use Rattle.cl_record.specs.Trees.{Tree, Trees, leaf, none, piece, shown, tree}
 use Rattle.cl_record.specs.declared.summaries.Summary.{Summary}
@@ -22,18 +22,31 @@ pub record HoldsCorners (r other : Rect) : Type 0 where
   pub first : HoldsPoint r (record { x = other.x1; y = other.y1 })
   pub last : HoldsPoint r (record { x = other.x2; y = other.y2 })
 
+-- an extent is in the range and holds the start and the end, and the box of the items and of the extents of the updates inside
+pub record IsHeld (m : MeasuresAt) (inside_box : Option Rect) : Type 0 where
+  pub range : IsInRange m.extent
+  pub start : HoldsPoint m.extent m.start
+  pub end : HoldsPoint m.extent m.end
+  pub inside : IfSome inside_box (HoldsCorners m.extent)
+
 -- where what a branch holds is in the range, if it holds an item or an update; else it does not move
 abbrev pub IsPlaceOf : Shift → Option Rect → Type 0
 IsPlaceOf p None = p ≡ still
 IsPlaceOf p (Some r) = IsInRange (moved p r)
 
+module _ {A : Type 0} (bounds : A → Rect) where
+  -- each item and the extent of each update that begins
+  abbrev pub AreInRange : List (Mark A) → Type 0
+  AreInRange [] = Unit {0}
+  AreInRange (draw a ∷ marks) = IsInRange (bounds a) × AreInRange marks
+  AreInRange (opens l ∷ marks) = AreInRange marks
+  AreInRange (begins h ∷ marks) = IsInRange h.measures.extent × AreInRange marks
+  AreInRange (closes ∷ marks) = AreInRange marks
+
 module _ {A : Type 0} (bounds : A → Rect) (move : Shift → A → A) where
-  -- an update's extent is in the range and holds its start and its end, the items inside and the extents of the updates inside
-  pub record IsMeasured (h : HeadAt) (ts : Trees A) : Type 0 where
-    pub range : IsInRange h.measures.extent
-    pub start : HoldsPoint h.measures.extent h.measures.start
-    pub end : HoldsPoint h.measures.extent h.measures.end
-    pub inside : IfSome (extent_box bounds (marks_of_all move ts)) (HoldsCorners h.measures.extent)
+  -- what the head of an update says is so
+  abbrev pub IsMeasured : HeadAt → Trees A → Type 0
+  IsMeasured h ts = IsHeld h.measures (extent_box bounds (marks_of_all move ts))
 
   -- what each tree keeps: all that it holds is in the range, and each update is measured
   abbrev mutual
