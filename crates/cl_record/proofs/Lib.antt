@@ -1,6 +1,9 @@
 pub mod Moves
-pub mod Rows
 pub mod Replayed
+pub mod Boxes
+pub mod Ranges
+pub mod Rows
+pub mod Walks
 pub mod Regions
+pub mod Outside
 pub mod Lined
-pub mod Counted

@@ -1,16 +1,22 @@
 -- Moves of marks and trees.
-use Rattle.std.proofs.Common.{◌≡◌, ℤ, pos, ◌+ℤ◌, List, [], ◌∷◌, ◌++◌, Option, Some, None, refl, ◌∙◌, ap, sym, subst, arith}
+use Rattle.std.proofs.Common.{◌≡◌, ℤ, pos, ◌+ℤ◌, Bool, true, false, List, [], ◌∷◌, ◌++◌, Option, Some, None, refl, ◌∙◌, ap, sym, arith}
 use Rattle.std.proofs.lemmas.Int.{ints}
-use Rattle.cl_region.specs.Places.{IsInRange, moved}
+use Rattle.std.specs.Prelude.{if◌then◌else◌}
+use Rattle.cl_region.specs.Places.{moved}
 use Rattle.cl_region.specs.declared.rects.Rect.{Rect}
 use Rattle.cl_region.specs.declared.rects.Shift.{Shift}
+use Rattle.cl_region.proofs.Corners.{and_left, and_right, wrong}
+use Rattle.cl_record.specs.Labels.{LabelAt}
 use Rattle.cl_record.specs.Heads.{HeadAt, Point, head_moved, margin_moved, origin_moved, point_moved}
 use Rattle.cl_record.specs.Marks.{Mark, all_moved, begins, closes, draw, mark_moved, marks_of, marks_of_all, opens}
-use Rattle.cl_record.specs.Shifts.{IsShift, joined, still}
-use Rattle.cl_record.specs.Trees.{StayInRange, StaysInRange, Tree, leaf, piece, shown, tree_moved}
+use Rattle.cl_record.specs.Shifts.{joined, still}
+use Rattle.cl_record.specs.Trees.{Tree, Trees, are_bare, is_bare, leaf, none, piece, shown, tree, tree_moved}
 
 pub shift_is : (v : Shift) (a b : ℤ) → a ≡ v.dx → b ≡ v.dy → ◌≡◌ {A = Shift} (record { dx = a; dy = b }) v
 shift_is v a b e f = rw (e, f) refl
+
+pub place_is : (P : Point → Type 0) (x y a b : ℤ) → a ≡ x → b ≡ y → P (record { x = a; y = b }) → P (record { x = x; y = y })
+place_is P x y a b e f h = rw (← e, ← f) h
 
 joined_up : (a b c : ℤ) → (a +ℤ b) +ℤ c ≡ a +ℤ (b +ℤ c)
 joined_up a b c = omega (arith, ints)
@@ -31,7 +37,7 @@ module _ {A : Type 0} (move : Shift → A → A) where
 
 -- ---- two moves are one
 
-moved_twice : (v w : Shift) (r : Rect) → moved w (moved v r) ≡ moved (joined v w) r
+pub moved_twice : (v w : Shift) (r : Rect) → moved w (moved v r) ≡ moved (joined v w) r
 moved_twice v w r =
     rw (joined_up r.x1 v.dx w.dx, joined_up r.y1 v.dy w.dy, joined_up r.x2 v.dx w.dx, joined_up r.y2 v.dy w.dy) refl
 
@@ -72,10 +78,40 @@ module _ {A : Type 0} (move : Shift → A → A) (twice : (v w : Shift) (a : A) 
       let rest = all_twice v w ms in
       λ i. first i ∷ rest i
 
+  -- what draws no item and no update is the same elsewhere
+  bare-around : (v : Shift) (l : LabelAt) (ms : List (Mark A)) → all_moved move v ms ≡ ms
+      → all_moved move v (opens l ∷ (ms ++ closes ∷ [])) ≡ opens l ∷ (ms ++ closes ∷ [])
+  bare-around v l ms h =
+      ap (λ (ks : List (Mark A)). opens l ∷ ks) (all_moved-append move v ms (closes ∷ []) ∙ ap (λ (ks : List (Mark A)). ks ++ closes ∷ []) h)
+
+  bare-branch : (v p : Shift) (l : LabelAt) (ms : List (Mark A)) → ((w : Shift) → all_moved move w ms ≡ ms)
+      → all_moved move v (all_moved move p (opens l ∷ (ms ++ closes ∷ []))) ≡ all_moved move p (opens l ∷ (ms ++ closes ∷ []))
+  bare-branch v p l ms h =
+      ap (λ (ks : List (Mark A)). all_moved move v ks) (bare-around p l ms (h p))
+      ∙ (bare-around v l ms (h v) ∙ sym (bare-around p l ms (h p)))
+
+  mutual
+    bare-tree : (v : Shift) (t : Tree A) → is_bare t ≡ true → all_moved move v (marks_of move t) ≡ marks_of move t
+    bare-tree v (leaf a) e = absurd (wrong e)
+    bare-tree v (shown l p ts) e = bare-branch v p l (marks_of_all move ts) (λ w. bare-row w ts e)
+    bare-tree v (piece h p ts) e = absurd (wrong e)
+
+    bare-row : (v : Shift) (ts : Trees A) → are_bare ts ≡ true → all_moved move v (marks_of_all move ts) ≡ marks_of_all move ts
+    bare-row v none e = refl
+    bare-row v (tree t ts) e =
+        let first = bare-tree v t (and_left (is_bare t) (are_bare ts) e) in
+        let rest = bare-row v ts (and_right (is_bare t) (are_bare ts) e) in
+        all_moved-append move v (marks_of move t) (marks_of_all move ts) ∙ (λ i. first i ++ rest i)
+
+  marks-shown : (b : Bool) (v p : Shift) (l : LabelAt) (ts : Trees A) → are_bare ts ≡ b
+      → marks_of move (shown l (if b then p else joined p v) ts) ≡ all_moved move v (marks_of move (shown l p ts))
+  marks-shown true v p l ts e = sym (bare-branch v p l (marks_of_all move ts) (λ w. bare-row w ts e))
+  marks-shown false v p l ts e = sym (all_twice p v (opens l ∷ (marks_of_all move ts ++ closes ∷ [])))
+
   -- a tree that is moved draws the same elsewhere
   pub marks-tree_moved : (v : Shift) (t : Tree A) → marks_of move (tree_moved move v t) ≡ all_moved move v (marks_of move t)
   marks-tree_moved v (leaf a) = refl
-  marks-tree_moved v (shown l p ts) = sym (all_twice p v (opens l ∷ (marks_of_all move ts ++ closes ∷ [])))
+  marks-tree_moved v (shown l p ts) = marks-shown (are_bare ts) v p l ts refl
   marks-tree_moved v (piece h p ts) = sym (all_twice p v (begins h ∷ (marks_of_all move ts ++ closes ∷ [])))
 
 margin-still : (m : Option ℤ) → margin_moved still m ≡ m
@@ -115,14 +151,3 @@ module _ {A : Type 0} (move : Shift → A → A) (stays : (a : A) → move (reco
       let first = mark-still m in
       let rest = all-still ms in
       λ i. first i ∷ rest i
-
-module _ {A : Type 0} (bounds : A → Rect) (move : Shift → A → A) (bounds_move : (v : Shift) (a : A) → bounds (move v a) ≡ moved v (bounds a)) where
-  -- where a tree may be moved to, it may stand
-  pub stays-tree_moved : (v : Shift) (t : Tree A) → StaysInRange bounds v t → StaysInRange bounds still (tree_moved move v t)
-  stays-tree_moved v (leaf a) h = subst IsInRange (sym (moved-still (bounds (move v a)) ∙ bounds_move v a)) h
-  stays-tree_moved v (shown l p ts) h =
-      let P : Shift → Type 0 = λ s. IsShift s × StayInRange bounds s ts in
-      subst P (sym (joined-still (joined p v))) h
-  stays-tree_moved v (piece k p ts) h =
-      let P : Shift → Type 0 = λ s. IsShift s × IsInRange (moved s k.measures.extent) × StayInRange bounds s ts in
-      subst P (sym (joined-still (joined p v))) h

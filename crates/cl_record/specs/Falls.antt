@@ -6,7 +6,7 @@ use Rattle.cl_record.specs.Seen.{forest_of, tree_of}
 use Rattle.cl_record.specs.Trees.{size_of, size_of_all}
 use Rattle.cl_record.specs.declared.nodes.Node.{Node}
 use Rattle.cl_record.specs.declared.nodes.Node.TheVariants as node
-use Rattle.cl_record.specs.declared.nodes.Nodes.TheDeep.{deep-Node}
+use Rattle.cl_record.specs.declared.branches.Piece.TheDeep.{deep-Node}
 use denote.Param.Weighed.{most}
 
 module _ {A : Type 0} (g : Ghosts A) where

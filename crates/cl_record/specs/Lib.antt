@@ -6,9 +6,10 @@ pub mod Branches
 pub mod Marks
 pub mod Replays
 pub mod Counts
+pub mod Boxes
+pub mod Ranges
 pub mod Printed
 pub mod Lines
 pub mod TreeLines
-pub mod Placed
 pub mod Seen
 pub mod Falls

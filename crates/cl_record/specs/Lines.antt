@@ -32,7 +32,7 @@ item_line i = shape_line i.shape i.area
 
 -- the type's name and what is presented
 abbrev pub label_line : LabelAt → List ℕ
-label_line l = codes "presentation " ++ l.type_name ++ 32 ∷ printed l.object
+label_line l = codes "presentation " ++ l.spec.name ++ 32 ∷ printed l.object
 
 -- the form with its query and the id
 abbrev pub head_line : HeadAt → List ℕ

@@ -1,16 +1,14 @@
 -- Records of output as trees. What a branch holds stands relative to the place of the branch, and so does what its head says.
-use Rattle.std.specs.Prelude.{◌≡◌, ℕ, ◌+◌, ℤ, List, [], ◌∷◌, refl}
+use Rattle.std.specs.Prelude.{◌≡◌, ℕ, ◌+◌, ℤ, Bool, true, false, ◌&&◌, if◌then◌else◌, List, [], ◌∷◌, refl}
 use Rattle.std.proofs.Common.{ap}
 use Rattle.std.proofs.lemmas.Bool.{eqb-false}
 use Rattle.std.specs.Coded.{Coded, code_by, coded_ℤ, coded×}
 use base.Stored.{Gv, gnil, gnum, gcons}
 use Rattle.cl_value.specs.Data.{code_head, code_kind, code_tail, has_parts}
-use Rattle.cl_region.specs.Places.{IsInRange, moved}
-use Rattle.cl_region.specs.declared.rects.Rect.{Rect}
 use Rattle.cl_region.specs.declared.rects.Shift.{Shift}
 use Rattle.cl_record.specs.Heads.{HeadAt, head_code}
 use Rattle.cl_record.specs.Labels.{LabelAt, label_code}
-use Rattle.cl_record.specs.Shifts.{IsShift, joined, still}
+use Rattle.cl_record.specs.Shifts.{joined, still}
 
 mutual
   -- over the items A: an item, a presentation with its label, or an update with its head, these with their places
@@ -41,10 +39,21 @@ module _ {A : Type 0} where
   children_of (shown l p ts) = ts
   children_of (piece h p ts) = ts
 
-  -- the same tree elsewhere; what it holds stays as it is
+  -- whether there is neither an item nor an update in it, at any depth
+  abbrev mutual
+    pub is_bare : Tree A → Bool
+    is_bare (leaf a) = false
+    is_bare (shown l p ts) = are_bare ts
+    is_bare (piece h p ts) = false
+
+    pub are_bare : Trees A → Bool
+    are_bare none = true
+    are_bare (tree t ts) = is_bare t && are_bare ts
+
+  -- the same tree elsewhere; what it holds stays as it is. Where a presentation holds no item and no update there is nothing to move.
   abbrev pub tree_moved : (Shift → A → A) → Shift → Tree A → Tree A
   tree_moved move v (leaf a) = leaf (move v a)
-  tree_moved move v (shown l p ts) = shown l (joined p v) ts
+  tree_moved move v (shown l p ts) = shown l (if are_bare ts then p else joined p v) ts
   tree_moved move v (piece h p ts) = piece h (joined p v) ts
 
   -- ---- measure
@@ -52,25 +61,12 @@ module _ {A : Type 0} where
   abbrev mutual
     pub size_of : Tree A → ℕ
     size_of (leaf a) = 1
-    size_of (shown l p ts) = 2 + size_of_all ts
-    size_of (piece h p ts) = 2 + size_of_all ts
+    size_of (shown l p ts) = 4 + size_of_all ts
+    size_of (piece h p ts) = 4 + size_of_all ts
 
     pub size_of_all : Trees A → ℕ
     size_of_all none = 0
     size_of_all (tree t ts) = size_of t + size_of_all ts
-
-  -- ---- range
-
-  -- moved so far, each item and the extent of each update is in the range, and each place, summed up, is a move within it
-  abbrev mutual
-    pub StaysInRange : (A → Rect) → Shift → Tree A → Type 0
-    StaysInRange bounds v (leaf a) = IsInRange (moved v (bounds a))
-    StaysInRange bounds v (shown l p ts) = IsShift (joined p v) × StayInRange bounds (joined p v) ts
-    StaysInRange bounds v (piece h p ts) = IsShift (joined p v) × IsInRange (moved (joined p v) h.measures.extent) × StayInRange bounds (joined p v) ts
-
-    pub StayInRange : (A → Rect) → Shift → Trees A → Type 0
-    StayInRange bounds v none = Unit {0}
-    StayInRange bounds v (tree t ts) = StaysInRange bounds v t × StayInRange bounds v ts
 
 -- ---- how the logic stores trees
 

@@ -1,5 +1,5 @@
 //! The history of a pane.
-ghost use Rattle.std.specs.Prelude.{◌≡◌, ◌<◌, ◌^◌, ◌++◌, ◌∷◌, ℤ, [], OnErr, OnOk, true};
+ghost use Rattle.std.specs.Prelude.{◌≡◌, ◌++◌, ◌∷◌, ℤ, [], OnErr, OnOk, true};
 ghost use Rattle.cl_region.specs.Places.{held, holds};
 ghost use Rattle.cl_record.specs.Counts.{count_of};
 ghost use Rattle.cl_record.specs.Lines.{history_lines};
@@ -7,7 +7,6 @@ ghost use Rattle.cl_record.specs.Marks.{history_marks};
 ghost use Rattle.cl_record.specs.Replays.{Paints, drawn, painted, touching};
 
 use crate::canvases::Canvas;
-use crate::counting::count_inside;
 use crate::lines::Printable;
 use crate::nodes::Nodes;
 use crate::printing::print_inside;
@@ -78,10 +77,9 @@ impl<L: Leaf> History<L> {
 
     /// How many items it draws.
     pub fn count(&self) -> u64
-        requires { count_of (history_marks L.moved_by self.now) < 2 ^ 64 }
         ensures { result ≡ count_of (history_marks L.moved_by self.now) }
     {
-        count_inside(&self.nodes)
+        self.nodes.count()
     }
 
     /// Paints exactly the leaves whose bounds share a place with the region, in order. So each place of
@@ -113,8 +111,9 @@ impl<L: Leaf> History<L> {
         ensures rects { (x y : ℤ) → C.shows canvas.old x y ≡ true → held rects.now x y ≡ true
             → C.cell canvas.new x y ≡ painted L.cell (drawn (history_marks L.moved_by self.now)) x y (C.cell canvas.old x y) }
     {
-        let _ = self.nodes.as_slice();
-        replay_inside(&self.nodes, STILL, STILL, rects, canvas);
+        // What the rows keep is known from here on.
+        let _ = self.nodes.summary();
+        replay_inside(&self.nodes, STILL, rects, canvas);
     }
 }
 
@@ -127,9 +126,10 @@ impl<L: Printable> History<L> {
             (out.new.items ≡ out.old.items ++ history_lines L.line_of L.moved_by self.now) }
         ensures unchanged { OnErr result (out.new.items ≡ out.old.items) }
     {
-        let _ = self.nodes.as_slice();
+        // What the rows keep is known from here on.
+        let _ = self.nodes.summary();
         let mut lines = Vec::new(alloc);
-        print_inside(alloc, &self.nodes, STILL, STILL, b"", &mut lines)?;
+        print_inside(alloc, &self.nodes, STILL, b"", &mut lines)?;
         out.append(&mut lines)?;
         Ok(())
     }

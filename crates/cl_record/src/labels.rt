@@ -2,15 +2,17 @@
 ghost use Rattle.std.specs.Prelude.{◌≡◌};
 ghost use Rattle.cl_value.specs.Value.{data_of};
 
-use cl_value::{Text, Value};
+use cl_syntax::TypeSpec;
+use cl_value::Value;
 use std::marker::Model;
+use std::rc::Rc;
 
-/// What is presented, the name of its type, and whether the presentation is sensitive all over its box
+/// What is presented, the specifier of its type, which copies share, and whether the presentation is sensitive all over its box
 /// and not only where its items are.
 #[derive(Drop)]
 pub struct Label {
     object: Value,
-    type_name: Text,
+    spec: Rc<TypeSpec>,
     single_box: bool,
 }
 
@@ -23,18 +25,18 @@ impl Model for Label {
     ghost coded = { label_code };
 
     ghost view = { λ l. record
-        { object = data_of l.object; type_name = l.type_name; single_box = l.single_box } };
+        { object = data_of l.object; spec = l.spec.value; single_box = l.single_box } };
 }
 
 impl Label {
     /// The label of these parts.
-    pub fn new(object: Value, type_name: Text, single_box: bool) -> Label
+    pub fn new(object: Value, spec: Rc<TypeSpec>, single_box: bool) -> Label
         ensures { result
-            ≡ record { object = data_of object; type_name = type_name; single_box = single_box } }
+            ≡ record { object = data_of object; spec = spec.value; single_box = single_box } }
     {
         Label {
             object,
-            type_name,
+            spec,
             single_box,
         }
     }
@@ -46,11 +48,11 @@ impl Label {
         &self.object
     }
 
-    /// The name of its type.
-    pub fn type_name(&self) -> &Text
-        ensures { result.now ≡ self.now.type_name }
+    /// The specifier of its type.
+    pub fn spec(&self) -> &Rc<TypeSpec>
+        ensures { result.now.value ≡ self.now.spec }
     {
-        &self.type_name
+        &self.spec
     }
 
     /// Whether it is sensitive all over its box.

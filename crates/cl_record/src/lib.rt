@@ -1,23 +1,29 @@
 //! Records of output: what was drawn, as a tree of presentations and updates with leaves, and its replay.
 #![tactic(auto)]
 
+mod branches;
 mod canvases;
-mod counting;
-mod fitting;
 mod heads;
 mod histories;
 mod labels;
+mod laws;
 mod lines;
+mod measuring;
 mod nodes;
 mod printing;
 mod replaying;
 mod shifts;
+mod summaries;
 mod values;
 
+pub use branches::{Piece, Presented};
 pub use canvases::Canvas;
 pub use heads::{Head, Measures};
 pub use histories::History;
 pub use labels::Label;
+pub use laws::{moves_keep_all_in_range, updates_move_by_their_extent};
 pub use lines::Printable;
-pub use nodes::{Node, Nodes, Piece, Presented};
+pub use measuring::is_measured;
+pub use nodes::{Node, Nodes};
 pub use shifts::STILL;
+pub use summaries::{Summary, around};

@@ -1,15 +1,19 @@
 //! The tree of records.
-ghost use Rattle.std.specs.Prelude.{◌≡◌, ◌++◌, ◌∷◌, ◌↔◌, [], IsTrue, OnErr, OnOk, map};
+ghost use Rattle.std.specs.Prelude.{◌≡◌, ◌++◌, ◌∷◌, ◌↔◌, [], IfOk, IsTrue, OnErr, OnOk, map};
 ghost use Rattle.cl_record.specs.Seen.{forest_of, tree_of};
-ghost use Rattle.cl_region.specs.Places.{IsInRange};
-ghost use Rattle.cl_record.specs.Marks.{all_moved, marks_of};
-ghost use Rattle.cl_record.specs.Shifts.{IsShift, joined, still};
-ghost use Rattle.cl_record.specs.Trees.{StaysInRange, StayInRange, children_of, leaf, piece, place_of, shown, tree_moved, trees_of};
+ghost use Rattle.cl_record.specs.Boxes.{bottom_of, summary_of};
+ghost use Rattle.cl_record.specs.Counts.{count_of};
+ghost use Rattle.cl_record.specs.Marks.{all_moved, history_marks, marks_of};
+ghost use Rattle.cl_record.specs.Ranges.{AreSound, IsMeasured, IsSound, StaysInRange};
+ghost use Rattle.cl_record.specs.Replays.{drawn};
+ghost use Rattle.cl_record.specs.Shifts.{still};
+ghost use Rattle.cl_record.specs.Trees.{children_of, leaf, piece, place_of, shown, tree_moved, trees_of};
 
-use crate::fitting::node_fits;
+use crate::branches::{Piece, Presented};
 use crate::heads::Head;
 use crate::labels::Label;
-use crate::shifts::{STILL, joined};
+use crate::shifts::STILL;
+use crate::summaries::{NOTHING, Summary};
 use cl_medium::Leaf;
 use cl_region::Shift;
 use std::alloc::{AllocError, Global};
@@ -24,69 +28,18 @@ pub enum Node<L: Leaf> {
     Update(Piece<L>),
 }
 
-/// What is presented, with the records that present it, which stand relative to its place.
-#[cycle(node)]
-#[derive(Drop)]
-pub struct Presented<L: Leaf> {
-    label: Label,
-    place: Shift,
-    inside: Nodes<L>,
-}
-
-/// What an update's body drew. The records inside and the head stand relative to its place.
-#[cycle(node)]
-#[derive(Drop)]
-pub struct Piece<L: Leaf> {
-    head: Head,
-    place: Shift,
-    inside: Nodes<L>,
-}
-
-/// Records in a row, seen as their trees.
+/// Records in a row, seen as their trees. What they come to is kept beside them.
 #[cycle(node)]
 #[derive(Drop)]
 pub struct Nodes<L: Leaf> {
     items: Vec<Node<L>>,
-}
-
-impl<L: Leaf> Model for Presented<L> {
-    ghost use Rattle.std.specs.Prelude.{◌+◌};
-    ghost use Rattle.std.proofs.Common.{arith};
-    ghost use Rattle.cl_record.specs.Branches.{ShownAt, shown_code};
-    ghost use Rattle.cl_record.specs.Trees.{size_of_all, trees_of};
-
-    ghost Value = { ShownAt L };
-
-    ghost coded = { shown_code L.code };
-
-    ghost view = { λ s. record { label = s.label; place = s.place; inside = s.inside } };
-
-    ghost size = { λ s. 1 + size_of_all (trees_of s.inside) };
-
-    ghost size_decreases = { λ s h. Prim.omega arith };
-}
-
-impl<L: Leaf> Model for Piece<L> {
-    ghost use Rattle.std.specs.Prelude.{◌+◌};
-    ghost use Rattle.std.proofs.Common.{arith};
-    ghost use Rattle.cl_record.specs.Branches.{PieceAt, piece_code};
-    ghost use Rattle.cl_record.specs.Trees.{size_of_all, trees_of};
-
-    ghost Value = { PieceAt L };
-
-    ghost coded = { piece_code L.code };
-
-    ghost view = { λ p. record { head = p.head; place = p.place; inside = p.inside } };
-
-    ghost size = { λ p. 1 + size_of_all (trees_of p.inside) };
-
-    ghost size_decreases = { λ p h. Prim.omega arith };
+    summary: Summary,
 }
 
 impl<L: Leaf> Model for Nodes<L> {
     ghost use Rattle.std.specs.Prelude.{List, map};
     ghost use Rattle.std.specs.Coded.{coded_list};
-    ghost use Rattle.cl_record.specs.Placed.{ArePlaced};
+    ghost use Rattle.cl_record.specs.Ranges.{IsRow};
     ghost use Rattle.cl_record.specs.Trees.{Tree, size_of_all, tree_code, trees_of};
 
     ghost Value = { List (Tree L) };
@@ -97,7 +50,7 @@ impl<L: Leaf> Model for Nodes<L> {
 
     ghost view = { λ a. map tree_of a.items.items };
 
-    ghost invariant = { λ a. ArePlaced L.Leaf (forest_of a.items.items) };
+    ghost invariant = { λ a. IsRow L.bounds L.moved_by (forest_of a.items.items) a.summary };
 
     ghost size = { λ ts. size_of_all (trees_of ts) };
 
@@ -107,108 +60,26 @@ impl<L: Leaf> Model for Nodes<L> {
     ghost size_decreases = { λ a h. Prim.omega (arith, most-size L.Leaf a.items.items) };
 }
 
-impl<L: Leaf> Presented<L> {
-    /// What it presents.
-    pub fn label(&self) -> &Label
-        ensures { result.now ≡ self.now.label }
-    {
-        &self.label
-    }
-
-    /// Where it stands.
-    pub fn place(&self) -> Shift
-        ensures { result ≡ self.now.place }
-    {
-        self.place
-    }
-
-    /// The records that it holds, relative to its place.
-    pub fn inside(&self) -> &Nodes<L>
-        ensures { result.now ≡ self.now.inside }
-    {
-        &self.inside
-    }
-
-    /// The records that it holds, relative to its place, which are not copied.
-    pub fn into_inside(self) -> Nodes<L>
-        ensures { result ≡ self.inside }
-    {
-        self.inside
-    }
-
-    fn shift(&mut self, by: Shift)
-        requires { IsShift (joined self.old.place by) }
-        ensures { self.new ≡ record self.old { place = joined self.old.place by } }
-    {
-        self.place = joined(self.place, by);
-    }
-}
-
-impl<L: Leaf> Piece<L> {
-    /// Its head, in its own coordinates.
-    pub fn head(&self) -> &Head
-        ensures { result.now ≡ self.now.head }
-    {
-        &self.head
-    }
-
-    /// Where it stands.
-    pub fn place(&self) -> Shift
-        ensures { result ≡ self.now.place }
-    {
-        self.place
-    }
-
-    /// The records that it holds, relative to its place.
-    pub fn inside(&self) -> &Nodes<L>
-        ensures { result.now ≡ self.now.inside }
-    {
-        &self.inside
-    }
-
-    /// The records that it holds, relative to its place, which are not copied.
-    pub fn into_inside(self) -> Nodes<L>
-        ensures { result ≡ self.inside }
-    {
-        self.inside
-    }
-
-    fn shift(&mut self, by: Shift)
-        requires { IsShift (joined self.old.place by) }
-        ensures { self.new ≡ record self.old { place = joined self.old.place by } }
-    {
-        self.place = joined(self.place, by);
-    }
-}
-
 impl<L: Leaf> Node<L> {
     /// A presentation of these records, of which there may be none. It leaves them where they are: its
-    /// place is (0, 0) until it is moved.
-    pub fn presentation(label: Label, inside: Nodes<L>) -> Node<L>
-        ensures tree { tree_of result ≡ shown label still (trees_of inside) }
-        ensures range { StaysInRange L.bounds still (tree_of result) }
+    /// place is (0, 0) until it is moved. Where memory is wanting, all is given up.
+    pub fn presentation(
+        alloc: Global,
+        label: Label,
+        inside: Nodes<L>,
+    ) -> Result<Node<L>, AllocError>
+        ensures { IfOk result (λ node. tree_of node ≡ shown label still (trees_of inside)) }
     {
-        let _ = &inside.items;
-        Node::Presentation(Presented {
-            label,
-            place: STILL,
-            inside,
-        })
+        Ok(Node::Presentation(Presented::new(alloc, label, inside)?))
     }
 
     /// An update that drew these records, of which there may be none. It leaves them where they are: its
-    /// place is (0, 0) until it is moved.
-    pub fn update(head: Head, inside: Nodes<L>) -> Node<L>
-        requires { IsInRange head.measures.extent }
-        ensures tree { tree_of result ≡ piece head still (trees_of inside) }
-        ensures range { StaysInRange L.bounds still (tree_of result) }
+    /// place is (0, 0) until it is moved. Where memory is wanting, all is given up.
+    pub fn update(alloc: Global, head: Head, inside: Nodes<L>) -> Result<Node<L>, AllocError>
+        requires { IsMeasured L.bounds L.moved_by head (trees_of inside) }
+        ensures { IfOk result (λ node. tree_of node ≡ piece head still (trees_of inside)) }
     {
-        let _ = &inside.items;
-        Node::Update(Piece {
-            head,
-            place: STILL,
-            inside,
-        })
+        Ok(Node::Update(Piece::new(alloc, head, inside)?))
     }
 
     /// Where what it holds stands; a leaf keeps its own place.
@@ -233,19 +104,41 @@ impl<L: Leaf> Node<L> {
         }
     }
 
-    /// Whether it may be moved so far: the sums of places stay within the range, and so do its items and
-    /// the extents of its updates, at any depth.
-    pub fn fits(&self, by: Shift) -> bool
-        ensures { IsTrue result ↔ StaysInRange L.bounds by (tree_of self.now) }
+    /// What it comes to, without a walk through it.
+    pub fn summary(&self) -> Summary
+        ensures value { result ≡ summary_of L.bounds (marks_of L.moved_by (tree_of self.now)) }
+        ensures sound { IsSound L.bounds L.moved_by (tree_of self.now) }
     {
-        node_fits(self, by)
+        match self {
+            Node::Leaf(leaf) => Summary::of_item(leaf.bounds()),
+            Node::Presentation(presented) => presented.summary(),
+            Node::Update(piece) => piece.summary(),
+        }
     }
 
-    /// Moves it with all that it holds, in constant time: what it holds stays as it is.
+    /// The greatest `y2` of the bounds of its items; None where there is none.
+    pub fn bottom(&self) -> Option<i64>
+        ensures { result ≡ bottom_of L.bounds (drawn (marks_of L.moved_by (tree_of self.now))) }
+    {
+        Some(self.summary().items?.y2)
+    }
+
+    /// Whether it may be moved so far: its items and the extents of its updates, at any depth, stay in the
+    /// range.
+    pub fn fits(&self, by: Shift) -> bool
+        ensures { IsTrue result ↔ StaysInRange L.bounds L.moved_by by (tree_of self.now) }
+    {
+        match self.summary().extents {
+            Some(extents) => extents.fits(by),
+            None => true,
+        }
+    }
+
+    /// Moves it with all that it holds, in constant time: what it holds stays as it is. A presentation in
+    /// which there is neither an item nor an update stays where it is.
     pub fn shift(&mut self, by: Shift)
-        requires { StaysInRange L.bounds by (tree_of self.old) }
+        requires { StaysInRange L.bounds L.moved_by by (tree_of self.old) }
         ensures tree { tree_of self.new ≡ tree_moved L.moved_by by (tree_of self.old) }
-        ensures range { StaysInRange L.bounds still (tree_of self.new) }
         ensures marks { marks_of L.moved_by (tree_of self.new)
             ≡ all_moved L.moved_by by (marks_of L.moved_by (tree_of self.old)) }
     {
@@ -264,13 +157,14 @@ impl<L: Leaf> Nodes<L> {
     {
         Nodes {
             items: Vec::new(alloc),
+            summary: NOTHING,
         }
     }
 
     /// The records in their order.
     pub fn as_slice(&self) -> &[Node<L>]
         ensures nodes { map tree_of result.now ≡ self.now }
-        ensures range { StayInRange L.bounds still (forest_of result.now) }
+        ensures sound { AreSound L.bounds L.moved_by (forest_of result.now) }
     {
         self.items.as_slice()
     }
@@ -278,33 +172,63 @@ impl<L: Leaf> Nodes<L> {
     /// The records in their order, which are not copied.
     pub fn into_vec(self) -> Vec<Node<L>>
         ensures nodes { map tree_of result.items ≡ self }
-        ensures range { StayInRange L.bounds still (forest_of result.items) }
+        ensures sound { AreSound L.bounds L.moved_by (forest_of result.items) }
     {
         self.items
     }
 
-    /// Puts a record behind the others. Where memory is wanting, the record is given up.
+    /// What they come to, without a walk through them.
+    pub fn summary(&self) -> Summary
+        ensures value { result ≡ summary_of L.bounds (history_marks L.moved_by self.now) }
+        ensures sound { AreSound L.bounds L.moved_by (trees_of self.now) }
+    {
+        self.summary
+    }
+
+    /// How many items they draw.
+    pub fn count(&self) -> u64
+        ensures { result ≡ count_of (history_marks L.moved_by self.now) }
+    {
+        self.summary().count
+    }
+
+    /// The greatest `y2` of the bounds of their items; None where there is none.
+    pub fn bottom(&self) -> Option<i64>
+        ensures { result ≡ bottom_of L.bounds (drawn (history_marks L.moved_by self.now)) }
+    {
+        Some(self.summary().items?.y2)
+    }
+
+    /// Puts a record behind the others. Where memory is wanting, or there would be more items than can be
+    /// counted, the record is given up.
     pub fn push(&mut self, node: Node<L>) -> Result<(), AllocError>
-        requires { StaysInRange L.bounds still (tree_of node) }
         ensures ok { OnOk result (self.new ≡ self.old ++ tree_of node ∷ []) }
         ensures err { OnErr result (self.new ≡ self.old) }
     {
+        let Some(summary) = self.summary.join(node.summary()) else {
+            return Err(AllocError);
+        };
         self.items.push(node)?;
+        self.summary = summary;
         Ok(())
     }
 
     /// Puts the other records behind its own. Where it holds none, it takes the row as it is, without memory.
-    /// Where memory is wanting, the others are given up.
+    /// Where memory is wanting, or there would be more items than can be counted, the others are given up.
     pub fn append(&mut self, other: Nodes<L>) -> Result<(), AllocError>
         ensures ok { OnOk result (self.new ≡ self.old ++ other) }
         ensures err { OnErr result (self.new ≡ self.old) }
     {
-        let mut items = other.items;
         if self.items.is_empty() {
-            self.items = items;
+            *self = other;
             return Ok(());
         }
+        let Some(summary) = self.summary.join(other.summary) else {
+            return Err(AllocError);
+        };
+        let mut items = other.items;
         self.items.append(&mut items)?;
+        self.summary = summary;
         Ok(())
     }
 
@@ -313,5 +237,6 @@ impl<L: Leaf> Nodes<L> {
         ensures { self.new ≡ [] }
     {
         self.items.clear();
+        self.summary = NOTHING;
     }
 }

@@ -2,10 +2,10 @@
 ghost use Rattle.std.specs.Prelude.{◌≡◌, ◌++◌, ◌∷◌, [], IfOk, OnOk};
 ghost use Rattle.cl_region.specs.Places.{IsInRange, moved};
 ghost use Rattle.cl_record.specs.Lines.{head_line, label_line};
-ghost use Rattle.cl_record.specs.Shifts.{IsShift, joined};
+ghost use Rattle.cl_record.specs.Ranges.{ArePlaced, IsPlaced};
 ghost use Rattle.cl_record.specs.Seen.{tree_of};
 ghost use Rattle.cl_record.specs.TreeLines.{row_lines, tree_lines};
-ghost use Rattle.cl_record.specs.Trees.{StayInRange, StaysInRange, trees_of};
+ghost use Rattle.cl_record.specs.Trees.{trees_of};
 
 use crate::heads::Head;
 use crate::labels::Label;
@@ -25,7 +25,7 @@ fn print_node<L: Printable>(
     margin: &[u8],
     out: &mut Vec<Text>,
 ) -> Result<(), AllocError>
-    requires { StaysInRange L.bounds at (tree_of node.now) }
+    requires { IsPlaced L.bounds L.moved_by at (tree_of node.now) }
     ensures { OnOk result (out.new.items
         ≡ out.old.items ++ tree_lines L.line_of L.moved_by margin.now at (tree_of node.now)) }
 {
@@ -34,49 +34,33 @@ fn print_node<L: Printable>(
         Node::Presentation(presented) => {
             print_label(alloc, presented.label(), margin, out)?;
             let deeper = deeper(alloc, margin)?;
-            print_inside(
-                alloc,
-                presented.inside(),
-                presented.place(),
-                at,
-                deeper.as_slice(),
-                out,
-            )?
+            let at = joined(presented.place(), at);
+            print_inside(alloc, presented.inside(), at, deeper.as_slice(), out)?
         }
         Node::Update(piece) => {
             print_head(alloc, piece.head(), margin, out)?;
             let deeper = deeper(alloc, margin)?;
-            print_inside(
-                alloc,
-                piece.inside(),
-                piece.place(),
-                at,
-                deeper.as_slice(),
-                out,
-            )?
+            let at = joined(piece.place(), at);
+            print_inside(alloc, piece.inside(), at, deeper.as_slice(), out)?
         }
     }
     Ok(())
 }
 
-// The same of what a branch with this place holds.
+// The same of what a branch holds.
 #[cycle(print)]
 pub(crate) fn print_inside<L: Printable>(
     alloc: Global,
     inside: &Nodes<L>,
-    place: Shift,
     at: Shift,
     margin: &[u8],
     out: &mut Vec<Text>,
 ) -> Result<(), AllocError>
-    requires place { IsShift (joined place at) }
-    requires range { StayInRange L.bounds (joined place at) (trees_of inside.now) }
+    requires { ArePlaced L.bounds L.moved_by at (trees_of inside.now) }
     ensures { OnOk result (out.new.items
         ≡ out.old.items
-        ++ row_lines L.line_of L.moved_by margin.now (joined place at)
-        (trees_of inside.now)) }
+        ++ row_lines L.line_of L.moved_by margin.now at (trees_of inside.now)) }
 {
-    let at = joined(place, at);
     for node in inside.as_slice() {
         print_node(alloc, node, at, margin, out)?;
     }

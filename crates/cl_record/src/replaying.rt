@@ -1,11 +1,11 @@
 //! The replay of records.
-ghost use Rattle.std.specs.Prelude.{◌≡◌, ◌∷◌, []};
+ghost use Rattle.std.specs.Prelude.{◌≡◌, ◌∷◌, [], IsFalse};
 ghost use Rattle.cl_region.specs.Places.{IsInRange, moved};
 ghost use Rattle.cl_record.specs.Marks.{all_moved, marks_of, marks_of_all};
+ghost use Rattle.cl_record.specs.Ranges.{ArePlaced, IsPlaced};
 ghost use Rattle.cl_record.specs.Replays.{Paints, drawn, meets_one, touching};
-ghost use Rattle.cl_record.specs.Shifts.{IsShift, joined};
 ghost use Rattle.cl_record.specs.Seen.{tree_of};
-ghost use Rattle.cl_record.specs.Trees.{StayInRange, StaysInRange, trees_of};
+ghost use Rattle.cl_record.specs.Trees.{trees_of};
 
 use crate::canvases::Canvas;
 use crate::nodes::{Node, Nodes};
@@ -40,7 +40,7 @@ fn replay_leaf<L: Leaf, C: Canvas<L>>(leaf: &L, at: Shift, rects: &[Rect], canva
 // Paints the leaves of a record, moved by `at`, that share a place with one of the rectangles.
 #[cycle(replay)]
 fn replay_node<L: Leaf, C: Canvas<L>>(node: &Node<L>, at: Shift, rects: &[Rect], canvas: &mut C)
-    requires { StaysInRange L.bounds at (tree_of node.now) }
+    requires { IsPlaced L.bounds L.moved_by at (tree_of node.now) }
     ensures { Paints C.shows C.cell C.keeps L.cell canvas.old canvas.new
         (touching L.bounds rects.now
         (drawn (all_moved L.moved_by at (marks_of L.moved_by (tree_of node.now))))) }
@@ -48,30 +48,46 @@ fn replay_node<L: Leaf, C: Canvas<L>>(node: &Node<L>, at: Shift, rects: &[Rect],
     match node {
         Node::Leaf(leaf) => replay_leaf(leaf, at, rects, canvas),
         Node::Presentation(presented) => {
-            replay_inside(presented.inside(), presented.place(), at, rects, canvas)
+            let at = joined(presented.place(), at);
+            replay_inside(presented.inside(), at, rects, canvas)
         }
-        Node::Update(piece) => replay_inside(piece.inside(), piece.place(), at, rects, canvas),
+        Node::Update(piece) => {
+            let at = joined(piece.place(), at);
+            replay_inside(piece.inside(), at, rects, canvas)
+        }
     }
 }
 
-// Paints the leaves of what a branch with this place holds, moved by `at` too, that share a place with
-// one of the rectangles.
+// Paints the leaves of what a branch holds, moved by `at`, that share a place with one of the
+// rectangles. It looks no further where the box of all of them shares none.
 #[cycle(replay)]
 pub(crate) fn replay_inside<L: Leaf, C: Canvas<L>>(
     inside: &Nodes<L>,
-    place: Shift,
     at: Shift,
     rects: &[Rect],
     canvas: &mut C,
 )
-    requires place { IsShift (joined place at) }
-    requires range { StayInRange L.bounds (joined place at) (trees_of inside.now) }
+    requires { ArePlaced L.bounds L.moved_by at (trees_of inside.now) }
     ensures { Paints C.shows C.cell C.keeps L.cell canvas.old canvas.new
-        (touching L.bounds rects.now (drawn (all_moved L.moved_by (joined place at)
+        (touching L.bounds rects.now (drawn (all_moved L.moved_by at
         (marks_of_all L.moved_by (trees_of inside.now))))) }
 {
-    let at = joined(place, at);
-    for node in inside.as_slice() {
-        replay_node(node, at, rects, canvas);
+    if row_meets(inside, at, rects) {
+        for node in inside.as_slice() {
+            replay_node(node, at, rects, canvas);
+        }
+    }
+}
+
+// Whether the box of the items of a row, moved by `at`, shares a place with one of the rectangles. Where
+// it does not, no item of them does.
+fn row_meets<L: Leaf>(inside: &Nodes<L>, at: Shift, rects: &[Rect]) -> bool
+    requires { ArePlaced L.bounds L.moved_by at (trees_of inside.now) }
+    ensures { IsFalse result → touching L.bounds rects.now
+        (drawn (all_moved L.moved_by at (marks_of_all L.moved_by (trees_of inside.now)))) ≡ [] }
+{
+    match inside.summary().items {
+        Some(items) => meets_one(rects, &items.shifted(at)),
+        None => false,
     }
 }

@@ -1,15 +1,14 @@
 //! What no clause says: that calls succeed while there is memory, and which leaves are painted.
-ghost use Rattle.cl_region.specs.Places.{IsInRange};
-
 use cl_medium::{
     Ambient, AnyLeaf, Drawn, Leaf, draw_box, draw_text, enter_room, fill_box, leave_room,
 };
-use cl_record::{Canvas, Head, History, Label, Measures, Node, Nodes, STILL};
+use cl_record::{Canvas, Head, History, Label, Measures, Node, Nodes, STILL, is_measured};
 use cl_region::{Rect, Region, Shift};
-use cl_syntax::Site;
+use cl_syntax::{Site, TypeSpec};
 use cl_value::{Text, Value, Values};
 use std::alloc::{AllocError, Global};
 use std::process::Abort;
+use std::rc::Rc;
 use std::test::Fail;
 
 const WIDTH: usize = 6;
@@ -45,16 +44,10 @@ impl Canvas<AnyLeaf> for Page {
 }
 
 fn push(nodes: &mut Nodes<AnyLeaf>, drawn: Drawn) -> Result<(), Fail> {
-    if let Drawn::Item(leaf) = drawn {
-        push_node(nodes, Node::Leaf(leaf))?;
-    }
-    Ok(())
-}
-
-fn push_node(nodes: &mut Nodes<AnyLeaf>, node: Node<AnyLeaf>) -> Result<(), Fail> {
-    if node.fits(STILL) {
-        nodes.push(node)?;
-    }
+    let Drawn::Item(leaf) = drawn else {
+        return Err("no item is drawn".into());
+    };
+    nodes.push(Node::Leaf(leaf))?;
     Ok(())
 }
 
@@ -81,6 +74,19 @@ fn drawing(alloc: Global) -> Result<Nodes<AnyLeaf>, Fail> {
 
 // A presentation of a list, in which is an update of a filled area, both moved.
 fn branches(alloc: Global) -> Result<Nodes<AnyLeaf>, Fail> {
+    let right = Shift { dx: 3, dy: 0 };
+    let update = shifted(filled_update(alloc)?, right)?;
+    let mut inside = Nodes::new(alloc);
+    inside.push(update)?;
+    let down = Shift { dx: -1, dy: 2 };
+    let presentation = Node::presentation(alloc, label(alloc, object(alloc)?)?, inside)?;
+    let mut nodes = Nodes::new(alloc);
+    nodes.push(shifted(presentation, down)?)?;
+    Ok(nodes)
+}
+
+// An update of a filled area.
+fn filled_update(alloc: Global) -> Result<Node<AnyLeaf>, Fail> {
     let mut inner = Nodes::new(alloc);
     push(&mut inner, fill_box(&Ambient::start(), 0, 0, 2, 1, b'*'))?;
     let head = Head::new(
@@ -89,27 +95,27 @@ fn branches(alloc: Global) -> Result<Nodes<AnyLeaf>, Fail> {
         Some(Values::new(alloc)),
         measures(),
     );
-    let mut update = Node::update(head, inner);
-    let right = Shift { dx: 3, dy: 0 };
-    if update.fits(right) {
-        update.shift(right);
+    if !is_measured(&head, &inner) {
+        return Err("the extent does not hold the area".into());
     }
-    let mut inside = Nodes::new(alloc);
-    push_node(&mut inside, update)?;
-    let label = Label::new(object(alloc)?, Text::from_slice(alloc, b"entry")?, true);
-    let mut presentation = Node::presentation(label, inside);
-    let down = Shift { dx: -1, dy: 2 };
-    if presentation.fits(down) {
-        presentation.shift(down);
-    }
-    let mut nodes = Nodes::new(alloc);
-    push_node(&mut nodes, presentation)?;
-    Ok(nodes)
+    Ok(Node::update(alloc, head, inner)?)
 }
 
-fn measures() -> Measures
-    ensures { IsInRange result.extent }
-{
+fn shifted(node: Node<AnyLeaf>, by: Shift) -> Result<Node<AnyLeaf>, Fail> {
+    let mut node = node;
+    if !node.fits(by) {
+        return Err("it does not fit".into());
+    }
+    node.shift(by);
+    Ok(node)
+}
+
+fn label(alloc: Global, object: Value) -> Result<Label, AllocError> {
+    let name = Text::from_slice(alloc, b"entry")?;
+    Ok(Label::new(object, Rc::new(alloc, TypeSpec { name })?, true))
+}
+
+fn measures() -> Measures {
     Measures {
         cost: 1,
         reach: 1,
@@ -273,6 +279,67 @@ fn branches_are_printed(rt: HostRuntime) -> Result<(), Fail> {
             b"  update 70.0 -5",
             b"    fill 2 2 2 1 0 *",
         ],
+    )?;
+    Ok(())
+}
+
+#[test]
+fn a_row_is_put_behind_another(rt: HostRuntime) -> Result<(), Fail> {
+    let mut nodes = Nodes::new(rt.alloc());
+    assert!(rt; nodes.bottom().is_none());
+    nodes.append(drawing(rt.alloc())?)?;
+    nodes.append(branches(rt.alloc())?)?;
+    nodes.append(Nodes::new(rt.alloc()))?;
+    assert_eq!(rt; nodes.bottom(), Some(4));
+    assert_eq!(rt; History::from_nodes(nodes).count(), 4);
+    Ok(())
+}
+
+#[test]
+fn a_piece_is_kept_elsewhere(rt: HostRuntime) -> Result<(), Fail> {
+    let alloc = rt.alloc();
+    let place = Shift { dx: 1, dy: 2 };
+    let mut nodes = Nodes::new(alloc);
+    let update = filled_update(alloc)?;
+    let Node::Update(piece) = &update else {
+        return Err("no update".into());
+    };
+    assert!(rt; piece.head().measures().extent.fits(place));
+    nodes.push(Node::Update(piece.copy_at(place)?))?;
+    nodes.push(update)?;
+    assert_lines(
+        &rt,
+        &History::from_nodes(nodes),
+        &[
+            b"update 70.0 -5",
+            b"  fill 1 2 2 1 0 *",
+            b"update 70.0 -5",
+            b"  fill 0 0 2 1 0 *",
+        ],
+    )?;
+    Ok(())
+}
+
+#[test]
+fn an_empty_presentation_stays(rt: HostRuntime) -> Result<(), Fail> {
+    let alloc = rt.alloc();
+    let mut inside = Nodes::new(alloc);
+    let inner = Node::presentation(alloc, label(alloc, Value::Null)?, Nodes::new(alloc))?;
+    inside.push(inner)?;
+    let outer = Node::presentation(alloc, label(alloc, Value::Int(1))?, inside)?;
+    let far = Shift {
+        dx: 3_000_000,
+        dy: -3_000_000,
+    };
+    let outer = shifted(outer, far)?;
+    assert!(rt; outer.place() == STILL);
+    assert!(rt; outer.bottom().is_none());
+    let mut nodes = Nodes::new(alloc);
+    nodes.push(outer)?;
+    assert_lines(
+        &rt,
+        &History::from_nodes(nodes),
+        &[b"presentation entry 1", b"  presentation entry null"],
     )?;
     Ok(())
 }

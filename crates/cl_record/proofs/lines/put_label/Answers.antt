@@ -7,5 +7,5 @@ glued a b c d x =
 
 pub returns : goal.returns
 returns c =
-    rw (c.in_ok-put_value.ensures, c.object.ensures, c.in_ok-push.ensures.items, c.in_ok-extend_from_slice-2.ensures.items, c.as_slice.ensures, c.type_name.ensures, c.in_ok-extend_from_slice.ensures.items)
-    (glued c.args.line.now.items _ c.args.label.now.type_name _ 32)
+    rw (c.in_ok-put_value.ensures, c.object.ensures, c.in_ok-push.ensures.items, c.in_ok-extend_from_slice-2.ensures.items, c.as_slice.ensures, c.deref.ensures, c.spec.ensures, c.in_ok-extend_from_slice.ensures.items)
+    (glued c.args.line.now.items _ c.args.label.now.spec.name _ 32)

@@ -1,7 +1,7 @@
 use Rattle.std.proofs.Common.{◌+◌, ◌*◌, drop}
 use Rattle.cl_record.specs.Seen.{forest_of, tree_of}
 use Rattle.cl_record.specs.Trees.{size_of, size_of_all, trees_of}
-use Rattle.cl_record.proofs.Replayed.{GoesOn}
+use Rattle.cl_record.proofs.Walks.{GoesOn}
 use Rattle.cl_record.proofs.replaying.+replay.Given as goal
 
 abbrev pub invariant-replay_inside-loop-node : goal.invariant-replay_inside-loop-node

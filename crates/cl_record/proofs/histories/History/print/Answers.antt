@@ -1,5 +1,11 @@
+use Rattle.cl_record.specs.Trees.{trees_of}
+use Rattle.cl_record.proofs.Ranges.{placed-still}
 use Rattle.cl_record.proofs.Lined.{row_lines-history}
 use Rattle.cl_record.proofs.histories.History.print.Goals as goal
+
+pub print_inside-requires : goal.print_inside-requires
+print_inside-requires g c =
+    placed-still g.L.Leaf.bounds g.L.Leaf.moved_by g.met.L.Leaf.moves_bounds (trees_of c.self.inside.nodes) c.summary.ensures.sound
 
 pub returns-clause-ok : goal.returns-clause-ok
 returns-clause-ok g c =

@@ -2,8 +2,14 @@ use Rattle.std.proofs.Common.{◌∙◌, List, subst}
 use Rattle.cl_record.specs.Marks.{Mark, history_marks}
 use Rattle.cl_record.specs.Replays.{Paints, drawn, painted, touching}
 use Rattle.cl_record.proofs.Moves.{all-still}
+use Rattle.cl_record.specs.Trees.{trees_of}
+use Rattle.cl_record.proofs.Ranges.{placed-still}
 use Rattle.cl_record.proofs.Regions.{painted-touching, shown_cell}
 use Rattle.cl_record.proofs.histories.History.replay_rects.Goals as goal
+
+pub replay_inside-requires : goal.replay_inside-requires
+replay_inside-requires g c =
+    placed-still g.L.Leaf.bounds g.L.Leaf.moved_by g.met.L.Leaf.moves_bounds (trees_of c.self.inside.nodes) c.summary.ensures.sound
 
 pub returns-clause-paints : goal.returns-clause-paints
 returns-clause-paints g c =

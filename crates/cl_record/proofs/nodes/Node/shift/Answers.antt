@@ -2,8 +2,8 @@ use Rattle.std.proofs.Common.{◌∙◌, ap}
 use Rattle.cl_record.specs.Marks.{marks_of}
 use Rattle.cl_record.specs.Seen.{tree_of}
 use Rattle.cl_record.specs.declared.nodes.Node.TheVariants as node
-use Rattle.cl_record.specs.declared.nodes.Piece.{Piece}
-use Rattle.cl_record.specs.declared.nodes.Presented.{Presented}
+use Rattle.cl_record.specs.declared.branches.Piece.{Piece}
+use Rattle.cl_record.specs.declared.branches.Presented.{Presented}
 use Rattle.cl_record.proofs.Moves.{marks-tree_moved}
 use Rattle.cl_record.proofs.nodes.Node.shift.Goals as goal
 

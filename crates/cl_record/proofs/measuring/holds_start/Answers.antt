@@ -1,0 +1,17 @@
+use Rattle.std.proofs.Common.{◌↔◌, rules, subst}
+use Rattle.std.specs.Prelude.{IsTrue}
+use Rattle.std.proofs.lemmas.Int.{to_z-of_z}
+use mir.Syntax.{w64}
+use mir.Val.{SFits}
+use Rattle.cl_medium.specs.Ambients.{AmbientAt}
+use Rattle.cl_record.specs.Heads.{Point}
+use Rattle.cl_record.specs.Ranges.{HoldsPoint}
+use Rattle.cl_record.proofs.Moves.{place_is}
+use Rattle.cl_record.proofs.measuring.holds_start.Goals as goal
+
+pub returns : goal.returns
+returns c =
+    let across : SFits w64 c.start.inside.x = search rules in
+    let down : SFits w64 c.start.inside.y = search rules in
+    subst (λ (s : AmbientAt). IsTrue c.holds_place.result ↔ HoldsPoint c.args.rect.now (record { x = s.x; y = s.y })) c.start.view_is
+    (place_is (λ (p : Point). IsTrue c.holds_place.result ↔ HoldsPoint c.args.rect.now p) c.start.inside.x c.start.inside.y _ _ (to_z-of_z w64 _ across) (to_z-of_z w64 _ down) c.holds_place.ensures)
