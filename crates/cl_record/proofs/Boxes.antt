@@ -4,7 +4,7 @@ use Rattle.std.proofs.lemmas.Int.{ints, clamps}
 use Rattle.std.proofs.lemmas.List.{length-append}
 use Rattle.std.specs.Int.{int_max, int_min}
 use Rattle.std.specs.Option.{option_map}
-use Rattle.cl_region.specs.Places.{box, moved}
+use Rattle.cl_region.specs.Places.{box, move_rect}
 use Rattle.cl_region.specs.declared.rects.Rect.{Rect}
 use Rattle.cl_region.specs.declared.rects.Shift.{Shift}
 use Rattle.cl_region.proofs.Corners.{rect_is}
@@ -103,39 +103,39 @@ low-move a b c e d = rw (min-move (int_min a b) (int_min c e) d, min-move a b d,
 high-move : (a b c e d : ℤ) → int_max (int_max a b) (int_max c e) +ℤ d ≡ int_max (int_max (a +ℤ d) (b +ℤ d)) (int_max (c +ℤ d) (e +ℤ d))
 high-move a b c e d = rw (max-move (int_max a b) (int_max c e) d, max-move a b d, max-move c e d) refl
 
-pub box-move : (v : Shift) (a b : Rect) → moved v (box a b) ≡ box (moved v a) (moved v b)
+pub box-move : (v : Shift) (a b : Rect) → move_rect v (box a b) ≡ box (move_rect v a) (move_rect v b)
 box-move v a b = rw (min-move a.x1 b.x1 v.dx, min-move a.y1 b.y1 v.dy, max-move a.x2 b.x2 v.dx, max-move a.y2 b.y2 v.dy) refl
 
-pub around-move : (v : Shift) (a b : Rect) → moved v (around a b) ≡ around (moved v a) (moved v b)
+pub around-move : (v : Shift) (a b : Rect) → move_rect v (around a b) ≡ around (move_rect v a) (move_rect v b)
 around-move v a b =
     rw (low-move a.x1 a.x2 b.x1 b.x2 v.dx, low-move a.y1 a.y2 b.y1 b.y2 v.dy, high-move a.x1 a.x2 b.x1 b.x2 v.dx, high-move a.y1 a.y2 b.y1 b.y2 v.dy) refl
 
-join-move : (join : Rect → Rect → Rect) (v : Shift) → ((a b : Rect) → moved v (join a b) ≡ join (moved v a) (moved v b)) → (o p : Option Rect)
-    → option_map (moved v) (join_boxes join o p) ≡ join_boxes join (option_map (moved v) o) (option_map (moved v) p)
+join-move : (join : Rect → Rect → Rect) (v : Shift) → ((a b : Rect) → move_rect v (join a b) ≡ join (move_rect v a) (move_rect v b)) → (o p : Option Rect)
+    → option_map (move_rect v) (join_boxes join o p) ≡ join_boxes join (option_map (move_rect v) o) (option_map (move_rect v) p)
 join-move join v move None p = refl
 join-move join v move (Some a) None = refl
 join-move join v move (Some a) (Some b) = ap (λ (r : Rect). Some r) (move a b)
 
-module _ {A : Type 0} (bounds : A → Rect) (move : Shift → A → A) (bounds_move : (v : Shift) (a : A) → bounds (move v a) ≡ moved v (bounds a)) where
-  pub items_box-move : (v : Shift) (ms : List (Mark A)) → items_box bounds (drawn (all_moved move v ms)) ≡ option_map (moved v) (items_box bounds (drawn ms))
+module _ {A : Type 0} (bounds : A → Rect) (move : Shift → A → A) (bounds_move : (v : Shift) (a : A) → bounds (move v a) ≡ move_rect v (bounds a)) where
+  pub items_box-move : (v : Shift) (ms : List (Mark A)) → items_box bounds (drawn (all_moved move v ms)) ≡ option_map (move_rect v) (items_box bounds (drawn ms))
   items_box-move v [] = refl
   items_box-move v (draw a ∷ ms) =
       ap (λ (r : Rect). join_boxes box (Some r) (items_box bounds (drawn (all_moved move v ms)))) (bounds_move v a)
-      ∙ ap (λ (o : Option Rect). join_boxes box (Some (moved v (bounds a))) o) (items_box-move v ms)
+      ∙ ap (λ (o : Option Rect). join_boxes box (Some (move_rect v (bounds a))) o) (items_box-move v ms)
       ∙ sym (join-move box v (box-move v) (Some (bounds a)) (items_box bounds (drawn ms)))
   items_box-move v (opens l ∷ ms) = items_box-move v ms
   items_box-move v (begins h ∷ ms) = items_box-move v ms
   items_box-move v (closes ∷ ms) = items_box-move v ms
 
-  pub extent_box-move : (v : Shift) (ms : List (Mark A)) → extent_box bounds (all_moved move v ms) ≡ option_map (moved v) (extent_box bounds ms)
+  pub extent_box-move : (v : Shift) (ms : List (Mark A)) → extent_box bounds (all_moved move v ms) ≡ option_map (move_rect v) (extent_box bounds ms)
   extent_box-move v [] = refl
   extent_box-move v (draw a ∷ ms) =
       ap (λ (r : Rect). join_boxes around (Some r) (extent_box bounds (all_moved move v ms))) (bounds_move v a)
-      ∙ ap (λ (o : Option Rect). join_boxes around (Some (moved v (bounds a))) o) (extent_box-move v ms)
+      ∙ ap (λ (o : Option Rect). join_boxes around (Some (move_rect v (bounds a))) o) (extent_box-move v ms)
       ∙ sym (join-move around v (around-move v) (Some (bounds a)) (extent_box bounds ms))
   extent_box-move v (opens l ∷ ms) = extent_box-move v ms
   extent_box-move v (begins h ∷ ms) =
-      ap (λ (o : Option Rect). join_boxes around (Some (moved v h.measures.extent)) o) (extent_box-move v ms)
+      ap (λ (o : Option Rect). join_boxes around (Some (move_rect v h.measures.extent)) o) (extent_box-move v ms)
       ∙ sym (join-move around v (around-move v) (Some h.measures.extent) (extent_box bounds ms))
   extent_box-move v (closes ∷ ms) = extent_box-move v ms
 

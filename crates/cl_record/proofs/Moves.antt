@@ -2,7 +2,7 @@
 use Rattle.std.proofs.Common.{◌≡◌, ℤ, pos, ◌+ℤ◌, Bool, true, false, List, [], ◌∷◌, ◌++◌, Option, Some, None, refl, ◌∙◌, ap, sym, arith}
 use Rattle.std.proofs.lemmas.Int.{ints}
 use Rattle.std.specs.Prelude.{if◌then◌else◌}
-use Rattle.cl_region.specs.Places.{moved}
+use Rattle.cl_region.specs.Places.{move_rect}
 use Rattle.cl_region.specs.declared.rects.Rect.{Rect}
 use Rattle.cl_region.specs.declared.rects.Shift.{Shift}
 use Rattle.cl_region.proofs.Corners.{and_left, and_right, wrong}
@@ -27,7 +27,7 @@ unmoved a = omega (arith, ints)
 pub joined-still : (v : Shift) → joined v still ≡ v
 joined-still v = rw (unmoved v.dx, unmoved v.dy) refl
 
-pub moved-still : (r : Rect) → moved still r ≡ r
+pub moved-still : (r : Rect) → move_rect still r ≡ r
 moved-still r = rw (unmoved r.x1, unmoved r.y1, unmoved r.x2, unmoved r.y2) refl
 
 module _ {A : Type 0} (move : Shift → A → A) where
@@ -37,7 +37,7 @@ module _ {A : Type 0} (move : Shift → A → A) where
 
 -- ---- two moves are one
 
-pub moved_twice : (v w : Shift) (r : Rect) → moved w (moved v r) ≡ moved (joined v w) r
+pub moved_twice : (v w : Shift) (r : Rect) → move_rect w (move_rect v r) ≡ move_rect (joined v w) r
 moved_twice v w r =
     rw (joined_up r.x1 v.dx w.dx, joined_up r.y1 v.dy w.dy, joined_up r.x2 v.dx w.dx, joined_up r.y2 v.dy w.dy) refl
 

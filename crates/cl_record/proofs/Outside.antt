@@ -2,7 +2,7 @@
 use Rattle.std.proofs.Common.{◌≡◌, ℤ, ◌≤ℤ◌, Bool, true, false, List, [], ◌∷◌, Option, Some, None, refl, ◌∙◌, ap, sym, subst, arith}
 use Rattle.std.specs.Prelude.{if◌then◌else◌, int_le, ◌||◌, not, IfSome}
 use Rattle.std.proofs.lemmas.Int.{ints, clamps}
-use Rattle.cl_region.specs.Places.{box, common, is_thin}
+use Rattle.cl_region.specs.Places.{box, intersection, is_thin}
 use Rattle.cl_region.specs.declared.rects.Rect.{Rect}
 use Rattle.cl_region.proofs.Cuts.{or_elim, or_left, or_right}
 use Rattle.cl_record.specs.Boxes.{items_box, join_boxes}
@@ -40,10 +40,10 @@ from_test a b h = grind (arith, ints, h)
 to_test : (a b : ℤ) → a ≤ℤ b → int_le a b ≡ true
 to_test a b h = grind (arith, ints)
 
-thinner : (p r a : Rect) → Within r a → is_thin (common p r) ≡ true → is_thin (common p a) ≡ true
+thinner : (p r a : Rect) → Within r a → is_thin (intersection p r) ≡ true → is_thin (intersection p a) ≡ true
 thinner p r a w h =
-    let wide = common p r in
-    let part = common p a in
+    let wide = intersection p r in
+    let part = intersection p a in
     or_elim (int_le wide.x2 wide.x1) (int_le wide.y2 wide.y1)
     (λ e. let f = from_test wide.x2 wide.x1 e in
     or_left (int_le part.x2 part.x1) (int_le part.y2 part.y1) (to_test part.x2 part.x1 (omega (arith, ints, clamps, f, w.left, w.right))))
@@ -65,8 +65,8 @@ neither false c h k = absurd (cc)
 meets_less : (rects : List Rect) (r a : Rect) → Within r a → meets_one rects r ≡ false → meets_one rects a ≡ false
 meets_less [] r a w h = refl
 meets_less (p ∷ ps) r a w h =
-    let both = parts (is_thin (common p r)) (meets_one ps r) h in
-    neither (is_thin (common p a)) (meets_one ps a) (thinner p r a w both.0) (meets_less ps r a w both.1)
+    let both = parts (is_thin (intersection p r)) (meets_one ps r) h in
+    neither (is_thin (intersection p a)) (meets_one ps a) (thinner p r a w both.0) (meets_less ps r a w both.1)
 
 module _ {A : Type 0} (bounds : A → Rect) where
   left_out : (b : Bool) (a : A) (rest : List A) → b ≡ false → rest ≡ [] → ◌≡◌ {A = List A} (if b then a ∷ rest else rest) []

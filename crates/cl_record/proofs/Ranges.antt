@@ -4,7 +4,7 @@ use Rattle.std.specs.Prelude.{IfSome, ◌&&◌, not, if◌then◌else◌, is_non
 use Rattle.std.specs.Int.{int_max, int_min}
 use Rattle.std.specs.Option.{option_map}
 use Rattle.std.proofs.lemmas.Int.{ints, clamps}
-use Rattle.cl_region.specs.Places.{IsInRange, IsNear, box, moved}
+use Rattle.cl_region.specs.Places.{IsInRange, IsNear, box, move_rect}
 use Rattle.cl_region.specs.declared.rects.Rect.{Rect}
 use Rattle.cl_region.specs.declared.rects.Shift.{Shift}
 use Rattle.cl_region.proofs.Corners.{near-box, rect_is}
@@ -50,13 +50,13 @@ near-around a b h k = record {
   y2 = near-max _ _ (near-max _ _ h.y1 h.y2) (near-max _ _ k.y1 k.y2);
 }
 
-around-first : (v : Shift) (a b : Rect) → IsInRange (moved v (around a b)) → IsInRange (moved v a)
+around-first : (v : Shift) (a b : Rect) → IsInRange (move_rect v (around a b)) → IsInRange (move_rect v a)
 around-first v a b h =
     let columns = near-first a.x1 a.x2 b.x1 b.x2 v.dx h.x1 h.x2 in
     let rows = near-first a.y1 a.y2 b.y1 b.y2 v.dy h.y1 h.y2 in
     record { x1 = columns.0; y1 = rows.0; x2 = columns.1; y2 = rows.1 }
 
-around-second : (v : Shift) (a b : Rect) → IsInRange (moved v (around a b)) → IsInRange (moved v b)
+around-second : (v : Shift) (a b : Rect) → IsInRange (move_rect v (around a b)) → IsInRange (move_rect v b)
 around-second v a b h =
     let columns = near-second a.x1 a.x2 b.x1 b.x2 v.dx h.x1 h.x2 in
     let rows = near-second a.y1 a.y2 b.y1 b.y2 v.dy h.y1 h.y2 in
@@ -66,7 +66,7 @@ around-second v a b h =
 
 -- a box, if there is one, is in the range when it is moved so far
 abbrev pub Fits : Shift → Option Rect → Type 0
-Fits v o = IfSome o (λ r. IsInRange (moved v r))
+Fits v o = IfSome o (λ r. IsInRange (move_rect v r))
 
 fits-first : (v : Shift) (o p : Option Rect) → Fits v (join_boxes around o p) → Fits v o
 fits-first v None p h = tt
@@ -81,7 +81,7 @@ fits-second v (Some a) (Some b) h = around-second v a b h
 fits-box : (v : Shift) (o p : Option Rect) → Fits v o → Fits v p → Fits v (join_boxes box o p)
 fits-box v None p h k = k
 fits-box v (Some a) None h k = h
-fits-box v (Some a) (Some b) h k = rw (box-move v a b) (near-box (moved v a) (moved v b) h k)
+fits-box v (Some a) (Some b) h k = rw (box-move v a b) (near-box (move_rect v a) (move_rect v b) h k)
 
 range-join : (o p : Option Rect) → IfSome o IsInRange → IfSome p IsInRange → IfSome (join_boxes around o p) IsInRange
 range-join None p h k = k
@@ -98,7 +98,7 @@ pub still-place : (o : Option Rect) → IfSome o IsInRange → IsPlaceOf still o
 still-place None h = refl
 still-place (Some r) h = subst IsInRange (sym (moved-still r)) h
 
-fits-twice : (p v : Shift) (o : Option Rect) → Fits v (option_map (moved p) o) → Fits (joined p v) o
+fits-twice : (p v : Shift) (o : Option Rect) → Fits v (option_map (move_rect p) o) → Fits (joined p v) o
 fits-twice p v None h = tt
 fits-twice p v (Some r) h = subst IsInRange (moved_twice p v r) h
 
@@ -125,7 +125,7 @@ range-second None p h = h
 range-second (Some a) None h = tt
 range-second (Some a) (Some b) h = subst IsInRange (moved-still b) (around-second still a b (subst IsInRange (sym (moved-still (around a b))) h))
 
-fits-moved : (v : Shift) (o : Option Rect) → Fits v o ↔ IfSome (option_map (moved v) o) IsInRange
+fits-moved : (v : Shift) (o : Option Rect) → Fits v o ↔ IfSome (option_map (move_rect v) o) IsInRange
 fits-moved v None = ((λ h. h), (λ h. h))
 fits-moved v (Some r) = ((λ h. h), (λ h. h))
 
@@ -165,7 +165,7 @@ far : (z v : ℤ) → IsNear z → IsNear (z +ℤ v) → IsFar v
 far z v h k = record { low = omega (arith, ints, h.high, k.low); high = omega (arith, ints, h.low, k.high) }
 
 -- between two places in the range is a move within it
-pub shift_between : (v : Shift) (r : Rect) → IsInRange r → IsInRange (moved v r) → IsShift v
+pub shift_between : (v : Shift) (r : Rect) → IsInRange r → IsInRange (move_rect v r) → IsShift v
 shift_between v r h k = record { dx = far r.x1 v.dx h.x1 k.x1; dy = far r.y1 v.dy h.y1 k.y1 }
 
 unmoved : (v : Shift) → joined still v ≡ v
@@ -198,17 +198,17 @@ held_by e (Some r) h k l =
 
 -- ---- trees
 
-module _ {A : Type 0} (bounds : A → Rect) (move : Shift → A → A) (bounds_move : (v : Shift) (a : A) → bounds (move v a) ≡ moved v (bounds a)) where
+module _ {A : Type 0} (bounds : A → Rect) (move : Shift → A → A) (bounds_move : (v : Shift) (a : A) → bounds (move v a) ≡ move_rect v (bounds a)) where
   row_box : Trees A → Option Rect
   row_box ts = extent_box bounds (marks_of_all move ts)
 
   behind-close : (ms : List (Mark A)) → extent_box bounds (ms ++ closes ∷ []) ≡ extent_box bounds ms
   behind-close ms = extent_box-append bounds ms (closes ∷ []) ∙ join-none around (extent_box bounds ms)
 
-  extent-shown : (l : LabelAt) (p : Shift) (ts : Trees A) → extent_box bounds (marks_of move (shown l p ts)) ≡ option_map (moved p) (extent_box bounds (marks_of_all move ts))
+  extent-shown : (l : LabelAt) (p : Shift) (ts : Trees A) → extent_box bounds (marks_of move (shown l p ts)) ≡ option_map (move_rect p) (extent_box bounds (marks_of_all move ts))
   extent-shown l p ts =
       extent_box-move bounds move bounds_move p (opens l ∷ (marks_of_all move ts ++ closes ∷ []))
-      ∙ ap (λ (o : Option Rect). option_map (moved p) o) (behind-close (marks_of_all move ts))
+      ∙ ap (λ (o : Option Rect). option_map (move_rect p) o) (behind-close (marks_of_all move ts))
 
   extent-held : (h : HeadAt) (ts : Trees A) → IsMeasured bounds move h ts
       → extent_box bounds (begins h ∷ (marks_of_all move ts ++ closes ∷ [])) ≡ Some h.measures.extent
@@ -218,12 +218,12 @@ module _ {A : Type 0} (bounds : A → Rect) (move : Shift → A → A) (bounds_m
       ∙ held_by e (extent_box bounds (marks_of_all move ts)) (sides _ _ _ m.start.left m.start.right) (sides _ _ _ m.start.top m.start.bottom) m.inside
 
   extent-piece : (h : HeadAt) (p : Shift) (ts : Trees A) → IsMeasured bounds move h ts
-      → extent_box bounds (marks_of move (piece h p ts)) ≡ Some (moved p h.measures.extent)
+      → extent_box bounds (marks_of move (piece h p ts)) ≡ Some (move_rect p h.measures.extent)
   extent-piece h p ts m =
       extent_box-move bounds move bounds_move p (begins h ∷ (marks_of_all move ts ++ closes ∷ []))
-      ∙ ap (λ (o : Option Rect). option_map (moved p) o) (extent-held h ts m)
+      ∙ ap (λ (o : Option Rect). option_map (move_rect p) o) (extent-held h ts m)
 
-  placed-range : (p : Shift) (o : Option Rect) → IsPlaceOf p o → IfSome (option_map (moved p) o) IsInRange
+  placed-range : (p : Shift) (o : Option Rect) → IsPlaceOf p o → IfSome (option_map (move_rect p) o) IsInRange
   placed-range p None h = tt
   placed-range p (Some r) h = h
 
@@ -284,12 +284,12 @@ module _ {A : Type 0} (bounds : A → Rect) (move : Shift → A → A) (bounds_m
       }
 
   fits-piece : (v p : Shift) (k : HeadAt) (ts : Trees A) → IsMeasured bounds move k ts → StaysInRange bounds move v (piece k p ts)
-      → IsInRange (moved (joined p v) k.measures.extent)
+      → IsInRange (move_rect (joined p v) k.measures.extent)
   fits-piece v p k ts m h =
       subst IsInRange (moved_twice p v k.measures.extent) (subst (λ (o : Option Rect). Fits v o) (extent-piece k p ts m) h)
 
   -- what an update holds is in the range where its extent is
-  pub fits-inside : (v : Shift) (k : HeadAt) (ts : Trees A) → IsMeasured bounds move k ts → IsInRange (moved v k.measures.extent) → StayInRange bounds move v ts
+  pub fits-inside : (v : Shift) (k : HeadAt) (ts : Trees A) → IsMeasured bounds move k ts → IsInRange (move_rect v k.measures.extent) → StayInRange bounds move v ts
   fits-inside v k ts m h =
       fits-second v (Some k.measures.extent) (extent_box bounds (marks_of_all move ts))
       (subst (λ (o : Option Rect). Fits v o)
@@ -337,7 +337,7 @@ module _ {A : Type 0} (bounds : A → Rect) (move : Shift → A → A) (bounds_m
       )
 
   pub fits-extent : (v p : Shift) (k : HeadAt) (ts : Trees A) → IsSound bounds move (piece k p ts)
-      → StaysInRange bounds move v (piece k p ts) ↔ IsInRange (moved (joined p v) k.measures.extent)
+      → StaysInRange bounds move v (piece k p ts) ↔ IsInRange (move_rect (joined p v) k.measures.extent)
   fits-extent v p k ts s = (
     (λ h. fits-piece v p k ts s.1.0 h),
     (λ h. subst (λ (o : Option Rect). Fits v o) (sym (extent-piece k p ts s.1.0)) (subst IsInRange (sym (moved_twice p v k.measures.extent)) h)),
@@ -350,7 +350,7 @@ module _ {A : Type 0} (bounds : A → Rect) (move : Shift → A → A) (bounds_m
   none-join (Some a) None = refl
   none-join (Some a) (Some b) = refl
 
-  none-move : (v : Shift) (o : Option Rect) → is_none (option_map (moved v) o) ≡ is_none o
+  none-move : (v : Shift) (o : Option Rect) → is_none (option_map (move_rect v) o) ≡ is_none o
   none-move v None = refl
   none-move v (Some r) = refl
 
@@ -365,7 +365,7 @@ module _ {A : Type 0} (bounds : A → Rect) (move : Shift → A → A) (bounds_m
         bare-row ts
         ∙ sym (ap (λ (o : Option Rect). is_none o) (extent-shown l p ts) ∙ none-move p (extent_box bounds (marks_of_all move ts)))
     bare-tree (piece h p ts) =
-        sym (none-begun (moved p h.measures.extent) (extent_box bounds (all_moved move p (marks_of_all move ts ++ closes ∷ []))))
+        sym (none-begun (move_rect p h.measures.extent) (extent_box bounds (all_moved move p (marks_of_all move ts ++ closes ∷ []))))
 
     -- there is no box where there is neither an item nor an update
     pub bare-row : (ts : Trees A) → are_bare ts ≡ is_none (extent_box bounds (marks_of_all move ts))
@@ -398,10 +398,10 @@ module _ {A : Type 0} (bounds : A → Rect) (move : Shift → A → A) (bounds_m
 
   pub summary-piece : (p : Shift) (h : HeadAt) (ts : Trees A) → IsMeasured bounds move h ts
       → summary_of bounds (marks_of move (piece h p ts))
-      ≡ record (move_summary p (summary_of bounds (marks_of_all move ts))) { extents = Some (moved p h.measures.extent) }
+      ≡ record (move_summary p (summary_of bounds (marks_of_all move ts))) { extents = Some (move_rect p h.measures.extent) }
   summary-piece p h ts m =
       let inside = summary-close (marks_of_all move ts) in
       let extents = extent-piece h p ts m in
       let counts = ap (λ (s : Summary). s.count) (summary-inside p (begins h) (marks_of_all move ts)) ∙ ap (λ (s : Summary). s.count) inside in
-      let items = ap (λ (s : Summary). s.items) (summary-inside p (begins h) (marks_of_all move ts)) ∙ ap (λ (s : Summary). option_map (moved p) s.items) inside in
+      let items = ap (λ (s : Summary). s.items) (summary-inside p (begins h) (marks_of_all move ts)) ∙ ap (λ (s : Summary). option_map (move_rect p) s.items) inside in
       λ i. record { count = counts i; items = items i; extents = extents i }

@@ -2,7 +2,7 @@
 use Rattle.std.proofs.Common.{◌≡◌, ℤ, Bool, true, false, List, [], ◌∷◌, Option, Some, None, refl, ◌∙◌, ap, sym}
 use Rattle.std.specs.Prelude.{if◌then◌else◌, unwrap_or, ◌||◌, not}
 use Rattle.cl_medium.specs.Items.{Painted}
-use Rattle.cl_region.specs.Places.{common, held, holds, is_thin}
+use Rattle.cl_region.specs.Places.{intersection, one_holds, holds, is_thin}
 use Rattle.cl_region.specs.declared.rects.Rect.{Rect}
 use Rattle.cl_region.proofs.Corners.{both, common-holds, false_holds, thin_test, wrong}
 use Rattle.cl_region.proofs.Cuts.{is_not, or_elim, or_left, or_right}
@@ -12,13 +12,13 @@ thin_none : (r : Rect) (x y : ℤ) → holds r x y ≡ true → is_thin r ≡ tr
 thin_none r x y h t = false_holds (holds r x y) (((thin_test r (is_thin r) refl).0 t).holds_none x y) h
 
 -- rectangles that hold a place of another one meet it
-meets_held : (rects : List Rect) (r : Rect) (x y : ℤ) → held rects x y ≡ true → holds r x y ≡ true → meets_one rects r ≡ true
+meets_held : (rects : List Rect) (r : Rect) (x y : ℤ) → one_holds rects x y ≡ true → holds r x y ≡ true → meets_one rects r ≡ true
 meets_held [] r x y h k = absurd (wrong h)
 meets_held (p ∷ ps) r x y h k =
-    or_elim (holds p x y) (held ps x y)
-    (λ e. or_left (not (is_thin (common p r))) (meets_one ps r)
-    (is_not (is_thin (common p r)) (thin_none (common p r) x y (common-holds p r x y ∙ both (holds p x y) (holds r x y) e k))))
-    (λ e. or_right (not (is_thin (common p r))) (meets_one ps r) (meets_held ps r x y e k))
+    or_elim (holds p x y) (one_holds ps x y)
+    (λ e. or_left (not (is_thin (intersection p r))) (meets_one ps r)
+    (is_not (is_thin (intersection p r)) (thin_none (intersection p r) x y (common-holds p r x y ∙ both (holds p x y) (holds r x y) e k))))
+    (λ e. or_right (not (is_thin (intersection p r))) (meets_one ps r) (meets_held ps r x y e k))
     h
 
 module _ {A : Type 0} (bounds : A → Rect) (cell : A → ℤ → ℤ → Option Painted) (within : (a : A) (x y : ℤ) (c : Painted) → cell a x y ≡ Some c → holds (bounds a) x y ≡ true) where
@@ -32,7 +32,7 @@ module _ {A : Type 0} (bounds : A → Rect) (cell : A → ℤ → ℤ → Option
   step true a rest x y under f = refl
   step false a rest x y under f = ap (λ (p : Painted). painted cell rest x y p) (sym (f refl))
 
-  pub painted-touching : (rects : List Rect) (items : List A) (x y : ℤ) (under : Painted) → held rects x y ≡ true
+  pub painted-touching : (rects : List Rect) (items : List A) (x y : ℤ) (under : Painted) → one_holds rects x y ≡ true
       → painted cell (touching bounds rects items) x y under ≡ painted cell items x y under
   painted-touching rects [] x y under h = refl
   painted-touching rects (a ∷ items) x y under h =

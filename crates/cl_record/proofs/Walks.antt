@@ -2,7 +2,7 @@
 use Rattle.std.proofs.Common.{◌≡◌, ◌≤◌, ℤ, ◌+ℤ◌, Bool, true, false, List, [], ◌∷◌, ◌++◌, Option, refl, ◌∙◌, ap, sym, subst, arith}
 use Rattle.std.proofs.lemmas.List.{append-nil}
 use Rattle.cl_medium.specs.Items.{Painted}
-use Rattle.cl_region.specs.Places.{moved}
+use Rattle.cl_region.specs.Places.{move_rect}
 use Rattle.cl_region.specs.declared.rects.Rect.{Rect}
 use Rattle.cl_region.specs.declared.rects.Shift.{Shift}
 use Rattle.cl_record.specs.Heads.{HeadAt}
@@ -35,7 +35,7 @@ module _ {A K : Type 0} (shows : K → ℤ → ℤ → Bool) (at : K → ℤ →
     pub whole : (k : K) → Paints shows at keeps cell now k (touched v (marks_of_all move left)) → Paints shows at keeps cell first k (touched v (marks_of_all move all))
 
   pub goes_on : ((first second third : K) → keeps first second → keeps second third → keeps first third)
-      → ((v : Shift) (a : A) → bounds (move v a) ≡ moved v (bounds a))
+      → ((v : Shift) (a : A) → bounds (move v a) ≡ move_rect v (bounds a))
       → (v : Shift) (first now next : K) (all : Trees A) (t : Tree A) (left : Trees A) → GoesOn v first now all (tree t left)
       → Paints shows at keeps cell now next (touched v (marks_of move t)) → GoesOn v first next all left
   goes_on through bounds_move v first now next all t left h p = record {

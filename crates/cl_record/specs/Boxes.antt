@@ -2,7 +2,7 @@
 use Rattle.std.specs.Prelude.{ℕ, ◌+◌, ℤ, List, [], ◌∷◌, length, Option, Some, None}
 use Rattle.std.specs.Int.{int_max, int_min}
 use Rattle.std.specs.Option.{option_map}
-use Rattle.cl_region.specs.Places.{box, moved}
+use Rattle.cl_region.specs.Places.{box, move_rect}
 use Rattle.cl_region.specs.declared.rects.Rect.{Rect}
 use Rattle.cl_region.specs.declared.rects.Shift.{Shift}
 use Rattle.cl_record.specs.Marks.{Mark, begins, closes, draw, opens}
@@ -56,4 +56,4 @@ join_summaries a b = record {
 
 -- those of the same marks elsewhere
 abbrev pub move_summary : Shift → Summary → Summary
-move_summary v a = record { count = a.count; items = option_map (moved v) a.items; extents = option_map (moved v) a.extents }
+move_summary v a = record { count = a.count; items = option_map (move_rect v) a.items; extents = option_map (move_rect v) a.extents }

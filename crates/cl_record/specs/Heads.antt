@@ -2,7 +2,7 @@
 use Rattle.std.specs.Prelude.{ℕ, ℤ, ◌+ℤ◌, List, Option, Some, None, if◌then◌else◌, refl}
 use Rattle.std.specs.Coded.{Coded, code_by, coded_list, coded_option, coded_ℕ, coded_ℤ, coded×}
 use Rattle.cl_value.specs.Data.{Data, data_code}
-use Rattle.cl_region.specs.Places.{moved}
+use Rattle.cl_region.specs.Places.{move_rect}
 use Rattle.cl_region.specs.declared.rects.Rect.{Rect}
 use Rattle.cl_region.specs.declared.rects.Shift.{Shift}
 use Rattle.cl_record.specs.declared.heads.Measures.{Measures}
@@ -61,7 +61,7 @@ origin_moved v (Some p) = Some (point_moved v p)
 
 abbrev pub measures_moved : Shift → MeasuresAt → MeasuresAt
 measures_moved v m = record m {
-  extent = moved v m.extent;
+  extent = move_rect v m.extent;
   start = point_moved v m.start;
   margin = margin_moved v m.margin;
   origin = origin_moved v m.origin;

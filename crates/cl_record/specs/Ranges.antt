@@ -1,6 +1,6 @@
 -- Which trees hold together, and where they may stand.
 use Rattle.std.specs.Prelude.{◌≡◌, ℤ, ◌≤ℤ◌, List, [], ◌∷◌, Option, Some, None, IfSome}
-use Rattle.cl_region.specs.Places.{IsInRange, moved}
+use Rattle.cl_region.specs.Places.{IsInRange, move_rect}
 use Rattle.cl_region.specs.declared.rects.Rect.{Rect}
 use Rattle.cl_region.specs.declared.rects.Shift.{Shift}
 use Rattle.cl_record.specs.Boxes.{extent_box, summary_of}
@@ -32,7 +32,7 @@ pub record IsHeld (m : MeasuresAt) (inside_box : Option Rect) : Type 0 where
 -- where what a branch holds is in the range, if it holds an item or an update; else it does not move
 abbrev pub IsPlaceOf : Shift → Option Rect → Type 0
 IsPlaceOf p None = p ≡ still
-IsPlaceOf p (Some r) = IsInRange (moved p r)
+IsPlaceOf p (Some r) = IsInRange (move_rect p r)
 
 module _ {A : Type 0} (bounds : A → Rect) where
   -- each item and the extent of each update that begins
@@ -53,7 +53,7 @@ module _ {A : Type 0} (bounds : A → Rect) (move : Shift → A → A) where
     pub IsSound : Tree A → Type 0
     IsSound (leaf a) = IsInRange (bounds a)
     IsSound (shown l p ts) = AreSound ts × IsPlaceOf p (extent_box bounds (marks_of_all move ts))
-    IsSound (piece h p ts) = AreSound ts × (IsMeasured h ts × IsInRange (moved p h.measures.extent))
+    IsSound (piece h p ts) = AreSound ts × (IsMeasured h ts × IsInRange (move_rect p h.measures.extent))
 
     pub AreSound : Trees A → Type 0
     AreSound none = Unit {0}
@@ -61,11 +61,11 @@ module _ {A : Type 0} (bounds : A → Rect) (move : Shift → A → A) where
 
   -- moved so far, its items and the extents of its updates, at any depth, are in the range
   abbrev pub StaysInRange : Shift → Tree A → Type 0
-  StaysInRange v t = IfSome (extent_box bounds (marks_of move t)) (λ r. IsInRange (moved v r))
+  StaysInRange v t = IfSome (extent_box bounds (marks_of move t)) (λ r. IsInRange (move_rect v r))
 
   -- the same of trees in a row
   abbrev pub StayInRange : Shift → Trees A → Type 0
-  StayInRange v ts = IfSome (extent_box bounds (marks_of_all move ts)) (λ r. IsInRange (moved v r))
+  StayInRange v ts = IfSome (extent_box bounds (marks_of_all move ts)) (λ r. IsInRange (move_rect v r))
 
   -- a tree that holds together stands moved so far
   pub record IsPlaced (v : Shift) (t : Tree A) : Type 0 where

@@ -1,14 +1,14 @@
 -- What a replay paints: of the items in a history those that share a place with a region, in order.
 use Rattle.std.specs.Prelude.{◌≡◌, ℤ, Bool, false, ◌||◌, not, if◌then◌else◌, List, [], ◌∷◌, Option, unwrap_or}
 use Rattle.cl_medium.specs.Items.{Painted}
-use Rattle.cl_region.specs.Places.{common, is_thin}
+use Rattle.cl_region.specs.Places.{intersection, is_thin}
 use Rattle.cl_region.specs.declared.rects.Rect.{Rect}
 use Rattle.cl_record.specs.Marks.{Mark, begins, closes, draw, opens}
 
 -- the rectangle shares a place with one of the list
 abbrev pub meets_one : List Rect → Rect → Bool
 meets_one [] r = false
-meets_one (p ∷ ps) r = not (is_thin (common p r)) || meets_one ps r
+meets_one (p ∷ ps) r = not (is_thin (intersection p r)) || meets_one ps r
 
 module _ {A : Type 0} where
   -- the items that marks draw

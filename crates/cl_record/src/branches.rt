@@ -1,6 +1,6 @@
 //! Presentations and updates.
 ghost use Rattle.std.specs.Prelude.{◌≡◌, if◌then◌else◌, IfOk};
-ghost use Rattle.cl_region.specs.Places.{IsInRange, moved};
+ghost use Rattle.cl_region.specs.Places.{IsInRange, move_rect};
 ghost use Rattle.cl_record.specs.Boxes.{summary_of};
 ghost use Rattle.cl_record.specs.Marks.{marks_of};
 ghost use Rattle.cl_record.specs.Ranges.{IsMeasured, IsSound, StaysInRange};
@@ -186,7 +186,7 @@ impl<L: Leaf> Piece<L> {
     /// The same piece at this place. It shares what this one holds, and takes no memory: it fails only
     /// where one piece has as many owners as can be counted.
     pub fn copy_at(&self, place: Shift) -> Result<Piece<L>, AllocError>
-        requires { IsInRange (moved place self.now.head.measures.extent) }
+        requires { IsInRange (move_rect place self.now.head.measures.extent) }
         ensures { IfOk result (λ p. p ≡ record self.now { place = place }) }
     {
         let body = self.body.clone()?;

@@ -1,5 +1,5 @@
 //! What records are painted on.
-ghost use Rattle.cl_region.specs.Places.{IsInRange, moved};
+ghost use Rattle.cl_region.specs.Places.{IsInRange, move_rect};
 ghost use Rattle.std.specs.Prelude.{◌∷◌, []};
 ghost use Rattle.cl_record.specs.Replays.{Paints};
 
@@ -21,7 +21,7 @@ pub trait Canvas<L: Leaf> {
 
     /// Gives each place that it shows, and that the leaf, moved by `at`, paints, the leaf's cell.
     fn paint(&mut self, leaf: &L, at: Shift)
-        requires { IsInRange (moved at (L.bounds leaf.now)) }
+        requires { IsInRange (move_rect at (L.bounds leaf.now)) }
         ensures { Paints shows cell keeps L.cell self.old self.new (L.moved_by at leaf.now ∷ []) };
 
     ghost keeps_itself: { (canvas : Self) → keeps canvas canvas };

@@ -1,6 +1,6 @@
 //! The history of a pane.
 ghost use Rattle.std.specs.Prelude.{◌≡◌, ◌++◌, ◌∷◌, ℤ, [], OnErr, OnOk, true};
-ghost use Rattle.cl_region.specs.Places.{held, holds};
+ghost use Rattle.cl_region.specs.Places.{one_holds, holds};
 ghost use Rattle.cl_record.specs.Counts.{count_of};
 ghost use Rattle.cl_record.specs.Lines.{history_lines};
 ghost use Rattle.cl_record.specs.Marks.{history_marks};
@@ -88,7 +88,7 @@ impl<L: Leaf> History<L> {
     pub fn replay<C: Canvas<L>>(&self, region: &Region, canvas: &mut C)
         ensures paints { Paints C.shows C.cell C.keeps L.cell canvas.old canvas.new
             (touching L.bounds region.now (drawn (history_marks L.moved_by self.now))) }
-        ensures region { (x y : ℤ) → C.shows canvas.old x y ≡ true → held region.now x y ≡ true
+        ensures region { (x y : ℤ) → C.shows canvas.old x y ≡ true → one_holds region.now x y ≡ true
             → C.cell canvas.new x y ≡ painted L.cell (drawn (history_marks L.moved_by self.now)) x y (C.cell canvas.old x y) }
     {
         self.replay_rects(region.rects(), canvas);
@@ -108,7 +108,7 @@ impl<L: Leaf> History<L> {
     fn replay_rects<C: Canvas<L>>(&self, rects: &[Rect], canvas: &mut C)
         ensures paints { Paints C.shows C.cell C.keeps L.cell canvas.old canvas.new
             (touching L.bounds rects.now (drawn (history_marks L.moved_by self.now))) }
-        ensures rects { (x y : ℤ) → C.shows canvas.old x y ≡ true → held rects.now x y ≡ true
+        ensures rects { (x y : ℤ) → C.shows canvas.old x y ≡ true → one_holds rects.now x y ≡ true
             → C.cell canvas.new x y ≡ painted L.cell (drawn (history_marks L.moved_by self.now)) x y (C.cell canvas.old x y) }
     {
         // What the rows keep is known from here on.

@@ -1,6 +1,6 @@
 //! What the definitions of this crate say. The contracts are the laws.
 ghost use Rattle.std.specs.Prelude.{◌↔◌};
-ghost use Rattle.cl_region.specs.Places.{IsInRange, moved};
+ghost use Rattle.cl_region.specs.Places.{IsInRange, move_rect};
 ghost use Rattle.cl_region.specs.declared.rects.Shift.{Shift};
 ghost use Rattle.cl_record.specs.Heads.{HeadAt};
 ghost use Rattle.cl_record.specs.Marks.{all_moved, marks_of};
@@ -21,5 +21,5 @@ pub fn moves_keep_all_in_range<L: Leaf>()
 pub fn updates_move_by_their_extent<L: Leaf>()
     ensures { (v p : Shift) (h : HeadAt) (ts : Trees L) → IsSound L.bounds L.moved_by (piece h p ts)
         → StaysInRange L.bounds L.moved_by v (piece h p ts)
-        ↔ IsInRange (moved (joined p v) h.measures.extent) }
+        ↔ IsInRange (move_rect (joined p v) h.measures.extent) }
 {}

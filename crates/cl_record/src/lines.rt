@@ -1,7 +1,7 @@
 //! The lines of items and of openings.
 ghost use Rattle.std.specs.Prelude.{◌≡◌, ◌++◌, ◌∷◌, [], OnOk, pos};
 ghost use Rattle.std.specs.Fmt.{signed_decimal};
-ghost use Rattle.cl_region.specs.Places.{IsInRange, moved};
+ghost use Rattle.cl_region.specs.Places.{IsInRange, move_rect};
 ghost use Rattle.cl_record.specs.Lines.{head_line, item_line, label_line, numbers, shape_line};
 
 use crate::heads::Head;
@@ -22,7 +22,7 @@ pub trait Printable: Leaf {
     /// Puts its line behind a line, moved by `at`. Where memory is wanting, what stands in `out` then is
     /// not said.
     fn put_line(&self, at: Shift, out: &mut Vec<u8>) -> Result<(), AllocError>
-        requires { IsInRange (moved at (Self.bounds self.now)) }
+        requires { IsInRange (move_rect at (Self.bounds self.now)) }
         ensures { OnOk result
             (out.new.items ≡ out.old.items ++ line_of (Self.moved_by at self.now)) };
 }

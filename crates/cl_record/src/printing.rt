@@ -1,6 +1,6 @@
 //! The lines of a history.
 ghost use Rattle.std.specs.Prelude.{◌≡◌, ◌++◌, ◌∷◌, [], IfOk, OnOk};
-ghost use Rattle.cl_region.specs.Places.{IsInRange, moved};
+ghost use Rattle.cl_region.specs.Places.{IsInRange, move_rect};
 ghost use Rattle.cl_record.specs.Lines.{head_line, label_line};
 ghost use Rattle.cl_record.specs.Ranges.{ArePlaced, IsPlaced};
 ghost use Rattle.cl_record.specs.Seen.{tree_of};
@@ -83,7 +83,7 @@ fn print_item<L: Printable>(
     margin: &[u8],
     out: &mut Vec<Text>,
 ) -> Result<(), AllocError>
-    requires { IsInRange (moved at (L.bounds leaf.now)) }
+    requires { IsInRange (move_rect at (L.bounds leaf.now)) }
     ensures { OnOk result
         (out.new.items ≡ out.old.items ++ (margin.now ++ L.line_of (L.moved_by at leaf.now)) ∷ []) }
 {

@@ -1,6 +1,6 @@
 //! The replay of records.
 ghost use Rattle.std.specs.Prelude.{◌≡◌, ◌∷◌, [], IsFalse};
-ghost use Rattle.cl_region.specs.Places.{IsInRange, moved};
+ghost use Rattle.cl_region.specs.Places.{IsInRange, move_rect};
 ghost use Rattle.cl_record.specs.Marks.{all_moved, marks_of, marks_of_all};
 ghost use Rattle.cl_record.specs.Ranges.{ArePlaced, IsPlaced};
 ghost use Rattle.cl_record.specs.Replays.{Paints, drawn, meets_one, touching};
@@ -27,7 +27,7 @@ fn meets_one(rects: &[Rect], rect: &Rect) -> bool
 
 // Paints a leaf, moved by `at`, where it shares a place with one of the rectangles.
 fn replay_leaf<L: Leaf, C: Canvas<L>>(leaf: &L, at: Shift, rects: &[Rect], canvas: &mut C)
-    requires { IsInRange (moved at (L.bounds leaf.now)) }
+    requires { IsInRange (move_rect at (L.bounds leaf.now)) }
     ensures { Paints C.shows C.cell C.keeps L.cell canvas.old canvas.new
         (touching L.bounds rects.now (L.moved_by at leaf.now ∷ [])) }
 {

@@ -3,7 +3,7 @@ ghost use Rattle.std.specs.Prelude.{◌≡◌, ◌+◌, ◌<◌, ◌^◌, Some, 
 ghost use Rattle.std.specs.Int.{int_max, int_min};
 ghost use Rattle.std.specs.Option.{option_map};
 ghost use Rattle.cl_record.specs.Boxes.{around, join_boxes, join_summaries, move_summary};
-ghost use Rattle.cl_region.specs.Places.{IsInRange, box, moved};
+ghost use Rattle.cl_region.specs.Places.{IsInRange, box, move_rect};
 
 use cl_region::{Rect, Shift};
 
@@ -49,8 +49,8 @@ impl Summary {
 
     // The summary of the same records elsewhere.
     pub(crate) fn shifted(self, by: Shift) -> Summary
-        requires items { IfSome self.items (λ r. IsInRange (moved by r)) }
-        requires extents { IfSome self.extents (λ r. IsInRange (moved by r)) }
+        requires items { IfSome self.items (λ r. IsInRange (move_rect by r)) }
+        requires extents { IfSome self.extents (λ r. IsInRange (move_rect by r)) }
         ensures { result ≡ move_summary by self }
     {
         Summary {
@@ -109,8 +109,8 @@ fn greatest(a: i64, b: i64, c: i64, d: i64) -> i64
 
 // A box elsewhere.
 pub(crate) fn shifted_box(rect: Option<Rect>, by: Shift) -> Option<Rect>
-    requires { IfSome rect (λ r. IsInRange (moved by r)) }
-    ensures { result ≡ option_map (moved by) rect }
+    requires { IfSome rect (λ r. IsInRange (move_rect by r)) }
+    ensures { result ≡ option_map (move_rect by) rect }
 {
     Some(rect?.shifted(by))
 }

@@ -5,7 +5,7 @@ use Rattle.std.proofs.lemmas.Bool.Decides.{nat_tests}
 use Rattle.cl_medium.specs.Items.{Painted, painted_of}
 use Rattle.cl_outside.specs.declared.cells.Cell.{Cell}
 use Rattle.cl_raster.proofs.Boxes.{clipped_high, clipped_low, high_clipped, low_clipped}
-use Rattle.cl_raster.specs.Raster.{Picture, SameSize, Sets, clipped, glyph_at, ink_at}
+use Rattle.cl_raster.specs.Raster.{Picture, SameSize, Sets, clip_to, glyph_at, ink_at}
 use Rattle.cl_region.specs.Places.{holds, is_between}
 use Rattle.cl_region.specs.declared.rects.Rect.{Rect}
 use Rattle.cl_region.proofs.Corners.{and_left, and_right, both, false_holds, from_between, same_bool, to_between, wrong}
@@ -30,7 +30,7 @@ passed false r p q h e = e
 
 -- ---- clipping
 
-pub clipped_most : (z : ℤ) (w : ℕ) → clipped z w ≤ w
+pub clipped_most : (z : ℤ) (w : ℕ) → clip_to z w ≤ w
 clipped_most (pos n) w = omega arith
 clipped_most (negsuc n) w = omega arith
 
@@ -42,13 +42,13 @@ is_in from count n h k = grind (arith, nat_tests)
 
 -- one side of a part
 side : (from size : ℕ) (a b : ℤ) (n : ℕ)
-    → is_among (from + clipped a size) (clipped b size - clipped a size) n ≡ is_among from size n && is_between a (pos (n - from)) b
+    → is_among (from + clip_to a size) (clip_to b size - clip_to a size) n ≡ is_among from size n && is_between a (pos (n - from)) b
 side from size a b n =
-    same_bool (is_among (from + clipped a size) (clipped b size - clipped a size) n) (is_among from size n && is_between a (pos (n - from)) b)
-    (λ h. let r = among (from + clipped a size) (clipped b size - clipped a size) n h in
+    same_bool (is_among (from + clip_to a size) (clip_to b size - clip_to a size) n) (is_among from size n && is_between a (pos (n - from)) b)
+    (λ h. let r = among (from + clip_to a size) (clip_to b size - clip_to a size) n h in
     let most = clipped_most b size in
-    let low : clipped a size ≤ n - from = omega (arith, r) in
-    let high : n - from < clipped b size = omega (arith, r) in
+    let low : clip_to a size ≤ n - from = omega (arith, r) in
+    let high : n - from < clip_to b size = omega (arith, r) in
     let within : n - from < size = omega (arith, high, most) in
     both (is_among from size n) (is_between a (pos (n - from)) b) (is_in from size n (omega (arith, r)) (omega (arith, r, most)))
     (to_between a (pos (n - from)) b (low_clipped a size (n - from) within low) (high_clipped b size (n - from) high)))
@@ -57,7 +57,7 @@ side from size a b n =
     let within : n - from < size = omega (arith, r) in
     let low = clipped_low a size (n - from) s.0 in
     let high = clipped_high b size (n - from) within s.1 in
-    is_in (from + clipped a size) (clipped b size - clipped a size) n (omega (arith, r, low)) (omega (arith, r, low, high)))
+    is_in (from + clip_to a size) (clip_to b size - clip_to a size) n (omega (arith, r, low)) (omega (arith, r, low, high)))
 
 crossed : (a b c d : Bool) → (a && b) && (c && d) ≡ (a && c) && (b && d)
 crossed true true c d = refl
@@ -66,7 +66,7 @@ crossed true false false d = refl
 crossed false b c d = refl
 
 pub part_of : (area : Area) (r : Rect) (left right top bottom width height : ℕ)
-    → left ≡ clipped r.x1 area.width → right ≡ clipped r.x2 area.width → top ≡ clipped r.y1 area.height → bottom ≡ clipped r.y2 area.height
+    → left ≡ clip_to r.x1 area.width → right ≡ clip_to r.x2 area.width → top ≡ clip_to r.y1 area.height → bottom ≡ clip_to r.y2 area.height
     → width ≡ right - left → height ≡ bottom - top
     → IsPart (record { x = area.x + left; y = area.y + top; width = width; height = height }) area r
 part_of area r left right top bottom width height l ri t b w h =

@@ -1,6 +1,6 @@
 //! Painting of one item in an area.
 ghost use Rattle.std.specs.Prelude.{◌≡◌, ◌+◌, ◌<◌, ◌≤◌, ◌∷◌, [], length};
-ghost use Rattle.cl_region.specs.Places.{IsInRange, moved};
+ghost use Rattle.cl_region.specs.Places.{IsInRange, move_rect};
 ghost use Rattle.cl_redisplay.specs.Paint.{LiesIn};
 ghost use Rattle.cl_redisplay.specs.Parts.{IsIn, PaintsAll, PaintsPart, row_cell};
 
@@ -23,7 +23,7 @@ pub(crate) fn paint_item<L: Leaf>(
     cells: &mut [Option<Cell>; 512],
 )
     requires lies { LiesIn area raster.old }
-    requires range { IsInRange (moved at (L.bounds item.now)) }
+    requires range { IsInRange (move_rect at (L.bounds item.now)) }
     ensures { PaintsAll L.cell raster.old raster.new area (L.moved_by at item.now ∷ []) }
 {
     let part = area.part(&item.bounds().shifted(at));
@@ -41,7 +41,7 @@ fn paint_part<L: Leaf>(
 )
     requires lies { LiesIn area raster.old }
     requires inside { IsIn part area }
-    requires range { IsInRange (moved at (L.bounds item.now)) }
+    requires range { IsInRange (move_rect at (L.bounds item.now)) }
     ensures { PaintsPart L.cell raster.old raster.new area part (L.moved_by at item.now) }
 {
     for row in 0..part.height {
@@ -67,7 +67,7 @@ fn paint_line<L: Leaf>(
     requires lies { LiesIn area raster.old }
     requires inside { IsIn line area }
     requires one { line.height ≡ 1 }
-    requires range { IsInRange (moved at (L.bounds item.now)) }
+    requires range { IsInRange (move_rect at (L.bounds item.now)) }
     ensures { PaintsPart L.cell raster.old raster.new area line (L.moved_by at item.now) }
 {
     let stretch = &mut cells[..line.width as usize];

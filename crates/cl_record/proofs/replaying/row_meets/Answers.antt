@@ -1,6 +1,6 @@
 use Rattle.std.proofs.Common.{◌≡◌, List, Option, ◌∙◌, ap, sym, subst}
 use Rattle.std.specs.Option.{option_map}
-use Rattle.cl_region.specs.Places.{moved}
+use Rattle.cl_region.specs.Places.{move_rect}
 use Rattle.cl_region.specs.declared.rects.Rect.{Rect}
 use Rattle.cl_record.specs.Boxes.{items_box}
 use Rattle.cl_record.specs.Marks.{marks_of_all}
@@ -22,12 +22,12 @@ pub returns-in-Some : goal.returns-in-Some
 returns-in-Some g c = λ h.
     let marks = marks_of_all g.L.Leaf.moved_by (trees_of c.args.inside.now) in
     let is = ap (λ (s : Summary). s.items) (sym c.summary.ensures.value) ∙ c.in-Some.is in
-    let box = items_box-move g.L.Leaf.bounds g.L.Leaf.moved_by g.met.L.Leaf.moves_bounds c.args.at marks ∙ ap (λ (o : Option Rect). option_map (moved c.args.at) o) is in
-    outside-box g.L.Leaf.bounds c.args.rects.now (moved c.args.at c.in-Some.items) _ box (ap (λ (r : Rect). meets_one c.args.rects.now r) (sym c.shifted.ensures) ∙ (sym c.meets_one.ensures ∙ h))
+    let box = items_box-move g.L.Leaf.bounds g.L.Leaf.moved_by g.met.L.Leaf.moves_bounds c.args.at marks ∙ ap (λ (o : Option Rect). option_map (move_rect c.args.at) o) is in
+    outside-box g.L.Leaf.bounds c.args.rects.now (move_rect c.args.at c.in-Some.items) _ box (ap (λ (r : Rect). meets_one c.args.rects.now r) (sym c.shifted.ensures) ∙ (sym c.meets_one.ensures ∙ h))
 
 pub returns-in-None : goal.returns-in-None
 returns-in-None g c = λ h.
     let marks = marks_of_all g.L.Leaf.moved_by (trees_of c.args.inside.now) in
     let is = ap (λ (s : Summary). s.items) (sym c.summary.ensures.value) ∙ c.in-None.is in
-    let box = items_box-move g.L.Leaf.bounds g.L.Leaf.moved_by g.met.L.Leaf.moves_bounds c.args.at marks ∙ ap (λ (o : Option Rect). option_map (moved c.args.at) o) is in
+    let box = items_box-move g.L.Leaf.bounds g.L.Leaf.moved_by g.met.L.Leaf.moves_bounds c.args.at marks ∙ ap (λ (o : Option Rect). option_map (move_rect c.args.at) o) is in
     outside-none g.L.Leaf.bounds c.args.rects.now _ box
