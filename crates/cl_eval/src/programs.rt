@@ -41,6 +41,41 @@ pub struct Stage<'a, T: Types> {
     pub level: u32,
 }
 
+impl<'a, T: Types> Stage<'a, T> {
+    // What expressions are evaluated in on these slots.
+    fn context_on<'b>(&self, slots: &'b Slots) -> Context<'b>
+    where
+        'a: 'b,
+        ensures app { result.app.now ≡ self.now.program.now.app.now }
+        ensures slots { result.slots.now ≡ slots.now }
+        ensures budget { result.budget ≡ self.now.program.now.limits.budget }
+    {
+        Context {
+            alloc: self.program.alloc,
+            app: self.program.app,
+            slots,
+            budget: self.program.limits.budget,
+        }
+    }
+
+    // Where expressions are evaluated in this context.
+    fn standpoint_in<'b>(&self, context: &'b Context<'b>) -> Standpoint<'b>
+    where
+        'a: 'b,
+        ensures context { result.context.now ≡ context.now }
+        ensures scope { result.scope.now ≡ self.now.scope.now }
+        ensures left { result.left ≡ self.now.left }
+        ensures level { result.level ≡ self.now.level }
+    {
+        Standpoint {
+            context,
+            scope: self.scope,
+            left: self.left,
+            level: self.level,
+        }
+    }
+}
+
 /// The value of an expression on these slots.
 pub fn value_of<T: Types, L: Ledger>(
     here: &Stage<'_, T>,
@@ -54,18 +89,8 @@ pub fn value_of<T: Types, L: Ledger>(
         (seen_on here.now slots.now itself expr.now meter.old.cost meter.old.deepest) }
     ensures ledger { steps.new + meter.old.cost ≡ steps.old + meter.new.cost }
 {
-    let context = Context {
-        alloc: here.program.alloc,
-        app: here.program.app,
-        slots,
-        budget: here.program.limits.budget,
-    };
-    let inner = Standpoint {
-        context: &context,
-        scope: here.scope,
-        left: here.left,
-        level: here.level,
-    };
+    let context = here.context_on(slots);
+    let inner = here.standpoint_in(&context);
     evaluate(&inner, expr, meter, steps)
 }
 
@@ -82,18 +107,8 @@ pub fn is_true<T: Types, L: Ledger>(
         (seen_on here.now slots.now tested expr.now meter.old.cost meter.old.deepest) }
     ensures ledger { steps.new + meter.old.cost ≡ steps.old + meter.new.cost }
 {
-    let context = Context {
-        alloc: here.program.alloc,
-        app: here.program.app,
-        slots,
-        budget: here.program.limits.budget,
-    };
-    let inner = Standpoint {
-        context: &context,
-        scope: here.scope,
-        left: here.left,
-        level: here.level,
-    };
+    let context = here.context_on(slots);
+    let inner = here.standpoint_in(&context);
     evaluate_test(&inner, expr, meter, steps)
 }
 
@@ -110,18 +125,8 @@ pub fn list_of<T: Types, L: Ledger>(
         (seen_on here.now slots.now listed expr.now meter.old.cost meter.old.deepest) }
     ensures ledger { steps.new + meter.old.cost ≡ steps.old + meter.new.cost }
 {
-    let context = Context {
-        alloc: here.program.alloc,
-        app: here.program.app,
-        slots,
-        budget: here.program.limits.budget,
-    };
-    let inner = Standpoint {
-        context: &context,
-        scope: here.scope,
-        left: here.left,
-        level: here.level,
-    };
+    let context = here.context_on(slots);
+    let inner = here.standpoint_in(&context);
     evaluate_list(&inner, expr, meter, steps)
 }
 
@@ -140,18 +145,8 @@ pub fn frame_of<T: Types, L: Ledger>(
         meter.old.deepest) }
     ensures ledger { steps.new + meter.old.cost ≡ steps.old + meter.new.cost }
 {
-    let context = Context {
-        alloc: here.program.alloc,
-        app: here.program.app,
-        slots,
-        budget: here.program.limits.budget,
-    };
-    let inner = Standpoint {
-        context: &context,
-        scope: here.scope,
-        left: here.left,
-        level: here.level,
-    };
+    let context = here.context_on(slots);
+    let inner = here.standpoint_in(&context);
     evaluate_bindings(&inner, bindings, meter, steps)
 }
 
