@@ -14,8 +14,8 @@ use Rattle.cl_eval.specs.declared.metering.Meter.{Meter}
 use Rattle.cl_eval.specs.declared.metering.Stop.{Stop}
 use Rattle.cl_eval.specs.declared.metering.Stop.TheVariants.{Trap, Memory}
 use Rattle.cl_eval.specs.Outcome.{Gives, Run, give, trap, lift}
-use Rattle.cl_eval.specs.Slots.{Slots, Env, given}
-use Rattle.cl_eval.specs.Meaning.{Go, bound, each, entering, tested, listed, means}
+use Rattle.cl_eval.specs.Slots.{Slots, Env, bind_parameters}
+use Rattle.cl_eval.specs.Meaning.{Go, bind_each, each, entering, truth_of, parts_of_list, means}
 use Rattle.cl_eval.specs.Agrees.{Agrees, Comes, always, itself, items_are}
 use Rattle.cl_eval.proofs.CostLemmas.{Grows, GoGrows, Agrees-stop, grows-then, grows-give, grows-lift, grows-each, grows-entering}
 use Rattle.cl_eval.proofs.CostLemmas.{grows-tested, grows-listed, grows-bound, grows-means}
@@ -63,16 +63,16 @@ pub grows-draws_in : (value : Go) → GoGrows value → (go : Draws) → DrawsGr
     → (level : ℕ) (bs : Bindings) (body : ShapeTrees) (env : Env) (s : DrawingAt)
     → DrawGrows (draws_in value go level bs body env s)
 grows-draws_in value v go g level bs body env s =
-    value-then (bound value level bs env) (λ inner. in_order go level inner body s) (grows-bound value v level bs env)
+    value-then (bind_each value level bs env) (λ inner. in_order go level inner body s) (grows-bound value v level bs env)
     (λ inner. grows-in_order go g level inner body s)
 
 pub grows-call_display : (go : Draws) → DrawsGrow go → (level : ℕ) (f : Option DisplayDecl) (s : DrawingAt) (ds : List Data)
     → DrawGrows (call_display go level f ds s)
 grows-call_display go g level None s ds = λ c d. omega arith
 grows-call_display go g level (Some f) s ds =
-    draw-choice (length ds == length f.parameters) (in_order go level (given f.parameters ds) (shape_trees_of f.body) s)
+    draw-choice (length ds == length f.parameters) (in_order go level (bind_parameters f.parameters ds) (shape_trees_of f.body) s)
     (opens_none (trap 1))
-    (grows-in_order go g level (given f.parameters ds) (shape_trees_of f.body) s) (λ c d. omega arith)
+    (grows-in_order go g level (bind_parameters f.parameters ds) (shape_trees_of f.body) s) (λ c d. omega arith)
 
 pub grows-draws_to : (go : Draws) → DrawsGrow go → (level : ℕ) (env : Env) (body : ShapeTrees) (leave : DrawingAt → DrawingAt)
     (s : DrawingAt)
@@ -116,15 +116,15 @@ grows-shape_parts app allowed value v go g level env (shape.Ink t body) s =
 grows-shape_parts app allowed value v go g level env (shape.Room body) s =
     grows-draws_to go g level env body (leave_room s.ambient s.part) (enter_room s)
 grows-shape_parts app allowed value v go g level env (shape.If t a b) s =
-    value-then (tested value level env t) (λ holds. if holds then go level env a s else go level env b s) (grows-tested value v level env t)
+    value-then (truth_of value level env t) (λ holds. if holds then go level env a s else go level env b s) (grows-tested value v level env t)
     (grows-then_form go g level env a b s)
 grows-shape_parts app allowed value v go g level env (shape.When t body) s =
-    value-then (tested value level env t) (λ holds. if holds then in_order go level env body s else opens_none (give s))
+    value-then (truth_of value level env t) (λ holds. if holds then in_order go level env body s else opens_none (give s))
     (grows-tested value v level env t)
     (grows-then_body go g level env body s)
 grows-shape_parts app allowed value v go g level env (shape.Let bs body) s = grows-draws_in value v go g level bs body env s
 grows-shape_parts app allowed value v go g level env (shape.Dolist x t body) s =
-    value-then (listed value level env t) (λ ds. for_each go level env x body ds s) (grows-listed value v level env t)
+    value-then (parts_of_list value level env t) (λ ds. for_each go level env x body ds s) (grows-listed value v level env t)
     (λ ds. grows-for_each go g level env x body ds s)
 grows-shape_parts app allowed value v go g level env (shape.Progn body) s = grows-in_order go g level env body s
 grows-shape_parts app allowed value v go g level env (shape.Call f ts) s =
@@ -188,10 +188,10 @@ stop-for_each go g level env x body v ds s s' e m c d =
 
 pub stop-draws_in : (value : Go) (go : Draws) → DrawsGrow go → (level : ℕ) (bs : Bindings) (body : ShapeTrees) (env around : Env)
     (s s' : DrawingAt) (e : Stop) (m : Meter) (c d : ℕ)
-    → Agrees (λ frame. frame ++ around) (Err e) m (bound value level bs env c d)
+    → Agrees (λ frame. frame ++ around) (Err e) m (bind_each value level bs env c d)
     → StopsAt s' e m (draws_in value go level bs body env s c d)
 stop-draws_in value go g level bs body env around s s' e m c d =
-    stop-value (λ frame. frame ++ around) s' e m (bound value level bs env) (λ inner. in_order go level inner body s) c d
+    stop-value (λ frame. frame ++ around) s' e m (bind_each value level bs env) (λ inner. in_order go level inner body s) c d
     (λ inner. grows-in_order go g level inner body s)
 
 -- what could not be set stops the form
@@ -258,28 +258,28 @@ stop-ink app allowed value go g level env t body s s' e m c d =
 pub stop-choice : (app : App) (allowed : Allowance) (value : Go) (go : Draws) → DrawsGrow go
     → (level : ℕ) (env : Env) (t : ExprTree) (a b : ShapeTree)
     (s s' : DrawingAt) (e : Stop) (m : Meter) (c d : ℕ)
-    → Agrees itself (Err e) m (tested value level env t c d) → StopsAt s' e m
+    → Agrees itself (Err e) m (truth_of value level env t c d) → StopsAt s' e m
     (shape_parts app allowed value go level env (shape.If t a b) s c d)
 stop-choice app allowed value go g level env t a b s s' e m c d =
-    stop-value itself s' e m (tested value level env t) (λ holds. if holds then go level env a s else go level env b s) c d
+    stop-value itself s' e m (truth_of value level env t) (λ holds. if holds then go level env a s else go level env b s) c d
     (grows-then_form go g level env a b s)
 
 pub stop-when : (app : App) (allowed : Allowance) (value : Go) (go : Draws) → DrawsGrow go
     → (level : ℕ) (env : Env) (t : ExprTree) (body : ShapeTrees)
     (s s' : DrawingAt) (e : Stop) (m : Meter) (c d : ℕ)
-    → Agrees itself (Err e) m (tested value level env t c d) → StopsAt s' e m
+    → Agrees itself (Err e) m (truth_of value level env t c d) → StopsAt s' e m
     (shape_parts app allowed value go level env (shape.When t body) s c d)
 stop-when app allowed value go g level env t body s s' e m c d =
-    stop-value itself s' e m (tested value level env t) (λ holds. if holds then in_order go level env body s else opens_none (give s)) c d
+    stop-value itself s' e m (truth_of value level env t) (λ holds. if holds then in_order go level env body s else opens_none (give s)) c d
     (grows-then_body go g level env body s)
 
 pub stop-dolist : (app : App) (allowed : Allowance) (value : Go) (go : Draws) → DrawsGrow go
     → (level : ℕ) (env : Env) (x : List ℕ) (t : ExprTree) (body : ShapeTrees)
     (s s' : DrawingAt) (e : Stop) (m : Meter) (c d : ℕ)
-    → Agrees itself (Err e) m (listed value level env t c d) → StopsAt s' e m
+    → Agrees itself (Err e) m (parts_of_list value level env t c d) → StopsAt s' e m
     (shape_parts app allowed value go level env (shape.Dolist x t body) s c d)
 stop-dolist app allowed value go g level env x t body s s' e m c d =
-    stop-value itself s' e m (listed value level env t) (λ ds. for_each go level env x body ds s) c d
+    stop-value itself s' e m (parts_of_list value level env t) (λ ds. for_each go level env x body ds s) c d
     (λ ds. grows-for_each go g level env x body ds s)
 
 pub stop-call : (app : App) (allowed : Allowance) (value : Go) (go : Draws) → DrawsGrow go

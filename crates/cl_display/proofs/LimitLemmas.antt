@@ -11,8 +11,8 @@ use Rattle.cl_application.specs.declared.applications.App.{App}
 use Rattle.cl_application.specs.declared.declarations.DisplayDecl.{DisplayDecl}
 use Rattle.cl_eval.specs.declared.metering.Limits.{Limits}
 use Rattle.cl_eval.specs.Outcome.{Outcome, Gives, Traps, Run, after, give, trap, lift}
-use Rattle.cl_eval.specs.Slots.{Slots, Env, given}
-use Rattle.cl_eval.specs.Meaning.{Go, bound, each, entering, listed, means, tested}
+use Rattle.cl_eval.specs.Slots.{Slots, Env, bind_parameters}
+use Rattle.cl_eval.specs.Meaning.{Go, bind_each, each, entering, parts_of_list, means, truth_of}
 use Rattle.cl_eval.proofs.LimitLemmas.{GoGoes, Goes, entered-above, goes-bound, goes-each, goes-entering, goes-listed, goes-means}
 use Rattle.cl_eval.proofs.LimitLemmas.{goes-tested, never, no_value}
 use Rattle.cl_medium.specs.Ambients.{AmbientAt}
@@ -259,9 +259,9 @@ module _ (budget depth most : ℕ) where
         → Widens budget depth most s (call_display go level f ds s) (call_display go' level f ds s)
     widens-call_display g None s ds = widens-trap s 1
     widens-call_display g (Some f) s ds =
-        widens-choice s (length ds == length f.parameters) (in_order go level (given f.parameters ds) (shape_trees_of f.body) s)
-        (in_order go' level (given f.parameters ds) (shape_trees_of f.body) s) (opens_none (trap 1)) (opens_none (trap 1))
-        (widens-in_order g (given f.parameters ds) (shape_trees_of f.body) s) (widens-trap s 1)
+        widens-choice s (length ds == length f.parameters) (in_order go level (bind_parameters f.parameters ds) (shape_trees_of f.body) s)
+        (in_order go' level (bind_parameters f.parameters ds) (shape_trees_of f.body) s) (opens_none (trap 1)) (opens_none (trap 1))
+        (widens-in_order g (bind_parameters f.parameters ds) (shape_trees_of f.body) s) (widens-trap s 1)
 
     -- ---- the rows
 
@@ -300,13 +300,13 @@ module _ (budget depth most : ℕ) where
         (omega arith)
         (widens-draws_to g env body leave (λ end. refl) (enter_room s))
     widens-shape_parts app allowed allowed' w v g env (shape.If t a b) s =
-        widens-value s (tested value level env t) (tested value' level env t)
+        widens-value s (truth_of value level env t) (truth_of value' level env t)
         (λ holds. if holds then go level env a s else go level env b s)
         (λ holds. if holds then go' level env a s else go' level env b s) (goes-tested budget depth value value' level v env t)
         (λ holds. widens-choice s holds (go level env a s) (go' level env a s) (go level env b s) (go' level env b s) (g env a s)
         (g env b s))
     widens-shape_parts app allowed allowed' w v g env (shape.When t body) s =
-        widens-value s (tested value level env t) (tested value' level env t)
+        widens-value s (truth_of value level env t) (truth_of value' level env t)
         (λ holds. if holds then in_order go level env body s else opens_none (give s))
         (λ holds. if holds then in_order go' level env body s else opens_none (give s))
         (goes-tested budget depth value value' level v env t)
@@ -314,11 +314,11 @@ module _ (budget depth most : ℕ) where
         (opens_none (give s))
         (widens-in_order g env body s) (widens-give s s refl))
     widens-shape_parts app allowed allowed' w v g env (shape.Let bs body) s =
-        widens-value s (bound value level bs env) (bound value' level bs env) (λ inner. in_order go level inner body s)
+        widens-value s (bind_each value level bs env) (bind_each value' level bs env) (λ inner. in_order go level inner body s)
         (λ inner. in_order go' level inner body s)
         (goes-bound budget depth value value' level v bs env) (λ inner. widens-in_order g inner body s)
     widens-shape_parts app allowed allowed' w v g env (shape.Dolist x t body) s =
-        widens-value s (listed value level env t) (listed value' level env t) (λ ds. for_each go level env x body ds s)
+        widens-value s (parts_of_list value level env t) (parts_of_list value' level env t) (λ ds. for_each go level env x body ds s)
         (λ ds. for_each go' level env x body ds s)
         (goes-listed budget depth value value' level v env t) (λ ds. widens-for_each g env x body ds s)
     widens-shape_parts app allowed allowed' w v g env (shape.Progn body) s = widens-in_order g env body s

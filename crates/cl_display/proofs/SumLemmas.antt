@@ -14,8 +14,8 @@ use Rattle.cl_application.specs.declared.applications.App.{App}
 use Rattle.cl_application.specs.declared.declarations.DisplayDecl.{DisplayDecl}
 use Rattle.cl_eval.specs.declared.metering.Limits.{Limits}
 use Rattle.cl_eval.specs.Outcome.{Outcome, Gives, Traps, Run, give, trap, lift, after}
-use Rattle.cl_eval.specs.Slots.{Slots, Env, given}
-use Rattle.cl_eval.specs.Meaning.{Go, bound, each, entering, listed, means, tested}
+use Rattle.cl_eval.specs.Slots.{Slots, Env, bind_parameters}
+use Rattle.cl_eval.specs.Meaning.{Go, bind_each, each, entering, parts_of_list, means, truth_of}
 use Rattle.cl_medium.specs.Drawing.{text_leaf}
 use Rattle.cl_medium.specs.Ambients.{AmbientAt, after_indent, after_newline, ambient_start}
 use Rattle.cl_medium.specs.Items.{Item, bounds_of, item_bounds, move_item}
@@ -24,7 +24,7 @@ use Rattle.cl_medium.specs.declared.shapes.LeafShape.TheVariants as leaf_shape
 use Rattle.cl_medium.specs.declared.areas.Area.{Area}
 use Rattle.cl_region.specs.Places.{box}
 use Rattle.cl_record.specs.Marks.{draw, history_marks}
-use Rattle.cl_record.specs.Replays.{drawn as items_in}
+use Rattle.cl_record.specs.Replays.{items_drawn as items_in}
 use Rattle.cl_record.proofs.Replayed.{drawn-append}
 use Rattle.cl_display.specs.Drawings.{DrawingAt, PartAt, add_item, after_text, blank_drawing, cursor_box, cursor_to, drawing_of}
 use Rattle.cl_display.specs.Drawings.{is_in_range, is_near}
@@ -350,15 +350,15 @@ module _ (most : ℕ) where
   adds-draws_in : (value : Go) (go : Draws) → AllAdd go → (level : ℕ) (bs : Bindings) (body : ShapeTrees) (env : Env) (s : DrawingAt)
       → AddsRun s (draws_in value go level bs body env s)
   adds-draws_in value go g level bs body env s =
-      adds-given s (bound value level bs env) (λ inner. in_order go level inner body s) (λ inner. adds-in_order go g level inner body s)
+      adds-given s (bind_each value level bs env) (λ inner. in_order go level inner body s) (λ inner. adds-in_order go g level inner body s)
 
   adds-call_display : (go : Draws) → AllAdd go → (level : ℕ) (f : Option DisplayDecl) (ds : List Data) (s : DrawingAt)
       → AddsRun s (call_display go level f ds s)
   adds-call_display go g level None ds s = λ c d. tt
   adds-call_display go g level (Some f) ds s =
-      adds-choice s (length ds == length f.parameters) (in_order go level (given f.parameters ds) (shape_trees_of f.body) s)
+      adds-choice s (length ds == length f.parameters) (in_order go level (bind_parameters f.parameters ds) (shape_trees_of f.body) s)
       (opens_none (trap 1))
-      (adds-in_order go g level (given f.parameters ds) (shape_trees_of f.body) s) (λ c d. tt)
+      (adds-in_order go g level (bind_parameters f.parameters ds) (shape_trees_of f.body) s) (λ c d. tt)
 
   adds-shape_parts : (app : App) (budget : ℕ) (value : Go) (go : Draws) → AllAdd go
       → (level : ℕ) (env : Env) (f : ShapeTree) (s : DrawingAt)
@@ -380,15 +380,15 @@ module _ (most : ℕ) where
       (λ end. adds-nothing end (restore_ink s.ambient end) refl refl refl))
   adds-shape_parts app budget value go g level env (shape.Room body) s = adds-room go g level env body s
   adds-shape_parts app budget value go g level env (shape.If t a b) s =
-      adds-given s (tested value level env t) (λ holds. if holds then go level env a s else go level env b s)
+      adds-given s (truth_of value level env t) (λ holds. if holds then go level env a s else go level env b s)
       (λ holds. adds-choice s holds (go level env a s) (go level env b s) (g level env a s) (g level env b s))
   adds-shape_parts app budget value go g level env (shape.When t body) s =
-      adds-given s (tested value level env t) (λ holds. if holds then in_order go level env body s else opens_none (give s))
+      adds-given s (truth_of value level env t) (λ holds. if holds then in_order go level env body s else opens_none (give s))
       (λ holds. adds-choice s holds (in_order go level env body s) (opens_none (give s)) (adds-in_order go g level env body s)
       (adds-give s))
   adds-shape_parts app budget value go g level env (shape.Let bs body) s = adds-draws_in value go g level bs body env s
   adds-shape_parts app budget value go g level env (shape.Dolist x t body) s =
-      adds-given s (listed value level env t) (λ ds. for_each go level env x body ds s) (λ ds. adds-for_each go g level env x body ds s)
+      adds-given s (parts_of_list value level env t) (λ ds. for_each go level env x body ds s) (λ ds. adds-for_each go g level env x body ds s)
   adds-shape_parts app budget value go g level env (shape.Progn body) s = adds-in_order go g level env body s
   adds-shape_parts app budget value go g level env (shape.Call f ts) s =
       adds-given s (each value level env ts []) (λ ds. call_display go level (display_named f app) ds s)

@@ -12,8 +12,8 @@ use Rattle.cl_application.specs.App.{display_named}
 use Rattle.cl_application.specs.declared.applications.App.{App}
 use Rattle.cl_application.specs.declared.declarations.DisplayDecl.{DisplayDecl}
 use Rattle.cl_eval.specs.Outcome.{Outcome, Gives, Traps, after, give, trap, lift}
-use Rattle.cl_eval.specs.Slots.{Slots, Env, given}
-use Rattle.cl_eval.specs.Meaning.{Go, bound, each, listed, tested}
+use Rattle.cl_eval.specs.Slots.{Slots, Env, bind_parameters}
+use Rattle.cl_eval.specs.Meaning.{Go, bind_each, each, parts_of_list, truth_of}
 use Rattle.cl_medium.specs.Ambients.{AmbientAt, after_indent, after_newline}
 use Rattle.cl_medium.specs.Drawing.{text_leaf}
 use Rattle.cl_medium.specs.Items.{bounds_of, item_bounds, Item}
@@ -159,9 +159,9 @@ unused-call : (go : Draws) → NoneUses go → (level : ℕ) (f : Option Display
     → EndsWith (UsesNeither s) (call_display go level f ds s c d).outcome
 unused-call go g level None ds s c d = tt
 unused-call go g level (Some f) ds s c d =
-    ends-choice (UsesNeither s) (length ds == length f.parameters) (in_order go level (given f.parameters ds) (shape_trees_of f.body) s)
+    ends-choice (UsesNeither s) (length ds == length f.parameters) (in_order go level (bind_parameters f.parameters ds) (shape_trees_of f.body) s)
     (opens_none (trap 1)) c d
-    (unused-in_order go g level (given f.parameters ds) (shape_trees_of f.body) s c d) tt
+    (unused-in_order go g level (bind_parameters f.parameters ds) (shape_trees_of f.body) s c d) tt
 
 unused-ink : (go : Draws) → NoneUses go → (level : ℕ) (env : Env) (body : ShapeTrees) (s : DrawingAt) (v : Data) (c d : ℕ)
     → EndsWith (UsesNeither s) (within go level env body (set_ink v s) (restore_ink s.ambient) c d).outcome
@@ -182,17 +182,17 @@ plain-unused app allowed value go level env (shape.Ink t body) s c d h g =
     ends-value (UsesNeither s) (value level env t c d) (λ v. within go level env body (set_ink v s) (restore_ink s.ambient))
     (unused-ink go g level env body s)
 plain-unused app allowed value go level env (shape.If t a b) s c d h g =
-    ends-value (UsesNeither s) (tested value level env t c d) (λ holds. if holds then go level env a s else go level env b s)
+    ends-value (UsesNeither s) (truth_of value level env t c d) (λ holds. if holds then go level env a s else go level env b s)
     (λ holds i j. ends-choice (UsesNeither s) holds (go level env a s) (go level env b s) i j (g level env a s i j) (g level env b s i j))
 plain-unused app allowed value go level env (shape.When t body) s c d h g =
-    ends-value (UsesNeither s) (tested value level env t c d) (λ holds. if holds then in_order go level env body s else opens_none (give s))
+    ends-value (UsesNeither s) (truth_of value level env t c d) (λ holds. if holds then in_order go level env body s else opens_none (give s))
     (λ holds i j. ends-choice (UsesNeither s) holds (in_order go level env body s) (opens_none (give s)) i j
     (unused-in_order go g level env body s i j) (neither s s refl refl))
 plain-unused app allowed value go level env (shape.Let bs body) s c d h g =
-    ends-value (UsesNeither s) (bound value level bs env c d) (λ inner. in_order go level inner body s)
+    ends-value (UsesNeither s) (bind_each value level bs env c d) (λ inner. in_order go level inner body s)
     (λ inner i j. unused-in_order go g level inner body s i j)
 plain-unused app allowed value go level env (shape.Dolist x t body) s c d h g =
-    ends-value (UsesNeither s) (listed value level env t c d) (λ ds. for_each go level env x body ds s)
+    ends-value (UsesNeither s) (parts_of_list value level env t c d) (λ ds. for_each go level env x body ds s)
     (λ ds i j. unused-for_each go g level env x body ds s i j)
 plain-unused app allowed value go level env (shape.Progn body) s c d h g = unused-in_order go g level env body s c d
 plain-unused app allowed value go level env (shape.Call f ts) s c d h g =

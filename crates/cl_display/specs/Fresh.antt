@@ -9,8 +9,8 @@ use Rattle.cl_application.specs.App.{display_named}
 use Rattle.cl_application.specs.declared.applications.App.{App}
 use Rattle.cl_application.specs.declared.declarations.DisplayDecl.{DisplayDecl}
 use Rattle.cl_eval.specs.Outcome.{give, trap, lift}
-use Rattle.cl_eval.specs.Slots.{Slots, Env, given}
-use Rattle.cl_eval.specs.Meaning.{Go, bound, each, entering, listed, means, tested}
+use Rattle.cl_eval.specs.Slots.{Slots, Env, bind_parameters}
+use Rattle.cl_eval.specs.Meaning.{Go, bind_each, each, entering, parts_of_list, means, truth_of}
 use Rattle.cl_display.specs.Drawings.{DrawingAt, newline, write_text}
 use Rattle.cl_display.specs.Figures.{draw_figure}
 use Rattle.cl_display.specs.Outcomes.{Draw, opens_none, ◌>->◌, ◌>>=◌}
@@ -42,7 +42,7 @@ for_each go level env x body (d ∷ ds) s = in_order go level ((x, d) ∷ env) b
 
 -- the forms behind bindings
 abbrev pub draws_in : Go → Draws → ℕ → Bindings → ShapeTrees → Env → DrawingAt → Draw
-draws_in value go level bs body env s = bound value level bs env >-> λ inner. in_order go level inner body s
+draws_in value go level bs body env s = bind_each value level bs env >-> λ inner. in_order go level inner body s
 
 -- the forms, and what is left behind them
 abbrev pub draws_to : Draws → ℕ → Env → ShapeTrees → (DrawingAt → DrawingAt) → DrawingAt → Draw
@@ -56,7 +56,7 @@ within go level env body entered leave = lift entered >-> draws_to go level env 
 abbrev pub call_display : Draws → ℕ → Option DisplayDecl → List Data → DrawingAt → Draw
 call_display go level None ds s = opens_none (trap 1)
 call_display go level (Some f) ds s =
-    if length ds == length f.parameters then in_order go level (given f.parameters ds) (shape_trees_of f.body) s else opens_none (trap 1)
+    if length ds == length f.parameters then in_order go level (bind_parameters f.parameters ds) (shape_trees_of f.body) s else opens_none (trap 1)
 
 -- a form that was entered, by what is allowed and by the meaning of its expressions and of the forms inside
 abbrev pub shape_parts : App → Allowance → Go → Draws → ℕ → Env → ShapeTree → DrawingAt → Draw
@@ -71,11 +71,11 @@ shape_parts app allowed value go level env (shape.Ink t body) s =
     value level env t >-> λ d. within go level env body (set_ink d s) (restore_ink s.ambient)
 shape_parts app allowed value go level env (shape.Room body) s = draws_to go level env body (leave_room s.ambient s.part) (enter_room s)
 shape_parts app allowed value go level env (shape.If t f g) s =
-    tested value level env t >-> λ holds. if holds then go level env f s else go level env g s
+    truth_of value level env t >-> λ holds. if holds then go level env f s else go level env g s
 shape_parts app allowed value go level env (shape.When t body) s =
-    tested value level env t >-> λ holds. if holds then in_order go level env body s else opens_none (give s)
+    truth_of value level env t >-> λ holds. if holds then in_order go level env body s else opens_none (give s)
 shape_parts app allowed value go level env (shape.Let bs body) s = draws_in value go level bs body env s
-shape_parts app allowed value go level env (shape.Dolist x t body) s = listed value level env t >-> λ ds. for_each go level env x body ds s
+shape_parts app allowed value go level env (shape.Dolist x t body) s = parts_of_list value level env t >-> λ ds. for_each go level env x body ds s
 shape_parts app allowed value go level env (shape.Progn body) s = in_order go level env body s
 shape_parts app allowed value go level env (shape.Call f ts) s =
     each value level env ts [] >-> λ ds. call_display go level (display_named f app) ds s

@@ -3,7 +3,7 @@ use Rattle.std.specs.Prelude.{◌≡◌, ℕ, ◌+◌, ◌≤◌, ℤ, ◌≤ℤ
 use Rattle.cl_medium.specs.Items.{Item, item_bounds}
 use Rattle.cl_medium.specs.declared.shapes.LeafShape.{LeafShape}
 use Rattle.cl_medium.specs.declared.shapes.LeafShape.TheVariants.{Text}
-use Rattle.cl_record.specs.Replays.{drawn}
+use Rattle.cl_record.specs.Replays.{items_drawn}
 use Rattle.cl_region.specs.declared.rects.Rect.{Rect}
 use Rattle.cl_display.specs.Drawings.{DrawingAt, lower_end, max_weight}
 
@@ -27,10 +27,10 @@ lowest_of (leaf ∷ items) = lower_end (Some (item_bounds leaf).y2) (lowest_of i
 -- a drawing weighs what its items weigh together, which is not too much; it ends where the lowest of them does; and it has no more
 -- items than it may weigh
 pub record AddsUp (s : DrawingAt) : Type 0 where
-  pub weight : s.weight ≡ weight_of (drawn s.part.marks)
+  pub weight : s.weight ≡ weight_of (items_drawn s.part.marks)
   pub light : s.weight ≤ max_weight
-  pub lowest : s.part.lowest ≡ lowest_of (drawn s.part.marks)
-  pub count : length (drawn s.part.marks) ≤ max_weight
+  pub lowest : s.part.lowest ≡ lowest_of (items_drawn s.part.marks)
+  pub count : length (items_drawn s.part.marks) ≤ max_weight
 
 -- the corners of a rectangle lie within those of another one, also where it has no cells
 pub record Holds (outer inner : Rect) : Type 0 where

@@ -13,7 +13,7 @@ ghost use Rattle.cl_eval.specs.Meaning.{Go};
 ghost use Rattle.cl_eval.specs.Outcome.{Gives};
 ghost use Rattle.cl_eval.specs.Slots.{Env, Slots};
 ghost use Rattle.cl_medium.specs.Drawing.{shape_area, point_leaf, hline_leaf, vline_leaf, box_leaf, fill_leaf};
-ghost use Rattle.cl_record.specs.Replays.{drawn};
+ghost use Rattle.cl_record.specs.Replays.{items_drawn};
 ghost use Rattle.cl_display.specs.Drawings.{DrawingAt, cursor_box};
 ghost use Rattle.cl_display.specs.Figures.{IsFigure, draw_figure, draw_shape};
 ghost use Rattle.cl_display.specs.Settings.{enter_room};
@@ -45,13 +45,13 @@ pub fn displays_add_up()
 pub fn rooms_end_below_their_items()
     ensures { (left : ℕ) (allowed : Allowance) (app : App) (slots : Slots) (level : ℕ) (env : Env) (body : ShapeTrees) (s end : DrawingAt) (cost deepest c d : ℕ)
         → (in_order (draws left allowed app slots) level env body (enter_room s) cost deepest).outcome ≡ Gives end c d
-        → end.part.lowest ≡ lowest_of (drawn end.part.marks) }
+        → end.part.lowest ≡ lowest_of (items_drawn end.part.marks) }
 {}
 
 /// The extent of a display that ends without a trap holds the corners of each of its items, and the place of the cursor.
 pub fn extents_hold_what_is_drawn()
     ensures { (limits : Limits) (app : App) (forms : List ShapeTree) (env : Env) (slots : Slots) (s : DrawingAt) (cost reach : ℕ)
-        → (fresh limits app forms env slots).outcome ≡ Gives s cost reach → HoldsAll s.part.extent (drawn s.part.marks) × Holds s.part.extent (cursor_box s.ambient) }
+        → (fresh limits app forms env slots).outcome ≡ Gives s cost reach → HoldsAll s.part.extent (items_drawn s.part.marks) × Holds s.part.extent (cursor_box s.ambient) }
 {}
 
 /// A figure of parts of the right kinds is drawn as an item in the area of its place and its sizes, from the origin, where these

@@ -12,7 +12,7 @@ use Rattle.cl_eval.specs.Outcome.{Outcome, Gives, Traps, after, give, lift}
 use Rattle.cl_eval.specs.Slots.{Env}
 use Rattle.cl_eval.specs.Operators.{Answer, truth, arithmetic_of, comparison_of}
 use Rattle.cl_eval.specs.Meaning.{Go, each}
-use Rattle.cl_eval.specs.Calculation.{number_in, number_of, both, pair_in, numbered, paired, arithmetic_on, comparison_on}
+use Rattle.cl_eval.specs.Calculation.{number_in, number_of, both, pair_in, give_number, give_pair, arithmetic_on, comparison_on}
 use Rattle.cl_eval.specs.Agrees.{Agrees, Comes, itself, items_are}
 use Rattle.cl_eval.proofs.CostLemmas.{GoGrows, Agrees-stop, Agrees-lift, grows-give, grows-lift}
 use Rattle.cl_eval.proofs.StopLemmas.{stop-each}
@@ -49,14 +49,14 @@ number-gives (Gives d i j) x n l p = record { value = d; gives = cc; is = cc }
 number-gives (Traps k i j) x n l p = cc
 
 pub stop-first_number : (go : Go) → GoGrows go → (level : ℕ) (env : Env) (t : ExprTree) (ts : ExprTrees) (e : Stop) (m : Meter) (c d : ℕ)
-    → Agrees itself (Err e) m (numbered go level env t c d) → Agrees itself (Err e) m (paired go level env (part t ts) c d)
+    → Agrees itself (Err e) m (give_number go level env t c d) → Agrees itself (Err e) m (give_pair go level env (part t ts) c d)
 stop-first_number go g level env t ts e m c d p =
     Agrees-stop items_are itself e m (each go level env (part t ts) [] c d) (λ ds. give (pair_in ds)) (λ ds. grows-give (pair_in ds))
     (stop-each go g level env t ts [] e m c d (number-stop e m (go level env t c d) p))
 
 pub stop-second_number : (go : Go) → GoGrows go → (level : ℕ) (env : Env) (t u : ExprTree) (x : Option ℤ) (e : Stop) (m : Meter) (c d n l : ℕ)
-    → numbered go level env t c d ≡ Gives x n l → Agrees itself (Err e) m (numbered go level env u n l)
-    → Agrees itself (Err e) m (paired go level env (part t (part u none)) c d)
+    → give_number go level env t c d ≡ Gives x n l → Agrees itself (Err e) m (give_number go level env u n l)
+    → Agrees itself (Err e) m (give_pair go level env (part t (part u none)) c d)
 stop-second_number go g level env t u x e m c d n l p q =
     let first = number-gives (go level env t c d) x n l p in
     rw first.gives
@@ -64,8 +64,8 @@ stop-second_number go g level env t u x e m c d n l p q =
     (stop-each go g level env u none (first.value ∷ []) e m n l (number-stop e m (go level env u n l) q)))
 
 pub both-numbers : (go : Go) (level : ℕ) (env : Env) (t u : ExprTree) (x y : Option ℤ) (m : Meter) (c d n l : ℕ)
-    → numbered go level env t c d ≡ Gives x n l → numbered go level env u n l ≡ Gives y m.cost m.deepest
-    → paired go level env (part t (part u none)) c d ≡ Gives (both x y) m.cost m.deepest
+    → give_number go level env t c d ≡ Gives x n l → give_number go level env u n l ≡ Gives y m.cost m.deepest
+    → give_pair go level env (part t (part u none)) c d ≡ Gives (both x y) m.cost m.deepest
 both-numbers go level env t u x y m c d n l p q =
     let first = number-gives (go level env t c d) x n l p in
     let second = number-gives (go level env u n l) y m.cost m.deepest q in

@@ -12,9 +12,9 @@ use Rattle.cl_eval.specs.declared.metering.Meter.{Meter}
 use Rattle.cl_eval.specs.declared.metering.Stop.{Stop}
 use Rattle.cl_eval.specs.declared.metering.Stop.TheVariants.{Trap, Memory}
 use Rattle.cl_eval.specs.Outcome.{Outcome, Gives, Traps, Run, give, trap, lift, after, ◌>>=◌, cost_of}
-use Rattle.cl_eval.specs.Slots.{Slots, Env, found, given}
-use Rattle.cl_eval.specs.Operators.{limited, or_trap, truth, elements, operated}
-use Rattle.cl_eval.specs.Meaning.{Go, entering, tested, listed, each, every, some, bound, let_in, mapped, filtered, folded, called, parts, means}
+use Rattle.cl_eval.specs.Slots.{Slots, Env, value_named, bind_parameters}
+use Rattle.cl_eval.specs.Operators.{within_limits, or_trap, truth, elements, operate}
+use Rattle.cl_eval.specs.Meaning.{Go, entering, truth_of, parts_of_list, each, every, some, bind_each, let_in, map_each, filter_each, fold_each, call_function, parts, means}
 use Rattle.cl_eval.specs.declared.evaluation.Standpoint.{Standpoint}
 use Rattle.cl_eval.specs.Standpoint.{meaning_at}
 use Rattle.cl_eval.specs.Agrees.{Agrees, Comes, Entered}
@@ -54,10 +54,10 @@ grows-choice false r s g h = h
 abbrev pub GoGrows : Go → Type 0
 GoGrows go = (level : ℕ) (env : Env) (t : ExprTree) → Grows (go level env t)
 
-pub grows-tested : (go : Go) → GoGrows go → (level : ℕ) (env : Env) (t : ExprTree) → Grows (tested go level env t)
+pub grows-tested : (go : Go) → GoGrows go → (level : ℕ) (env : Env) (t : ExprTree) → Grows (truth_of go level env t)
 grows-tested go g level env t = grows-then (go level env t) (λ d. lift (truth d)) (g level env t) (λ d. grows-lift (truth d))
 
-pub grows-listed : (go : Go) → GoGrows go → (level : ℕ) (env : Env) (t : ExprTree) → Grows (listed go level env t)
+pub grows-listed : (go : Go) → GoGrows go → (level : ℕ) (env : Env) (t : ExprTree) → Grows (parts_of_list go level env t)
 grows-listed go g level env t = grows-then (go level env t) (λ d. lift (elements d)) (g level env t) (λ d. grows-lift (elements d))
 
 pub grows-each : (go : Go) → GoGrows go → (level : ℕ) (env : Env) (ts : ExprTrees) (ds : List Data) → Grows (each go level env ts ds)
@@ -68,96 +68,96 @@ grows-each go g level env (part t ts) ds =
 pub grows-every : (go : Go) → GoGrows go → (level : ℕ) (env : Env) (ts : ExprTrees) → Grows (every go level env ts)
 grows-every go g level env none = grows-give (bool true)
 grows-every go g level env (part t ts) =
-    grows-then (tested go level env t) (λ b. if b then every go level env ts else give (bool false)) (grows-tested go g level env t)
+    grows-then (truth_of go level env t) (λ b. if b then every go level env ts else give (bool false)) (grows-tested go g level env t)
     (λ b. grows-choice b (every go level env ts) (give (bool false)) (grows-every go g level env ts) (grows-give (bool false)))
 
 pub grows-some : (go : Go) → GoGrows go → (level : ℕ) (env : Env) (ts : ExprTrees) → Grows (some go level env ts)
 grows-some go g level env none = grows-give (bool false)
 grows-some go g level env (part t ts) =
-    grows-then (tested go level env t) (λ b. if b then give (bool true) else some go level env ts) (grows-tested go g level env t)
+    grows-then (truth_of go level env t) (λ b. if b then give (bool true) else some go level env ts) (grows-tested go g level env t)
     (λ b. grows-choice b (give (bool true)) (some go level env ts) (grows-give (bool true)) (grows-some go g level env ts))
 
-pub grows-bound : (go : Go) → GoGrows go → (level : ℕ) (bs : Bindings) (env : Env) → Grows (bound go level bs env)
+pub grows-bound : (go : Go) → GoGrows go → (level : ℕ) (bs : Bindings) (env : Env) → Grows (bind_each go level bs env)
 grows-bound go g level unbound env = grows-give env
 grows-bound go g level (binding x t bs) env =
-    grows-then (go level env t) (λ d. bound go level bs ((x, d) ∷ env)) (g level env t) (λ d. grows-bound go g level bs ((x, d) ∷ env))
+    grows-then (go level env t) (λ d. bind_each go level bs ((x, d) ∷ env)) (g level env t) (λ d. grows-bound go g level bs ((x, d) ∷ env))
 
 pub grows-let_in : (go : Go) → GoGrows go → (level : ℕ) (bs : Bindings) (t : ExprTree) (env : Env) → Grows (let_in go level bs t env)
-grows-let_in go g level bs t env = grows-then (bound go level bs env) (λ inner. go level inner t) (grows-bound go g level bs env) (λ inner. g level inner t)
+grows-let_in go g level bs t env = grows-then (bind_each go level bs env) (λ inner. go level inner t) (grows-bound go g level bs env) (λ inner. g level inner t)
 
-pub grows-mapped : (go : Go) → GoGrows go → (level : ℕ) (env : Env) (x : List ℕ) (t : ExprTree) (ds es : List Data) → Grows (mapped go level env x t ds es)
+pub grows-mapped : (go : Go) → GoGrows go → (level : ℕ) (env : Env) (x : List ℕ) (t : ExprTree) (ds es : List Data) → Grows (map_each go level env x t ds es)
 grows-mapped go g level env x t [] es = grows-give es
 grows-mapped go g level env x t (a ∷ ds) es =
-    grows-then (go level ((x, a) ∷ env) t) (λ e. mapped go level env x t ds (es ++ e ∷ [])) (g level ((x, a) ∷ env) t)
+    grows-then (go level ((x, a) ∷ env) t) (λ e. map_each go level env x t ds (es ++ e ∷ [])) (g level ((x, a) ∷ env) t)
     (λ e. grows-mapped go g level env x t ds (es ++ e ∷ []))
 
-pub grows-filtered : (go : Go) → GoGrows go → (level : ℕ) (env : Env) (x : List ℕ) (t : ExprTree) (ds es : List Data) → Grows (filtered go level env x t ds es)
+pub grows-filtered : (go : Go) → GoGrows go → (level : ℕ) (env : Env) (x : List ℕ) (t : ExprTree) (ds es : List Data) → Grows (filter_each go level env x t ds es)
 grows-filtered go g level env x t [] es = grows-give es
 grows-filtered go g level env x t (a ∷ ds) es =
-    grows-then (tested go level ((x, a) ∷ env) t) (λ b. filtered go level env x t ds (if b then es ++ a ∷ [] else es)) (grows-tested go g level ((x, a) ∷ env) t)
+    grows-then (truth_of go level ((x, a) ∷ env) t) (λ b. filter_each go level env x t ds (if b then es ++ a ∷ [] else es)) (grows-tested go g level ((x, a) ∷ env) t)
     (λ b. grows-filtered go g level env x t ds (if b then es ++ a ∷ [] else es))
 
-pub grows-folded : (go : Go) → GoGrows go → (level : ℕ) (env : Env) (x y : List ℕ) (t : ExprTree) (ds : List Data) (a : Data) → Grows (folded go level env x y t ds a)
+pub grows-folded : (go : Go) → GoGrows go → (level : ℕ) (env : Env) (x y : List ℕ) (t : ExprTree) (ds : List Data) (a : Data) → Grows (fold_each go level env x y t ds a)
 grows-folded go g level env x y t [] a = grows-give a
 grows-folded go g level env x y t (e ∷ ds) a =
-    grows-then (go level ((y, a) ∷ (x, e) ∷ env) t) (λ b. folded go level env x y t ds b) (g level ((y, a) ∷ (x, e) ∷ env) t)
+    grows-then (go level ((y, a) ∷ (x, e) ∷ env) t) (λ b. fold_each go level env x y t ds b) (g level ((y, a) ∷ (x, e) ∷ env) t)
     (λ b. grows-folded go g level env x y t ds b)
 
-pub grows-called : (go : Go) → GoGrows go → (level : ℕ) (f : Option FunctionDecl) (ds : List Data) → Grows (called go level f ds)
+pub grows-called : (go : Go) → GoGrows go → (level : ℕ) (f : Option FunctionDecl) (ds : List Data) → Grows (call_function go level f ds)
 grows-called go g level None ds = λ c d. omega arith
 grows-called go g level (Some f) ds =
-    grows-choice (length ds == length f.parameters) (go level (given f.parameters ds) f.body) (trap 1) (g level (given f.parameters ds) f.body) (λ c d. omega arith)
+    grows-choice (length ds == length f.parameters) (go level (bind_parameters f.parameters ds) f.body) (trap 1) (g level (bind_parameters f.parameters ds) f.body) (λ c d. omega arith)
 
 -- what follows in each row
 pub grows-then_choice : (go : Go) → GoGrows go → (level : ℕ) (env : Env) (u v : ExprTree) (b : Bool) → Grows (if b then go level env u else go level env v)
 grows-then_choice go g level env u v b = grows-choice b (go level env u) (go level env v) (g level env u) (g level env v)
 
-pub grows-limited : (es : List Data) → Grows (lift (limited (list (items_of es))))
-grows-limited es = grows-lift (limited (list (items_of es)))
+pub grows-limited : (es : List Data) → Grows (lift (within_limits (list (items_of es))))
+grows-limited es = grows-lift (within_limits (list (items_of es)))
 
 pub grows-then_map : (go : Go) → GoGrows go → (level : ℕ) (env : Env) (x : List ℕ) (t : ExprTree) (ds : List Data)
-    → Grows (mapped go level env x t ds [] >>= λ es. lift (limited (list (items_of es))))
+    → Grows (map_each go level env x t ds [] >>= λ es. lift (within_limits (list (items_of es))))
 grows-then_map go g level env x t ds =
-    grows-then (mapped go level env x t ds []) (λ es. lift (limited (list (items_of es)))) (grows-mapped go g level env x t ds []) grows-limited
+    grows-then (map_each go level env x t ds []) (λ es. lift (within_limits (list (items_of es)))) (grows-mapped go g level env x t ds []) grows-limited
 
 pub grows-then_filter : (go : Go) → GoGrows go → (level : ℕ) (env : Env) (x : List ℕ) (t : ExprTree) (ds : List Data)
-    → Grows (filtered go level env x t ds [] >>= λ es. lift (limited (list (items_of es))))
+    → Grows (filter_each go level env x t ds [] >>= λ es. lift (within_limits (list (items_of es))))
 grows-then_filter go g level env x t ds =
-    grows-then (filtered go level env x t ds []) (λ es. lift (limited (list (items_of es)))) (grows-filtered go g level env x t ds []) grows-limited
+    grows-then (filter_each go level env x t ds []) (λ es. lift (within_limits (list (items_of es)))) (grows-filtered go g level env x t ds []) grows-limited
 
 pub grows-then_fold : (go : Go) → GoGrows go → (level : ℕ) (env : Env) (x y : List ℕ) (t : ExprTree) (d a : Data)
-    → Grows (lift (elements d) >>= λ ds. folded go level env x y t ds a)
+    → Grows (lift (elements d) >>= λ ds. fold_each go level env x y t ds a)
 grows-then_fold go g level env x y t d a =
-    grows-then (lift (elements d)) (λ ds. folded go level env x y t ds a) (grows-lift (elements d)) (λ ds. grows-folded go g level env x y t ds a)
+    grows-then (lift (elements d)) (λ ds. fold_each go level env x y t ds a) (grows-lift (elements d)) (λ ds. grows-folded go g level env x y t ds a)
 
 pub grows-then_opening : (go : Go) → GoGrows go → (level : ℕ) (env : Env) (x y : List ℕ) (opening t : ExprTree) (d : Data)
-    → Grows (go level env opening >>= λ a. lift (elements d) >>= λ ds. folded go level env x y t ds a)
+    → Grows (go level env opening >>= λ a. lift (elements d) >>= λ ds. fold_each go level env x y t ds a)
 grows-then_opening go g level env x y opening t d =
-    grows-then (go level env opening) (λ a. lift (elements d) >>= λ ds. folded go level env x y t ds a) (g level env opening)
+    grows-then (go level env opening) (λ a. lift (elements d) >>= λ ds. fold_each go level env x y t ds a) (g level env opening)
     (λ a. grows-then_fold go g level env x y t d a)
 
 grows-parts : (app : App) (slots : Slots) (go : Go) → GoGrows go → (level : ℕ) (env : Env) (t : ExprTree) → Grows (parts app slots go level env t)
 grows-parts app slots go g level env (expr.Constant x) = grows-give x
-grows-parts app slots go g level env (expr.Variable x) = grows-lift (or_trap 1 (found x env))
-grows-parts app slots go g level env (expr.Slot x) = grows-lift (or_trap 1 (found x slots))
+grows-parts app slots go g level env (expr.Variable x) = grows-lift (or_trap 1 (value_named x env))
+grows-parts app slots go g level env (expr.Slot x) = grows-lift (or_trap 1 (value_named x slots))
 grows-parts app slots go g level env (expr.If t u v) =
-    grows-then (tested go level env t) (λ b. if b then go level env u else go level env v) (grows-tested go g level env t) (grows-then_choice go g level env u v)
+    grows-then (truth_of go level env t) (λ b. if b then go level env u else go level env v) (grows-tested go g level env t) (grows-then_choice go g level env u v)
 grows-parts app slots go g level env (expr.Let bs t) = grows-let_in go g level bs t env
 grows-parts app slots go g level env (expr.And ts) = grows-every go g level env ts
 grows-parts app slots go g level env (expr.Or ts) = grows-some go g level env ts
 grows-parts app slots go g level env (expr.Map x t body) =
-    grows-then (listed go level env t) (λ ds. mapped go level env x body ds [] >>= λ es. lift (limited (list (items_of es)))) (grows-listed go g level env t)
+    grows-then (parts_of_list go level env t) (λ ds. map_each go level env x body ds [] >>= λ es. lift (within_limits (list (items_of es)))) (grows-listed go g level env t)
     (grows-then_map go g level env x body)
 grows-parts app slots go g level env (expr.Filter x t body) =
-    grows-then (listed go level env t) (λ ds. filtered go level env x body ds [] >>= λ es. lift (limited (list (items_of es)))) (grows-listed go g level env t)
+    grows-then (parts_of_list go level env t) (λ ds. filter_each go level env x body ds [] >>= λ es. lift (within_limits (list (items_of es)))) (grows-listed go g level env t)
     (grows-then_filter go g level env x body)
 grows-parts app slots go g level env (expr.Fold x t y opening body) =
-    grows-then (go level env t) (λ d. go level env opening >>= λ a. lift (elements d) >>= λ ds. folded go level env x y body ds a) (g level env t)
+    grows-then (go level env t) (λ d. go level env opening >>= λ a. lift (elements d) >>= λ ds. fold_each go level env x y body ds a) (g level env t)
     (grows-then_opening go g level env x y opening body)
 grows-parts app slots go g level env (expr.Operation o ts) =
-    grows-then (each go level env ts []) (λ ds. lift (operated app o ds)) (grows-each go g level env ts []) (λ ds. grows-lift (operated app o ds))
+    grows-then (each go level env ts []) (λ ds. lift (operate app o ds)) (grows-each go g level env ts []) (λ ds. grows-lift (operate app o ds))
 grows-parts app slots go g level env (expr.Call f ts) =
-    grows-then (each go level env ts []) (λ ds. called go level (function_named f app) ds) (grows-each go g level env ts []) (grows-called go g level (function_named f app))
+    grows-then (each go level env ts []) (λ ds. call_function go level (function_named f app) ds) (grows-each go g level env ts []) (grows-called go g level (function_named f app))
 
 pub grows-means : (left budget : ℕ) (app : App) (slots : Slots) → GoGrows (means left budget app slots)
 grows-means zero budget app slots level env t =

@@ -9,9 +9,9 @@ use Rattle.cl_application.specs.App.{function_named}
 use Rattle.cl_application.specs.declared.applications.App.{App}
 use Rattle.cl_application.specs.declared.declarations.FunctionDecl.{FunctionDecl}
 use Rattle.cl_eval.specs.Outcome.{Outcome, Gives, Traps, Run, give, trap, lift, after, ◌>>=◌, cost_of}
-use Rattle.cl_eval.specs.Slots.{Slots, Env, found, given}
-use Rattle.cl_eval.specs.Operators.{limited, or_trap, truth, elements, operated}
-use Rattle.cl_eval.specs.Meaning.{Go, entering, tested, listed, each, every, some, bound, let_in, mapped, filtered, folded, called, parts, means}
+use Rattle.cl_eval.specs.Slots.{Slots, Env, value_named, bind_parameters}
+use Rattle.cl_eval.specs.Operators.{within_limits, or_trap, truth, elements, operate}
+use Rattle.cl_eval.specs.Meaning.{Go, entering, truth_of, parts_of_list, each, every, some, bind_each, let_in, map_each, filter_each, fold_each, call_function, parts, means}
 
 -- from a cost and a level to a value: neither falls, and within the limits the second run comes to the same
 pub record Reaches {A : Type 0} (second : Run A) (budget depth c d : ℕ) (v : A) (n l : ℕ) : Type 0 where
@@ -98,11 +98,11 @@ goes-entering left budget left' budget' level c d v n l p =
 abbrev pub GoGoes : ℕ → ℕ → ℕ → Go → Go → Type 0
 GoGoes budget depth level go go' = (env : Env) (t : ExprTree) → Goes budget depth (go level env t) (go' level env t)
 
-pub goes-tested : (budget depth : ℕ) (go go' : Go) → (level : ℕ) → GoGoes budget depth level go go' → (env : Env) (t : ExprTree) → Goes budget depth (tested go level env t) (tested go' level env t)
+pub goes-tested : (budget depth : ℕ) (go go' : Go) → (level : ℕ) → GoGoes budget depth level go go' → (env : Env) (t : ExprTree) → Goes budget depth (truth_of go level env t) (truth_of go' level env t)
 goes-tested budget depth go go' level g env t =
     goes-then budget depth (go level env t) (go' level env t) (λ d. lift (truth d)) (λ d. lift (truth d)) (g env t) (λ d. goes-lift budget depth (truth d))
 
-pub goes-listed : (budget depth : ℕ) (go go' : Go) → (level : ℕ) → GoGoes budget depth level go go' → (env : Env) (t : ExprTree) → Goes budget depth (listed go level env t) (listed go' level env t)
+pub goes-listed : (budget depth : ℕ) (go go' : Go) → (level : ℕ) → GoGoes budget depth level go go' → (env : Env) (t : ExprTree) → Goes budget depth (parts_of_list go level env t) (parts_of_list go' level env t)
 goes-listed budget depth go go' level g env t =
     goes-then budget depth (go level env t) (go' level env t) (λ d. lift (elements d)) (λ d. lift (elements d)) (g env t) (λ d. goes-lift budget depth (elements d))
 
@@ -116,47 +116,47 @@ pub goes-every : (budget depth : ℕ) (go go' : Go) → (level : ℕ) → GoGoes
 goes-every budget depth go go' level g env none =
     goes-give budget depth (bool true)
 goes-every budget depth go go' level g env (part t ts) =
-    goes-then budget depth (tested go level env t) (tested go' level env t) (λ b. if b then every go level env ts else give (bool false)) (λ b. if b then every go' level env ts else give (bool false)) (goes-tested budget depth go go' level g env t) (λ b. goes-choice budget depth b (every go level env ts) (every go' level env ts) (give (bool false)) (give (bool false)) (goes-every budget depth go go' level g env ts) (goes-give budget depth (bool false)))
+    goes-then budget depth (truth_of go level env t) (truth_of go' level env t) (λ b. if b then every go level env ts else give (bool false)) (λ b. if b then every go' level env ts else give (bool false)) (goes-tested budget depth go go' level g env t) (λ b. goes-choice budget depth b (every go level env ts) (every go' level env ts) (give (bool false)) (give (bool false)) (goes-every budget depth go go' level g env ts) (goes-give budget depth (bool false)))
 
 pub goes-some : (budget depth : ℕ) (go go' : Go) → (level : ℕ) → GoGoes budget depth level go go' → (env : Env) (ts : ExprTrees) → Goes budget depth (some go level env ts) (some go' level env ts)
 goes-some budget depth go go' level g env none =
     goes-give budget depth (bool false)
 goes-some budget depth go go' level g env (part t ts) =
-    goes-then budget depth (tested go level env t) (tested go' level env t) (λ b. if b then give (bool true) else some go level env ts) (λ b. if b then give (bool true) else some go' level env ts) (goes-tested budget depth go go' level g env t) (λ b. goes-choice budget depth b (give (bool true)) (give (bool true)) (some go level env ts) (some go' level env ts) (goes-give budget depth (bool true)) (goes-some budget depth go go' level g env ts))
+    goes-then budget depth (truth_of go level env t) (truth_of go' level env t) (λ b. if b then give (bool true) else some go level env ts) (λ b. if b then give (bool true) else some go' level env ts) (goes-tested budget depth go go' level g env t) (λ b. goes-choice budget depth b (give (bool true)) (give (bool true)) (some go level env ts) (some go' level env ts) (goes-give budget depth (bool true)) (goes-some budget depth go go' level g env ts))
 
-pub goes-bound : (budget depth : ℕ) (go go' : Go) → (level : ℕ) → GoGoes budget depth level go go' → (bs : Bindings) (env : Env) → Goes budget depth (bound go level bs env) (bound go' level bs env)
+pub goes-bound : (budget depth : ℕ) (go go' : Go) → (level : ℕ) → GoGoes budget depth level go go' → (bs : Bindings) (env : Env) → Goes budget depth (bind_each go level bs env) (bind_each go' level bs env)
 goes-bound budget depth go go' level g unbound env =
     goes-give budget depth env
 goes-bound budget depth go go' level g (binding x t bs) env =
-    goes-then budget depth (go level env t) (go' level env t) (λ d. bound go level bs ((x, d) ∷ env)) (λ d. bound go' level bs ((x, d) ∷ env)) (g env t) (λ d. goes-bound budget depth go go' level g bs ((x, d) ∷ env))
+    goes-then budget depth (go level env t) (go' level env t) (λ d. bind_each go level bs ((x, d) ∷ env)) (λ d. bind_each go' level bs ((x, d) ∷ env)) (g env t) (λ d. goes-bound budget depth go go' level g bs ((x, d) ∷ env))
 
 pub goes-let_in : (budget depth : ℕ) (go go' : Go) → (level : ℕ) → GoGoes budget depth level go go' → (bs : Bindings) (t : ExprTree) (env : Env) → Goes budget depth (let_in go level bs t env) (let_in go' level bs t env)
 goes-let_in budget depth go go' level g bs t env =
-    goes-then budget depth (bound go level bs env) (bound go' level bs env) (λ inner. go level inner t) (λ inner. go' level inner t) (goes-bound budget depth go go' level g bs env) (λ inner. g inner t)
+    goes-then budget depth (bind_each go level bs env) (bind_each go' level bs env) (λ inner. go level inner t) (λ inner. go' level inner t) (goes-bound budget depth go go' level g bs env) (λ inner. g inner t)
 
-pub goes-mapped : (budget depth : ℕ) (go go' : Go) → (level : ℕ) → GoGoes budget depth level go go' → (env : Env) (x : List ℕ) (t : ExprTree) (ds es : List Data) → Goes budget depth (mapped go level env x t ds es) (mapped go' level env x t ds es)
+pub goes-mapped : (budget depth : ℕ) (go go' : Go) → (level : ℕ) → GoGoes budget depth level go go' → (env : Env) (x : List ℕ) (t : ExprTree) (ds es : List Data) → Goes budget depth (map_each go level env x t ds es) (map_each go' level env x t ds es)
 goes-mapped budget depth go go' level g env x t [] es =
     goes-give budget depth es
 goes-mapped budget depth go go' level g env x t (a ∷ ds) es =
-    goes-then budget depth (go level ((x, a) ∷ env) t) (go' level ((x, a) ∷ env) t) (λ e. mapped go level env x t ds (es ++ e ∷ [])) (λ e. mapped go' level env x t ds (es ++ e ∷ [])) (g ((x, a) ∷ env) t) (λ e. goes-mapped budget depth go go' level g env x t ds (es ++ e ∷ []))
+    goes-then budget depth (go level ((x, a) ∷ env) t) (go' level ((x, a) ∷ env) t) (λ e. map_each go level env x t ds (es ++ e ∷ [])) (λ e. map_each go' level env x t ds (es ++ e ∷ [])) (g ((x, a) ∷ env) t) (λ e. goes-mapped budget depth go go' level g env x t ds (es ++ e ∷ []))
 
-pub goes-filtered : (budget depth : ℕ) (go go' : Go) → (level : ℕ) → GoGoes budget depth level go go' → (env : Env) (x : List ℕ) (t : ExprTree) (ds es : List Data) → Goes budget depth (filtered go level env x t ds es) (filtered go' level env x t ds es)
+pub goes-filtered : (budget depth : ℕ) (go go' : Go) → (level : ℕ) → GoGoes budget depth level go go' → (env : Env) (x : List ℕ) (t : ExprTree) (ds es : List Data) → Goes budget depth (filter_each go level env x t ds es) (filter_each go' level env x t ds es)
 goes-filtered budget depth go go' level g env x t [] es =
     goes-give budget depth es
 goes-filtered budget depth go go' level g env x t (a ∷ ds) es =
-    goes-then budget depth (tested go level ((x, a) ∷ env) t) (tested go' level ((x, a) ∷ env) t) (λ b. filtered go level env x t ds (if b then es ++ a ∷ [] else es)) (λ b. filtered go' level env x t ds (if b then es ++ a ∷ [] else es)) (goes-tested budget depth go go' level g ((x, a) ∷ env) t) (λ b. goes-filtered budget depth go go' level g env x t ds (if b then es ++ a ∷ [] else es))
+    goes-then budget depth (truth_of go level ((x, a) ∷ env) t) (truth_of go' level ((x, a) ∷ env) t) (λ b. filter_each go level env x t ds (if b then es ++ a ∷ [] else es)) (λ b. filter_each go' level env x t ds (if b then es ++ a ∷ [] else es)) (goes-tested budget depth go go' level g ((x, a) ∷ env) t) (λ b. goes-filtered budget depth go go' level g env x t ds (if b then es ++ a ∷ [] else es))
 
-pub goes-folded : (budget depth : ℕ) (go go' : Go) → (level : ℕ) → GoGoes budget depth level go go' → (env : Env) (x y : List ℕ) (t : ExprTree) (ds : List Data) (a : Data) → Goes budget depth (folded go level env x y t ds a) (folded go' level env x y t ds a)
+pub goes-folded : (budget depth : ℕ) (go go' : Go) → (level : ℕ) → GoGoes budget depth level go go' → (env : Env) (x y : List ℕ) (t : ExprTree) (ds : List Data) (a : Data) → Goes budget depth (fold_each go level env x y t ds a) (fold_each go' level env x y t ds a)
 goes-folded budget depth go go' level g env x y t [] a =
     goes-give budget depth a
 goes-folded budget depth go go' level g env x y t (e ∷ ds) a =
-    goes-then budget depth (go level ((y, a) ∷ (x, e) ∷ env) t) (go' level ((y, a) ∷ (x, e) ∷ env) t) (λ b. folded go level env x y t ds b) (λ b. folded go' level env x y t ds b) (g ((y, a) ∷ (x, e) ∷ env) t) (λ b. goes-folded budget depth go go' level g env x y t ds b)
+    goes-then budget depth (go level ((y, a) ∷ (x, e) ∷ env) t) (go' level ((y, a) ∷ (x, e) ∷ env) t) (λ b. fold_each go level env x y t ds b) (λ b. fold_each go' level env x y t ds b) (g ((y, a) ∷ (x, e) ∷ env) t) (λ b. goes-folded budget depth go go' level g env x y t ds b)
 
-pub goes-called : (budget depth : ℕ) (go go' : Go) → (level : ℕ) → GoGoes budget depth level go go' → (f : Option FunctionDecl) (ds : List Data) → Goes budget depth (called go level f ds) (called go' level f ds)
+pub goes-called : (budget depth : ℕ) (go go' : Go) → (level : ℕ) → GoGoes budget depth level go go' → (f : Option FunctionDecl) (ds : List Data) → Goes budget depth (call_function go level f ds) (call_function go' level f ds)
 goes-called budget depth go go' level g None ds =
     goes-trap budget depth 1
 goes-called budget depth go go' level g (Some f) ds =
-    goes-choice budget depth (length ds == length f.parameters) (go level (given f.parameters ds) f.body) (go' level (given f.parameters ds) f.body) (trap 1) (trap 1) (g (given f.parameters ds) f.body) (goes-trap budget depth 1)
+    goes-choice budget depth (length ds == length f.parameters) (go level (bind_parameters f.parameters ds) f.body) (go' level (bind_parameters f.parameters ds) f.body) (trap 1) (trap 1) (g (bind_parameters f.parameters ds) f.body) (goes-trap budget depth 1)
 
 -- what follows in each row
 
@@ -164,35 +164,35 @@ pub goes-then_choice : (budget depth : ℕ) (go go' : Go) → (level : ℕ) → 
 goes-then_choice budget depth go go' level g env u v b =
     goes-choice budget depth b (go level env u) (go' level env u) (go level env v) (go' level env v) (g env u) (g env v)
 
-pub goes-limited : (budget depth : ℕ) (es : List Data) → Goes budget depth (lift (limited (list (items_of es)))) (lift (limited (list (items_of es))))
+pub goes-limited : (budget depth : ℕ) (es : List Data) → Goes budget depth (lift (within_limits (list (items_of es)))) (lift (within_limits (list (items_of es))))
 goes-limited budget depth es =
-    goes-lift budget depth (limited (list (items_of es)))
+    goes-lift budget depth (within_limits (list (items_of es)))
 
-pub goes-then_map : (budget depth : ℕ) (go go' : Go) → (level : ℕ) → GoGoes budget depth level go go' → (env : Env) (x : List ℕ) (t : ExprTree) (ds : List Data) → Goes budget depth (mapped go level env x t ds [] >>= λ es. lift (limited (list (items_of es)))) (mapped go' level env x t ds [] >>= λ es. lift (limited (list (items_of es))))
+pub goes-then_map : (budget depth : ℕ) (go go' : Go) → (level : ℕ) → GoGoes budget depth level go go' → (env : Env) (x : List ℕ) (t : ExprTree) (ds : List Data) → Goes budget depth (map_each go level env x t ds [] >>= λ es. lift (within_limits (list (items_of es)))) (map_each go' level env x t ds [] >>= λ es. lift (within_limits (list (items_of es))))
 goes-then_map budget depth go go' level g env x t ds =
-    goes-then budget depth (mapped go level env x t ds []) (mapped go' level env x t ds []) (λ es. lift (limited (list (items_of es)))) (λ es. lift (limited (list (items_of es)))) (goes-mapped budget depth go go' level g env x t ds []) (goes-limited budget depth)
+    goes-then budget depth (map_each go level env x t ds []) (map_each go' level env x t ds []) (λ es. lift (within_limits (list (items_of es)))) (λ es. lift (within_limits (list (items_of es)))) (goes-mapped budget depth go go' level g env x t ds []) (goes-limited budget depth)
 
-pub goes-then_filter : (budget depth : ℕ) (go go' : Go) → (level : ℕ) → GoGoes budget depth level go go' → (env : Env) (x : List ℕ) (t : ExprTree) (ds : List Data) → Goes budget depth (filtered go level env x t ds [] >>= λ es. lift (limited (list (items_of es)))) (filtered go' level env x t ds [] >>= λ es. lift (limited (list (items_of es))))
+pub goes-then_filter : (budget depth : ℕ) (go go' : Go) → (level : ℕ) → GoGoes budget depth level go go' → (env : Env) (x : List ℕ) (t : ExprTree) (ds : List Data) → Goes budget depth (filter_each go level env x t ds [] >>= λ es. lift (within_limits (list (items_of es)))) (filter_each go' level env x t ds [] >>= λ es. lift (within_limits (list (items_of es))))
 goes-then_filter budget depth go go' level g env x t ds =
-    goes-then budget depth (filtered go level env x t ds []) (filtered go' level env x t ds []) (λ es. lift (limited (list (items_of es)))) (λ es. lift (limited (list (items_of es)))) (goes-filtered budget depth go go' level g env x t ds []) (goes-limited budget depth)
+    goes-then budget depth (filter_each go level env x t ds []) (filter_each go' level env x t ds []) (λ es. lift (within_limits (list (items_of es)))) (λ es. lift (within_limits (list (items_of es)))) (goes-filtered budget depth go go' level g env x t ds []) (goes-limited budget depth)
 
-pub goes-then_fold : (budget depth : ℕ) (go go' : Go) → (level : ℕ) → GoGoes budget depth level go go' → (env : Env) (x y : List ℕ) (t : ExprTree) (d a : Data) → Goes budget depth (lift (elements d) >>= λ ds. folded go level env x y t ds a) (lift (elements d) >>= λ ds. folded go' level env x y t ds a)
+pub goes-then_fold : (budget depth : ℕ) (go go' : Go) → (level : ℕ) → GoGoes budget depth level go go' → (env : Env) (x y : List ℕ) (t : ExprTree) (d a : Data) → Goes budget depth (lift (elements d) >>= λ ds. fold_each go level env x y t ds a) (lift (elements d) >>= λ ds. fold_each go' level env x y t ds a)
 goes-then_fold budget depth go go' level g env x y t d a =
-    goes-then budget depth (lift (elements d)) (lift (elements d)) (λ ds. folded go level env x y t ds a) (λ ds. folded go' level env x y t ds a) (goes-lift budget depth (elements d)) (λ ds. goes-folded budget depth go go' level g env x y t ds a)
+    goes-then budget depth (lift (elements d)) (lift (elements d)) (λ ds. fold_each go level env x y t ds a) (λ ds. fold_each go' level env x y t ds a) (goes-lift budget depth (elements d)) (λ ds. goes-folded budget depth go go' level g env x y t ds a)
 
-pub goes-then_opening : (budget depth : ℕ) (go go' : Go) → (level : ℕ) → GoGoes budget depth level go go' → (env : Env) (x y : List ℕ) (opening t : ExprTree) (d : Data) → Goes budget depth (go level env opening >>= λ a. lift (elements d) >>= λ ds. folded go level env x y t ds a) (go' level env opening >>= λ a. lift (elements d) >>= λ ds. folded go' level env x y t ds a)
+pub goes-then_opening : (budget depth : ℕ) (go go' : Go) → (level : ℕ) → GoGoes budget depth level go go' → (env : Env) (x y : List ℕ) (opening t : ExprTree) (d : Data) → Goes budget depth (go level env opening >>= λ a. lift (elements d) >>= λ ds. fold_each go level env x y t ds a) (go' level env opening >>= λ a. lift (elements d) >>= λ ds. fold_each go' level env x y t ds a)
 goes-then_opening budget depth go go' level g env x y opening t d =
-    goes-then budget depth (go level env opening) (go' level env opening) (λ a. lift (elements d) >>= λ ds. folded go level env x y t ds a) (λ a. lift (elements d) >>= λ ds. folded go' level env x y t ds a) (g env opening) (λ a. goes-then_fold budget depth go go' level g env x y t d a)
+    goes-then budget depth (go level env opening) (go' level env opening) (λ a. lift (elements d) >>= λ ds. fold_each go level env x y t ds a) (λ a. lift (elements d) >>= λ ds. fold_each go' level env x y t ds a) (g env opening) (λ a. goes-then_fold budget depth go go' level g env x y t d a)
 
 goes-parts : (budget depth : ℕ) (app : App) (slots : Slots) (go go' : Go) → (level : ℕ) → GoGoes budget depth level go go' → (env : Env) (t : ExprTree) → Goes budget depth (parts app slots go level env t) (parts app slots go' level env t)
 goes-parts budget depth app slots go go' level g env (expr.Constant x) =
     goes-give budget depth x
 goes-parts budget depth app slots go go' level g env (expr.Variable x) =
-    goes-lift budget depth (or_trap 1 (found x env))
+    goes-lift budget depth (or_trap 1 (value_named x env))
 goes-parts budget depth app slots go go' level g env (expr.Slot x) =
-    goes-lift budget depth (or_trap 1 (found x slots))
+    goes-lift budget depth (or_trap 1 (value_named x slots))
 goes-parts budget depth app slots go go' level g env (expr.If t u v) =
-    goes-then budget depth (tested go level env t) (tested go' level env t) (λ b. if b then go level env u else go level env v) (λ b. if b then go' level env u else go' level env v) (goes-tested budget depth go go' level g env t) (goes-then_choice budget depth go go' level g env u v)
+    goes-then budget depth (truth_of go level env t) (truth_of go' level env t) (λ b. if b then go level env u else go level env v) (λ b. if b then go' level env u else go' level env v) (goes-tested budget depth go go' level g env t) (goes-then_choice budget depth go go' level g env u v)
 goes-parts budget depth app slots go go' level g env (expr.Let bs t) =
     goes-let_in budget depth go go' level g bs t env
 goes-parts budget depth app slots go go' level g env (expr.And ts) =
@@ -200,15 +200,15 @@ goes-parts budget depth app slots go go' level g env (expr.And ts) =
 goes-parts budget depth app slots go go' level g env (expr.Or ts) =
     goes-some budget depth go go' level g env ts
 goes-parts budget depth app slots go go' level g env (expr.Map x t body) =
-    goes-then budget depth (listed go level env t) (listed go' level env t) (λ ds. mapped go level env x body ds [] >>= λ es. lift (limited (list (items_of es)))) (λ ds. mapped go' level env x body ds [] >>= λ es. lift (limited (list (items_of es)))) (goes-listed budget depth go go' level g env t) (goes-then_map budget depth go go' level g env x body)
+    goes-then budget depth (parts_of_list go level env t) (parts_of_list go' level env t) (λ ds. map_each go level env x body ds [] >>= λ es. lift (within_limits (list (items_of es)))) (λ ds. map_each go' level env x body ds [] >>= λ es. lift (within_limits (list (items_of es)))) (goes-listed budget depth go go' level g env t) (goes-then_map budget depth go go' level g env x body)
 goes-parts budget depth app slots go go' level g env (expr.Filter x t body) =
-    goes-then budget depth (listed go level env t) (listed go' level env t) (λ ds. filtered go level env x body ds [] >>= λ es. lift (limited (list (items_of es)))) (λ ds. filtered go' level env x body ds [] >>= λ es. lift (limited (list (items_of es)))) (goes-listed budget depth go go' level g env t) (goes-then_filter budget depth go go' level g env x body)
+    goes-then budget depth (parts_of_list go level env t) (parts_of_list go' level env t) (λ ds. filter_each go level env x body ds [] >>= λ es. lift (within_limits (list (items_of es)))) (λ ds. filter_each go' level env x body ds [] >>= λ es. lift (within_limits (list (items_of es)))) (goes-listed budget depth go go' level g env t) (goes-then_filter budget depth go go' level g env x body)
 goes-parts budget depth app slots go go' level g env (expr.Fold x t y opening body) =
-    goes-then budget depth (go level env t) (go' level env t) (λ d. go level env opening >>= λ a. lift (elements d) >>= λ ds. folded go level env x y body ds a) (λ d. go' level env opening >>= λ a. lift (elements d) >>= λ ds. folded go' level env x y body ds a) (g env t) (goes-then_opening budget depth go go' level g env x y opening body)
+    goes-then budget depth (go level env t) (go' level env t) (λ d. go level env opening >>= λ a. lift (elements d) >>= λ ds. fold_each go level env x y body ds a) (λ d. go' level env opening >>= λ a. lift (elements d) >>= λ ds. fold_each go' level env x y body ds a) (g env t) (goes-then_opening budget depth go go' level g env x y opening body)
 goes-parts budget depth app slots go go' level g env (expr.Operation o ts) =
-    goes-then budget depth (each go level env ts []) (each go' level env ts []) (λ ds. lift (operated app o ds)) (λ ds. lift (operated app o ds)) (goes-each budget depth go go' level g env ts []) (λ ds. goes-lift budget depth (operated app o ds))
+    goes-then budget depth (each go level env ts []) (each go' level env ts []) (λ ds. lift (operate app o ds)) (λ ds. lift (operate app o ds)) (goes-each budget depth go go' level g env ts []) (λ ds. goes-lift budget depth (operate app o ds))
 goes-parts budget depth app slots go go' level g env (expr.Call f ts) =
-    goes-then budget depth (each go level env ts []) (each go' level env ts []) (λ ds. called go level (function_named f app) ds) (λ ds. called go' level (function_named f app) ds) (goes-each budget depth go go' level g env ts []) (goes-called budget depth go go' level g (function_named f app))
+    goes-then budget depth (each go level env ts []) (each go' level env ts []) (λ ds. call_function go level (function_named f app) ds) (λ ds. call_function go' level (function_named f app) ds) (goes-each budget depth go go' level g env ts []) (goes-called budget depth go go' level g (function_named f app))
 
 -- ---- expressions
 

@@ -7,15 +7,15 @@ use Rattle.std.proofs.lemmas.Int.{ints}
 use Rattle.cl_value.specs.Data.{Data, int, list, items_of, size_of_items, depth_of_items}
 use Rattle.cl_value.specs.Value.{data_of}
 use Rattle.cl_value.specs.declared.Value.{Value}
-use Rattle.cl_eval.specs.Slots.{is_name, found}
-use Rattle.cl_eval.specs.Operators.{list_of, same, has_part, numbers_from, with_part, limited}
+use Rattle.cl_eval.specs.Slots.{is_name, value_named}
+use Rattle.cl_eval.specs.Operators.{list_of, same_value, has_part, numbers_from, with_part, within_limits}
 
 pub list_of_items : (ds : List Data) → list_of (items_of ds) ≡ ds
 list_of_items [] = refl
 list_of_items (d ∷ ds) = ap (λ es. d ∷ es) (list_of_items ds)
 
 -- whether a part stands from a place on, by the part at that place
-pub has_part_next : (d : Data) (vs : List Value) (k : ℕ) (v : Value) → k < length vs → has_part d (map data_of (drop k vs)) ≡ (if same (data_of (get_or vs k v)) d then true else has_part d (map data_of (drop (k + 1) vs)))
+pub has_part_next : (d : Data) (vs : List Value) (k : ℕ) (v : Value) → k < length vs → has_part d (map data_of (drop k vs)) ≡ (if same_value (data_of (get_or vs k v)) d then true else has_part d (map data_of (drop (k + 1) vs)))
 has_part_next d vs k v h = rw add-one (ap (λ ws. has_part d (map data_of ws)) (drop-cons vs k v h))
 
 pub has_part_end : (d : Data) (vs : List Value) (k : ℕ) → length vs ≤ k → has_part d (map data_of (drop k vs)) ≡ false
@@ -46,7 +46,7 @@ with_part_suc d (v ∷ vs) zero h = refl
 with_part_suc d (v ∷ vs) (suc k) h = ap (λ ds. data_of v ∷ ds) (with_part_suc d vs k (omega arith))
 
 -- so many numbers are within the limits of a value
-pub numbers_within : (x : ℤ) (n : ℕ) → n < 65536 → limited (list (items_of (numbers_from x n))) ≡ Ok (list (items_of (numbers_from x n)))
+pub numbers_within : (x : ℤ) (n : ℕ) → n < 65536 → within_limits (list (items_of (numbers_from x n))) ≡ Ok (list (items_of (numbers_from x n)))
 numbers_within x n h =
     let size : nat_le (1 + size_of_items (items_of (numbers_from x n))) 65536 ≡ true = rw numbers_size (search (rules, tests)) in
     let depth : nat_le (1 + depth_of_items (items_of (numbers_from x n))) 64 ≡ true = let d = numbers_depth x n in search (rules, tests) in
@@ -69,10 +69,10 @@ behind : (b : Bool) (v : Data) (o o' p : Option Data) → (o ≡ None → o' ≡
 behind true v o o' p f h = absurd (none-some v (sym h))
 behind false v o o' p f h = f h
 
-pub found_in_frame : (x : List ℕ) (e around : List (List ℕ × Data)) (d : Data) → found x e ≡ Some d → found x (e ++ around) ≡ Some d
+pub found_in_frame : (x : List ℕ) (e around : List (List ℕ × Data)) (d : Data) → value_named x e ≡ Some d → value_named x (e ++ around) ≡ Some d
 found_in_frame x [] around d h = absurd (none-some d h)
-found_in_frame x (v ∷ e) around d h = in_front (is_name v.0 x) v.1 (found x e) (found x (e ++ around)) d (found_in_frame x e around d) h
+found_in_frame x (v ∷ e) around d h = in_front (is_name v.0 x) v.1 (value_named x e) (value_named x (e ++ around)) d (found_in_frame x e around d) h
 
-pub found_behind_frame : (x : List ℕ) (e around : List (List ℕ × Data)) → found x e ≡ None → found x (e ++ around) ≡ found x around
+pub found_behind_frame : (x : List ℕ) (e around : List (List ℕ × Data)) → value_named x e ≡ None → value_named x (e ++ around) ≡ value_named x around
 found_behind_frame x [] around h = refl
-found_behind_frame x (v ∷ e) around h = behind (is_name v.0 x) v.1 (found x e) (found x (e ++ around)) (found x around) (found_behind_frame x e around) h
+found_behind_frame x (v ∷ e) around h = behind (is_name v.0 x) v.1 (value_named x e) (value_named x (e ++ around)) (value_named x around) (found_behind_frame x e around) h

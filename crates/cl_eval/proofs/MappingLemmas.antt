@@ -6,8 +6,8 @@ use Rattle.cl_eval.specs.declared.metering.Meter.{Meter}
 use Rattle.cl_eval.specs.declared.metering.Stop.{Stop}
 use Rattle.cl_eval.specs.Outcome.{Outcome, Gives, Traps, Run, after, lift, cost_of}
 use Rattle.cl_eval.specs.Slots.{Env}
-use Rattle.cl_eval.specs.Operators.{limited}
-use Rattle.cl_eval.specs.Meaning.{Go, mapped}
+use Rattle.cl_eval.specs.Operators.{within_limits}
+use Rattle.cl_eval.specs.Meaning.{Go, map_each}
 use Rattle.cl_eval.specs.Mapping.{map_behind, past_limit}
 use Rattle.cl_eval.specs.Agrees.{Agrees, itself}
 use Rattle.cl_value.specs.Value.{data_of}
@@ -18,7 +18,7 @@ pub more_size : (es : List Data) (d : Data) → size_of_items (items_of (es ++ d
 more_size [] d = omega arith
 more_size (e ∷ es) d = omega (arith, more_size es d)
 
-limited_past : (es : List Data) → 65536 ≤ size_of_items (items_of es) → limited (list (items_of es)) ≡ Err 7
+limited_past : (es : List Data) → 65536 ≤ size_of_items (items_of es) → within_limits (list (items_of es)) ≡ Err 7
 limited_past es h =
     let past : nat_le (1 + size_of_items (items_of es)) 65536 ≡ false = search (rules, tests) in
     rw past refl
@@ -33,17 +33,17 @@ pub past_is : (go : Go) (level : ℕ) (env : Env) (x : List ℕ) (t : ExprTree) 
     → (c d : ℕ) → map_behind go level env x t ds es c d ≡ past_limit go level env x t ds c d
 past_is go level env x t [] es h c d = rw (limited_past es h) refl
 past_is go level env x t (a ∷ ds) es h c d =
-    past_step (go level ((x, a) ∷ env) t c d) (λ v. mapped go level env x t ds (es ++ v ∷ [])) (λ vs. lift (limited (list (items_of vs))))
+    past_step (go level ((x, a) ∷ env) t c d) (λ v. map_each go level env x t ds (es ++ v ∷ [])) (λ vs. lift (within_limits (list (items_of vs))))
     (past_limit go level env x t ds) (λ v n l. past_is go level env x t ds (es ++ v ∷ []) (omega (arith, more_size es v, h)) n l)
 
 grows-map_behind : (go : Go) → GoGrows go → (level : ℕ) (env : Env) (x : List ℕ) (t : ExprTree) (ds es : List Data) → Grows (map_behind go level env x t ds es)
 grows-map_behind go g level env x t ds es =
-    grows-then (mapped go level env x t ds es) (λ vs. lift (limited (list (items_of vs)))) (grows-mapped go g level env x t ds es) grows-limited
+    grows-then (map_each go level env x t ds es) (λ vs. lift (within_limits (list (items_of vs)))) (grows-mapped go g level env x t ds es) grows-limited
 
 pub stop-map_behind : (go : Go) → GoGrows go → (level : ℕ) (env : Env) (x : List ℕ) (t : ExprTree) (a : Data) (ds es : List Data) (e : Stop) (m : Meter) (c d : ℕ)
     → Agrees data_of (Err e) m (go level ((x, a) ∷ env) t c d) → Agrees data_of (Err e) m (map_behind go level env x t (a ∷ ds) es c d)
 stop-map_behind go g level env x t a ds es e m c d p =
-    Agrees-stop itself data_of e m (mapped go level env x t (a ∷ ds) es c d) (λ vs. lift (limited (list (items_of vs)))) grows-limited
+    Agrees-stop itself data_of e m (map_each go level env x t (a ∷ ds) es c d) (λ vs. lift (within_limits (list (items_of vs)))) grows-limited
     (stop-mapped go g level env x t a ds es e m c d p)
 
 pub full-map_behind : (go : Go) → GoGrows go → (level : ℕ) (env : Env) (x : List ℕ) (t : ExprTree) (a : Data) (ds es : List Data) (v : Data) (c d n l : ℕ)

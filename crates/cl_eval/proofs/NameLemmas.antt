@@ -7,9 +7,9 @@ use Rattle.cl_application.specs.App.{function_named}
 use Rattle.cl_application.specs.declared.applications.App.{App}
 use Rattle.cl_application.specs.declared.declarations.FunctionDecl.{FunctionDecl}
 use Rattle.cl_eval.specs.Outcome.{Outcome, Gives, Traps, Run, give, trap, lift, after, ◌>>=◌}
-use Rattle.cl_eval.specs.Slots.{Slots, Env, is_name, found, given}
-use Rattle.cl_eval.specs.Operators.{limited, or_trap, truth, elements, operated}
-use Rattle.cl_eval.specs.Meaning.{Go, entering, tested, listed, each, every, some, bound, let_in, mapped, filtered, folded, called, parts, means}
+use Rattle.cl_eval.specs.Slots.{Slots, Env, is_name, value_named, bind_parameters}
+use Rattle.cl_eval.specs.Operators.{within_limits, or_trap, truth, elements, operate}
+use Rattle.cl_eval.specs.Meaning.{Go, entering, truth_of, parts_of_list, each, every, some, bind_each, let_in, map_each, filter_each, fold_each, call_function, parts, means}
 use Rattle.cl_eval.specs.Uses.{Root, variable, slot, Apart, Names, NamesAmong, NamesBound, InBody, Within, value_at}
 
 -- where a binding does not hide it
@@ -24,7 +24,7 @@ after-after (Traps k c d) f h = refl
 -- the first binding, and the rest behind its value
 let_in-binding : (go : Go) (level : ℕ) (x : List ℕ) (u : ExprTree) (bs : Bindings) (t : ExprTree) (e : Env)
     → let_in go level (binding x u bs) t e ≡ (go level e u >>= λ d. let_in go level bs t ((x, d) ∷ e))
-let_in-binding go level x u bs t e = λ i c d. after-after (go level e u c d) (λ v. bound go level bs ((x, v) ∷ e)) (λ inner. go level inner t) i
+let_in-binding go level x u bs t e = λ i c d. after-after (go level e u c d) (λ v. bind_each go level bs ((x, v) ∷ e)) (λ inner. go level inner t) i
 
 module _ (app : App) (s s' : Slots) where
   -- the same values at these roots, each named through so many calls
@@ -44,7 +44,7 @@ module _ (app : App) (s s' : Slots) where
   Behind x P r n = Apart x r × P r n
 
   behind : (P : Root → ℕ → Type 0) (x : List ℕ) (d : Data) (e e' : Env) → On (Behind x P) e e' → On P ((x, d) ∷ e) ((x, d) ∷ e')
-  behind P x d e e' a (variable y) n p = hidden (is_name x y) d (found y e) (found y e') (λ apart. a (variable y) n (apart, p))
+  behind P x d e e' a (variable y) n p = hidden (is_name x y) d (value_named y e) (value_named y e') (λ apart. a (variable y) n (apart, p))
   behind P x d e e' a (slot y) n p = a (slot y) n (tt, p)
 
   abbrev pub SameGo : Go → Go → ℕ → Type 0
@@ -52,10 +52,10 @@ module _ (app : App) (s s' : Slots) where
 
   -- ---- by the meaning of the parts at a level
   module _ (go go' : Go) (level : ℕ) (g : SameGo go go' level) where
-    same-tested : (e e' : Env) (t : ExprTree) → On (In t) e e' → tested go level e t ≡ tested go' level e' t
+    same-tested : (e e' : Env) (t : ExprTree) → On (In t) e e' → truth_of go level e t ≡ truth_of go' level e' t
     same-tested e e' t a = λ i. g e e' t a i >>= λ d. lift (truth d)
 
-    same-listed : (e e' : Env) (t : ExprTree) → On (In t) e e' → listed go level e t ≡ listed go' level e' t
+    same-listed : (e e' : Env) (t : ExprTree) → On (In t) e e' → parts_of_list go level e t ≡ parts_of_list go' level e' t
     same-listed e e' t a = λ i. g e e' t a i >>= λ d. lift (elements d)
 
     same-each : (e e' : Env) (ts : ExprTrees) → On (InAll ts) e e' → (ds : List Data) → each go level e ts ds ≡ each go' level e' ts ds
@@ -80,34 +80,34 @@ module _ (app : App) (s s' : Slots) where
         λ i. g e e' u (λ r n p. a r n (inl p)) i >>= λ d. same-let bs t ((x, d) ∷ e) ((x, d) ∷ e') (behind (InLet bs t) x d e e' (λ r n p. a r n (inr p))) i in
         let_in-binding go level x u bs t e ∙ each_value ∙ sym (let_in-binding go' level x u bs t e')
 
-    same-mapped : (e e' : Env) (x : List ℕ) (t : ExprTree) → On (Behind x (In t)) e e' → (ds es : List Data) → mapped go level e x t ds es ≡ mapped go' level e' x t ds es
+    same-mapped : (e e' : Env) (x : List ℕ) (t : ExprTree) → On (Behind x (In t)) e e' → (ds es : List Data) → map_each go level e x t ds es ≡ map_each go' level e' x t ds es
     same-mapped e e' x t a [] es = refl
     same-mapped e e' x t a (d ∷ ds) es =
         λ i. g ((x, d) ∷ e) ((x, d) ∷ e') t (behind (In t) x d e e' a) i >>= λ v. same-mapped e e' x t a ds (es ++ v ∷ []) i
 
-    same-filtered : (e e' : Env) (x : List ℕ) (t : ExprTree) → On (Behind x (In t)) e e' → (ds es : List Data) → filtered go level e x t ds es ≡ filtered go' level e' x t ds es
+    same-filtered : (e e' : Env) (x : List ℕ) (t : ExprTree) → On (Behind x (In t)) e e' → (ds es : List Data) → filter_each go level e x t ds es ≡ filter_each go' level e' x t ds es
     same-filtered e e' x t a [] es = refl
     same-filtered e e' x t a (d ∷ ds) es =
         λ i. same-tested ((x, d) ∷ e) ((x, d) ∷ e') t (behind (In t) x d e e' a) i
         >>= λ b. same-filtered e e' x t a ds (if b then es ++ d ∷ [] else es) i
 
     same-folded : (e e' : Env) (x y : List ℕ) (t : ExprTree) → On (Behind x (Behind y (In t))) e e' → (ds : List Data) (d : Data)
-        → folded go level e x y t ds d ≡ folded go' level e' x y t ds d
+        → fold_each go level e x y t ds d ≡ fold_each go' level e' x y t ds d
     same-folded e e' x y t a [] d = refl
     same-folded e e' x y t a (c ∷ ds) d =
         λ i. g ((y, d) ∷ (x, c) ∷ e) ((y, d) ∷ (x, c) ∷ e') t
         (behind (In t) y d ((x, c) ∷ e) ((x, c) ∷ e') (behind (Behind y (In t)) x c e e' a)) i >>= λ v. same-folded e e' x y t a ds v i
 
     -- what a function's body names are slots
-    inside : (f : FunctionDecl) (e : Env) → ((x : List ℕ) (n : ℕ) → InBody (Within n app.functions (slot x)) (slot x) (Some f) → found x s ≡ found x s') → On (In f.body) e e
+    inside : (f : FunctionDecl) (e : Env) → ((x : List ℕ) (n : ℕ) → InBody (Within n app.functions (slot x)) (slot x) (Some f) → value_named x s ≡ value_named x s') → On (In f.body) e e
     inside f e a (variable y) n p = refl
     inside f e a (slot y) n p = a y n p
 
-    same-called : (f : Option FunctionDecl) (ds : List Data) → ((x : List ℕ) (n : ℕ) → InBody (Within n app.functions (slot x)) (slot x) f → found x s ≡ found x s')
-        → called go level f ds ≡ called go' level f ds
+    same-called : (f : Option FunctionDecl) (ds : List Data) → ((x : List ℕ) (n : ℕ) → InBody (Within n app.functions (slot x)) (slot x) f → value_named x s ≡ value_named x s')
+        → call_function go level f ds ≡ call_function go' level f ds
     same-called None ds a = refl
     same-called (Some f) ds a =
-        λ i. if length ds == length f.parameters then g (given f.parameters ds) (given f.parameters ds) f.body (inside f (given f.parameters ds) a) i else trap 1
+        λ i. if length ds == length f.parameters then g (bind_parameters f.parameters ds) (bind_parameters f.parameters ds) f.body (inside f (bind_parameters f.parameters ds) a) i else trap 1
 
     -- one row after another
     same-parts : (e e' : Env) (t : ExprTree) → On (In t) e e' → parts app s go level e t ≡ parts app s' go' level e' t
@@ -122,14 +122,14 @@ module _ (app : App) (s s' : Slots) where
     same-parts e e' (expr.Or ts) a = same-some e e' ts a
     same-parts e e' (expr.Map x t body) a =
         λ i. same-listed e e' t (λ r n p. a r n (inl p)) i
-        >>= λ ds. same-mapped e e' x body (λ r n p. a r n (inr p)) ds [] i >>= λ es. lift (limited (list (items_of es)))
+        >>= λ ds. same-mapped e e' x body (λ r n p. a r n (inr p)) ds [] i >>= λ es. lift (within_limits (list (items_of es)))
     same-parts e e' (expr.Filter x t body) a =
         λ i. same-listed e e' t (λ r n p. a r n (inl p)) i
-        >>= λ ds. same-filtered e e' x body (λ r n p. a r n (inr p)) ds [] i >>= λ es. lift (limited (list (items_of es)))
+        >>= λ ds. same-filtered e e' x body (λ r n p. a r n (inr p)) ds [] i >>= λ es. lift (within_limits (list (items_of es)))
     same-parts e e' (expr.Fold x t y opening body) a =
         λ i. g e e' t (λ r n p. a r n (inl p)) i >>= λ d. g e e' opening (λ r n p. a r n (inr (inl p))) i
         >>= λ first. lift (elements d) >>= λ ds. same-folded e e' x y body (λ r n p. a r n (inr (inr (p.0, p.1.0, p.1.1)))) ds first i
-    same-parts e e' (expr.Operation o ts) a = λ i. same-each e e' ts a [] i >>= λ ds. lift (operated app o ds)
+    same-parts e e' (expr.Operation o ts) a = λ i. same-each e e' ts a [] i >>= λ ds. lift (operate app o ds)
     same-parts e e' (expr.Call f ts) a =
         λ i. same-each e e' ts (λ r n p. a r n (inl p)) [] i
         >>= λ ds. same-called (function_named f app) ds (λ x n p. a (slot x) (suc n) (inr p)) i

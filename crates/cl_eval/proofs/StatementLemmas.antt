@@ -11,8 +11,8 @@ use Rattle.cl_eval.specs.declared.metering.Meter.{Meter}
 use Rattle.cl_eval.specs.declared.metering.Stop.{Stop}
 use Rattle.cl_eval.specs.Outcome.{Gives, Traps, give, lift}
 use Rattle.cl_eval.specs.Slots.{Slots, Env}
-use Rattle.cl_eval.specs.Meaning.{Go, bound, entering, tested, listed, means}
-use Rattle.cl_eval.specs.Statements.{Member, Does, assigned, replied, in_turn, for_each, acts_in, act_parts, does}
+use Rattle.cl_eval.specs.Meaning.{Go, bind_each, entering, truth_of, parts_of_list, means}
+use Rattle.cl_eval.specs.Statements.{Member, Does, assigned, reply_with, in_turn, for_each, acts_in, act_parts, does}
 use Rattle.cl_eval.specs.declared.programs.Stage.{Stage}
 use Rattle.cl_eval.specs.Stage.{doing_on}
 use Rattle.cl_eval.specs.Agrees.{Agrees, always, itself}
@@ -36,7 +36,7 @@ grows-for_each go g level env x body (d ∷ ds) s =
 pub grows-acts_in : (value : Go) → GoGrows value → (go : Does) → DoesGrows go → (level : ℕ) (bs : Bindings) (body : ActTrees) (env : Env) (s : Effects)
     → Grows (acts_in value go level bs body env s)
 grows-acts_in value v go g level bs body env s =
-    grows-then (bound value level bs env) (λ inner. in_turn go level inner body s) (grows-bound value v level bs env) (λ inner. grows-in_turn go g level inner body s)
+    grows-then (bind_each value level bs env) (λ inner. in_turn go level inner body s) (grows-bound value v level bs env) (λ inner. grows-in_turn go g level inner body s)
 
 pub grows-then_act : (go : Does) → DoesGrows go → (level : ℕ) (env : Env) (a b : ActTree) (s : Effects) (test : Bool) → Grows (if test then go level env a s else go level env b s)
 grows-then_act go g level env a b s test = grows-choice test (go level env a s) (go level env b s) (g level env a s) (g level env b s)
@@ -52,16 +52,16 @@ grows-act_parts : (app : App) (member : Member) (value : Slots → Go) → AllGr
 grows-act_parts app member value v go g level env (act.Setf x t) s =
     grows-then (value s.slots level env t) (λ d. lift (assigned member x (slot_type x app) s d)) (v s.slots level env t) (λ d. grows-lift (assigned member x (slot_type x app) s d))
 grows-act_parts app member value v go g level env (act.Reply t) s =
-    grows-then (value s.slots level env t) (λ d. lift (replied s d)) (v s.slots level env t) (λ d. grows-lift (replied s d))
+    grows-then (value s.slots level env t) (λ d. lift (reply_with s d)) (v s.slots level env t) (λ d. grows-lift (reply_with s d))
 grows-act_parts app member value v go g level env (act.If t a b) s =
-    grows-then (tested (value s.slots) level env t) (λ test. if test then go level env a s else go level env b s) (grows-tested (value s.slots) (v s.slots) level env t)
+    grows-then (truth_of (value s.slots) level env t) (λ test. if test then go level env a s else go level env b s) (grows-tested (value s.slots) (v s.slots) level env t)
     (grows-then_act go g level env a b s)
 grows-act_parts app member value v go g level env (act.When t body) s =
-    grows-then (tested (value s.slots) level env t) (λ test. if test then in_turn go level env body s else give s) (grows-tested (value s.slots) (v s.slots) level env t)
+    grows-then (truth_of (value s.slots) level env t) (λ test. if test then in_turn go level env body s else give s) (grows-tested (value s.slots) (v s.slots) level env t)
     (grows-then_body go g level env body s)
 grows-act_parts app member value v go g level env (act.Let bs body) s = grows-acts_in (value s.slots) (v s.slots) go g level bs body env s
 grows-act_parts app member value v go g level env (act.Dolist x t body) s =
-    grows-then (listed (value s.slots) level env t) (λ ds. for_each go level env x body ds s) (grows-listed (value s.slots) (v s.slots) level env t)
+    grows-then (parts_of_list (value s.slots) level env t) (λ ds. for_each go level env x body ds s) (grows-listed (value s.slots) (v s.slots) level env t)
     (λ ds. grows-for_each go g level env x body ds s)
 grows-act_parts app member value v go g level env (act.Progn body) s = grows-in_turn go g level env body s
 
@@ -99,21 +99,21 @@ stop-for_each go g level env x body v ds s s' e m c d =
     Agrees-stop (always {A = Unit {0}} s') (always {A = Unit {0}} s') e m (in_turn go level ((x, v) ∷ env) body s c d) (for_each go level env x body ds) (grows-for_each go g level env x body ds)
 
 pub stop-acts_in : (value : Go) (go : Does) → DoesGrows go → (level : ℕ) (bs : Bindings) (body : ActTrees) (env around : Env) (s s' : Effects) (e : Stop) (m : Meter) (c d : ℕ)
-    → Agrees (λ frame. frame ++ around) (Err e) m (bound value level bs env c d) → Agrees (always {A = Unit {0}} s') (Err e) m (acts_in value go level bs body env s c d)
+    → Agrees (λ frame. frame ++ around) (Err e) m (bind_each value level bs env c d) → Agrees (always {A = Unit {0}} s') (Err e) m (acts_in value go level bs body env s c d)
 stop-acts_in value go g level bs body env around s s' e m c d =
-    Agrees-stop (λ frame. frame ++ around) (always {A = Unit {0}} s') e m (bound value level bs env c d) (λ inner. in_turn go level inner body s) (λ inner. grows-in_turn go g level inner body s)
+    Agrees-stop (λ frame. frame ++ around) (always {A = Unit {0}} s') e m (bind_each value level bs env c d) (λ inner. in_turn go level inner body s) (λ inner. grows-in_turn go g level inner body s)
 
 pub stop-choice : (app : App) (member : Member) (value : Slots → Go) (go : Does) → DoesGrows go → (level : ℕ) (env : Env) (t : ExprTree) (a b : ActTree) (s s' : Effects) (e : Stop) (m : Meter) (c d : ℕ)
-    → Agrees itself (Err e) m (tested (value s.slots) level env t c d) → Agrees (always {A = Unit {0}} s') (Err e) m (act_parts app member value go level env (act.If t a b) s c d)
+    → Agrees itself (Err e) m (truth_of (value s.slots) level env t c d) → Agrees (always {A = Unit {0}} s') (Err e) m (act_parts app member value go level env (act.If t a b) s c d)
 stop-choice app member value go g level env t a b s s' e m c d =
-    Agrees-stop itself (always {A = Unit {0}} s') e m (tested (value s.slots) level env t c d) (λ test. if test then go level env a s else go level env b s) (grows-then_act go g level env a b s)
+    Agrees-stop itself (always {A = Unit {0}} s') e m (truth_of (value s.slots) level env t c d) (λ test. if test then go level env a s else go level env b s) (grows-then_act go g level env a b s)
 
 pub stop-when : (app : App) (member : Member) (value : Slots → Go) (go : Does) → DoesGrows go → (level : ℕ) (env : Env) (t : ExprTree) (body : ActTrees) (s s' : Effects) (e : Stop) (m : Meter) (c d : ℕ)
-    → Agrees itself (Err e) m (tested (value s.slots) level env t c d) → Agrees (always {A = Unit {0}} s') (Err e) m (act_parts app member value go level env (act.When t body) s c d)
+    → Agrees itself (Err e) m (truth_of (value s.slots) level env t c d) → Agrees (always {A = Unit {0}} s') (Err e) m (act_parts app member value go level env (act.When t body) s c d)
 stop-when app member value go g level env t body s s' e m c d =
-    Agrees-stop itself (always {A = Unit {0}} s') e m (tested (value s.slots) level env t c d) (λ test. if test then in_turn go level env body s else give s) (grows-then_body go g level env body s)
+    Agrees-stop itself (always {A = Unit {0}} s') e m (truth_of (value s.slots) level env t c d) (λ test. if test then in_turn go level env body s else give s) (grows-then_body go g level env body s)
 
 pub stop-dolist : (app : App) (member : Member) (value : Slots → Go) (go : Does) → DoesGrows go → (level : ℕ) (env : Env) (x : List ℕ) (t : ExprTree) (body : ActTrees) (s s' : Effects) (e : Stop) (m : Meter) (c d : ℕ)
-    → Agrees itself (Err e) m (listed (value s.slots) level env t c d) → Agrees (always {A = Unit {0}} s') (Err e) m (act_parts app member value go level env (act.Dolist x t body) s c d)
+    → Agrees itself (Err e) m (parts_of_list (value s.slots) level env t c d) → Agrees (always {A = Unit {0}} s') (Err e) m (act_parts app member value go level env (act.Dolist x t body) s c d)
 stop-dolist app member value go g level env x t body s s' e m c d =
-    Agrees-stop itself (always {A = Unit {0}} s') e m (listed (value s.slots) level env t c d) (λ ds. for_each go level env x body ds s) (λ ds. grows-for_each go g level env x body ds s)
+    Agrees-stop itself (always {A = Unit {0}} s') e m (parts_of_list (value s.slots) level env t c d) (λ ds. for_each go level env x body ds s) (λ ds. grows-for_each go g level env x body ds s)

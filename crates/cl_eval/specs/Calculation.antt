@@ -7,7 +7,7 @@ use Rattle.cl_eval.specs.Outcome.{Run, give, lift, ◌>>=◌}
 use Rattle.cl_eval.specs.Slots.{Slots, Env}
 use Rattle.cl_syntax.specs.declared.operators.Arithmetic.{Arithmetic}
 use Rattle.cl_syntax.specs.declared.operators.Comparison.{Comparison}
-use Rattle.cl_eval.specs.Operators.{Answer, calculated, compared, truth}
+use Rattle.cl_eval.specs.Operators.{Answer, calculate, compare_numbers, truth}
 use Rattle.cl_eval.specs.Meaning.{Go, each, parts}
 
 -- the number that a value is, where it is one
@@ -34,25 +34,25 @@ pair_in ds = None
 -- the arithmetic of two numbers, where they are there
 abbrev pub arithmetic_on : Arithmetic → Option (ℤ × ℤ) → Answer
 arithmetic_on o None = Err 1
-arithmetic_on o (Some p) = calculated o p.0 p.1
+arithmetic_on o (Some p) = calculate o p.0 p.1
 
 -- the comparison of two numbers, where they are there
 abbrev pub comparison_on : Comparison → Option (ℤ × ℤ) → Result Bool ℕ
 comparison_on o None = Err 1
-comparison_on o (Some p) = Ok (compared o p.0 p.1)
+comparison_on o (Some p) = Ok (compare_numbers o p.0 p.1)
 
 -- the number that an expression gives, where it gives one
-abbrev pub numbered : Go → ℕ → Env → ExprTree → Run (Option ℤ)
-numbered go level env t = go level env t >>= λ d. give (number_in d)
+abbrev pub give_number : Go → ℕ → Env → ExprTree → Run (Option ℤ)
+give_number go level env t = go level env t >>= λ d. give (number_in d)
 
 -- the two numbers that parts give, where they are two and each gives one
-abbrev pub paired : Go → ℕ → Env → ExprTrees → Run (Option (ℤ × ℤ))
-paired go level env ts = each go level env ts [] >>= λ ds. give (pair_in ds)
+abbrev pub give_pair : Go → ℕ → Env → ExprTrees → Run (Option (ℤ × ℤ))
+give_pair go level env ts = each go level env ts [] >>= λ ds. give (pair_in ds)
 
 -- the number that a form gives that was entered, where it gives one
 abbrev pub number_parts : App → Slots → Go → ℕ → Env → ExprTree → Run (Option ℤ)
 number_parts app slots go level env t = parts app slots go level env t >>= λ d. give (number_in d)
 
 -- whether a form is true that was entered, where a Bool is asked for
-abbrev pub tested_parts : App → Slots → Go → ℕ → Env → ExprTree → Run Bool
-tested_parts app slots go level env t = parts app slots go level env t >>= λ d. lift (truth d)
+abbrev pub truth_of_parts : App → Slots → Go → ℕ → Env → ExprTree → Run Bool
+truth_of_parts app slots go level env t = parts app slots go level env t >>= λ d. lift (truth d)

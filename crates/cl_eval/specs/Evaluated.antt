@@ -12,8 +12,8 @@ use Rattle.cl_eval.specs.Outcome.{Outcome, Gives, Traps}
 use Rattle.cl_eval.specs.Meaning.{means}
 
 -- an expression by itself, from no cost
-unfoldable pub meant : Limits → App → Slots → Env → ExprTree → Outcome Data
-meant limits app slots env t = means limits.depth limits.budget app slots 0 env t 0 0
+unfoldable pub outcome_of_eval : Limits → App → Slots → Env → ExprTree → Outcome Data
+outcome_of_eval limits app slots env t = means limits.depth limits.budget app slots 0 env t 0 0
 
 -- the value with its cost and its reach, or the trap's kind with the cost up to it
 abbrev pub Evaluates : Evaluated → Outcome Data → Type 0

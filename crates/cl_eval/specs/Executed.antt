@@ -23,8 +23,8 @@ abbrev pub no_effects : Slots → Effects
 no_effects slots = record { slots = slots; replies = []; reply_bytes = 0 }
 
 -- a body of statements, from no cost
-unfoldable pub ran : Limits → App → Member → List ActTree → Env → Slots → Outcome Effects
-ran limits app member body env slots =
+unfoldable pub outcome_of_exec : Limits → App → Member → List ActTree → Env → Slots → Outcome Effects
+outcome_of_exec limits app member body env slots =
     in_turn (does limits.depth limits.budget app member) 0 env (act_trees_of body) (no_effects slots) 0 0
 
 -- the slots and the replies of an end without a trap, or the trap's kind; each with the cost

@@ -4,12 +4,12 @@ use Rattle.cl_value.specs.Data.{Data, list, items_of}
 use Rattle.cl_syntax.specs.ExprTree.{ExprTree}
 use Rattle.cl_eval.specs.Outcome.{Run, trap, lift, ◌>>=◌}
 use Rattle.cl_eval.specs.Slots.{Env}
-use Rattle.cl_eval.specs.Operators.{limited}
-use Rattle.cl_eval.specs.Meaning.{Go, mapped}
+use Rattle.cl_eval.specs.Operators.{within_limits}
+use Rattle.cl_eval.specs.Meaning.{Go, map_each}
 
 -- the list of the values of a body for each of these, behind those that are there
 abbrev pub map_behind : Go → ℕ → Env → List ℕ → ExprTree → List Data → List Data → Run Data
-map_behind go level env x body ds es = mapped go level env x body ds es >>= λ vs. lift (limited (list (items_of vs)))
+map_behind go level env x body ds es = map_each go level env x body ds es >>= λ vs. lift (within_limits (list (items_of vs)))
 
 -- the list of the values of a body for each of these
 abbrev pub map_in : Go → ℕ → Env → List ℕ → ExprTree → List Data → Run Data

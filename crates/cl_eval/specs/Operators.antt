@@ -29,8 +29,8 @@ abbrev pub Answer : Type 0
 Answer = Result Data ℕ
 
 -- a value of size at most 65,536 and depth at most 64
-abbrev pub limited : Data → Answer
-limited d = if nat_le (size_of d) 65536 && nat_le (depth_of d) 64 then Ok d else Err 7
+abbrev pub within_limits : Data → Answer
+within_limits d = if nat_le (size_of d) 65536 && nat_le (depth_of d) 64 then Ok d else Err 7
 
 -- the parts of a list or a record
 abbrev pub list_of : Items → List Data
@@ -72,20 +72,20 @@ abbrev pub is_zero : ℤ → Bool
 is_zero (pos n) = n == 0
 is_zero (negsuc n) = false
 
-abbrev pub calculated : Arithmetic → ℤ → ℤ → Answer
-calculated arithmetic.Add x y = number (x +ℤ y)
-calculated arithmetic.Subtract x y = number (x -ℤ y)
-calculated arithmetic.Multiply x y = number (x *ℤ y)
-calculated arithmetic.Least x y = Ok (int (int_min x y))
-calculated arithmetic.Greatest x y = Ok (int (int_max x y))
-calculated arithmetic.Quotient x y = if is_zero y then Err 3 else number (quotient x y)
-calculated arithmetic.Remainder x y = if is_zero y then Err 3 else Ok (int (remainder x y))
+abbrev pub calculate : Arithmetic → ℤ → ℤ → Answer
+calculate arithmetic.Add x y = number (x +ℤ y)
+calculate arithmetic.Subtract x y = number (x -ℤ y)
+calculate arithmetic.Multiply x y = number (x *ℤ y)
+calculate arithmetic.Least x y = Ok (int (int_min x y))
+calculate arithmetic.Greatest x y = Ok (int (int_max x y))
+calculate arithmetic.Quotient x y = if is_zero y then Err 3 else number (quotient x y)
+calculate arithmetic.Remainder x y = if is_zero y then Err 3 else Ok (int (remainder x y))
 
-abbrev pub compared : Comparison → ℤ → ℤ → Bool
-compared comparison.Less x y = int_lt x y
-compared comparison.AtMost x y = int_le x y
-compared comparison.Greater x y = int_lt y x
-compared comparison.AtLeast x y = int_le y x
+abbrev pub compare_numbers : Comparison → ℤ → ℤ → Bool
+compare_numbers comparison.Less x y = int_lt x y
+compare_numbers comparison.AtMost x y = int_le x y
+compare_numbers comparison.Greater x y = int_lt y x
+compare_numbers comparison.AtLeast x y = int_le y x
 
 -- ---- lists
 
@@ -94,12 +94,12 @@ is_equal Equal = true
 is_equal Less = false
 is_equal Greater = false
 
-abbrev pub same : Data → Data → Bool
-same d e = is_equal (order_of d e)
+abbrev pub same_value : Data → Data → Bool
+same_value d e = is_equal (order_of d e)
 
 abbrev pub has_part : Data → List Data → Bool
 has_part d [] = false
-has_part d (e ∷ es) = if same e d then true else has_part d es
+has_part d (e ∷ es) = if same_value e d then true else has_part d es
 
 abbrev pub part_at : {A : Type 0} → ℕ → List A → Option A
 part_at n [] = None
@@ -125,14 +125,14 @@ count_to (pos n) = n + 1
 count_to (negsuc n) = 0
 
 abbrev pub range_of : ℤ → ℤ → Answer
-range_of x y = limited (list (items_of (numbers_from x (count_to (y -ℤ x)))))
+range_of x y = within_limits (list (items_of (numbers_from x (count_to (y -ℤ x)))))
 
 abbrev pub list_made : ListOperator → List Data → Answer
-list_made row.List ds = limited (list (items_of ds))
+list_made row.List ds = within_limits (list (items_of ds))
 list_made row.Nth (list ds ∷ int z ∷ []) = nth_of (list_of ds) z
 list_made row.Rest (list ds ∷ []) = rest_of (list_of ds)
-list_made row.Cons (d ∷ list ds ∷ []) = limited (list (item d ds))
-list_made row.Append (list ds ∷ list es ∷ []) = limited (list (items_of (list_of ds ++ list_of es)))
+list_made row.Cons (d ∷ list ds ∷ []) = within_limits (list (item d ds))
+list_made row.Append (list ds ∷ list es ∷ []) = within_limits (list (items_of (list_of ds ++ list_of es)))
 list_made row.Contains (list ds ∷ d ∷ []) = Ok (bool (has_part d (list_of ds)))
 list_made row.Range (int x ∷ int y ∷ []) = range_of x y
 list_made o ds = Err 1
@@ -144,9 +144,9 @@ subtext_of s (pos from) (pos to) = if nat_le from to && nat_le to (length s) the
 subtext_of s from to = Err 4
 
 -- followed by spaces up to that length
-abbrev pub padded : List ℕ → ℤ → List ℕ
-padded s (pos n) = s ++ replicate (n - length s) 32
-padded s (negsuc n) = s
+abbrev pub pad_to : List ℕ → ℤ → List ℕ
+pad_to s (pos n) = s ++ replicate (n - length s) 32
+pad_to s (negsuc n) = s
 
 -- a number in decimal, a symbol's name, a text itself
 abbrev pub text_of : Data → Answer
@@ -156,9 +156,9 @@ text_of (text s) = Ok (text s)
 text_of d = Err 1
 
 abbrev pub text_made : TextOperator → List Data → Answer
-text_made written.Concat (text s ∷ text t ∷ []) = limited (text (s ++ t))
+text_made written.Concat (text s ∷ text t ∷ []) = within_limits (text (s ++ t))
 text_made written.Subtext (text s ∷ int from ∷ int to ∷ []) = subtext_of s from to
-text_made written.Pad (text s ∷ int n ∷ []) = limited (text (padded s n))
+text_made written.Pad (text s ∷ int n ∷ []) = within_limits (text (pad_to s n))
 text_made written.Written (d ∷ []) = text_of d
 text_made o ds = Err 1
 
@@ -169,9 +169,9 @@ abbrev pub field_place : List ℕ → Option RecordDecl → Option ℕ
 field_place f None = None
 field_place f (Some r) = place_of f r.fields
 
-abbrev pub made : List ℕ → Option RecordDecl → List Data → Answer
-made r None ds = Err 1
-made r (Some decl) ds = if length ds == length decl.fields then limited (rec r (items_of ds)) else Err 1
+abbrev pub make_record : List ℕ → Option RecordDecl → List Data → Answer
+make_record r None ds = Err 1
+make_record r (Some decl) ds = if length ds == length decl.fields then within_limits (rec r (items_of ds)) else Err 1
 
 abbrev pub value_at : Option ℕ → List Data → Answer
 value_at None ds = Err 1
@@ -184,10 +184,10 @@ with_part (suc n) x (y ∷ ys) = y ∷ with_part n x ys
 
 abbrev pub changed_at : List ℕ → Option ℕ → Data → List Data → Answer
 changed_at r None d ds = Err 1
-changed_at r (Some n) d ds = if nat_lt n (length ds) then limited (rec r (items_of (with_part n d ds))) else Err 1
+changed_at r (Some n) d ds = if nat_lt n (length ds) then within_limits (rec r (items_of (with_part n d ds))) else Err 1
 
 abbrev pub record_made : App → RecordOperator → List Data → Answer
-record_made app (fields.Make r) ds = made r (record_named r app) ds
+record_made app (fields.Make r) ds = make_record r (record_named r app) ds
 record_made app (fields.Get f) (rec r ds ∷ []) = value_at (field_place f (record_named r app)) (list_of ds)
 record_made app (fields.With f) (rec r ds ∷ d ∷ []) = changed_at r (field_place f (record_named r app)) d (list_of ds)
 record_made app o ds = Err 1
@@ -199,11 +199,11 @@ is_null null = true
 is_null d = false
 
 abbrev pub arithmetic_of : Arithmetic → List Data → Answer
-arithmetic_of o (int x ∷ int y ∷ []) = calculated o x y
+arithmetic_of o (int x ∷ int y ∷ []) = calculate o x y
 arithmetic_of o ds = Err 1
 
 abbrev pub comparison_of : Comparison → List Data → Answer
-comparison_of o (int x ∷ int y ∷ []) = Ok (bool (compared o x y))
+comparison_of o (int x ∷ int y ∷ []) = Ok (bool (compare_numbers o x y))
 comparison_of o ds = Err 1
 
 abbrev pub not_of : List Data → Answer
@@ -211,7 +211,7 @@ not_of (bool b ∷ []) = Ok (bool (not b))
 not_of ds = Err 1
 
 abbrev pub equal_of : List Data → Answer
-equal_of (d ∷ e ∷ []) = Ok (bool (same d e))
+equal_of (d ∷ e ∷ []) = Ok (bool (same_value d e))
 equal_of ds = Err 1
 
 abbrev pub length_of : List Data → Answer
@@ -223,13 +223,13 @@ abbrev pub is_null_of : List Data → Answer
 is_null_of (d ∷ []) = Ok (bool (is_null d))
 is_null_of ds = Err 1
 
-abbrev pub operated : App → Operator → List Data → Answer
-operated app (operator.Arithmetic o) ds = arithmetic_of o ds
-operated app (operator.Comparison o) ds = comparison_of o ds
-operated app (operator.List o) ds = list_made o ds
-operated app (operator.Text o) ds = text_made o ds
-operated app (operator.Record o) ds = record_made app o ds
-operated app operator.Not ds = not_of ds
-operated app operator.Equal ds = equal_of ds
-operated app operator.Length ds = length_of ds
-operated app operator.IsNull ds = is_null_of ds
+abbrev pub operate : App → Operator → List Data → Answer
+operate app (operator.Arithmetic o) ds = arithmetic_of o ds
+operate app (operator.Comparison o) ds = comparison_of o ds
+operate app (operator.List o) ds = list_made o ds
+operate app (operator.Text o) ds = text_made o ds
+operate app (operator.Record o) ds = record_made app o ds
+operate app operator.Not ds = not_of ds
+operate app operator.Equal ds = equal_of ds
+operate app operator.Length ds = length_of ds
+operate app operator.IsNull ds = is_null_of ds

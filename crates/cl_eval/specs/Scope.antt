@@ -1,7 +1,7 @@
 -- The variables that a form sees.
 use Rattle.std.specs.Prelude.{◌∷◌, ◌++◌, map}
 use Rattle.cl_value.specs.Value.{data_of}
-use Rattle.cl_eval.specs.Slots.{Env, given}
+use Rattle.cl_eval.specs.Slots.{Env, bind_parameters}
 use Rattle.cl_eval.specs.declared.variables.Scope.{Scope}
 use Rattle.cl_eval.specs.declared.variables.Scope.TheVariants as scope
 
@@ -9,4 +9,4 @@ abbrev pub variables_of : Scope → Env
 variables_of (scope.Given e) = e.now
 variables_of (scope.Bound' x v p s) = (x.now, data_of v.now) ∷ variables_of s
 variables_of (scope.Frame' e p s) = e.now ++ variables_of s
-variables_of (scope.Parameters xs vs) = given xs.now (map data_of vs.now)
+variables_of (scope.Parameters xs vs) = bind_parameters xs.now (map data_of vs.now)

@@ -14,9 +14,9 @@ Env = List (List ℕ × Data)
 abbrev pub is_name : List ℕ → List ℕ → Bool
 is_name x y = pointwise ◌==◌ x y
 
-abbrev pub found : List ℕ → List (List ℕ × Data) → Option Data
-found x [] = None
-found x (s ∷ slots) = if is_name s.0 x then Some s.1 else found x slots
+abbrev pub value_named : List ℕ → List (List ℕ × Data) → Option Data
+value_named x [] = None
+value_named x (s ∷ slots) = if is_name s.0 x then Some s.1 else value_named x slots
 
 -- the slot of that name with this value, or a new one at the end
 abbrev pub put : List ℕ → Data → Slots → Slots
@@ -24,10 +24,10 @@ put x d [] = (x, d) ∷ []
 put x d (s ∷ slots) = if is_name s.0 x then (x, d) ∷ slots else s ∷ put x d slots
 
 -- parameters with the values that they are given, as many as there are of both
-abbrev pub given : List (List ℕ) → List Data → Env
-given [] ds = []
-given (x ∷ xs) [] = []
-given (x ∷ xs) (d ∷ ds) = (x, d) ∷ given xs ds
+abbrev pub bind_parameters : List (List ℕ) → List Data → Env
+bind_parameters [] ds = []
+bind_parameters (x ∷ xs) [] = []
+bind_parameters (x ∷ xs) (d ∷ ds) = (x, d) ∷ bind_parameters xs ds
 
 -- a name with its value, as the program holds them
 abbrev pub entry_of : List ℕ × Value → List ℕ × Data

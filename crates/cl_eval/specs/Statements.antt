@@ -11,7 +11,7 @@ use Rattle.cl_syntax.specs.declared.type_specs.TypeSpec.{TypeSpec}
 use Rattle.cl_eval.specs.declared.effects.Effects.{Effects}
 use Rattle.cl_eval.specs.Outcome.{Run, give, trap, lift, ◌>>=◌}
 use Rattle.cl_eval.specs.Slots.{Slots, Env, put}
-use Rattle.cl_eval.specs.Meaning.{Go, bound, entering, tested, listed, means}
+use Rattle.cl_eval.specs.Meaning.{Go, bind_each, entering, truth_of, parts_of_list, means}
 
 -- whether a value is a member of a type
 abbrev pub Member : Type 0
@@ -27,13 +27,13 @@ assigned member x None s d = Err 1
 assigned member x (Some spec) s d = if member d spec then Ok (record s { slots = put x d s.slots }) else Err 1
 
 -- one reply more
-abbrev pub said : List ℕ → Effects → Effects
-said t s = record s { replies = s.replies ++ t ∷ []; reply_bytes = s.reply_bytes + length t }
+abbrev pub add_reply : List ℕ → Effects → Effects
+add_reply t s = record s { replies = s.replies ++ t ∷ []; reply_bytes = s.reply_bytes + length t }
 
 -- a reply is a text
-abbrev pub replied : Effects → Data → Result Effects ℕ
-replied s (text t) = if nat_le (s.reply_bytes + length t) 65536 then Ok (said t s) else Err 7
-replied s d = Err 1
+abbrev pub reply_with : Effects → Data → Result Effects ℕ
+reply_with s (text t) = if nat_le (s.reply_bytes + length t) 65536 then Ok (add_reply t s) else Err 7
+reply_with s d = Err 1
 
 abbrev pub in_turn : Does → ℕ → Env → ActTrees → Effects → Run Effects
 in_turn go level env none s = give s
@@ -46,19 +46,19 @@ for_each go level env x body (d ∷ ds) s = in_turn go level ((x, d) ∷ env) bo
 
 -- the statements behind bindings
 abbrev pub acts_in : Go → Does → ℕ → Bindings → ActTrees → Env → Effects → Run Effects
-acts_in value go level bs body env s = bound value level bs env >>= λ inner. in_turn go level inner body s
+acts_in value go level bs body env s = bind_each value level bs env >>= λ inner. in_turn go level inner body s
 
 -- a statement that was entered, by the meaning of its expressions on the slots so far and of the statements inside
 abbrev pub act_parts : App → Member → (Slots → Go) → Does → ℕ → Env → ActTree → Effects → Run Effects
 act_parts app member value go level env (act.Setf x t) s = value s.slots level env t >>= λ d. lift (assigned member x (slot_type x app) s d)
-act_parts app member value go level env (act.Reply t) s = value s.slots level env t >>= λ d. lift (replied s d)
+act_parts app member value go level env (act.Reply t) s = value s.slots level env t >>= λ d. lift (reply_with s d)
 act_parts app member value go level env (act.If t a b) s =
-    tested (value s.slots) level env t >>= λ yes. if yes then go level env a s else go level env b s
+    truth_of (value s.slots) level env t >>= λ yes. if yes then go level env a s else go level env b s
 act_parts app member value go level env (act.When t body) s =
-    tested (value s.slots) level env t >>= λ yes. if yes then in_turn go level env body s else give s
+    truth_of (value s.slots) level env t >>= λ yes. if yes then in_turn go level env body s else give s
 act_parts app member value go level env (act.Let bs body) s = acts_in (value s.slots) go level bs body env s
 act_parts app member value go level env (act.Dolist x t body) s =
-    listed (value s.slots) level env t >>= λ ds. for_each go level env x body ds s
+    parts_of_list (value s.slots) level env t >>= λ ds. for_each go level env x body ds s
 act_parts app member value go level env (act.Progn body) s = in_turn go level env body s
 
 -- a statement, where so many levels are left, below this level

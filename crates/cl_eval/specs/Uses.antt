@@ -7,7 +7,7 @@ use Rattle.cl_syntax.specs.ExprTree.{ExprTree, ExprTrees, Bindings, none, part, 
 use Rattle.cl_table.specs.Names.{named}
 use Rattle.cl_application.specs.declared.applications.App.{App}
 use Rattle.cl_application.specs.declared.declarations.FunctionDecl.{FunctionDecl}
-use Rattle.cl_eval.specs.Slots.{Slots, Env, is_name, found}
+use Rattle.cl_eval.specs.Slots.{Slots, Env, is_name, value_named}
 
 -- where an expression reads a value
 pub data Root : Type 0 where
@@ -68,8 +68,8 @@ abbrev pub ReadsSlot : Functions → ExprTree → Type 0
 ReadsSlot fs t = (x : List ℕ) × Uses fs (slot x) t
 
 abbrev pub value_at : Root → Slots → Env → Option Data
-value_at (variable x) slots env = found x env
-value_at (slot x) slots env = found x slots
+value_at (variable x) slots env = value_named x env
+value_at (slot x) slots env = value_named x slots
 
 -- the same value, or none in both, wherever the expression reads one
 abbrev pub AgreeOn : App → ExprTree → Slots → Env → Slots → Env → Type 0

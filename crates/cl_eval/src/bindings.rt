@@ -3,7 +3,7 @@ ghost use Rattle.std.specs.Prelude.{◌≡◌, ◌+◌, ◌<◌, ◌^◌, ◌++�
 ghost use Rattle.cl_value.specs.Value.{data_of};
 ghost use Rattle.cl_syntax.specs.Expr.{bindings_of};
 ghost use Rattle.cl_eval.specs.Scope.{variables_of};
-ghost use Rattle.cl_eval.specs.Meaning.{bound, let_in};
+ghost use Rattle.cl_eval.specs.Meaning.{bind_each, let_in};
 ghost use Rattle.cl_eval.specs.Standpoint.{meaning_at};
 ghost use Rattle.cl_eval.specs.Agrees.{Agrees};
 
@@ -49,7 +49,7 @@ pub fn evaluate_bindings<L: Ledger>(
 ) -> Result<Env, Stop>
     requires { here.now.level + here.now.left < 2 ^ 32 }
     ensures meaning { Agrees (λ frame. frame ++ variables_of here.now.scope.now) result meter.new
-        (bound (meaning_at here.now) here.now.level
+        (bind_each (meaning_at here.now) here.now.level
         (bindings_of bindings.now) (variables_of here.now.scope.now) meter.old.cost
         meter.old.deepest) }
     ensures ledger { steps.new + meter.old.cost ≡ steps.old + meter.new.cost }

@@ -4,7 +4,7 @@ ghost use Rattle.cl_value.specs.Data.{bool, int};
 ghost use Rattle.cl_syntax.specs.ExprTree.{expr_trees_of};
 ghost use Rattle.cl_syntax.specs.declared.operators.Operator.TheVariants as row;
 ghost use Rattle.cl_eval.specs.Meaning.{operation_on};
-ghost use Rattle.cl_eval.specs.Calculation.{both, number_parts, numbered, paired};
+ghost use Rattle.cl_eval.specs.Calculation.{both, number_parts, give_number, give_pair};
 ghost use Rattle.cl_eval.specs.Standpoint.{seen_from};
 ghost use Rattle.cl_eval.specs.Agrees.{Agrees, itself};
 
@@ -64,7 +64,7 @@ fn evaluate_pair<L: Ledger>(
 ) -> Result<Option<(i64, i64)>, Stop>
     requires { here.now.level + here.now.left < 2 ^ 32 }
     ensures meaning { Agrees itself result meter.new
-        (seen_from here.now paired (expr_trees_of parts.now) meter.old.cost meter.old.deepest) }
+        (seen_from here.now give_pair (expr_trees_of parts.now) meter.old.cost meter.old.deepest) }
     ensures ledger { steps.new + meter.old.cost ≡ steps.old + meter.new.cost }
 {
     match parts {
@@ -90,7 +90,7 @@ fn evaluate_number<L: Ledger>(
 ) -> Result<Option<i64>, Stop>
     requires { here.now.level + here.now.left < 2 ^ 32 }
     ensures meaning { Agrees itself result meter.new
-        (seen_from here.now numbered expr.now meter.old.cost meter.old.deepest) }
+        (seen_from here.now give_number expr.now meter.old.cost meter.old.deepest) }
     ensures ledger { steps.new + meter.old.cost ≡ steps.old + meter.new.cost }
 {
     meter.enter(here.left, here.context.budget, here.level, steps)?;

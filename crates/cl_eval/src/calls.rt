@@ -4,7 +4,7 @@ ghost use Rattle.cl_value.specs.Value.{data_of};
 ghost use Rattle.cl_application.specs.App.{function_named};
 ghost use Rattle.cl_syntax.specs.ExprTree as expr;
 ghost use Rattle.cl_syntax.specs.ExprTree.{expr_trees_of};
-ghost use Rattle.cl_eval.specs.Meaning.{called, operation_on, parts};
+ghost use Rattle.cl_eval.specs.Meaning.{call_function, operation_on, parts};
 ghost use Rattle.cl_eval.specs.Standpoint.{meaning_at, seen_from};
 ghost use Rattle.cl_eval.specs.Agrees.{Agrees};
 
@@ -120,7 +120,7 @@ fn call<L: Ledger>(
 ) -> Result<Value, Stop>
     requires { here.now.level + here.now.left < 2 ^ 32 }
     ensures meaning { Agrees data_of result meter.new
-        (called (meaning_at here.now) here.now.level
+        (call_function (meaning_at here.now) here.now.level
         (function_named name.now here.now.context.now.app.now) (map data_of values.now)
         meter.old.cost meter.old.deepest) }
     ensures ledger { steps.new + meter.old.cost ≡ steps.old + meter.new.cost }

@@ -3,7 +3,7 @@ ghost use Rattle.std.specs.Prelude.{◌≡◌, Ok, IfOk, [], ◌∷◌, ◌++◌
 ghost use Rattle.cl_value.specs.Value.{data_of};
 ghost use Rattle.cl_eval.specs.Agrees.{Comes, always};
 ghost use Rattle.cl_eval.specs.Executed.{no_effects};
-ghost use Rattle.cl_eval.specs.Statements.{replied};
+ghost use Rattle.cl_eval.specs.Statements.{reply_with};
 
 use crate::metering::Stop;
 use crate::slot_table::Slots;
@@ -78,7 +78,7 @@ impl Effects {
 
 /// One reply more, where it is a text and the replies do not grow too long.
 pub fn reply(effects: &mut Effects, value: Value) -> Result<(), Stop>
-    ensures { Comes (always effects.new) result (replied effects.old (data_of value)) }
+    ensures { Comes (always effects.new) result (reply_with effects.old (data_of value)) }
 {
     let Value::Text(text) = value else {
         return Err(Stop::Trap(1));

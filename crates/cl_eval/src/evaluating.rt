@@ -1,7 +1,7 @@
 //! The evaluation of one expression by itself.
 ghost use Rattle.std.specs.Prelude.{◌≤◌};
 ghost use Rattle.cl_eval.specs.Outcome.{RisesBy, cost_of};
-ghost use Rattle.cl_eval.specs.Evaluated.{Evaluates, meant, met_memory};
+ghost use Rattle.cl_eval.specs.Evaluated.{Evaluates, outcome_of_eval, met_memory};
 
 use crate::evaluation::{Context, Standpoint, evaluate};
 use crate::metering::{Limits, Meter, Stop};
@@ -25,7 +25,7 @@ pub enum Evaluated {
 }
 
 /// Evaluates an expression on these variables and slots. Each form that is entered is a step.
-#[tactic(auto, unfolding(crate::specs::Evaluated::meant))]
+#[tactic(auto, unfolding(crate::specs::Evaluated::outcome_of_eval))]
 pub fn eval<L: Ledger>(
     alloc: Global,
     app: &App,
@@ -36,9 +36,9 @@ pub fn eval<L: Ledger>(
     steps: &mut Steps<L>,
 ) -> Evaluated
     requires { limits.depth ≤ 512 }
-    ensures meaning { Evaluates result (meant limits app.now slots.now env.now expr.now) }
+    ensures meaning { Evaluates result (outcome_of_eval limits app.now slots.now env.now expr.now) }
     ensures ledger { RisesBy (met_memory result) steps.old steps.new
-        (cost_of (meant limits app.now slots.now env.now expr.now)) }
+        (cost_of (outcome_of_eval limits app.now slots.now env.now expr.now)) }
 {
     let context = Context {
         alloc,

@@ -2,8 +2,8 @@
 ghost use Rattle.std.specs.Prelude.{◌≡◌, ◌+◌, ◌<◌, ◌^◌, []};
 ghost use Rattle.cl_value.specs.Value.{data_of};
 ghost use Rattle.cl_syntax.specs.ExprTree.{expr_trees_of};
-ghost use Rattle.cl_eval.specs.Meaning.{each, every, listed, parts, some, tested};
-ghost use Rattle.cl_eval.specs.Calculation.{tested_parts};
+ghost use Rattle.cl_eval.specs.Meaning.{each, every, parts_of_list, parts, some, truth_of};
+ghost use Rattle.cl_eval.specs.Calculation.{truth_of_parts};
 ghost use Rattle.cl_eval.specs.Standpoint.{lower, seen_from};
 ghost use Rattle.cl_eval.specs.Agrees.{Agrees, itself, items_are};
 
@@ -123,7 +123,7 @@ pub fn evaluate_test<L: Ledger>(
 ) -> Result<bool, Stop>
     requires { here.now.level + here.now.left < 2 ^ 32 }
     ensures meaning { Agrees itself result meter.new
-        (seen_from here.now tested expr.now meter.old.cost meter.old.deepest) }
+        (seen_from here.now truth_of expr.now meter.old.cost meter.old.deepest) }
     ensures ledger { steps.new + meter.old.cost ≡ steps.old + meter.new.cost }
 {
     meter.enter(here.left, here.context.budget, here.level, steps)?;
@@ -141,7 +141,7 @@ fn evaluate_test_parts<L: Ledger>(
 ) -> Result<bool, Stop>
     requires { here.now.level + here.now.left < 2 ^ 32 }
     ensures meaning { Agrees itself result meter.new
-        (seen_from here.now (tested_parts here.now.context.now.app.now here.now.context.now.slots.now)
+        (seen_from here.now (truth_of_parts here.now.context.now.app.now here.now.context.now.slots.now)
         expr.now meter.old.cost meter.old.deepest) }
     ensures ledger { steps.new + meter.old.cost ≡ steps.old + meter.new.cost }
 {
@@ -166,7 +166,7 @@ pub fn evaluate_list<L: Ledger>(
 ) -> Result<Values, Stop>
     requires { here.now.level + here.now.left < 2 ^ 32 }
     ensures meaning { Agrees itself result meter.new
-        (seen_from here.now listed expr.now meter.old.cost meter.old.deepest) }
+        (seen_from here.now parts_of_list expr.now meter.old.cost meter.old.deepest) }
     ensures ledger { steps.new + meter.old.cost ≡ steps.old + meter.new.cost }
 {
     let value = evaluate(here, expr, meter, steps)?;

@@ -10,7 +10,7 @@ ghost use Rattle.cl_eval.specs.Scope.{variables_of};
 ghost use Rattle.cl_eval.specs.Statements.{act_parts, acts_in, for_each, in_turn};
 ghost use Rattle.cl_eval.specs.Stage.{doing_on, meaning_on, played_on};
 ghost use Rattle.cl_eval.specs.Agrees.{Agrees, always, itself};
-ghost use Rattle.cl_eval.specs.Executed.{Decides, Executes, met_memory, ran};
+ghost use Rattle.cl_eval.specs.Executed.{Decides, Executes, met_memory, outcome_of_exec};
 
 use crate::effects::{Effects, Lines, reply};
 use crate::metering::{Meter, Stop};
@@ -43,7 +43,7 @@ pub enum Executed {
 }
 
 /// Runs statements on a copy of the slots. Each form that is entered is a step.
-#[tactic(auto, unfolding(crate::specs::Executed::ran))]
+#[tactic(auto, unfolding(crate::specs::Executed::outcome_of_exec))]
 pub fn exec<T: Types, L: Ledger>(
     program: &Program<'_, T>,
     statements: &Acts,
@@ -53,10 +53,10 @@ pub fn exec<T: Types, L: Ledger>(
 ) -> Executed
     requires { program.now.limits.depth ≤ 512 }
     ensures meaning { Executes result
-        (ran program.now.limits program.now.app.now (T.holds program.now.types.now) statements.now
+        (outcome_of_exec program.now.limits program.now.app.now (T.holds program.now.types.now) statements.now
         env.now slots.now) }
     ensures ledger { RisesBy (met_memory result) steps.old steps.new
-        (cost_of (ran program.now.limits program.now.app.now (T.holds program.now.types.now)
+        (cost_of (outcome_of_exec program.now.limits program.now.app.now (T.holds program.now.types.now)
         statements.now env.now slots.now)) }
 {
     let mut meter = Meter::new();

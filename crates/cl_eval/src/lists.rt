@@ -2,7 +2,7 @@
 ghost use Rattle.std.specs.Prelude.{◌≡◌, ℕ, ◌≤◌, pos, negsuc, ◌+ℤ◌, ◌-ℤ◌, ◌≤ℤ◌, ◌^◌, ◌++◌, ◌∷◌, [], map, Ok, OnOk, IfOk, if◌then◌else◌};
 ghost use Rattle.cl_value.specs.Data.{items_of, list};
 ghost use Rattle.cl_value.specs.Value.{data_of};
-ghost use Rattle.cl_eval.specs.Operators.{count_to, has_part, limited, list_made, nth_of, numbers_from, range_of, rest_of};
+ghost use Rattle.cl_eval.specs.Operators.{count_to, has_part, within_limits, list_made, nth_of, numbers_from, range_of, rest_of};
 ghost use Rattle.cl_eval.specs.Agrees.{Comes};
 ghost use Rattle.cl_syntax.specs.declared.operators.ListOperator.TheVariants as row;
 

@@ -2,7 +2,7 @@
 ghost use Rattle.std.specs.Prelude.{◌≡◌, ◌≢◌, pos, map, Ok, Err, if◌then◌else◌};
 ghost use Rattle.cl_value.specs.Data.{int};
 ghost use Rattle.cl_value.specs.Value.{data_of};
-ghost use Rattle.cl_eval.specs.Operators.{arithmetic_of, calculated, compared, comparison_of, is_zero, number, quotient, remainder};
+ghost use Rattle.cl_eval.specs.Operators.{arithmetic_of, calculate, compare_numbers, comparison_of, is_zero, number, quotient, remainder};
 ghost use Rattle.cl_eval.specs.Calculation.{arithmetic_on, comparison_on, number_in, pair_in};
 ghost use Rattle.cl_eval.specs.Agrees.{Comes, itself};
 
@@ -76,7 +76,7 @@ pub fn compare_pair(operator: Comparison, pair: Option<(i64, i64)>) -> Result<bo
 }
 
 fn compare(operator: Comparison, first: i64, second: i64) -> bool
-    ensures { result ≡ compared operator first second }
+    ensures { result ≡ compare_numbers operator first second }
 {
     match operator {
         Comparison::Less => first < second,
@@ -87,7 +87,7 @@ fn compare(operator: Comparison, first: i64, second: i64) -> bool
 }
 
 fn calculate(operator: Arithmetic, first: i64, second: i64) -> Result<i64, Stop>
-    ensures { Comes int result (calculated operator first second) }
+    ensures { Comes int result (calculate operator first second) }
 {
     match operator {
         Arithmetic::Add => number(i128::from(first) + i128::from(second)),

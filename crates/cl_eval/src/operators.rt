@@ -1,7 +1,7 @@
 //! The operators, over the values of their parts.
 ghost use Rattle.std.specs.Prelude.{◌≡◌, Ok, pos, map, option_map};
 ghost use Rattle.cl_value.specs.Value.{data_of};
-ghost use Rattle.cl_eval.specs.Operators.{elements, equal_of, is_null_of, length_of, limited, not_of, number, operated, or_trap, truth};
+ghost use Rattle.cl_eval.specs.Operators.{elements, equal_of, is_null_of, length_of, within_limits, not_of, number, operate, or_trap, truth};
 ghost use Rattle.cl_eval.specs.Calculation.{number_of};
 ghost use Rattle.cl_eval.specs.Agrees.{Comes, itself};
 
@@ -28,7 +28,7 @@ pub fn operate(
     operator: &Operator,
     values: &[Value],
 ) -> Result<Value, Stop>
-    ensures { Comes data_of result (operated app.now operator.now (map data_of values.now)) }
+    ensures { Comes data_of result (operate app.now operator.now (map data_of values.now)) }
 {
     match operator {
         Operator::Arithmetic(operator) => arithmetic(*operator, values),
@@ -45,7 +45,7 @@ pub fn operate(
 
 /// The value where its size and its depth are within their limits; else trap 7.
 pub fn limit(value: Value) -> Result<Value, Stop>
-    ensures { Comes data_of result (limited (data_of value)) }
+    ensures { Comes data_of result (within_limits (data_of value)) }
 {
     if value.size() <= MOST_SIZE && value.depth() <= MOST_DEPTH {
         Ok(value)

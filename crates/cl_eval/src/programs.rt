@@ -4,7 +4,7 @@ ghost use Rattle.cl_value.specs.Value.{data_of};
 ghost use Rattle.cl_application.specs.App.{slot_type};
 ghost use Rattle.cl_syntax.specs.Expr.{bindings_of};
 ghost use Rattle.cl_eval.specs.Scope.{variables_of};
-ghost use Rattle.cl_eval.specs.Meaning.{bound, listed, tested};
+ghost use Rattle.cl_eval.specs.Meaning.{bind_each, parts_of_list, truth_of};
 ghost use Rattle.cl_eval.specs.Stage.{meaning_on, seen_on};
 ghost use Rattle.cl_eval.specs.Statements.{assigned};
 ghost use Rattle.cl_eval.specs.Agrees.{Agrees, Comes, always, itself};
@@ -104,7 +104,7 @@ pub fn is_true<T: Types, L: Ledger>(
 ) -> Result<bool, Stop>
     requires { here.now.level + here.now.left < 2 ^ 32 }
     ensures meaning { Agrees itself result meter.new
-        (seen_on here.now slots.now tested expr.now meter.old.cost meter.old.deepest) }
+        (seen_on here.now slots.now truth_of expr.now meter.old.cost meter.old.deepest) }
     ensures ledger { steps.new + meter.old.cost ≡ steps.old + meter.new.cost }
 {
     let context = here.context_on(slots);
@@ -122,7 +122,7 @@ pub fn list_of<T: Types, L: Ledger>(
 ) -> Result<Values, Stop>
     requires { here.now.level + here.now.left < 2 ^ 32 }
     ensures meaning { Agrees itself result meter.new
-        (seen_on here.now slots.now listed expr.now meter.old.cost meter.old.deepest) }
+        (seen_on here.now slots.now parts_of_list expr.now meter.old.cost meter.old.deepest) }
     ensures ledger { steps.new + meter.old.cost ≡ steps.old + meter.new.cost }
 {
     let context = here.context_on(slots);
@@ -140,7 +140,7 @@ pub fn frame_of<T: Types, L: Ledger>(
 ) -> Result<Env, Stop>
     requires { here.now.level + here.now.left < 2 ^ 32 }
     ensures meaning { Agrees (λ frame. frame ++ variables_of here.now.scope.now) result meter.new
-        (bound (meaning_on here.now slots.now) here.now.level
+        (bind_each (meaning_on here.now slots.now) here.now.level
         (bindings_of bindings.now) (variables_of here.now.scope.now) meter.old.cost
         meter.old.deepest) }
     ensures ledger { steps.new + meter.old.cost ≡ steps.old + meter.new.cost }

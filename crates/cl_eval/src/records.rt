@@ -2,7 +2,7 @@
 ghost use Rattle.std.specs.Prelude.{◌≡◌, ◌<◌, length, map, option_map, IfOk};
 ghost use Rattle.cl_value.specs.Value.{data_of};
 ghost use Rattle.cl_application.specs.App.{record_named};
-ghost use Rattle.cl_eval.specs.Operators.{changed_at, field_place, made, record_made, value_at, with_part};
+ghost use Rattle.cl_eval.specs.Operators.{changed_at, field_place, make_record, record_made, value_at, with_part};
 ghost use Rattle.cl_eval.specs.Agrees.{Comes};
 
 use crate::lists::{add_all, copy_all};
@@ -41,7 +41,7 @@ pub fn record_operation(
 
 fn make(alloc: Global, app: &App, name: &Text, values: &[Value]) -> Result<Value, Stop>
     ensures { Comes data_of result
-        (made name.now (record_named name.now app.now) (map data_of values.now)) }
+        (make_record name.now (record_named name.now app.now) (map data_of values.now)) }
 {
     match app.record(name.as_slice()) {
         Some(declared) if declared.fields.len() == values.len() => {

@@ -1,7 +1,7 @@
 //! Slots by name, with their values.
 ghost use Rattle.std.specs.Prelude.{◌≡◌, [], OnOk, OnErr, IfOk, option_map, position, ◌<◌, slice_set, vec_len};
 ghost use Rattle.cl_value.specs.Value.{data_of};
-ghost use Rattle.cl_eval.specs.Slots.{found, put, is_named};
+ghost use Rattle.cl_eval.specs.Slots.{value_named, put, is_named};
 
 use cl_value::{Text, Value};
 use std::alloc::{AllocError, Global};
@@ -40,7 +40,7 @@ impl Slots {
 
     /// The value of the slot of that name, and None exactly where there is none.
     pub fn get(&self, name: &[u8]) -> Option<&Value>
-        ensures { option_map (λ v. data_of v.now) result ≡ found name.now self.now }
+        ensures { option_map (λ v. data_of v.now) result ≡ value_named name.now self.now }
     {
         for entry in &self.entries {
             if entry.0.as_slice() == name {

@@ -3,7 +3,7 @@ ghost use Rattle.std.specs.Prelude.{◌≡◌, ◌<◌, ◌-◌, ◌++◌, lengt
 ghost use Rattle.std.specs.Fmt.{signed_decimal};
 ghost use Rattle.cl_value.specs.Data.{text};
 ghost use Rattle.cl_value.specs.Value.{data_of};
-ghost use Rattle.cl_eval.specs.Operators.{limited, padded, subtext_of, text_made, text_of};
+ghost use Rattle.cl_eval.specs.Operators.{within_limits, pad_to, subtext_of, text_made, text_of};
 ghost use Rattle.cl_eval.specs.Agrees.{Comes};
 ghost use Rattle.cl_syntax.specs.declared.operators.TextOperator.TheVariants as written;
 
@@ -84,7 +84,7 @@ fn pad(alloc: Global, values: &[Value]) -> Result<Value, Stop>
 
 // The width may be 2^63, so it is compared with the greatest size before a text is made.
 fn pad_to(alloc: Global, given: &Text, width: i64) -> Result<Value, Stop>
-    ensures { Comes data_of result (limited (text (padded given.now width))) }
+    ensures { Comes data_of result (within_limits (text (pad_to given.now width))) }
 {
     match usize::try_from(width) {
         Ok(width) if width > given.as_slice().len() => {

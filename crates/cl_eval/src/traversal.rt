@@ -2,7 +2,7 @@
 ghost use Rattle.std.specs.Prelude.{◌≡◌, ◌+◌, ◌<◌, ◌^◌, [], map};
 ghost use Rattle.cl_value.specs.Value.{data_of};
 ghost use Rattle.cl_syntax.specs.ExprTree as expr;
-ghost use Rattle.cl_eval.specs.Meaning.{filtered, folded, parts};
+ghost use Rattle.cl_eval.specs.Meaning.{filter_each, fold_each, parts};
 ghost use Rattle.cl_eval.specs.Mapping.{map_in, past_limit};
 ghost use Rattle.cl_eval.specs.Standpoint.{seen_from};
 ghost use Rattle.cl_eval.specs.Agrees.{Agrees, itself};
@@ -149,7 +149,7 @@ fn filter_over<L: Ledger>(
 ) -> Result<Values, Stop>
     requires { here.now.level + here.now.left < 2 ^ 32 }
     ensures meaning { Agrees itself result meter.new
-        (seen_from here.now filtered name.now body.now (map data_of list.now) [] meter.old.cost
+        (seen_from here.now filter_each name.now body.now (map data_of list.now) [] meter.old.cost
         meter.old.deepest) }
     ensures ledger { steps.new + meter.old.cost ≡ steps.old + meter.new.cost }
 {
@@ -178,7 +178,7 @@ fn fold_over<L: Ledger>(
 ) -> Result<Value, Stop>
     requires { here.now.level + here.now.left < 2 ^ 32 }
     ensures meaning { Agrees data_of result meter.new
-        (seen_from here.now folded fold.now.name fold.now.accumulator fold.now.body
+        (seen_from here.now fold_each fold.now.name fold.now.accumulator fold.now.body
         (map data_of list.now) (data_of opening) meter.old.cost meter.old.deepest) }
     ensures ledger { steps.new + meter.old.cost ≡ steps.old + meter.new.cost }
 {

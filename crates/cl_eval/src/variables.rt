@@ -1,7 +1,7 @@
 //! Variables: those that a caller gives, and those that forms bind.
 ghost use Rattle.std.specs.Prelude.{◌≡◌, [], ◌∷◌, OnOk, OnErr, option_map, reverse, map};
 ghost use Rattle.cl_value.specs.Value.{data_of};
-ghost use Rattle.cl_eval.specs.Slots.{entry_of, found, given};
+ghost use Rattle.cl_eval.specs.Slots.{entry_of, value_named, bind_parameters};
 ghost use Rattle.cl_eval.specs.Scope.{variables_of};
 
 use cl_table::Names;
@@ -50,7 +50,7 @@ impl Env {
 
     /// The value of the newest variable of that name, and None exactly where there is none.
     pub fn get(&self, name: &[u8]) -> Option<&Value>
-        ensures { option_map (λ v. data_of v.now) result ≡ found name.now self.now }
+        ensures { option_map (λ v. data_of v.now) result ≡ value_named name.now self.now }
     {
         newest(self.variables.as_slice(), name)
     }
@@ -59,7 +59,7 @@ impl Env {
 // The value of the last variable of that name.
 fn newest<'a>(variables: &'a [(Text, Value)], name: &[u8]) -> Option<&'a Value>
     ensures { option_map (λ v. data_of v.now) result
-        ≡ found name.now (reverse (map entry_of variables.now)) }
+        ≡ value_named name.now (reverse (map entry_of variables.now)) }
 {
     let mut left = variables;
     while let Some((last, rest)) = left.split_last() {
@@ -88,7 +88,7 @@ impl Scope<'_> {
     /// The value of the newest variable of that name, and None exactly where there is none.
     #[tactic(auto, using(crate::proofs::ListLemmas::found_in_frame, crate::proofs::ListLemmas::found_behind_frame))]
     pub fn get(&self, name: &[u8]) -> Option<&Value>
-        ensures { option_map (λ v. data_of v.now) result ≡ found name.now (variables_of self.now) }
+        ensures { option_map (λ v. data_of v.now) result ≡ value_named name.now (variables_of self.now) }
     {
         match self {
             Scope::Given(env) => env.get(name),
@@ -111,7 +111,7 @@ impl Scope<'_> {
 // The value that is given to the first parameter of that name.
 fn find<'a>(names: &[Text], values: &'a [Value], name: &[u8]) -> Option<&'a Value>
     ensures { option_map (λ v. data_of v.now) result
-        ≡ found name.now (given names.now (map data_of values.now)) }
+        ≡ value_named name.now (bind_parameters names.now (map data_of values.now)) }
 {
     match names.split_first() {
         Some((first, names)) => match values.split_first() {

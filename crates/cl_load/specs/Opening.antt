@@ -7,7 +7,7 @@ use Rattle.cl_application.specs.declared.applications.App.{App}
 use Rattle.cl_application.specs.declared.declarations.SlotDecl.{SlotDecl}
 use Rattle.cl_syntax.specs.declared.type_specs.TypeSpec.{TypeSpec}
 use Rattle.cl_eval.specs.declared.metering.Limits.{Limits}
-use Rattle.cl_eval.specs.Evaluated.{meant}
+use Rattle.cl_eval.specs.Evaluated.{outcome_of_eval}
 use Rattle.cl_eval.specs.Outcome.{Outcome, Gives, Traps}
 use Rattle.cl_eval.specs.Slots.{Slots, put}
 use Rattle.cl_load.specs.SlotTypes.{is_member}
@@ -20,7 +20,7 @@ opening_limits = record { budget = 10000; depth = 512 }
 
 -- an opening value is evaluated on no slots and no variables
 abbrev pub opening_of : App → SlotDecl → Outcome Data
-opening_of app d = meant opening_limits app [] [] d.opening
+opening_of app d = outcome_of_eval opening_limits app [] [] d.opening
 
 -- a value; no opening value of an application that loads traps
 abbrev pub value_in : Outcome Data → Data

@@ -8,9 +8,9 @@ use Rattle.cl_region.specs.Places.{box, move_rect}
 use Rattle.cl_region.specs.declared.rects.Rect.{Rect}
 use Rattle.cl_region.specs.declared.rects.Shift.{Shift}
 use Rattle.cl_region.proofs.Corners.{rect_is}
-use Rattle.cl_record.specs.Boxes.{around, extent_box, items_box, join_boxes, join_summaries, move_summary, summary_of}
-use Rattle.cl_record.specs.Marks.{Mark, all_moved, begins, closes, draw, opens}
-use Rattle.cl_record.specs.Replays.{drawn}
+use Rattle.cl_record.specs.Boxes.{corner_box, extent_box, items_box, join_boxes, join_summaries, move_summary, summary_of}
+use Rattle.cl_record.specs.Marks.{Mark, move_marks, open_update, close, draw, open_presentation}
+use Rattle.cl_record.specs.Replays.{items_drawn}
 use Rattle.cl_record.specs.declared.summaries.Summary.{Summary}
 use Rattle.cl_record.proofs.Replayed.{drawn-append}
 
@@ -39,9 +39,9 @@ high-assoc : (a b c d e f : ℤ) → a ≤ℤ d → b ≤ℤ e → c ≤ℤ f
     → int_max (int_max (int_min a b) (int_max d e)) f ≡ int_max d (int_max (int_min b c) (int_max e f))
 high-assoc a b c d e f h k l = rw (greatest a b d e h k, greatest b c e f k l) (max-assoc d e f)
 
-around-assoc : (a b c : Rect) → around (around a b) c ≡ around a (around b c)
+around-assoc : (a b c : Rect) → corner_box (corner_box a b) c ≡ corner_box a (corner_box b c)
 around-assoc a b c =
-    rect_is (around a (around b c)) _ _ _ _
+    rect_is (corner_box a (corner_box b c)) _ _ _ _
     (low-assoc _ _ _ _ _ _ (ordered a.x1 a.x2) (ordered b.x1 b.x2) (ordered c.x1 c.x2))
     (low-assoc _ _ _ _ _ _ (ordered a.y1 a.y2) (ordered b.y1 b.y2) (ordered c.y1 c.y2))
     (high-assoc _ _ _ _ _ _ (ordered a.x1 a.x2) (ordered b.x1 b.x2) (ordered c.x1 c.x2))
@@ -70,22 +70,22 @@ module _ {A : Type 0} (bounds : A → Rect) where
       ap (λ (o : Option Rect). join_boxes box (Some (bounds a)) o) (items_box-append xs ys)
       ∙ sym (join-assoc box box-assoc (Some (bounds a)) (items_box bounds xs) (items_box bounds ys))
 
-  pub extent_box-append : (ms ns : List (Mark A)) → extent_box bounds (ms ++ ns) ≡ join_boxes around (extent_box bounds ms) (extent_box bounds ns)
+  pub extent_box-append : (ms ns : List (Mark A)) → extent_box bounds (ms ++ ns) ≡ join_boxes corner_box (extent_box bounds ms) (extent_box bounds ns)
   extent_box-append [] ns = refl
   extent_box-append (draw a ∷ ms) ns =
-      ap (λ (o : Option Rect). join_boxes around (Some (bounds a)) o) (extent_box-append ms ns)
-      ∙ sym (join-assoc around around-assoc (Some (bounds a)) (extent_box bounds ms) (extent_box bounds ns))
-  extent_box-append (opens l ∷ ms) ns = extent_box-append ms ns
-  extent_box-append (begins h ∷ ms) ns =
-      ap (λ (o : Option Rect). join_boxes around (Some h.measures.extent) o) (extent_box-append ms ns)
-      ∙ sym (join-assoc around around-assoc (Some h.measures.extent) (extent_box bounds ms) (extent_box bounds ns))
-  extent_box-append (closes ∷ ms) ns = extent_box-append ms ns
+      ap (λ (o : Option Rect). join_boxes corner_box (Some (bounds a)) o) (extent_box-append ms ns)
+      ∙ sym (join-assoc corner_box around-assoc (Some (bounds a)) (extent_box bounds ms) (extent_box bounds ns))
+  extent_box-append (open_presentation l ∷ ms) ns = extent_box-append ms ns
+  extent_box-append (open_update h ∷ ms) ns =
+      ap (λ (o : Option Rect). join_boxes corner_box (Some h.measures.extent) o) (extent_box-append ms ns)
+      ∙ sym (join-assoc corner_box around-assoc (Some h.measures.extent) (extent_box bounds ms) (extent_box bounds ns))
+  extent_box-append (close ∷ ms) ns = extent_box-append ms ns
 
   pub summary-append : (ms ns : List (Mark A)) → summary_of bounds (ms ++ ns) ≡ join_summaries (summary_of bounds ms) (summary_of bounds ns)
   summary-append ms ns =
       let split = drawn-append ms ns in
-      let counts = ap (λ (items : List A). length items) split ∙ length-append (drawn ms) (drawn ns) in
-      let items = ap (λ (items : List A). items_box bounds items) split ∙ items_box-append (drawn ms) (drawn ns) in
+      let counts = ap (λ (items : List A). length items) split ∙ length-append (items_drawn ms) (items_drawn ns) in
+      let items = ap (λ (items : List A). items_box bounds items) split ∙ items_box-append (items_drawn ms) (items_drawn ns) in
       let extents = extent_box-append ms ns in
       λ i. record { count = counts i; items = items i; extents = extents i }
 
@@ -106,7 +106,7 @@ high-move a b c e d = rw (max-move (int_max a b) (int_max c e) d, max-move a b d
 pub box-move : (v : Shift) (a b : Rect) → move_rect v (box a b) ≡ box (move_rect v a) (move_rect v b)
 box-move v a b = rw (min-move a.x1 b.x1 v.dx, min-move a.y1 b.y1 v.dy, max-move a.x2 b.x2 v.dx, max-move a.y2 b.y2 v.dy) refl
 
-pub around-move : (v : Shift) (a b : Rect) → move_rect v (around a b) ≡ around (move_rect v a) (move_rect v b)
+pub around-move : (v : Shift) (a b : Rect) → move_rect v (corner_box a b) ≡ corner_box (move_rect v a) (move_rect v b)
 around-move v a b =
     rw (low-move a.x1 a.x2 b.x1 b.x2 v.dx, low-move a.y1 a.y2 b.y1 b.y2 v.dy, high-move a.x1 a.x2 b.x1 b.x2 v.dx, high-move a.y1 a.y2 b.y1 b.y2 v.dy) refl
 
@@ -117,36 +117,36 @@ join-move join v move (Some a) None = refl
 join-move join v move (Some a) (Some b) = ap (λ (r : Rect). Some r) (move a b)
 
 module _ {A : Type 0} (bounds : A → Rect) (move : Shift → A → A) (bounds_move : (v : Shift) (a : A) → bounds (move v a) ≡ move_rect v (bounds a)) where
-  pub items_box-move : (v : Shift) (ms : List (Mark A)) → items_box bounds (drawn (all_moved move v ms)) ≡ option_map (move_rect v) (items_box bounds (drawn ms))
+  pub items_box-move : (v : Shift) (ms : List (Mark A)) → items_box bounds (items_drawn (move_marks move v ms)) ≡ option_map (move_rect v) (items_box bounds (items_drawn ms))
   items_box-move v [] = refl
   items_box-move v (draw a ∷ ms) =
-      ap (λ (r : Rect). join_boxes box (Some r) (items_box bounds (drawn (all_moved move v ms)))) (bounds_move v a)
+      ap (λ (r : Rect). join_boxes box (Some r) (items_box bounds (items_drawn (move_marks move v ms)))) (bounds_move v a)
       ∙ ap (λ (o : Option Rect). join_boxes box (Some (move_rect v (bounds a))) o) (items_box-move v ms)
-      ∙ sym (join-move box v (box-move v) (Some (bounds a)) (items_box bounds (drawn ms)))
-  items_box-move v (opens l ∷ ms) = items_box-move v ms
-  items_box-move v (begins h ∷ ms) = items_box-move v ms
-  items_box-move v (closes ∷ ms) = items_box-move v ms
+      ∙ sym (join-move box v (box-move v) (Some (bounds a)) (items_box bounds (items_drawn ms)))
+  items_box-move v (open_presentation l ∷ ms) = items_box-move v ms
+  items_box-move v (open_update h ∷ ms) = items_box-move v ms
+  items_box-move v (close ∷ ms) = items_box-move v ms
 
-  pub extent_box-move : (v : Shift) (ms : List (Mark A)) → extent_box bounds (all_moved move v ms) ≡ option_map (move_rect v) (extent_box bounds ms)
+  pub extent_box-move : (v : Shift) (ms : List (Mark A)) → extent_box bounds (move_marks move v ms) ≡ option_map (move_rect v) (extent_box bounds ms)
   extent_box-move v [] = refl
   extent_box-move v (draw a ∷ ms) =
-      ap (λ (r : Rect). join_boxes around (Some r) (extent_box bounds (all_moved move v ms))) (bounds_move v a)
-      ∙ ap (λ (o : Option Rect). join_boxes around (Some (move_rect v (bounds a))) o) (extent_box-move v ms)
-      ∙ sym (join-move around v (around-move v) (Some (bounds a)) (extent_box bounds ms))
-  extent_box-move v (opens l ∷ ms) = extent_box-move v ms
-  extent_box-move v (begins h ∷ ms) =
-      ap (λ (o : Option Rect). join_boxes around (Some (move_rect v h.measures.extent)) o) (extent_box-move v ms)
-      ∙ sym (join-move around v (around-move v) (Some h.measures.extent) (extent_box bounds ms))
-  extent_box-move v (closes ∷ ms) = extent_box-move v ms
+      ap (λ (r : Rect). join_boxes corner_box (Some r) (extent_box bounds (move_marks move v ms))) (bounds_move v a)
+      ∙ ap (λ (o : Option Rect). join_boxes corner_box (Some (move_rect v (bounds a))) o) (extent_box-move v ms)
+      ∙ sym (join-move corner_box v (around-move v) (Some (bounds a)) (extent_box bounds ms))
+  extent_box-move v (open_presentation l ∷ ms) = extent_box-move v ms
+  extent_box-move v (open_update h ∷ ms) =
+      ap (λ (o : Option Rect). join_boxes corner_box (Some (move_rect v h.measures.extent)) o) (extent_box-move v ms)
+      ∙ sym (join-move corner_box v (around-move v) (Some h.measures.extent) (extent_box bounds ms))
+  extent_box-move v (close ∷ ms) = extent_box-move v ms
 
-  count-move : (v : Shift) (ms : List (Mark A)) → length (drawn (all_moved move v ms)) ≡ length (drawn ms)
+  count-move : (v : Shift) (ms : List (Mark A)) → length (items_drawn (move_marks move v ms)) ≡ length (items_drawn ms)
   count-move v [] = refl
   count-move v (draw a ∷ ms) = ap (λ (n : ℕ). suc n) (count-move v ms)
-  count-move v (opens l ∷ ms) = count-move v ms
-  count-move v (begins h ∷ ms) = count-move v ms
-  count-move v (closes ∷ ms) = count-move v ms
+  count-move v (open_presentation l ∷ ms) = count-move v ms
+  count-move v (open_update h ∷ ms) = count-move v ms
+  count-move v (close ∷ ms) = count-move v ms
 
-  pub summary-move : (v : Shift) (ms : List (Mark A)) → summary_of bounds (all_moved move v ms) ≡ move_summary v (summary_of bounds ms)
+  pub summary-move : (v : Shift) (ms : List (Mark A)) → summary_of bounds (move_marks move v ms) ≡ move_summary v (summary_of bounds ms)
   summary-move v ms =
       let counts = count-move v ms in
       let items = items_box-move v ms in

@@ -6,7 +6,7 @@ use Rattle.cl_region.specs.Places.{box, intersection, is_thin}
 use Rattle.cl_region.specs.declared.rects.Rect.{Rect}
 use Rattle.cl_region.proofs.Cuts.{or_elim, or_left, or_right}
 use Rattle.cl_record.specs.Boxes.{items_box, join_boxes}
-use Rattle.cl_record.specs.Replays.{meets_one, touching}
+use Rattle.cl_record.specs.Replays.{meets_one, items_touching}
 
 -- the sides of a rectangle lie within those of another one
 pub record Within (r other : Rect) : Type 0 where
@@ -77,11 +77,11 @@ module _ {A : Type 0} (bounds : A → Rect) where
   within-join r a None h = (h, tt)
   within-join r a (Some b) h = (within-first r a b h, within-second r a b h)
 
-  outside : (rects : List Rect) (r : Rect) (items : List A) → IfSome (items_box bounds items) (Within r) → meets_one rects r ≡ false → touching bounds rects items ≡ []
+  outside : (rects : List Rect) (r : Rect) (items : List A) → IfSome (items_box bounds items) (Within r) → meets_one rects r ≡ false → items_touching bounds rects items ≡ []
   outside rects r [] h k = refl
   outside rects r (a ∷ items) h k =
       let both = within-join r (bounds a) (items_box bounds items) h in
-      left_out (meets_one rects (bounds a)) a (touching bounds rects items) (meets_less rects r (bounds a) both.0 k) (outside rects r items both.1 k)
+      left_out (meets_one rects (bounds a)) a (items_touching bounds rects items) (meets_less rects r (bounds a) both.0 k) (outside rects r items both.1 k)
 
   none_there : (items : List A) → items_box bounds items ≡ None → items ≡ []
   none_there [] h = refl
@@ -91,8 +91,8 @@ module _ {A : Type 0} (bounds : A → Rect) where
     some_there r (Some b) e = cc
 
   -- where the box of all items meets no rectangle, no item does
-  pub outside-box : (rects : List Rect) (r : Rect) (items : List A) → items_box bounds items ≡ Some r → meets_one rects r ≡ false → touching bounds rects items ≡ []
+  pub outside-box : (rects : List Rect) (r : Rect) (items : List A) → items_box bounds items ≡ Some r → meets_one rects r ≡ false → items_touching bounds rects items ≡ []
   outside-box rects r items e k = outside rects r items (rw e (within-itself r)) k
 
-  pub outside-none : (rects : List Rect) (items : List A) → items_box bounds items ≡ None → touching bounds rects items ≡ []
-  outside-none rects items e = ap (λ (xs : List A). touching bounds rects xs) (none_there items e)
+  pub outside-none : (rects : List Rect) (items : List A) → items_box bounds items ≡ None → items_touching bounds rects items ≡ []
+  outside-none rects items e = ap (λ (xs : List A). items_touching bounds rects xs) (none_there items e)

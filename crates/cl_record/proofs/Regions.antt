@@ -6,7 +6,7 @@ use Rattle.cl_region.specs.Places.{intersection, one_holds, holds, is_thin}
 use Rattle.cl_region.specs.declared.rects.Rect.{Rect}
 use Rattle.cl_region.proofs.Corners.{both, common-holds, false_holds, thin_test, wrong}
 use Rattle.cl_region.proofs.Cuts.{is_not, or_elim, or_left, or_right}
-use Rattle.cl_record.specs.Replays.{meets_one, painted, touching}
+use Rattle.cl_record.specs.Replays.{meets_one, cell_after, items_touching}
 
 thin_none : (r : Rect) (x y : ℤ) → holds r x y ≡ true → is_thin r ≡ true → ⊥
 thin_none r x y h t = false_holds (holds r x y) (((thin_test r (is_thin r) refl).0 t).holds_none x y) h
@@ -28,15 +28,15 @@ module _ {A : Type 0} (bounds : A → Rect) (cell : A → ℤ → ℤ → Option
   skipped b (Some c) under f h = absurd (false_holds b h (f c refl))
 
   step : (b : Bool) (a : A) (rest : List A) (x y : ℤ) (under : Painted) → (b ≡ false → unwrap_or (cell a x y) under ≡ under)
-      → painted cell (if b then a ∷ rest else rest) x y under ≡ painted cell rest x y (unwrap_or (cell a x y) under)
+      → cell_after cell (if b then a ∷ rest else rest) x y under ≡ cell_after cell rest x y (unwrap_or (cell a x y) under)
   step true a rest x y under f = refl
-  step false a rest x y under f = ap (λ (p : Painted). painted cell rest x y p) (sym (f refl))
+  step false a rest x y under f = ap (λ (p : Painted). cell_after cell rest x y p) (sym (f refl))
 
   pub painted-touching : (rects : List Rect) (items : List A) (x y : ℤ) (under : Painted) → one_holds rects x y ≡ true
-      → painted cell (touching bounds rects items) x y under ≡ painted cell items x y under
+      → cell_after cell (items_touching bounds rects items) x y under ≡ cell_after cell items x y under
   painted-touching rects [] x y under h = refl
   painted-touching rects (a ∷ items) x y under h =
-      step (meets_one rects (bounds a)) a (touching bounds rects items) x y under
+      step (meets_one rects (bounds a)) a (items_touching bounds rects items) x y under
       (skipped (meets_one rects (bounds a)) (cell a x y) under (λ c e. meets_held rects (bounds a) x y h (within a x y c e)))
       ∙ painted-touching rects items x y (unwrap_or (cell a x y) under) h
 

@@ -3,16 +3,16 @@ use Rattle.std.proofs.Common.{◌≡◌, ◌≤◌, ℤ, ◌+ℤ◌, Bool, true,
 use Rattle.std.specs.Prelude.{if◌then◌else◌, unwrap_or}
 use Rattle.cl_medium.specs.Items.{Painted}
 use Rattle.cl_region.specs.declared.rects.Rect.{Rect}
-use Rattle.cl_record.specs.Marks.{Mark, begins, closes, draw, opens}
-use Rattle.cl_record.specs.Replays.{Paints, drawn, meets_one, painted, touching}
+use Rattle.cl_record.specs.Marks.{Mark, open_update, close, draw, open_presentation}
+use Rattle.cl_record.specs.Replays.{Paints, items_drawn, meets_one, cell_after, items_touching}
 
 module _ {A : Type 0} where
-  pub drawn-append : (ms ns : List (Mark A)) → drawn (ms ++ ns) ≡ drawn ms ++ drawn ns
+  pub drawn-append : (ms ns : List (Mark A)) → items_drawn (ms ++ ns) ≡ items_drawn ms ++ items_drawn ns
   drawn-append [] ns = refl
   drawn-append (draw a ∷ ms) ns = ap (λ (items : List A). a ∷ items) (drawn-append ms ns)
-  drawn-append (opens l ∷ ms) ns = drawn-append ms ns
-  drawn-append (begins h ∷ ms) ns = drawn-append ms ns
-  drawn-append (closes ∷ ms) ns = drawn-append ms ns
+  drawn-append (open_presentation l ∷ ms) ns = drawn-append ms ns
+  drawn-append (open_update h ∷ ms) ns = drawn-append ms ns
+  drawn-append (close ∷ ms) ns = drawn-append ms ns
 
   touching_test : (b : Bool) (a : A) (xs ys zs : List A) → xs ≡ ys ++ zs
       → ◌≡◌ {A = List A} (if b then a ∷ xs else xs) ((if b then a ∷ ys else ys) ++ zs)
@@ -20,13 +20,13 @@ module _ {A : Type 0} where
   touching_test false a xs ys zs e = e
 
   pub touching-append : (bounds : A → Rect) (rects : List Rect) (xs ys : List A)
-      → touching bounds rects (xs ++ ys) ≡ touching bounds rects xs ++ touching bounds rects ys
+      → items_touching bounds rects (xs ++ ys) ≡ items_touching bounds rects xs ++ items_touching bounds rects ys
   touching-append bounds rects [] ys = refl
   touching-append bounds rects (a ∷ xs) ys =
       touching_test (meets_one rects (bounds a)) a _ _ _ (touching-append bounds rects xs ys)
 
   painted-append : (cell : A → ℤ → ℤ → Option Painted) (xs ys : List A) (x y : ℤ) (under : Painted)
-      → painted cell (xs ++ ys) x y under ≡ painted cell ys x y (painted cell xs x y under)
+      → cell_after cell (xs ++ ys) x y under ≡ cell_after cell ys x y (cell_after cell xs x y under)
   painted-append cell [] ys x y under = refl
   painted-append cell (a ∷ xs) ys x y under = painted-append cell xs ys x y (unwrap_or (cell a x y) under)
 
@@ -39,11 +39,11 @@ module _ {A K : Type 0} (shows : K → ℤ → ℤ → Bool) (at : K → ℤ →
   paints_none k h = record { kept = h; same_places = λ x y. refl; cells = λ x y. same_either (shows k x y) (at k x y) }
 
   -- painted twice where it is shown
-  both : (b c : Bool) (xs ys : List A) (x y : ℤ) (p q r : Painted) → c ≡ b → q ≡ (if b then painted cell xs x y p else p)
-      → r ≡ (if c then painted cell ys x y q else q) → r ≡ (if b then painted cell (xs ++ ys) x y p else p)
+  both : (b c : Bool) (xs ys : List A) (x y : ℤ) (p q r : Painted) → c ≡ b → q ≡ (if b then cell_after cell xs x y p else p)
+      → r ≡ (if c then cell_after cell ys x y q else q) → r ≡ (if b then cell_after cell (xs ++ ys) x y p else p)
   both true c xs ys x y p q r e f g =
-      g ∙ (ap (λ (d : Bool). if d then painted cell ys x y q else q) e ∙ (ap (λ (o : Painted). painted cell ys x y o) f ∙ sym (painted-append cell xs ys x y p)))
-  both false c xs ys x y p q r e f g = g ∙ (ap (λ (d : Bool). if d then painted cell ys x y q else q) e ∙ f)
+      g ∙ (ap (λ (d : Bool). if d then cell_after cell ys x y q else q) e ∙ (ap (λ (o : Painted). cell_after cell ys x y o) f ∙ sym (painted-append cell xs ys x y p)))
+  both false c xs ys x y p q r e f g = g ∙ (ap (λ (d : Bool). if d then cell_after cell ys x y q else q) e ∙ f)
 
   pub paints_both : ((first second third : K) → keeps first second → keeps second third → keeps first third)
       → (j k l : K) (xs ys : List A) → Paints shows at keeps cell j k xs → Paints shows at keeps cell k l ys → Paints shows at keeps cell j l (xs ++ ys)

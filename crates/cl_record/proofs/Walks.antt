@@ -7,11 +7,11 @@ use Rattle.cl_region.specs.declared.rects.Rect.{Rect}
 use Rattle.cl_region.specs.declared.rects.Shift.{Shift}
 use Rattle.cl_record.specs.Heads.{HeadAt}
 use Rattle.cl_record.specs.Labels.{LabelAt}
-use Rattle.cl_record.specs.Marks.{Mark, all_moved, begins, closes, marks_of, marks_of_all, opens}
+use Rattle.cl_record.specs.Marks.{Mark, move_marks, open_update, close, marks_of, marks_of_all, open_presentation}
 use Rattle.cl_record.specs.Ranges.{ArePlaced}
-use Rattle.cl_record.specs.Replays.{Paints, drawn, touching}
-use Rattle.cl_record.specs.Shifts.{joined}
-use Rattle.cl_record.specs.Trees.{Tree, Trees, none, piece, shown, size_of_all, tree}
+use Rattle.cl_record.specs.Replays.{Paints, items_drawn, items_touching}
+use Rattle.cl_record.specs.Shifts.{join_shifts}
+use Rattle.cl_record.specs.Trees.{Tree, Trees, none, update, presentation, size_of_all, tree}
 use Rattle.cl_record.proofs.Moves.{all_moved-append, all_twice}
 use Rattle.cl_record.proofs.Ranges.{placed-rest}
 use Rattle.cl_record.proofs.Replayed.{drawn-append, paints_both, paints_none, touching-append}
@@ -20,13 +20,13 @@ module _ {A K : Type 0} (shows : K → ℤ → ℤ → Bool) (at : K → ℤ →
     (bounds : A → Rect) (move : Shift → A → A) (rects : List Rect) where
   -- the items of marks, moved, that touch one of the rectangles
   abbrev pub touched : Shift → List (Mark A) → List A
-  touched v ms = touching bounds rects (drawn (all_moved move v ms))
+  touched v ms = items_touching bounds rects (items_drawn (move_marks move v ms))
 
   touched-append : (v : Shift) (ms ns : List (Mark A)) → touched v (ms ++ ns) ≡ touched v ms ++ touched v ns
   touched-append v ms ns =
-      ap (λ (ks : List (Mark A)). touching bounds rects (drawn ks)) (all_moved-append move v ms ns)
-      ∙ (ap (λ (items : List A). touching bounds rects items) (drawn-append (all_moved move v ms) (all_moved move v ns))
-      ∙ touching-append bounds rects (drawn (all_moved move v ms)) (drawn (all_moved move v ns)))
+      ap (λ (ks : List (Mark A)). items_touching bounds rects (items_drawn ks)) (all_moved-append move v ms ns)
+      ∙ (ap (λ (items : List A). items_touching bounds rects items) (drawn-append (move_marks move v ms) (move_marks move v ns))
+      ∙ touching-append bounds rects (items_drawn (move_marks move v ms)) (items_drawn (move_marks move v ns)))
 
   -- from the canvas as it is, what is left of the trees paints what all of them do from the first one
   pub record GoesOn (v : Shift) (first now : K) (all left : Trees A) : Type 0 where
@@ -51,15 +51,15 @@ module _ {A K : Type 0} (shows : K → ℤ → ℤ → Bool) (at : K → ℤ →
 
   module _ (twice : (v w : Shift) (a : A) → move w (move v a) ≡ move (record { dx = v.dx +ℤ w.dx; dy = v.dy +ℤ w.dy }) a) where
     -- a branch paints what it holds, moved by its place too
-    touched_inside : (v : Shift) (ms : List (Mark A)) → touched v (ms ++ closes ∷ []) ≡ touched v ms
-    touched_inside v ms = touched-append v ms (closes ∷ []) ∙ append-nil (touched v ms)
+    touched_inside : (v : Shift) (ms : List (Mark A)) → touched v (ms ++ close ∷ []) ≡ touched v ms
+    touched_inside v ms = touched-append v ms (close ∷ []) ∙ append-nil (touched v ms)
 
-    pub touched_shown : (v p : Shift) (l : LabelAt) (ts : Trees A) → touched v (marks_of move (shown l p ts)) ≡ touched (joined p v) (marks_of_all move ts)
+    pub touched_shown : (v p : Shift) (l : LabelAt) (ts : Trees A) → touched v (marks_of move (presentation l p ts)) ≡ touched (join_shifts p v) (marks_of_all move ts)
     touched_shown v p l ts =
-        ap (λ (ms : List (Mark A)). touching bounds rects (drawn ms)) (all_twice move twice p v (opens l ∷ (marks_of_all move ts ++ closes ∷ [])))
-        ∙ touched_inside (joined p v) (marks_of_all move ts)
+        ap (λ (ms : List (Mark A)). items_touching bounds rects (items_drawn ms)) (all_twice move twice p v (open_presentation l ∷ (marks_of_all move ts ++ close ∷ [])))
+        ∙ touched_inside (join_shifts p v) (marks_of_all move ts)
 
-    pub touched_piece : (v p : Shift) (h : HeadAt) (ts : Trees A) → touched v (marks_of move (piece h p ts)) ≡ touched (joined p v) (marks_of_all move ts)
+    pub touched_piece : (v p : Shift) (h : HeadAt) (ts : Trees A) → touched v (marks_of move (update h p ts)) ≡ touched (join_shifts p v) (marks_of_all move ts)
     touched_piece v p h ts =
-        ap (λ (ms : List (Mark A)). touching bounds rects (drawn ms)) (all_twice move twice p v (begins h ∷ (marks_of_all move ts ++ closes ∷ [])))
-        ∙ touched_inside (joined p v) (marks_of_all move ts)
+        ap (λ (ms : List (Mark A)). items_touching bounds rects (items_drawn ms)) (all_twice move twice p v (open_update h ∷ (marks_of_all move ts ++ close ∷ [])))
+        ∙ touched_inside (join_shifts p v) (marks_of_all move ts)

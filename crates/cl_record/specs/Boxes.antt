@@ -5,13 +5,13 @@ use Rattle.std.specs.Option.{option_map}
 use Rattle.cl_region.specs.Places.{box, move_rect}
 use Rattle.cl_region.specs.declared.rects.Rect.{Rect}
 use Rattle.cl_region.specs.declared.rects.Shift.{Shift}
-use Rattle.cl_record.specs.Marks.{Mark, begins, closes, draw, opens}
-use Rattle.cl_record.specs.Replays.{drawn}
+use Rattle.cl_record.specs.Marks.{Mark, open_update, close, draw, open_presentation}
+use Rattle.cl_record.specs.Replays.{items_drawn}
 use Rattle.cl_record.specs.declared.summaries.Summary.{Summary}
 
 -- the least box of all corners of both, in whatever order the sides of each are
-abbrev pub around : Rect → Rect → Rect
-around a b = record {
+abbrev pub corner_box : Rect → Rect → Rect
+corner_box a b = record {
   x1 = int_min (int_min a.x1 a.x2) (int_min b.x1 b.x2);
   y1 = int_min (int_min a.y1 a.y2) (int_min b.y1 b.y2);
   x2 = int_max (int_max a.x1 a.x2) (int_max b.x1 b.x2);
@@ -37,21 +37,21 @@ module _ {A : Type 0} (bounds : A → Rect) where
   -- the least box of all corners of the bounds of items and of the extents of updates; None where there is nothing to move
   abbrev pub extent_box : List (Mark A) → Option Rect
   extent_box [] = None
-  extent_box (draw a ∷ marks) = join_boxes around (Some (bounds a)) (extent_box marks)
-  extent_box (opens l ∷ marks) = extent_box marks
-  extent_box (begins h ∷ marks) = join_boxes around (Some h.measures.extent) (extent_box marks)
-  extent_box (closes ∷ marks) = extent_box marks
+  extent_box (draw a ∷ marks) = join_boxes corner_box (Some (bounds a)) (extent_box marks)
+  extent_box (open_presentation l ∷ marks) = extent_box marks
+  extent_box (open_update h ∷ marks) = join_boxes corner_box (Some h.measures.extent) (extent_box marks)
+  extent_box (close ∷ marks) = extent_box marks
 
   -- how many items marks draw, and the boxes
   abbrev pub summary_of : List (Mark A) → Summary
-  summary_of marks = record { count = length (drawn marks); items = items_box (drawn marks); extents = extent_box marks }
+  summary_of marks = record { count = length (items_drawn marks); items = items_box (items_drawn marks); extents = extent_box marks }
 
 -- those of marks behind others
 abbrev pub join_summaries : Summary → Summary → Summary
 join_summaries a b = record {
   count = a.count + b.count;
   items = join_boxes box a.items b.items;
-  extents = join_boxes around a.extents b.extents;
+  extents = join_boxes corner_box a.extents b.extents;
 }
 
 -- those of the same marks elsewhere

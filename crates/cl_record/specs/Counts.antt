@@ -1,7 +1,7 @@
 -- How many items marks draw.
 use Rattle.std.specs.Prelude.{ℕ, List, length}
 use Rattle.cl_record.specs.Marks.{Mark}
-use Rattle.cl_record.specs.Replays.{drawn}
+use Rattle.cl_record.specs.Replays.{items_drawn}
 
 abbrev pub count_of : {A : Type 0} → List (Mark A) → ℕ
-count_of marks = length (drawn marks)
+count_of marks = length (items_drawn marks)

@@ -33,8 +33,8 @@ pub record HeadAt : Type 0 where
   pub cache : Option (List Data)
   pub measures : MeasuresAt
 
-abbrev pub measured : Measures → MeasuresAt
-measured m = record {
+abbrev pub measures_of : Measures → MeasuresAt
+measures_of m = record {
   cost = m.cost;
   reach = m.reach;
   weight = m.weight;
@@ -48,29 +48,29 @@ measured m = record {
 
 -- ---- moved
 
-abbrev pub point_moved : Shift → Point → Point
-point_moved v p = record { x = p.x +ℤ v.dx; y = p.y +ℤ v.dy }
+abbrev pub move_point : Shift → Point → Point
+move_point v p = record { x = p.x +ℤ v.dx; y = p.y +ℤ v.dy }
 
-abbrev pub margin_moved : Shift → Option ℤ → Option ℤ
-margin_moved v None = None
-margin_moved v (Some x) = Some (x +ℤ v.dx)
+abbrev pub move_margin : Shift → Option ℤ → Option ℤ
+move_margin v None = None
+move_margin v (Some x) = Some (x +ℤ v.dx)
 
-abbrev pub origin_moved : Shift → Option Point → Option Point
-origin_moved v None = None
-origin_moved v (Some p) = Some (point_moved v p)
+abbrev pub move_origin : Shift → Option Point → Option Point
+move_origin v None = None
+move_origin v (Some p) = Some (move_point v p)
 
-abbrev pub measures_moved : Shift → MeasuresAt → MeasuresAt
-measures_moved v m = record m {
+abbrev pub move_measures : Shift → MeasuresAt → MeasuresAt
+move_measures v m = record m {
   extent = move_rect v m.extent;
-  start = point_moved v m.start;
-  margin = margin_moved v m.margin;
-  origin = origin_moved v m.origin;
-  end = point_moved v m.end;
+  start = move_point v m.start;
+  margin = move_margin v m.margin;
+  origin = move_origin v m.origin;
+  end = move_point v m.end;
 }
 
 -- the extent, the cursors, and a used margin and origin are elsewhere, all else is the same
-abbrev pub head_moved : Shift → HeadAt → HeadAt
-head_moved v h = record h { measures = measures_moved v h.measures }
+abbrev pub move_head : Shift → HeadAt → HeadAt
+move_head v h = record h { measures = move_measures v h.measures }
 
 -- ---- how the logic stores heads
 

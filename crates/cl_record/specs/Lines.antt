@@ -9,8 +9,8 @@ use Rattle.cl_medium.specs.declared.shapes.LeafShape.TheVariants.{Fill, Line, Ou
 use Rattle.cl_region.specs.declared.rects.Shift.{Shift}
 use Rattle.cl_record.specs.Heads.{HeadAt}
 use Rattle.cl_record.specs.Labels.{LabelAt}
-use Rattle.cl_record.specs.Marks.{Mark, begins, closes, draw, history_marks, opens}
-use Rattle.cl_record.specs.Printed.{printed}
+use Rattle.cl_record.specs.Marks.{Mark, open_update, close, draw, history_marks, open_presentation}
+use Rattle.cl_record.specs.Printed.{print_value}
 use Rattle.cl_record.specs.Trees.{Tree}
 
 -- each number behind a space
@@ -32,11 +32,11 @@ item_line i = shape_line i.shape i.area
 
 -- the type's name and what is presented
 abbrev pub label_line : LabelAt → List ℕ
-label_line l = codes "presentation " ++ l.spec.name ++ 32 ∷ printed l.object
+label_line l = codes "presentation " ++ l.spec.name ++ 32 ∷ print_value l.object
 
 -- the form with its query and the id
 abbrev pub head_line : HeadAt → List ℕ
-head_line h = codes "update " ++ decimal h.site.form ++ 46 ∷ decimal h.site.query ++ 32 ∷ printed h.id
+head_line h = codes "update " ++ decimal h.site.form ++ 46 ∷ decimal h.site.query ++ 32 ∷ print_value h.id
 
 -- two spaces for each level
 abbrev pub margin : ℕ → List ℕ
@@ -52,9 +52,9 @@ module _ {A : Type 0} (line_of : A → List ℕ) where
   abbrev pub lines_from : (depth : ℕ) → List (Mark A) → List (List ℕ)
   lines_from depth [] = []
   lines_from depth (draw a ∷ ms) = (margin depth ++ line_of a) ∷ lines_from depth ms
-  lines_from depth (opens l ∷ ms) = (margin depth ++ label_line l) ∷ lines_from (suc depth) ms
-  lines_from depth (begins h ∷ ms) = (margin depth ++ head_line h) ∷ lines_from (suc depth) ms
-  lines_from depth (closes ∷ ms) = lines_from (outer depth) ms
+  lines_from depth (open_presentation l ∷ ms) = (margin depth ++ label_line l) ∷ lines_from (suc depth) ms
+  lines_from depth (open_update h ∷ ms) = (margin depth ++ head_line h) ∷ lines_from (suc depth) ms
+  lines_from depth (close ∷ ms) = lines_from (outer depth) ms
 
   abbrev pub history_lines : (Shift → A → A) → List (Tree A) → List (List ℕ)
   history_lines move ts = lines_from 0 (history_marks move ts)

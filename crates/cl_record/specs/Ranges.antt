@@ -5,9 +5,9 @@ use Rattle.cl_region.specs.declared.rects.Rect.{Rect}
 use Rattle.cl_region.specs.declared.rects.Shift.{Shift}
 use Rattle.cl_record.specs.Boxes.{extent_box, summary_of}
 use Rattle.cl_record.specs.Heads.{HeadAt, MeasuresAt, Point}
-use Rattle.cl_record.specs.Marks.{Mark, begins, closes, draw, marks_of, marks_of_all, opens}
+use Rattle.cl_record.specs.Marks.{Mark, open_update, close, draw, marks_of, marks_of_all, open_presentation}
 use Rattle.cl_record.specs.Shifts.{IsShift, still}
-use Rattle.cl_record.specs.Trees.{Tree, Trees, leaf, none, piece, shown, tree}
+use Rattle.cl_record.specs.Trees.{Tree, Trees, leaf, none, update, presentation, tree}
 use Rattle.cl_record.specs.declared.summaries.Summary.{Summary}
 
 -- a place lies between the sides of a rectangle, or on them
@@ -39,9 +39,9 @@ module _ {A : Type 0} (bounds : A → Rect) where
   abbrev pub AreInRange : List (Mark A) → Type 0
   AreInRange [] = Unit {0}
   AreInRange (draw a ∷ marks) = IsInRange (bounds a) × AreInRange marks
-  AreInRange (opens l ∷ marks) = AreInRange marks
-  AreInRange (begins h ∷ marks) = IsInRange h.measures.extent × AreInRange marks
-  AreInRange (closes ∷ marks) = AreInRange marks
+  AreInRange (open_presentation l ∷ marks) = AreInRange marks
+  AreInRange (open_update h ∷ marks) = IsInRange h.measures.extent × AreInRange marks
+  AreInRange (close ∷ marks) = AreInRange marks
 
 module _ {A : Type 0} (bounds : A → Rect) (move : Shift → A → A) where
   -- what the head of an update says is so
@@ -52,8 +52,8 @@ module _ {A : Type 0} (bounds : A → Rect) (move : Shift → A → A) where
   abbrev mutual
     pub IsSound : Tree A → Type 0
     IsSound (leaf a) = IsInRange (bounds a)
-    IsSound (shown l p ts) = AreSound ts × IsPlaceOf p (extent_box bounds (marks_of_all move ts))
-    IsSound (piece h p ts) = AreSound ts × (IsMeasured h ts × IsInRange (move_rect p h.measures.extent))
+    IsSound (presentation l p ts) = AreSound ts × IsPlaceOf p (extent_box bounds (marks_of_all move ts))
+    IsSound (update h p ts) = AreSound ts × (IsMeasured h ts × IsInRange (move_rect p h.measures.extent))
 
     pub AreSound : Trees A → Type 0
     AreSound none = Unit {0}

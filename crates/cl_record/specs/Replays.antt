@@ -3,7 +3,7 @@ use Rattle.std.specs.Prelude.{◌≡◌, ℤ, Bool, false, ◌||◌, not, if◌t
 use Rattle.cl_medium.specs.Items.{Painted}
 use Rattle.cl_region.specs.Places.{intersection, is_thin}
 use Rattle.cl_region.specs.declared.rects.Rect.{Rect}
-use Rattle.cl_record.specs.Marks.{Mark, begins, closes, draw, opens}
+use Rattle.cl_record.specs.Marks.{Mark, open_update, close, draw, open_presentation}
 
 -- the rectangle shares a place with one of the list
 abbrev pub meets_one : List Rect → Rect → Bool
@@ -12,23 +12,23 @@ meets_one (p ∷ ps) r = not (is_thin (intersection p r)) || meets_one ps r
 
 module _ {A : Type 0} where
   -- the items that marks draw
-  abbrev pub drawn : List (Mark A) → List A
-  drawn [] = []
-  drawn (draw a ∷ ms) = a ∷ drawn ms
-  drawn (opens l ∷ ms) = drawn ms
-  drawn (begins h ∷ ms) = drawn ms
-  drawn (closes ∷ ms) = drawn ms
+  abbrev pub items_drawn : List (Mark A) → List A
+  items_drawn [] = []
+  items_drawn (draw a ∷ ms) = a ∷ items_drawn ms
+  items_drawn (open_presentation l ∷ ms) = items_drawn ms
+  items_drawn (open_update h ∷ ms) = items_drawn ms
+  items_drawn (close ∷ ms) = items_drawn ms
 
   -- those items whose bounds share a place with one of the rectangles
-  abbrev pub touching : (A → Rect) → List Rect → List A → List A
-  touching bounds rects [] = []
-  touching bounds rects (a ∷ items) =
-      if meets_one rects (bounds a) then a ∷ touching bounds rects items else touching bounds rects items
+  abbrev pub items_touching : (A → Rect) → List Rect → List A → List A
+  items_touching bounds rects [] = []
+  items_touching bounds rects (a ∷ items) =
+      if meets_one rects (bounds a) then a ∷ items_touching bounds rects items else items_touching bounds rects items
 
   -- the cell of the last item that paints the place, else the one that was there
-  abbrev pub painted : (A → ℤ → ℤ → Option Painted) → List A → (x y : ℤ) → Painted → Painted
-  painted cell [] x y under = under
-  painted cell (a ∷ items) x y under = painted cell items x y (unwrap_or (cell a x y) under)
+  abbrev pub cell_after : (A → ℤ → ℤ → Option Painted) → List A → (x y : ℤ) → Painted → Painted
+  cell_after cell [] x y under = under
+  cell_after cell (a ∷ items) x y under = cell_after cell items x y (unwrap_or (cell a x y) under)
 
   -- a canvas shows the same places; each of them has the cell of the last of the items that paints it, and every other one the cell
   -- that it had; what the canvas keeps is kept
@@ -36,4 +36,4 @@ module _ {A : Type 0} where
       (cell : A → ℤ → ℤ → Option Painted) (old new : K) (items : List A) : Type 0 where
     pub kept : keeps old new
     pub same_places : (x y : ℤ) → shows new x y ≡ shows old x y
-    pub cells : (x y : ℤ) → at new x y ≡ (if shows old x y then painted cell items x y (at old x y) else at old x y)
+    pub cells : (x y : ℤ) → at new x y ≡ (if shows old x y then cell_after cell items x y (at old x y) else at old x y)

@@ -7,8 +7,8 @@ abbrev pub still : Shift
 still = record { dx = pos 0; dy = pos 0 }
 
 -- one move after the other
-abbrev pub joined : Shift → Shift → Shift
-joined v w = record { dx = v.dx +ℤ w.dx; dy = v.dy +ℤ w.dy }
+abbrev pub join_shifts : Shift → Shift → Shift
+join_shifts v w = record { dx = v.dx +ℤ w.dx; dy = v.dy +ℤ w.dy }
 
 -- a number from -2,000,000 to 2,000,000: no further are two near numbers from each other
 pub record IsFar (z : ℤ) : Type 0 where

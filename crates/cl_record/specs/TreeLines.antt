@@ -2,15 +2,15 @@
 use Rattle.std.specs.Prelude.{ℕ, List, [], ◌∷◌, ◌++◌}
 use Rattle.cl_region.specs.declared.rects.Shift.{Shift}
 use Rattle.cl_record.specs.Lines.{head_line, label_line}
-use Rattle.cl_record.specs.Shifts.{joined}
-use Rattle.cl_record.specs.Trees.{Tree, Trees, leaf, none, piece, shown, tree}
+use Rattle.cl_record.specs.Shifts.{join_shifts}
+use Rattle.cl_record.specs.Trees.{Tree, Trees, leaf, none, update, presentation, tree}
 
 module _ {A : Type 0} (line_of : A → List ℕ) (move : Shift → A → A) where
   abbrev mutual
     pub tree_lines : List ℕ → Shift → Tree A → List (List ℕ)
     tree_lines margin v (leaf a) = (margin ++ line_of (move v a)) ∷ []
-    tree_lines margin v (shown l p ts) = (margin ++ label_line l) ∷ row_lines (margin ++ 32 ∷ 32 ∷ []) (joined p v) ts
-    tree_lines margin v (piece h p ts) = (margin ++ head_line h) ∷ row_lines (margin ++ 32 ∷ 32 ∷ []) (joined p v) ts
+    tree_lines margin v (presentation l p ts) = (margin ++ label_line l) ∷ row_lines (margin ++ 32 ∷ 32 ∷ []) (join_shifts p v) ts
+    tree_lines margin v (update h p ts) = (margin ++ head_line h) ∷ row_lines (margin ++ 32 ∷ 32 ∷ []) (join_shifts p v) ts
 
     pub row_lines : List ℕ → Shift → Trees A → List (List ℕ)
     row_lines margin v none = []

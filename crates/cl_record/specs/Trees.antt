@@ -8,14 +8,14 @@ use Rattle.cl_value.specs.Data.{code_head, code_kind, code_tail, has_parts}
 use Rattle.cl_region.specs.declared.rects.Shift.{Shift}
 use Rattle.cl_record.specs.Heads.{HeadAt, head_code}
 use Rattle.cl_record.specs.Labels.{LabelAt, label_code}
-use Rattle.cl_record.specs.Shifts.{joined, still}
+use Rattle.cl_record.specs.Shifts.{join_shifts, still}
 
 mutual
   -- over the items A: an item, a presentation with its label, or an update with its head, these with their places
   pub data Tree (A : Type 0) : Type 0 where
     leaf : A → Tree A
-    shown : LabelAt → Shift → Trees A → Tree A
-    piece : HeadAt → Shift → Trees A → Tree A
+    presentation : LabelAt → Shift → Trees A → Tree A
+    update : HeadAt → Shift → Trees A → Tree A
 
   -- trees in a row
   pub data Trees (A : Type 0) : Type 0 where
@@ -30,39 +30,39 @@ module _ {A : Type 0} where
   -- where it stands; an item has no place beside its own
   abbrev pub place_of : Tree A → Shift
   place_of (leaf a) = still
-  place_of (shown l p ts) = p
-  place_of (piece h p ts) = p
+  place_of (presentation l p ts) = p
+  place_of (update h p ts) = p
 
   -- what it holds
   abbrev pub children_of : Tree A → Trees A
   children_of (leaf a) = none
-  children_of (shown l p ts) = ts
-  children_of (piece h p ts) = ts
+  children_of (presentation l p ts) = ts
+  children_of (update h p ts) = ts
 
   -- whether there is neither an item nor an update in it, at any depth
   abbrev mutual
     pub is_bare : Tree A → Bool
     is_bare (leaf a) = false
-    is_bare (shown l p ts) = are_bare ts
-    is_bare (piece h p ts) = false
+    is_bare (presentation l p ts) = are_bare ts
+    is_bare (update h p ts) = false
 
     pub are_bare : Trees A → Bool
     are_bare none = true
     are_bare (tree t ts) = is_bare t && are_bare ts
 
   -- the same tree elsewhere; what it holds stays as it is. Where a presentation holds no item and no update there is nothing to move.
-  abbrev pub tree_moved : (Shift → A → A) → Shift → Tree A → Tree A
-  tree_moved move v (leaf a) = leaf (move v a)
-  tree_moved move v (shown l p ts) = shown l (if are_bare ts then p else joined p v) ts
-  tree_moved move v (piece h p ts) = piece h (joined p v) ts
+  abbrev pub move_tree : (Shift → A → A) → Shift → Tree A → Tree A
+  move_tree move v (leaf a) = leaf (move v a)
+  move_tree move v (presentation l p ts) = presentation l (if are_bare ts then p else join_shifts p v) ts
+  move_tree move v (update h p ts) = update h (join_shifts p v) ts
 
   -- ---- measure
 
   abbrev mutual
     pub size_of : Tree A → ℕ
     size_of (leaf a) = 1
-    size_of (shown l p ts) = 4 + size_of_all ts
-    size_of (piece h p ts) = 4 + size_of_all ts
+    size_of (presentation l p ts) = 4 + size_of_all ts
+    size_of (update h p ts) = 4 + size_of_all ts
 
     pub size_of_all : Trees A → ℕ
     size_of_all none = 0
@@ -76,14 +76,14 @@ shift_code = code_by (ℤ × ℤ) (coded× coded_ℤ coded_ℤ) (λ v. (v.dx, v.
 module _ {A : Type 0} (c : Coded A) where
   abbrev kind_of : Tree A → ℕ
   kind_of (leaf a) = 0
-  kind_of (shown l p ts) = 1
-  kind_of (piece h p ts) = 2
+  kind_of (presentation l p ts) = 1
+  kind_of (update h p ts) = 2
 
   abbrev mutual
     code : Tree A → Gv
     code (leaf a) = gcons (gnum 0) (c.code a)
-    code (shown l p ts) = gcons (gnum 1) (gcons (label_code.code l) (gcons (shift_code.code p) (code_all ts)))
-    code (piece h p ts) = gcons (gnum 2) (gcons (head_code.code h) (gcons (shift_code.code p) (code_all ts)))
+    code (presentation l p ts) = gcons (gnum 1) (gcons (label_code.code l) (gcons (shift_code.code p) (code_all ts)))
+    code (update h p ts) = gcons (gnum 2) (gcons (head_code.code h) (gcons (shift_code.code p) (code_all ts)))
 
     code_all : Trees A → Gv
     code_all none = gnil
@@ -92,16 +92,16 @@ module _ {A : Type 0} (c : Coded A) where
   mutual
     pub code-inj : (x y : Tree A) → code x ≡ code y → x ≡ y
     code-inj (leaf a) (leaf b) e = ap leaf (c.inj a b (ap code_tail e))
-    code-inj (shown l p ts) (shown m q us) e =
+    code-inj (presentation l p ts) (presentation m q us) e =
         let labels : l ≡ m = label_code.inj l m (ap (λ g. code_head (code_tail g)) e) in
         let places : p ≡ q = shift_code.inj p q (ap (λ g. code_head (code_tail (code_tail g))) e) in
         let inside : ts ≡ us = code_all-inj ts us (ap (λ g. code_tail (code_tail (code_tail g))) e) in
-        λ i. shown (labels i) (places i) (inside i)
-    code-inj (piece l p ts) (piece m q us) e =
+        λ i. presentation (labels i) (places i) (inside i)
+    code-inj (update l p ts) (update m q us) e =
         let heads : l ≡ m = head_code.inj l m (ap (λ g. code_head (code_tail g)) e) in
         let places : p ≡ q = shift_code.inj p q (ap (λ g. code_head (code_tail (code_tail g))) e) in
         let inside : ts ≡ us = code_all-inj ts us (ap (λ g. code_tail (code_tail (code_tail g))) e) in
-        λ i. piece (heads i) (places i) (inside i)
+        λ i. update (heads i) (places i) (inside i)
     code-inj x y e = absurd (eqb-false (kind_of x) (kind_of y) refl (ap code_kind e))
 
     pub code_all-inj : (ts us : Trees A) → code_all ts ≡ code_all us → ts ≡ us

@@ -4,8 +4,8 @@ ghost use Rattle.cl_region.specs.Places.{IsInRange, move_rect};
 ghost use Rattle.cl_record.specs.Boxes.{summary_of};
 ghost use Rattle.cl_record.specs.Marks.{marks_of};
 ghost use Rattle.cl_record.specs.Ranges.{IsMeasured, IsSound, StaysInRange};
-ghost use Rattle.cl_record.specs.Shifts.{joined, still};
-ghost use Rattle.cl_record.specs.Trees.{are_bare, piece, shown, trees_of};
+ghost use Rattle.cl_record.specs.Shifts.{join_shifts, still};
+ghost use Rattle.cl_record.specs.Trees.{are_bare, update, presentation, trees_of};
 
 use crate::heads::Head;
 use crate::labels::Label;
@@ -54,7 +54,7 @@ impl<L: Leaf> Model for Presented<L> {
     ghost use Rattle.std.proofs.Common.{arith};
     ghost use Rattle.cl_record.specs.Branches.{ShownAt, shown_code};
     ghost use Rattle.cl_record.specs.Ranges.{IsSound};
-    ghost use Rattle.cl_record.specs.Trees.{shown, size_of_all, trees_of};
+    ghost use Rattle.cl_record.specs.Trees.{presentation, size_of_all, trees_of};
 
     ghost Value = { ShownAt L };
 
@@ -64,7 +64,7 @@ impl<L: Leaf> Model for Presented<L> {
         { label = s.body.value.label; place = s.place; inside = s.body.value.inside } };
 
     ghost invariant = { λ s. IsSound L.bounds L.moved_by
-        (shown s.body.value.label s.place (trees_of s.body.value.inside)) };
+        (presentation s.body.value.label s.place (trees_of s.body.value.inside)) };
 
     ghost size = { λ s. 3 + size_of_all (trees_of s.inside) };
 
@@ -76,7 +76,7 @@ impl<L: Leaf> Model for Piece<L> {
     ghost use Rattle.std.proofs.Common.{arith};
     ghost use Rattle.cl_record.specs.Branches.{PieceAt, piece_code};
     ghost use Rattle.cl_record.specs.Ranges.{IsSound};
-    ghost use Rattle.cl_record.specs.Trees.{piece, size_of_all, trees_of};
+    ghost use Rattle.cl_record.specs.Trees.{update, size_of_all, trees_of};
 
     ghost Value = { PieceAt L };
 
@@ -86,7 +86,7 @@ impl<L: Leaf> Model for Piece<L> {
         { head = p.body.value.head; place = p.place; inside = p.body.value.inside } };
 
     ghost invariant = { λ p. IsSound L.bounds L.moved_by
-        (piece p.body.value.head p.place (trees_of p.body.value.inside)) };
+        (update p.body.value.head p.place (trees_of p.body.value.inside)) };
 
     ghost size = { λ p. 3 + size_of_all (trees_of p.inside) };
 
@@ -131,18 +131,18 @@ impl<L: Leaf> Presented<L> {
 
     pub(crate) fn summary(&self) -> Summary
         ensures value { result ≡ summary_of L.bounds
-            (marks_of L.moved_by (shown self.now.label self.now.place (trees_of self.now.inside))) }
+            (marks_of L.moved_by (presentation self.now.label self.now.place (trees_of self.now.inside))) }
         ensures sound { IsSound L.bounds L.moved_by
-            (shown self.now.label self.now.place (trees_of self.now.inside)) }
+            (presentation self.now.label self.now.place (trees_of self.now.inside)) }
     {
         self.body.inside.summary().shifted(self.place)
     }
 
     pub(crate) fn shift(&mut self, by: Shift)
         requires { StaysInRange L.bounds L.moved_by by
-            (shown self.old.label self.old.place (trees_of self.old.inside)) }
+            (presentation self.old.label self.old.place (trees_of self.old.inside)) }
         ensures { self.new ≡ record self.old
-            { place = if are_bare (trees_of self.old.inside) then self.old.place else joined self.old.place by } }
+            { place = if are_bare (trees_of self.old.inside) then self.old.place else join_shifts self.old.place by } }
     {
         if self.body.inside.summary().extents.is_some() {
             self.place = joined(self.place, by);
@@ -195,9 +195,9 @@ impl<L: Leaf> Piece<L> {
 
     pub(crate) fn summary(&self) -> Summary
         ensures value { result ≡ summary_of L.bounds
-            (marks_of L.moved_by (piece self.now.head self.now.place (trees_of self.now.inside))) }
+            (marks_of L.moved_by (update self.now.head self.now.place (trees_of self.now.inside))) }
         ensures sound { IsSound L.bounds L.moved_by
-            (piece self.now.head self.now.place (trees_of self.now.inside)) }
+            (update self.now.head self.now.place (trees_of self.now.inside)) }
     {
         let inside = self.body.inside.summary();
         let extent = self.body.head.measures().extent;
@@ -210,8 +210,8 @@ impl<L: Leaf> Piece<L> {
 
     pub(crate) fn shift(&mut self, by: Shift)
         requires { StaysInRange L.bounds L.moved_by by
-            (piece self.old.head self.old.place (trees_of self.old.inside)) }
-        ensures { self.new ≡ record self.old { place = joined self.old.place by } }
+            (update self.old.head self.old.place (trees_of self.old.inside)) }
+        ensures { self.new ≡ record self.old { place = join_shifts self.old.place by } }
     {
         self.place = joined(self.place, by);
     }

@@ -2,7 +2,7 @@
 ghost use Rattle.std.specs.Prelude.{◌≡◌, option_map};
 ghost use Rattle.std.specs.Option.{option_copied};
 ghost use Rattle.cl_value.specs.Value.{data_of};
-ghost use Rattle.cl_record.specs.Heads.{measured};
+ghost use Rattle.cl_record.specs.Heads.{measures_of};
 
 use cl_medium::Ambient;
 use cl_region::Rect;
@@ -45,21 +45,21 @@ pub struct Head {
 
 impl Model for Head {
     ghost use Rattle.cl_value.specs.Value.{data_of};
-    ghost use Rattle.cl_record.specs.Heads.{HeadAt, head_code, measured};
+    ghost use Rattle.cl_record.specs.Heads.{HeadAt, head_code, measures_of};
 
     ghost Value = { HeadAt };
 
     ghost coded = { head_code };
 
     ghost view = { λ h. record
-        { site = h.site; id = data_of h.id; cache = h.cache; measures = measured h.measures } };
+        { site = h.site; id = data_of h.id; cache = h.cache; measures = measures_of h.measures } };
 }
 
 impl Head {
     /// The head of these parts.
     pub fn new(site: Site, id: Value, cache: Option<Values>, measures: Measures) -> Head
         ensures { result
-            ≡ record { site = site; id = data_of id; cache = cache; measures = measured measures } }
+            ≡ record { site = site; id = data_of id; cache = cache; measures = measures_of measures } }
     {
         Head {
             site,
@@ -92,7 +92,7 @@ impl Head {
 
     /// Its measures, in its own coordinates.
     pub fn measures(&self) -> Measures
-        ensures { measured result ≡ self.now.measures }
+        ensures { measures_of result ≡ self.now.measures }
     {
         self.measures
     }

@@ -4,7 +4,7 @@ ghost use Rattle.cl_region.specs.Places.{one_holds, holds};
 ghost use Rattle.cl_record.specs.Counts.{count_of};
 ghost use Rattle.cl_record.specs.Lines.{history_lines};
 ghost use Rattle.cl_record.specs.Marks.{history_marks};
-ghost use Rattle.cl_record.specs.Replays.{Paints, drawn, painted, touching};
+ghost use Rattle.cl_record.specs.Replays.{Paints, items_drawn, cell_after, items_touching};
 
 use crate::canvases::Canvas;
 use crate::lines::Printable;
@@ -87,9 +87,9 @@ impl<L: Leaf> History<L> {
     /// it, or else the cell that it had. It takes no memory.
     pub fn replay<C: Canvas<L>>(&self, region: &Region, canvas: &mut C)
         ensures paints { Paints C.shows C.cell C.keeps L.cell canvas.old canvas.new
-            (touching L.bounds region.now (drawn (history_marks L.moved_by self.now))) }
+            (items_touching L.bounds region.now (items_drawn (history_marks L.moved_by self.now))) }
         ensures region { (x y : ℤ) → C.shows canvas.old x y ≡ true → one_holds region.now x y ≡ true
-            → C.cell canvas.new x y ≡ painted L.cell (drawn (history_marks L.moved_by self.now)) x y (C.cell canvas.old x y) }
+            → C.cell canvas.new x y ≡ cell_after L.cell (items_drawn (history_marks L.moved_by self.now)) x y (C.cell canvas.old x y) }
     {
         self.replay_rects(region.rects(), canvas);
     }
@@ -97,9 +97,9 @@ impl<L: Leaf> History<L> {
     /// The same of the places of one rectangle.
     pub fn replay_in<C: Canvas<L>>(&self, rect: &Rect, canvas: &mut C)
         ensures paints { Paints C.shows C.cell C.keeps L.cell canvas.old canvas.new
-            (touching L.bounds (rect.now ∷ []) (drawn (history_marks L.moved_by self.now))) }
+            (items_touching L.bounds (rect.now ∷ []) (items_drawn (history_marks L.moved_by self.now))) }
         ensures rect { (x y : ℤ) → C.shows canvas.old x y ≡ true → holds rect.now x y ≡ true
-            → C.cell canvas.new x y ≡ painted L.cell (drawn (history_marks L.moved_by self.now)) x y (C.cell canvas.old x y) }
+            → C.cell canvas.new x y ≡ cell_after L.cell (items_drawn (history_marks L.moved_by self.now)) x y (C.cell canvas.old x y) }
     {
         self.replay_rects(&[*rect], canvas);
     }
@@ -107,9 +107,9 @@ impl<L: Leaf> History<L> {
     // The same of the places that one of the rectangles holds.
     fn replay_rects<C: Canvas<L>>(&self, rects: &[Rect], canvas: &mut C)
         ensures paints { Paints C.shows C.cell C.keeps L.cell canvas.old canvas.new
-            (touching L.bounds rects.now (drawn (history_marks L.moved_by self.now))) }
+            (items_touching L.bounds rects.now (items_drawn (history_marks L.moved_by self.now))) }
         ensures rects { (x y : ℤ) → C.shows canvas.old x y ≡ true → one_holds rects.now x y ≡ true
-            → C.cell canvas.new x y ≡ painted L.cell (drawn (history_marks L.moved_by self.now)) x y (C.cell canvas.old x y) }
+            → C.cell canvas.new x y ≡ cell_after L.cell (items_drawn (history_marks L.moved_by self.now)) x y (C.cell canvas.old x y) }
     {
         // What the rows keep is known from here on.
         let _ = self.nodes.summary();

@@ -1,7 +1,7 @@
 //! Whether the measures of an update are so.
 ghost use Rattle.std.specs.Prelude.{◌↔◌, IsTrue};
 ghost use Rattle.cl_region.specs.Places.{IsInRange};
-ghost use Rattle.cl_record.specs.Heads.{measured};
+ghost use Rattle.cl_record.specs.Heads.{measures_of};
 ghost use Rattle.cl_record.specs.Ranges.{HoldsCorners, HoldsPoint, IsHeld, IsMeasured};
 ghost use Rattle.cl_record.specs.Trees.{trees_of};
 
@@ -20,7 +20,7 @@ pub fn is_measured<L: Leaf>(head: &Head, inside: &Nodes<L>) -> bool
 }
 
 fn hold(measures: &Measures, extents: Option<Rect>) -> bool
-    ensures { IsTrue result ↔ IsHeld (measured measures.now) extents }
+    ensures { IsTrue result ↔ IsHeld (measures_of measures.now) extents }
 {
     if !is_in_range(&measures.extent) {
         return false;

@@ -3,11 +3,11 @@ ghost use Rattle.std.specs.Prelude.{◌≡◌, ◌++◌, ◌∷◌, ◌↔◌, [
 ghost use Rattle.cl_record.specs.Seen.{forest_of, tree_of};
 ghost use Rattle.cl_record.specs.Boxes.{bottom_of, summary_of};
 ghost use Rattle.cl_record.specs.Counts.{count_of};
-ghost use Rattle.cl_record.specs.Marks.{all_moved, history_marks, marks_of};
+ghost use Rattle.cl_record.specs.Marks.{move_marks, history_marks, marks_of};
 ghost use Rattle.cl_record.specs.Ranges.{AreSound, IsMeasured, IsSound, StaysInRange};
-ghost use Rattle.cl_record.specs.Replays.{drawn};
+ghost use Rattle.cl_record.specs.Replays.{items_drawn};
 ghost use Rattle.cl_record.specs.Shifts.{still};
-ghost use Rattle.cl_record.specs.Trees.{children_of, leaf, piece, place_of, shown, tree_moved, trees_of};
+ghost use Rattle.cl_record.specs.Trees.{children_of, leaf, update, place_of, presentation, move_tree, trees_of};
 
 use crate::branches::{Piece, Presented};
 use crate::heads::Head;
@@ -68,7 +68,7 @@ impl<L: Leaf> Node<L> {
         label: Label,
         inside: Nodes<L>,
     ) -> Result<Node<L>, AllocError>
-        ensures { IfOk result (λ node. tree_of node ≡ shown label still (trees_of inside)) }
+        ensures { IfOk result (λ node. tree_of node ≡ presentation label still (trees_of inside)) }
     {
         Ok(Node::Presentation(Presented::new(alloc, label, inside)?))
     }
@@ -77,7 +77,7 @@ impl<L: Leaf> Node<L> {
     /// place is (0, 0) until it is moved. Where memory is wanting, all is given up.
     pub fn update(alloc: Global, head: Head, inside: Nodes<L>) -> Result<Node<L>, AllocError>
         requires { IsMeasured L.bounds L.moved_by head (trees_of inside) }
-        ensures { IfOk result (λ node. tree_of node ≡ piece head still (trees_of inside)) }
+        ensures { IfOk result (λ node. tree_of node ≡ update head still (trees_of inside)) }
     {
         Ok(Node::Update(Piece::new(alloc, head, inside)?))
     }
@@ -118,7 +118,7 @@ impl<L: Leaf> Node<L> {
 
     /// The greatest `y2` of the bounds of its items; None where there is none.
     pub fn bottom(&self) -> Option<i64>
-        ensures { result ≡ bottom_of L.bounds (drawn (marks_of L.moved_by (tree_of self.now))) }
+        ensures { result ≡ bottom_of L.bounds (items_drawn (marks_of L.moved_by (tree_of self.now))) }
     {
         Some(self.summary().items?.y2)
     }
@@ -138,9 +138,9 @@ impl<L: Leaf> Node<L> {
     /// which there is neither an item nor an update stays where it is.
     pub fn shift(&mut self, by: Shift)
         requires { StaysInRange L.bounds L.moved_by by (tree_of self.old) }
-        ensures tree { tree_of self.new ≡ tree_moved L.moved_by by (tree_of self.old) }
+        ensures tree { tree_of self.new ≡ move_tree L.moved_by by (tree_of self.old) }
         ensures marks { marks_of L.moved_by (tree_of self.new)
-            ≡ all_moved L.moved_by by (marks_of L.moved_by (tree_of self.old)) }
+            ≡ move_marks L.moved_by by (marks_of L.moved_by (tree_of self.old)) }
     {
         match self {
             Node::Leaf(leaf) => leaf.shift(by),
@@ -194,7 +194,7 @@ impl<L: Leaf> Nodes<L> {
 
     /// The greatest `y2` of the bounds of their items; None where there is none.
     pub fn bottom(&self) -> Option<i64>
-        ensures { result ≡ bottom_of L.bounds (drawn (history_marks L.moved_by self.now)) }
+        ensures { result ≡ bottom_of L.bounds (items_drawn (history_marks L.moved_by self.now)) }
     {
         Some(self.summary().items?.y2)
     }

@@ -1,9 +1,9 @@
 //! The replay of records.
 ghost use Rattle.std.specs.Prelude.{◌≡◌, ◌∷◌, [], IsFalse};
 ghost use Rattle.cl_region.specs.Places.{IsInRange, move_rect};
-ghost use Rattle.cl_record.specs.Marks.{all_moved, marks_of, marks_of_all};
+ghost use Rattle.cl_record.specs.Marks.{move_marks, marks_of, marks_of_all};
 ghost use Rattle.cl_record.specs.Ranges.{ArePlaced, IsPlaced};
-ghost use Rattle.cl_record.specs.Replays.{Paints, drawn, meets_one, touching};
+ghost use Rattle.cl_record.specs.Replays.{Paints, items_drawn, meets_one, items_touching};
 ghost use Rattle.cl_record.specs.Seen.{tree_of};
 ghost use Rattle.cl_record.specs.Trees.{trees_of};
 
@@ -29,7 +29,7 @@ fn meets_one(rects: &[Rect], rect: &Rect) -> bool
 fn replay_leaf<L: Leaf, C: Canvas<L>>(leaf: &L, at: Shift, rects: &[Rect], canvas: &mut C)
     requires { IsInRange (move_rect at (L.bounds leaf.now)) }
     ensures { Paints C.shows C.cell C.keeps L.cell canvas.old canvas.new
-        (touching L.bounds rects.now (L.moved_by at leaf.now ∷ [])) }
+        (items_touching L.bounds rects.now (L.moved_by at leaf.now ∷ [])) }
 {
     let bounds = leaf.bounds().shifted(at);
     if meets_one(rects, &bounds) {
@@ -42,8 +42,8 @@ fn replay_leaf<L: Leaf, C: Canvas<L>>(leaf: &L, at: Shift, rects: &[Rect], canva
 fn replay_node<L: Leaf, C: Canvas<L>>(node: &Node<L>, at: Shift, rects: &[Rect], canvas: &mut C)
     requires { IsPlaced L.bounds L.moved_by at (tree_of node.now) }
     ensures { Paints C.shows C.cell C.keeps L.cell canvas.old canvas.new
-        (touching L.bounds rects.now
-        (drawn (all_moved L.moved_by at (marks_of L.moved_by (tree_of node.now))))) }
+        (items_touching L.bounds rects.now
+        (items_drawn (move_marks L.moved_by at (marks_of L.moved_by (tree_of node.now))))) }
 {
     match node {
         Node::Leaf(leaf) => replay_leaf(leaf, at, rects, canvas),
@@ -69,7 +69,7 @@ pub(crate) fn replay_inside<L: Leaf, C: Canvas<L>>(
 )
     requires { ArePlaced L.bounds L.moved_by at (trees_of inside.now) }
     ensures { Paints C.shows C.cell C.keeps L.cell canvas.old canvas.new
-        (touching L.bounds rects.now (drawn (all_moved L.moved_by at
+        (items_touching L.bounds rects.now (items_drawn (move_marks L.moved_by at
         (marks_of_all L.moved_by (trees_of inside.now))))) }
 {
     if row_meets(inside, at, rects) {
@@ -83,8 +83,8 @@ pub(crate) fn replay_inside<L: Leaf, C: Canvas<L>>(
 // it does not, no item of them does.
 fn row_meets<L: Leaf>(inside: &Nodes<L>, at: Shift, rects: &[Rect]) -> bool
     requires { ArePlaced L.bounds L.moved_by at (trees_of inside.now) }
-    ensures { IsFalse result → touching L.bounds rects.now
-        (drawn (all_moved L.moved_by at (marks_of_all L.moved_by (trees_of inside.now)))) ≡ [] }
+    ensures { IsFalse result → items_touching L.bounds rects.now
+        (items_drawn (move_marks L.moved_by at (marks_of_all L.moved_by (trees_of inside.now)))) ≡ [] }
 {
     match inside.summary().items {
         Some(items) => meets_one(rects, &items.shifted(at)),

@@ -1,6 +1,6 @@
 //! Sums of moves.
 ghost use Rattle.std.specs.Prelude.{◌≡◌};
-ghost use Rattle.cl_record.specs.Shifts.{IsShift, joined, still};
+ghost use Rattle.cl_record.specs.Shifts.{IsShift, join_shifts, still};
 
 use cl_region::Shift;
 
@@ -9,8 +9,8 @@ pub const STILL: Shift = Shift { dx: 0, dy: 0 };
 
 /// One move after the other.
 pub(crate) fn joined(first: Shift, second: Shift) -> Shift
-    requires { IsShift (joined first second) }
-    ensures { result ≡ joined first second }
+    requires { IsShift (join_shifts first second) }
+    ensures { result ≡ join_shifts first second }
 {
     Shift {
         dx: first.dx + second.dx,

@@ -2,7 +2,7 @@
 ghost use Rattle.std.specs.Prelude.{◌≡◌, ◌+◌, ◌<◌, ◌^◌, Some, None, IfSome};
 ghost use Rattle.std.specs.Int.{int_max, int_min};
 ghost use Rattle.std.specs.Option.{option_map};
-ghost use Rattle.cl_record.specs.Boxes.{around, join_boxes, join_summaries, move_summary};
+ghost use Rattle.cl_record.specs.Boxes.{corner_box, join_boxes, join_summaries, move_summary};
 ghost use Rattle.cl_region.specs.Places.{IsInRange, box, move_rect};
 
 use cl_region::{Rect, Shift};
@@ -74,7 +74,7 @@ fn join_items(first: Option<Rect>, second: Option<Rect>) -> Option<Rect>
 
 // The box of all corners of two.
 fn join_extents(first: Option<Rect>, second: Option<Rect>) -> Option<Rect>
-    ensures { result ≡ join_boxes around first second }
+    ensures { result ≡ join_boxes corner_box first second }
 {
     match (first, second) {
         (None, other) => other,
@@ -85,7 +85,7 @@ fn join_extents(first: Option<Rect>, second: Option<Rect>) -> Option<Rect>
 
 /// The least box of all corners of both, in whatever order the sides of each are.
 pub fn around(first: Rect, second: Rect) -> Rect
-    ensures { result ≡ around first second }
+    ensures { result ≡ corner_box first second }
 {
     Rect {
         x1: least(first.x1, first.x2, second.x1, second.x2),

@@ -1,7 +1,7 @@
 //! The printed form of values.
 ghost use Rattle.std.specs.Prelude.{◌≡◌, ◌++◌, ◌∷◌, [], OnOk, true};
 ghost use Rattle.cl_value.specs.Value.{data_of, parts_of};
-ghost use Rattle.cl_record.specs.Printed.{escaped, printed, printed_parts};
+ghost use Rattle.cl_record.specs.Printed.{escape, print_value, print_parts};
 
 use cl_value::Value;
 use itoa::Buffer;
@@ -10,7 +10,7 @@ use std::alloc::AllocError;
 // Puts the printed form of a value behind a line.
 #[cycle(print)]
 pub(crate) fn put_value(line: &mut Vec<u8>, value: &Value) -> Result<(), AllocError>
-    ensures { OnOk result (line.new.items ≡ line.old.items ++ printed (data_of value.now)) }
+    ensures { OnOk result (line.new.items ≡ line.old.items ++ print_value (data_of value.now)) }
 {
     match value {
         Value::Int(number) => line.extend_from_slice(Buffer::new().format(*number).as_bytes())?,
@@ -33,7 +33,7 @@ pub(crate) fn put_value(line: &mut Vec<u8>, value: &Value) -> Result<(), AllocEr
 #[cycle(print)]
 fn put_parts(line: &mut Vec<u8>, parts: &[Value]) -> Result<(), AllocError>
     ensures { OnOk result (line.new.items
-        ≡ line.old.items ++ 40 ∷ (printed_parts true (parts_of parts.now) ++ 41 ∷ [])) }
+        ≡ line.old.items ++ 40 ∷ (print_parts true (parts_of parts.now) ++ 41 ∷ [])) }
 {
     line.push(b'(')?;
     let mut first = true;
@@ -50,7 +50,7 @@ fn put_parts(line: &mut Vec<u8>, parts: &[Value]) -> Result<(), AllocError>
 
 // Puts bytes in quotes behind a line, with a `\` before each `"` and `\`.
 fn put_quoted(line: &mut Vec<u8>, bytes: &[u8]) -> Result<(), AllocError>
-    ensures { OnOk result (line.new.items ≡ line.old.items ++ 34 ∷ (escaped bytes.now ++ 34 ∷ [])) }
+    ensures { OnOk result (line.new.items ≡ line.old.items ++ 34 ∷ (escape bytes.now ++ 34 ∷ [])) }
 {
     line.push(b'"')?;
     for byte in bytes {

@@ -5,7 +5,7 @@ use Rattle.std.proofs.lemmas.Int.{ints}
 use Rattle.cl_medium.specs.Items.{Painted, item_cell, Item}
 use Rattle.cl_raster.specs.Raster.{Picture}
 use Rattle.cl_record.specs.Marks.{Mark}
-use Rattle.cl_record.specs.Replays.{drawn, painted}
+use Rattle.cl_record.specs.Replays.{items_drawn, cell_after}
 use Rattle.cl_region.specs.Places.{holds}
 use Rattle.cl_region.specs.declared.rects.Rect.{Rect}
 use Rattle.cl_region.proofs.Corners.{holds_within}
@@ -32,7 +32,7 @@ window_at p area x y h =
     (shown, rw (shown, column, row) refl)
 
 shows_marks : (p q r : Picture) (area : Area) (marks : List (Mark Item)) → Repaints p q area [] → KeepsOthers q r area
-    → ((x y : ℤ) → holds (own_rect area) x y ≡ true → window_cell r area x y ≡ painted item_cell (drawn marks) x y (window_cell q area x y))
+    → ((x y : ℤ) → holds (own_rect area) x y ≡ true → window_cell r area x y ≡ cell_after item_cell (items_drawn marks) x y (window_cell q area x y))
     → Repaints p r area marks
 shows_marks p q r area marks b k f = record {
   others = others_through p q r area b.others k;
@@ -40,14 +40,14 @@ shows_marks p q r area marks b k f = record {
       let before = window_at q area x y yes in
       let after = window_at r area x y yes in
       sym after.1 ∙ (f (pos (x - area.x)) (pos (y - area.y)) before.0
-      ∙ ap (λ (c : Painted). painted item_cell (drawn marks) (pos (x - area.x)) (pos (y - area.y)) c) (before.1 ∙ b.cells x y hx hy yes));
+      ∙ ap (λ (c : Painted). cell_after item_cell (items_drawn marks) (pos (x - area.x)) (pos (y - area.y)) c) (before.1 ∙ b.cells x y hx hy yes));
 }
 
 -- a window on an area that was made blank, before and after all marks were painted through it
 pub repainted : (p q r : Picture) (first last : Window) (area : Area) (rect : Rect) (marks : List (Mark Item)) → Repaints p q area []
     → first.raster.now ≡ q → first.area ≡ area → rect ≡ own_rect area → last.raster.now ≡ r → Keeps first last
     → ((x y : ℤ) → holds (own_rect first.area) x y ≡ true → holds rect x y ≡ true
-    → window_cell last.raster.now last.area x y ≡ painted item_cell (drawn marks) x y (window_cell first.raster.now first.area x y))
+    → window_cell last.raster.now last.area x y ≡ cell_after item_cell (items_drawn marks) x y (window_cell first.raster.now first.area x y))
     → Repaints p r area marks
 repainted p q r first last area rect marks b same_raster same_area same_rect is_last k f =
     let own : rect ≡ own_rect first.area = same_rect ∙ ap own_rect (sym same_area) in

@@ -4,7 +4,7 @@ use Rattle.cl_medium.specs.Items.{Painted, item_cell, Item}
 use Rattle.cl_raster.specs.Raster.{Picture, SameSize, glyph_at, ink_at}
 use Rattle.cl_region.specs.declared.rects.Rect.{Rect}
 use Rattle.cl_record.specs.Marks.{Mark}
-use Rattle.cl_record.specs.Replays.{drawn, painted}
+use Rattle.cl_record.specs.Replays.{items_drawn, cell_after}
 use Rattle.cl_redisplay.specs.declared.areas.Area.{Area}
 
 abbrev pub blank_cell : Painted
@@ -35,7 +35,7 @@ pub record LiesIn (area : Area) (p : Picture) : Type 0 where
 
 -- what the marks of a pane paint at a place of the screen, where this area shows the pane and the place was blank
 abbrev pub pane_cell : Area → List (Mark Item) → (x y : ℕ) → Painted
-pane_cell area marks x y = painted item_cell (drawn marks) (pos (x - area.x)) (pos (y - area.y)) blank_cell
+pane_cell area marks x y = cell_after item_cell (items_drawn marks) (pos (x - area.x)) (pos (y - area.y)) blank_cell
 
 -- the cell at a place of a screen whose one area shows these marks
 abbrev pub shown_at : Area → List (Mark Item) → (x y : ℕ) → Painted

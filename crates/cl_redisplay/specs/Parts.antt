@@ -3,7 +3,7 @@ use Rattle.std.specs.Prelude.{◌≡◌, ℕ, ◌+◌, ◌-◌, ◌<◌, ◌≤�
 use Rattle.cl_medium.specs.Items.{Painted, painted_of}
 use Rattle.cl_outside.specs.declared.cells.Cell.{Cell}
 use Rattle.cl_raster.specs.Raster.{Picture, SameSize}
-use Rattle.cl_record.specs.Replays.{painted}
+use Rattle.cl_record.specs.Replays.{cell_after}
 use Rattle.cl_region.specs.Places.{holds}
 use Rattle.cl_region.specs.declared.rects.Rect.{Rect}
 use Rattle.cl_redisplay.specs.Paint.{blank_cell, cell_at, covers, own_rect}
@@ -53,4 +53,4 @@ module _ {A : Type 0} where
   pub record PaintsAll (cell : A → ℤ → ℤ → Option Painted) (old new : Picture) (area : Area) (items : List A) : Type 0 where
     pub size : SameSize old new
     pub cells : (x y : ℕ) → x < old.width → y < old.height
-        → cell_at new x y ≡ (if covers area x y then painted cell items (pos (x - area.x)) (pos (y - area.y)) (cell_at old x y) else cell_at old x y)
+        → cell_at new x y ≡ (if covers area x y then cell_after cell items (pos (x - area.x)) (pos (y - area.y)) (cell_at old x y) else cell_at old x y)

@@ -8,7 +8,7 @@ use Rattle.cl_application.specs.declared.declarations.CommandDecl.{CommandDecl}
 use Rattle.cl_eval.specs.declared.metering.Limits.{Limits}
 use Rattle.cl_eval.specs.Outcome.{Outcome, Gives, RisesBy, Traps, cost_of}
 use Rattle.cl_eval.specs.Slots.{Slots}
-use Rattle.cl_eval.specs.Executed.{ran}
+use Rattle.cl_eval.specs.Executed.{outcome_of_exec}
 use Rattle.cl_eval.specs.declared.effects.Effects.{Effects}
 use Rattle.cl_load.specs.SlotTypes.{is_member}
 use Rattle.cl_display.specs.Drawings.{DrawingAt}
@@ -66,7 +66,7 @@ run_of name w (Traps kind cost deepest) = refused w cost (codes "! trap " ++ dec
 
 -- the run of a command's statements, with no variables
 abbrev pub command_run : Limits → App → CommandDecl → Slots → Outcome Effects
-command_run limits app command slots = ran limits app is_member command.body [] slots
+command_run limits app command slots = outcome_of_exec limits app is_member command.body [] slots
 
 -- a command that a line names is run
 abbrev pub run_named : App → Limits → World → Option CommandDecl → Handled

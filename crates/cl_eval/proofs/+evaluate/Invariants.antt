@@ -4,7 +4,7 @@ use Rattle.cl_value.specs.Value.{data_of}
 use Rattle.cl_syntax.specs.ExprTree.{expr_trees_of}
 use Rattle.cl_syntax.specs.Expr.{bindings_of}
 use Rattle.cl_eval.specs.Scope.{variables_of}
-use Rattle.cl_eval.specs.Meaning.{bound, each, every, some, filtered, folded}
+use Rattle.cl_eval.specs.Meaning.{bind_each, each, every, some, filter_each, fold_each}
 use Rattle.cl_eval.specs.Mapping.{map_behind, map_in, past_limit}
 use Rattle.cl_eval.specs.Standpoint.{meaning_at, seen_from}
 use Rattle.cl_eval.proofs.+evaluate.Given as goal
@@ -96,8 +96,8 @@ invariant-evaluation::evaluate_each-loop-part g l = record {
 
 abbrev pub invariant-bindings::evaluate_bindings-loop-binding : goal.invariant-bindings::evaluate_bindings-loop-binding
 invariant-bindings::evaluate_bindings-loop-binding g l = record {
-  meaning : bound (meaning_at l.here) l.here.level (bindings_of (drop l.binding-index l.bindings)) (l.frame ++ variables_of l.here.scope.now) l.meter.cost l.meter.deepest
-      ≡ bound (meaning_at l.here) l.here.level (bindings_of l.bindings) (variables_of l.here.scope.now) l.initial.meter.cost l.initial.meter.deepest;
+  meaning : bind_each (meaning_at l.here) l.here.level (bindings_of (drop l.binding-index l.bindings)) (l.frame ++ variables_of l.here.scope.now) l.meter.cost l.meter.deepest
+      ≡ bind_each (meaning_at l.here) l.here.level (bindings_of l.bindings) (variables_of l.here.scope.now) l.initial.meter.cost l.initial.meter.deepest;
   ledger : l.steps + l.initial.meter.cost ≡ l.initial.steps + l.meter.cost;
 }
 
@@ -133,14 +133,14 @@ invariant-traversal::pass_limit-loop-item g l = record {
 
 abbrev pub invariant-traversal::filter_over-loop-item : goal.invariant-traversal::filter_over-loop-item
 invariant-traversal::filter_over-loop-item g l = record {
-  meaning : seen_from l.here filtered l.name l.body (map data_of (drop l.item-index l.list)) (map data_of l.values.items) l.meter.cost l.meter.deepest
-      ≡ seen_from l.here filtered l.name l.body (map data_of l.list) [] l.initial.meter.cost l.initial.meter.deepest;
+  meaning : seen_from l.here filter_each l.name l.body (map data_of (drop l.item-index l.list)) (map data_of l.values.items) l.meter.cost l.meter.deepest
+      ≡ seen_from l.here filter_each l.name l.body (map data_of l.list) [] l.initial.meter.cost l.initial.meter.deepest;
   ledger : l.steps + l.initial.meter.cost ≡ l.initial.steps + l.meter.cost;
 }
 
 abbrev pub invariant-traversal::fold_over-loop-item : goal.invariant-traversal::fold_over-loop-item
 invariant-traversal::fold_over-loop-item g l = record {
-  meaning : seen_from l.here folded l.fold.name l.fold.accumulator l.fold.body (map data_of (drop l.item-index l.list)) (data_of l.value) l.meter.cost l.meter.deepest
-      ≡ seen_from l.here folded l.fold.name l.fold.accumulator l.fold.body (map data_of l.list) (data_of l.initial.value) l.initial.meter.cost l.initial.meter.deepest;
+  meaning : seen_from l.here fold_each l.fold.name l.fold.accumulator l.fold.body (map data_of (drop l.item-index l.list)) (data_of l.value) l.meter.cost l.meter.deepest
+      ≡ seen_from l.here fold_each l.fold.name l.fold.accumulator l.fold.body (map data_of l.list) (data_of l.initial.value) l.initial.meter.cost l.initial.meter.deepest;
   ledger : l.steps + l.initial.meter.cost ≡ l.initial.steps + l.meter.cost;
 }

@@ -1,7 +1,7 @@
 use Rattle.std.proofs.Common.{◌↔◌, Option, ap, sym, subst}
 use Rattle.std.specs.Prelude.{IsTrue}
 use Rattle.cl_region.specs.declared.rects.Rect.{Rect}
-use Rattle.cl_record.specs.Heads.{MeasuresAt, measured}
+use Rattle.cl_record.specs.Heads.{MeasuresAt, measures_of}
 use Rattle.cl_record.specs.Boxes.{extent_box}
 use Rattle.cl_record.specs.Marks.{marks_of_all}
 use Rattle.cl_record.specs.Trees.{trees_of}
@@ -13,4 +13,4 @@ pub returns : goal.returns
 returns g c =
     let boxes = ap (λ (s : Summary). s.extents) c.summary.ensures.value in
     subst (λ (m : MeasuresAt). IsTrue c.hold.result ↔ IsHeld m (extent_box g.L.Leaf.bounds (marks_of_all g.L.Leaf.moved_by (trees_of c.args.inside.now)))) c.measures.ensures
-    (subst (λ (o : Option Rect). IsTrue c.hold.result ↔ IsHeld (measured c.measures.result) o) boxes c.hold.ensures)
+    (subst (λ (o : Option Rect). IsTrue c.hold.result ↔ IsHeld (measures_of c.measures.result) o) boxes c.hold.ensures)

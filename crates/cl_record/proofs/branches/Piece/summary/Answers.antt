@@ -1,10 +1,10 @@
 use Rattle.std.proofs.Common.{◌≡◌, ◌∙◌, ap, sym}
-use Rattle.cl_record.specs.Heads.{HeadAt, MeasuresAt, measured}
+use Rattle.cl_record.specs.Heads.{HeadAt, MeasuresAt, measures_of}
 use Rattle.cl_record.specs.declared.branches.PieceBody.{PieceBody}
 use Rattle.cl_record.specs.Boxes.{summary_of}
 use Rattle.cl_record.specs.Branches.{PieceAt}
 use Rattle.cl_record.specs.Marks.{marks_of, marks_of_all}
-use Rattle.cl_record.specs.Trees.{piece, trees_of}
+use Rattle.cl_record.specs.Trees.{update, trees_of}
 use Rattle.cl_record.proofs.Ranges.{fits-inside, items-fit, summary-piece}
 use Rattle.cl_record.proofs.branches.Piece.summary.Goals as goal
 
@@ -18,8 +18,8 @@ shifted_box-requires g c =
 pub returns-clause-value : goal.returns-clause-value
 returns-clause-value g c =
     let body = c.self.inside.body.value in
-    let measures : measured c.measures.result ≡ body.head.measures = c.measures.ensures ∙ ap (λ (h : HeadAt). h.measures) (ap (λ (b : PieceBody _). b.head) c.deref-2.ensures) in
+    let measures : measures_of c.measures.result ≡ body.head.measures = c.measures.ensures ∙ ap (λ (h : HeadAt). h.measures) (ap (λ (b : PieceBody _). b.head) c.deref-2.ensures) in
     let extent : c.measures.result.extent ≡ body.head.measures.extent = ap (λ (m : MeasuresAt). m.extent) measures in
     rw (c.shifted_box.ensures, c.summary-inside.ensures.value, c.deref.ensures, c.shifted.ensures, extent)
     (sym (summary-piece g.L.Leaf.bounds g.L.Leaf.moved_by g.met.L.Leaf.moves_bounds c.self.inside.place body.head (trees_of body.inside) c.self.invariant.1.0)
-    ∙ ap (λ (s : PieceAt _). summary_of g.L.Leaf.bounds (marks_of g.L.Leaf.moved_by (piece s.head s.place (trees_of s.inside)))) c.self.view_is)
+    ∙ ap (λ (s : PieceAt _). summary_of g.L.Leaf.bounds (marks_of g.L.Leaf.moved_by (update s.head s.place (trees_of s.inside)))) c.self.view_is)
