@@ -28,7 +28,8 @@ use Rattle.cl_record.specs.Replays.{items_drawn as items_in}
 use Rattle.cl_record.proofs.Replayed.{drawn-append}
 use Rattle.cl_display.specs.Drawings.{DrawingAt, PartAt, add_item, after_text, blank_drawing, cursor_box, cursor_to, drawing_of}
 use Rattle.cl_display.specs.Drawings.{is_in_range, is_near}
-use Rattle.cl_display.specs.Drawings.{join_parts, lower_end, max_weight, newline, then_to, with_cursor, with_item, with_margin_used}
+use Rattle.cl_display.specs.Drawings.{join_parts, lower_end, newline, then_to, with_cursor, with_item, with_margin_used}
+use Rattle.cl_display.specs.declared.drawings.TheConstants.{MAX_WEIGHT}
 use Rattle.cl_display.specs.Drawings.{write_text}
 use Rattle.cl_display.specs.Figures.{area_at, draw_figure, draw_parts, draw_shape, figure_parts, leaf_in, with_origin_used}
 use Rattle.cl_display.specs.declared.figures.FigureItem.{FigureItem}
@@ -417,7 +418,7 @@ count-weight (leaf ∷ items) = omega (arith, count-weight items, one-least leaf
     one-least (leaf_shape.Fill byte) = omega arith
 
 -- what a display adds up to
-pub adds-blank : (s : DrawingAt) → Adds max_weight blank_drawing s → AddsUp s
+pub adds-blank : (s : DrawingAt) → Adds MAX_WEIGHT blank_drawing s → AddsUp s
 adds-blank s p = record {
   weight = rw p.part.behind (omega (arith, p.weight));
   light = p.light (omega arith);
@@ -426,27 +427,27 @@ adds-blank s p = record {
 }
 
 -- what holds all that a display draws
-pub holds-blank : (s : DrawingAt) → Adds max_weight blank_drawing s
+pub holds-blank : (s : DrawingAt) → Adds MAX_WEIGHT blank_drawing s
     → HoldsAll s.part.extent (items_in s.part.marks) × Holds s.part.extent (cursor_box s.ambient)
 holds-blank s p = (rw p.part.behind p.part.within, p.cursor (holds-itself (cursor_box ambient_start)))
 
 pub adds-fresh : (limits : Limits) (app : App) (fs : List ShapeTree) (env : Env) (slots : Slots)
-    → AddsOut max_weight blank_drawing (fresh limits app fs env slots).outcome
+    → AddsOut MAX_WEIGHT blank_drawing (fresh limits app fs env slots).outcome
 unfolding fresh
 adds-fresh limits app fs env slots =
-    adds-in_order max_weight (draws limits.depth (whole_allowance limits) app slots)
-    (adds-draws max_weight limits.depth limits.budget app slots) 0 env (shape_trees_of fs) blank_drawing 0 0
+    adds-in_order MAX_WEIGHT (draws limits.depth (whole_allowance limits) app slots)
+    (adds-draws MAX_WEIGHT limits.depth limits.budget app slots) 0 env (shape_trees_of fs) blank_drawing 0 0
 
 pub adds_up : (limits : Limits) (app : App) (fs : List ShapeTree) (env : Env) (slots : Slots) (s : DrawingAt) (cost reach : ℕ)
     → (fresh limits app fs env slots).outcome ≡ Gives s cost reach → AddsUp s
-adds_up limits app fs env slots s cost reach p = adds-blank s (subst (AddsOut max_weight blank_drawing) p
+adds_up limits app fs env slots s cost reach p = adds-blank s (subst (AddsOut MAX_WEIGHT blank_drawing) p
     (adds-fresh limits app fs env slots))
 
 pub holds_drawn : (limits : Limits) (app : App) (fs : List ShapeTree) (env : Env) (slots : Slots) (s : DrawingAt) (cost reach : ℕ)
     → (fresh limits app fs env slots).outcome ≡ Gives s cost reach
     → HoldsAll s.part.extent (items_in s.part.marks) × Holds s.part.extent (cursor_box s.ambient)
 holds_drawn limits app fs env slots s cost reach p = holds-blank s
-    (subst (AddsOut max_weight blank_drawing) p (adds-fresh limits app fs env slots))
+    (subst (AddsOut MAX_WEIGHT blank_drawing) p (adds-fresh limits app fs env slots))
 
 pub adds-body : (left : ℕ) (allowed : Allowance) (app : App) (slots : Slots) (level : ℕ) (env : Env) (body : ShapeTrees) (s end : DrawingAt)
     (cost deepest c d : ℕ)
@@ -467,7 +468,7 @@ room-ends left allowed app slots level env body s end cost deepest c d p =
 pub few-shown : (limits : Limits) (app : App) (fs : List ShapeTree) (env : Env) (slots : Slots) (d : Drawing) (cost reach : ℕ)
     → (in_order (draws limits.depth (whole_allowance limits) app slots) 0 env (shape_trees_of fs) blank_drawing 0 0).outcome ≡ Gives
     (drawing_of d) cost reach
-    → length (items_in (history_marks move_item d.part.nodes)) ≤ max_weight
+    → length (items_in (history_marks move_item d.part.nodes)) ≤ MAX_WEIGHT
 few-shown limits app fs env slots d cost reach p =
     (adds-blank (drawing_of d) (adds-body limits.depth (whole_allowance limits) app slots 0 env (shape_trees_of fs) blank_drawing
     (drawing_of d) 0 0 cost reach p)).count

@@ -4,7 +4,8 @@ use Rattle.cl_eval.specs.Outcome.{Outcome, Gives, Traps}
 use Rattle.cl_medium.specs.Items.{move_item}
 use Rattle.cl_record.specs.Counts.{count_of}
 use Rattle.cl_record.specs.Marks.{history_marks}
-use Rattle.cl_display.specs.Drawings.{DrawingAt, max_weight}
+use Rattle.cl_display.specs.Drawings.{DrawingAt}
+use Rattle.cl_display.specs.declared.drawings.TheConstants.{MAX_WEIGHT}
 use Rattle.cl_display.specs.declared.displays.Shown.{Shown}
 use Rattle.cl_display.specs.declared.displays.Shown.TheVariants as shown
 use Rattle.cl_display.specs.Script.{trap_history}
@@ -25,6 +26,6 @@ met_memory shown.Memory = true
 
 -- a history draws no more items than it may weigh
 abbrev pub IsFew : Shown → Type 0
-IsFew (shown.Built h) = count_of (history_marks move_item h) ≤ max_weight
-IsFew (shown.Trapped h k) = count_of (history_marks move_item h) ≤ max_weight
+IsFew (shown.Built h) = count_of (history_marks move_item h) ≤ MAX_WEIGHT
+IsFew (shown.Trapped h k) = count_of (history_marks move_item h) ≤ MAX_WEIGHT
 IsFew shown.Memory = Unit {0}

@@ -4,6 +4,7 @@ use Rattle.std.specs.Prelude.{◌++◌, length, Option, Some, None, Result, Ok, 
 use Rattle.std.specs.Int.{int_max}
 use Rattle.cl_region.specs.Places.{box}
 use Rattle.cl_region.specs.declared.rects.Rect.{Rect}
+use Rattle.cl_region.specs.declared.rects.TheConstants.{MAX_COORDINATE}
 use Rattle.cl_medium.specs.Ambients.{AmbientAt, after_newline, ambient_start}
 use Rattle.cl_medium.specs.Drawing.{text_leaf}
 use Rattle.cl_medium.specs.Items.{item_bounds, move_item, Item}
@@ -79,17 +80,9 @@ blank_drawing = record { ambient = ambient_start; weight = 0; part = start_part 
 
 -- ---- limits
 
--- no history weighs more
-abbrev pub max_weight : ℕ
-max_weight = 1000000
-
--- no coordinate lies further out
-abbrev pub max_coordinate : ℤ
-max_coordinate = pos 1000000
-
 -- neither below the least coordinate nor above the greatest
 abbrev pub is_near : ℤ → Bool
-is_near z = int_le (neg_ℤ max_coordinate) z && int_le z max_coordinate
+is_near z = int_le (neg_ℤ MAX_COORDINATE) z && int_le z MAX_COORDINATE
 
 -- all four corners are near
 abbrev pub is_in_range : Rect → Bool

@@ -11,13 +11,14 @@ use Rattle.cl_medium.specs.Ambients.{ambient_start}
 use Rattle.cl_medium.specs.Drawing.{text_leaf}
 use Rattle.cl_medium.specs.Items.{Item}
 use Rattle.cl_record.specs.Marks.{Mark, draw}
-use Rattle.cl_display.specs.Drawings.{DrawingAt, blank_drawing, max_weight}
+use Rattle.cl_display.specs.Drawings.{DrawingAt, blank_drawing}
+use Rattle.cl_display.specs.declared.drawings.TheConstants.{MAX_WEIGHT}
 use Rattle.cl_display.specs.Fresh.{Allowance, draws, in_order}
 use Rattle.cl_display.specs.Outcomes.{DrawOutcome}
 
 -- what a whole display is allowed
 abbrev pub whole_allowance : Limits → Allowance
-whole_allowance limits = record { budget = limits.budget; weight = max_weight }
+whole_allowance limits = record { budget = limits.budget; weight = MAX_WEIGHT }
 
 -- display forms with these variables, from a blank drawing
 unfoldable pub fresh : Limits → App → List ShapeTree → Env → Slots → DrawOutcome

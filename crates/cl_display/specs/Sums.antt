@@ -5,7 +5,8 @@ use Rattle.cl_medium.specs.declared.shapes.LeafShape.{LeafShape}
 use Rattle.cl_medium.specs.declared.shapes.LeafShape.TheVariants.{Text}
 use Rattle.cl_record.specs.Replays.{items_drawn}
 use Rattle.cl_region.specs.declared.rects.Rect.{Rect}
-use Rattle.cl_display.specs.Drawings.{DrawingAt, lower_end, max_weight}
+use Rattle.cl_display.specs.Drawings.{DrawingAt, lower_end}
+use Rattle.cl_display.specs.declared.drawings.TheConstants.{MAX_WEIGHT}
 
 -- a text weighs its bytes and 1, another item 1
 abbrev pub shape_weight : LeafShape → ℕ
@@ -28,9 +29,9 @@ lowest_of (leaf ∷ items) = lower_end (Some (item_bounds leaf).y2) (lowest_of i
 -- items than it may weigh
 pub record AddsUp (s : DrawingAt) : Type 0 where
   pub weight : s.weight ≡ weight_of (items_drawn s.part.marks)
-  pub light : s.weight ≤ max_weight
+  pub light : s.weight ≤ MAX_WEIGHT
   pub lowest : s.part.lowest ≡ lowest_of (items_drawn s.part.marks)
-  pub count : length (items_drawn s.part.marks) ≤ max_weight
+  pub count : length (items_drawn s.part.marks) ≤ MAX_WEIGHT
 
 -- the corners of a rectangle lie within those of another one, also where it has no cells
 pub record Holds (outer inner : Rect) : Type 0 where

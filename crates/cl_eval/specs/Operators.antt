@@ -7,6 +7,7 @@ use Rattle.std.specs.Fmt.{signed_decimal}
 use Rattle.std.specs.Int.{int_min, int_max, int_div_euclid}
 use Rattle.std.specs.declared.cmp.Ordering.{Ordering}
 use Rattle.std.specs.declared.cmp.Ordering.TheVariants.{Less, Equal, Greater}
+use Rattle.cl_eval.specs.declared.operators.TheConstants.{MAX_VALUE_DEPTH, MAX_VALUE_SIZE}
 use Rattle.cl_value.specs.Data.{Data, int, bool, text, symbol, null, list, rec, Items, none, item, items_of, size_of, depth_of, order_of}
 use Rattle.cl_table.specs.Names.{place_of}
 use Rattle.cl_application.specs.App.{record_named}
@@ -28,9 +29,9 @@ use Rattle.cl_syntax.specs.declared.operators.Operator.TheVariants as operator
 abbrev pub Answer : Type 0
 Answer = Result Data ℕ
 
--- a value of size at most 65,536 and depth at most 64
+-- a value that is no larger and no deeper than the greatest, of size 65,536 and depth 64
 abbrev pub within_limits : Data → Answer
-within_limits d = if nat_le (size_of d) 65536 && nat_le (depth_of d) 64 then Ok d else Err 7
+within_limits d = if nat_le (size_of d) MAX_VALUE_SIZE && nat_le (depth_of d) MAX_VALUE_DEPTH then Ok d else Err 7
 
 -- the parts of a list or a record
 abbrev pub list_of : Items → List Data

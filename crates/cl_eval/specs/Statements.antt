@@ -1,6 +1,7 @@
 -- What statements do. Later statements see the slots that earlier ones set.
 -- Traps, beside those of expressions: 1 a slot that is given what is no member of its type; 7 replies of more than 65,536 bytes.
 use Rattle.std.specs.Prelude.{ℕ, zero, suc, ◌+◌, Bool, nat_le, if◌then◌else◌, List, [], ◌∷◌, ◌++◌, length, Option, Some, None, Result, Ok, Err}
+use Rattle.cl_eval.specs.declared.effects.TheConstants.{MAX_REPLY_BYTES}
 use Rattle.cl_value.specs.Data.{Data, text}
 use Rattle.cl_syntax.specs.ActTree as act
 use Rattle.cl_syntax.specs.ActTree.{ActTree, ActTrees, none, statement}
@@ -32,7 +33,7 @@ add_reply t s = record s { replies = s.replies ++ t ∷ []; reply_bytes = s.repl
 
 -- a reply is a text
 abbrev pub reply_with : Effects → Data → Result Effects ℕ
-reply_with s (text t) = if nat_le (s.reply_bytes + length t) 65536 then Ok (add_reply t s) else Err 7
+reply_with s (text t) = if nat_le (s.reply_bytes + length t) MAX_REPLY_BYTES then Ok (add_reply t s) else Err 7
 reply_with s d = Err 1
 
 abbrev pub in_turn : Does → ℕ → Env → ActTrees → Effects → Run Effects

@@ -12,7 +12,7 @@ use std::alloc::{AllocError, Global};
 use std::marker::Model;
 
 /// The most bytes that the replies of one command have together.
-const MOST_REPLY_BYTES: usize = 65_536;
+const MAX_REPLY_BYTES: usize = 65_536;
 
 /// Texts in a row, which contracts see as their list.
 #[derive(Drop)]
@@ -84,8 +84,8 @@ pub fn reply(effects: &mut Effects, value: Value) -> Result<(), Stop>
         return Err(Stop::Trap(1));
     };
     let length = text.as_slice().len();
-    if length > MOST_REPLY_BYTES.saturating_sub(effects.reply_bytes)
-        || effects.reply_bytes > MOST_REPLY_BYTES
+    if length > MAX_REPLY_BYTES.saturating_sub(effects.reply_bytes)
+        || effects.reply_bytes > MAX_REPLY_BYTES
     {
         return Err(Stop::Trap(7));
     }

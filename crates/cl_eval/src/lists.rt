@@ -7,7 +7,7 @@ ghost use Rattle.cl_eval.specs.Agrees.{Comes};
 ghost use Rattle.cl_syntax.specs.declared.operators.ListOperator.TheVariants as row;
 
 use crate::metering::Stop;
-use crate::operators::{MOST_SIZE, limit};
+use crate::operators::{MAX_VALUE_SIZE, limit};
 use cl_syntax::ListOperator;
 use cl_value::{Value, Values};
 use std::alloc::{AllocError, Global};
@@ -197,7 +197,7 @@ fn numbers(alloc: Global, first: i64, last: i64) -> Result<Value, Stop>
     ensures { Comes data_of result (range_of first last) }
 {
     let count = count_between(first, last);
-    if count >= u128::from(MOST_SIZE) {
+    if count >= u128::from(MAX_VALUE_SIZE) {
         return Err(Stop::Trap(7));
     }
     Ok(Value::List(numbers_from(alloc, first, count as u32)?))

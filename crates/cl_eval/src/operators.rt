@@ -16,10 +16,10 @@ use cl_value::{Value, Values};
 use std::alloc::Global;
 
 /// The greatest size of a value.
-pub const MOST_SIZE: u64 = 65_536;
+pub const MAX_VALUE_SIZE: u64 = 65_536;
 
 /// The greatest depth of a value.
-const MOST_DEPTH: u64 = 64;
+const MAX_VALUE_DEPTH: u64 = 64;
 
 /// The value of an operator over the values of its parts. A wrong kind or count of parts traps with 1.
 pub fn operate(
@@ -47,7 +47,7 @@ pub fn operate(
 pub fn limit(value: Value) -> Result<Value, Stop>
     ensures { Comes data_of result (within_limits (data_of value)) }
 {
-    if value.size() <= MOST_SIZE && value.depth() <= MOST_DEPTH {
+    if value.size() <= MAX_VALUE_SIZE && value.depth() <= MAX_VALUE_DEPTH {
         Ok(value)
     } else {
         Err(Stop::Trap(7))

@@ -8,7 +8,7 @@ ghost use Rattle.cl_eval.specs.Agrees.{Comes};
 ghost use Rattle.cl_syntax.specs.declared.operators.TextOperator.TheVariants as written;
 
 use crate::metering::Stop;
-use crate::operators::{MOST_SIZE, limit};
+use crate::operators::{MAX_VALUE_SIZE, limit};
 use cl_syntax::TextOperator;
 use cl_value::{Text, Value};
 use std::alloc::{AllocError, Global};
@@ -88,7 +88,7 @@ fn pad_to(alloc: Global, given: &Text, width: i64) -> Result<Value, Stop>
 {
     match usize::try_from(width) {
         Ok(width) if width > given.as_slice().len() => {
-            if width as u64 >= MOST_SIZE {
+            if width as u64 >= MAX_VALUE_SIZE {
                 return Err(Stop::Trap(7));
             }
             Ok(Value::Text(with_spaces(alloc, given, width)?))

@@ -10,7 +10,7 @@ ghost use Rattle.cl_eval.specs.Agrees.{Agrees, itself};
 use crate::evaluation::{Standpoint, evaluate, evaluate_list, evaluate_test};
 use crate::lists::{add_if, add_part};
 use crate::metering::{Meter, Stop};
-use crate::operators::{MOST_SIZE, elements, limit};
+use crate::operators::{MAX_VALUE_SIZE, elements, limit};
 use crate::variables::Scope;
 use cl_outside::{Ledger, Steps};
 use cl_syntax::{Expr, Folding, Iteration};
@@ -102,7 +102,7 @@ fn map_over<L: Ledger>(
         };
         let value = evaluate(&inner, body, meter, steps)?;
         size = size.saturating_add(value.size());
-        if size >= MOST_SIZE {
+        if size >= MAX_VALUE_SIZE {
             return pass_limit(here, name, &list[place + 1..], body, meter, steps);
         }
         add_part(&mut values, value)?;

@@ -362,15 +362,15 @@ traversal::map_over-returns-in_err-value-clause-meaning g t c =
     c.args.name.now c.args.body.now (data_of c.index-list-place.result) (map data_of rest) (map data_of c.loop-place.values.items)
     c.in_err-value.field-0.0 c.evaluate.new.meter c.loop-place.meter.cost c.loop-place.meter.deepest c.in_err-value.ensures.meaning)
 
-pub traversal::map_over-returns-then-size-ge-MOST_SIZE-clause-meaning : goal.traversal::map_over-returns-then-size-ge-MOST_SIZE-clause-meaning
-traversal::map_over-returns-then-size-ge-MOST_SIZE-clause-meaning g t c =
+pub traversal::map_over-returns-then-size-ge-MAX_VALUE_SIZE-clause-meaning : goal.traversal::map_over-returns-then-size-ge-MAX_VALUE_SIZE-clause-meaning
+traversal::map_over-returns-then-size-ge-MAX_VALUE_SIZE-clause-meaning g t c =
     let at = c.loop-place.place in
     let rest = drop (suc at) c.args.list.now in
     let step : drop at c.args.list.now ≡ c.index-list-place.result ∷ rest =
     drop-cons c.args.list.now at c.index-list-place.result c.loop-place-test.true ∙ ap (λ (a : Value). a ∷ rest) (sym c.index-list-place.is) in
     let more : at + 1 ≡ suc at = omega arith in
     let past : 65536 ≤ size_of_items (items_of (map data_of c.loop-place.values.items)) + size_of (data_of c.in_ok-value.value) =
-    omega (arith, c.if-size-ge-MOST_SIZE.true, c.saturating_add-size.ensures, c.size.ensures, c.loop-place.invariant.sized) in
+    omega (arith, c.if-size-ge-MAX_VALUE_SIZE.true, c.saturating_add-size.ensures, c.size.ensures, c.loop-place.invariant.sized) in
     let passed = rw (more, rest_whole c.args.list.now (suc at)) at c.pass_limit.ensures.meaning in
     rw (
       ← c.loop-place.invariant.meaning,
@@ -411,12 +411,12 @@ traversal::map_over-loop-place-preserved g t c =
       sized = rw c.in_ok-add_part.ensures (omega (
         arith,
         more_size (map data_of c.loop-place.values.items) (data_of c.in_ok-value.value),
-        c.if-size-ge-MOST_SIZE.false,
+        c.if-size-ge-MAX_VALUE_SIZE.false,
         c.saturating_add-size.ensures,
         c.size.ensures,
         c.loop-place.invariant.sized,
       ));
-      small = omega (arith, c.if-size-ge-MOST_SIZE.false);
+      small = omega (arith, c.if-size-ge-MAX_VALUE_SIZE.false);
     }
 
 pub traversal::pass_limit-returns-in_err-_unkept-clause-meaning : goal.traversal::pass_limit-returns-in_err-_unkept-clause-meaning
