@@ -1,5 +1,5 @@
 -- Boxes of items and of marks: of those behind one another, and of those elsewhere.
-use Rattle.std.proofs.Common.{◌≡◌, ℕ, suc, ◌+◌, ℤ, ◌+ℤ◌, ◌≤ℤ◌, List, [], ◌∷◌, ◌++◌, length, Option, Some, None, refl, ◌∙◌, ap, sym, arith}
+use Rattle.std.proofs.Common.{◌≡◌, ℕ, suc, ℤ, ◌+ℤ◌, ◌≤ℤ◌, List, [], ◌∷◌, ◌++◌, length, Option, Some, None, refl, ◌∙◌, ap, sym, arith}
 use Rattle.std.proofs.lemmas.Int.{ints, clamps}
 use Rattle.std.proofs.lemmas.List.{length-append}
 use Rattle.std.specs.Int.{int_max, int_min}
@@ -11,7 +11,6 @@ use Rattle.cl_region.proofs.Corners.{rect_is}
 use Rattle.cl_record.specs.Boxes.{corner_box, extent_box, items_box, join_boxes, join_summaries, move_summary, summary_of}
 use Rattle.cl_record.specs.Marks.{Mark, move_marks, open_update, close, draw, open_presentation}
 use Rattle.cl_record.specs.Replays.{items_drawn}
-use Rattle.cl_record.specs.declared.summaries.Summary.{Summary}
 use Rattle.cl_record.proofs.Replayed.{drawn-append}
 
 -- ---- three boxes

@@ -1,5 +1,5 @@
 -- Why no item is missed where the box of all of them is left out.
-use Rattle.std.proofs.Common.{◌≡◌, ℤ, ◌≤ℤ◌, Bool, true, false, List, [], ◌∷◌, Option, Some, None, refl, ◌∙◌, ap, sym, subst, arith}
+use Rattle.std.proofs.Common.{◌≡◌, ℤ, ◌≤ℤ◌, Bool, true, false, List, [], ◌∷◌, Option, Some, None, refl, ap, arith}
 use Rattle.std.specs.Prelude.{if◌then◌else◌, int_le, ◌||◌, not, IfSome}
 use Rattle.std.proofs.lemmas.Int.{ints, clamps}
 use Rattle.cl_region.specs.Places.{box, intersection, is_thin}

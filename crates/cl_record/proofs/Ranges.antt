@@ -12,12 +12,12 @@ use Rattle.cl_record.specs.Boxes.{corner_box, extent_box, items_box, join_boxes,
 use Rattle.cl_record.specs.Heads.{HeadAt}
 use Rattle.cl_record.specs.Labels.{LabelAt}
 use Rattle.cl_record.specs.Marks.{Mark, move_marks, open_update, close, draw, marks_of, marks_of_all, open_presentation}
-use Rattle.cl_record.specs.Ranges.{AreInRange, ArePlaced, AreSound, HoldsCorners, HoldsPoint, IsMeasured, IsPlaceOf, IsPlaced, IsSound, StayInRange, StaysInRange}
+use Rattle.cl_record.specs.Ranges.{AreInRange, ArePlaced, AreSound, HoldsCorners, IsMeasured, IsPlaceOf, IsPlaced, IsSound, StayInRange, StaysInRange}
 use Rattle.cl_record.specs.Replays.{items_drawn}
 use Rattle.cl_record.specs.Shifts.{IsFar, IsShift, join_shifts, still}
 use Rattle.cl_record.specs.Trees.{Tree, Trees, are_bare, is_bare, leaf, none, update, presentation, tree}
 use Rattle.cl_record.specs.declared.summaries.Summary.{Summary}
-use Rattle.cl_record.proofs.Boxes.{around-move, box-move, extent_box-append, extent_box-move, join-none, summary-append, summary-move}
+use Rattle.cl_record.proofs.Boxes.{box-move, extent_box-append, extent_box-move, join-none, summary-move}
 use Rattle.cl_record.proofs.Moves.{moved-still, moved_twice}
 use Rattle.cl_record.proofs.Replayed.{drawn-append}
 use Rattle.std.proofs.lemmas.List.{append-nil}

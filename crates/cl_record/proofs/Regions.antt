@@ -1,6 +1,6 @@
 -- Why no leaf outside of a region is missed in it.
 use Rattle.std.proofs.Common.{◌≡◌, ℤ, Bool, true, false, List, [], ◌∷◌, Option, Some, None, refl, ◌∙◌, ap, sym}
-use Rattle.std.specs.Prelude.{if◌then◌else◌, unwrap_or, ◌||◌, not}
+use Rattle.std.specs.Prelude.{if◌then◌else◌, unwrap_or, not}
 use Rattle.cl_medium.specs.Items.{Painted}
 use Rattle.cl_region.specs.Places.{intersection, one_holds, holds, is_thin}
 use Rattle.cl_region.specs.declared.rects.Rect.{Rect}

@@ -1,5 +1,5 @@
 -- Boxes of items and of marks.
-use Rattle.std.specs.Prelude.{ℕ, ◌+◌, ℤ, List, [], ◌∷◌, length, Option, Some, None}
+use Rattle.std.specs.Prelude.{◌+◌, ℤ, List, [], ◌∷◌, length, Option, Some, None}
 use Rattle.std.specs.Int.{int_max, int_min}
 use Rattle.std.specs.Option.{option_map}
 use Rattle.cl_region.specs.Places.{box, move_rect}

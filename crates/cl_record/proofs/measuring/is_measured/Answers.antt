@@ -1,4 +1,4 @@
-use Rattle.std.proofs.Common.{◌↔◌, Option, ap, sym, subst}
+use Rattle.std.proofs.Common.{◌↔◌, Option, ap, subst}
 use Rattle.std.specs.Prelude.{IsTrue}
 use Rattle.cl_region.specs.declared.rects.Rect.{Rect}
 use Rattle.cl_record.specs.Heads.{MeasuresAt, measures_of}

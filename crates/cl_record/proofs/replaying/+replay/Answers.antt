@@ -1,8 +1,5 @@
 use Rattle.std.proofs.Common.{rules, ◌≡◌, [], ◌∷◌, ◌∙◌, List, suc, add-one, arith, drop, drop-cons, ap, sym, subst}
 use Rattle.std.proofs.lemmas.List.{drop_all}
-use Rattle.cl_region.specs.declared.rects.Shift.{Shift}
-use Rattle.cl_record.specs.Marks.{move_marks, marks_of_all}
-use Rattle.cl_record.specs.Replays.{Paints, items_drawn, items_touching}
 use Rattle.cl_record.specs.Seen.{forest_of, tree_of}
 use Rattle.cl_record.specs.Trees.{trees_of}
 use Rattle.cl_record.specs.declared.nodes.Node.{Node}

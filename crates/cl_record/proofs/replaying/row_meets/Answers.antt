@@ -1,8 +1,7 @@
-use Rattle.std.proofs.Common.{◌≡◌, List, Option, ◌∙◌, ap, sym, subst}
+use Rattle.std.proofs.Common.{Option, ◌∙◌, ap, sym, subst}
 use Rattle.std.specs.Option.{option_map}
 use Rattle.cl_region.specs.Places.{move_rect}
 use Rattle.cl_region.specs.declared.rects.Rect.{Rect}
-use Rattle.cl_record.specs.Boxes.{items_box}
 use Rattle.cl_record.specs.Marks.{marks_of_all}
 use Rattle.cl_record.specs.Replays.{meets_one}
 use Rattle.cl_record.specs.Trees.{trees_of}

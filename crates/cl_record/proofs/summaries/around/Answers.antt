@@ -1,5 +1,4 @@
-use Rattle.std.proofs.Common.{rules, arith}
-use Rattle.std.proofs.lemmas.Int.{ints, clamps}
+use Rattle.std.proofs.Common.{rules}
 use Rattle.cl_region.proofs.Corners.{rect_is}
 use Rattle.cl_record.specs.Boxes.{corner_box}
 use Rattle.cl_record.proofs.summaries.around.Goals as goal

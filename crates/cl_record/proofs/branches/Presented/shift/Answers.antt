@@ -1,6 +1,6 @@
 use Rattle.std.proofs.Common.{◌≡◌, true, false, ◌∙◌, ap, sym, subst}
 use Rattle.std.specs.Prelude.{if◌then◌else◌, is_some}
-use Rattle.cl_record.specs.Boxes.{extent_box, summary_of}
+use Rattle.cl_record.specs.Boxes.{summary_of}
 use Rattle.cl_record.specs.Branches.{ShownAt}
 use Rattle.cl_record.specs.Marks.{marks_of_all}
 use Rattle.cl_record.specs.Ranges.{StaysInRange}
