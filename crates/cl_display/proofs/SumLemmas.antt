@@ -411,7 +411,7 @@ count-weight [] = omega arith
 count-weight (leaf ∷ items) = omega (arith, count-weight items, one-least leaf.shape)
   where
     one-least : (s : LeafShape) → 1 ≤ shape_weight s
-    one-least (leaf_shape.Text text) = omega arith
+    one-least (leaf_shape.Text bytes) = omega arith
     one-least (leaf_shape.Point byte) = omega arith
     one-least (leaf_shape.Line direction) = omega arith
     one-least leaf_shape.Outline = omega arith
