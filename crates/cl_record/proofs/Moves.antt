@@ -24,8 +24,8 @@ joined_up a b c = omega (arith, ints)
 unmoved : (a : ℤ) → a +ℤ pos 0 ≡ a
 unmoved a = omega (arith, ints)
 
-pub joined-still : (v : Shift) → join_shifts v still ≡ v
-joined-still v = rw (unmoved v.dx, unmoved v.dy) refl
+pub join_shifts-still : (v : Shift) → join_shifts v still ≡ v
+join_shifts-still v = rw (unmoved v.dx, unmoved v.dy) refl
 
 pub moved-still : (r : Rect) → move_rect still r ≡ r
 moved-still r = rw (unmoved r.x1, unmoved r.y1, unmoved r.x2, unmoved r.y2) refl

@@ -10,7 +10,7 @@ ghost use Rattle.cl_record.specs.Trees.{are_bare, update, presentation, trees_of
 use crate::heads::Head;
 use crate::labels::Label;
 use crate::nodes::Nodes;
-use crate::shifts::{STILL, joined};
+use crate::shifts::{STILL, join_shifts};
 use crate::summaries::{Summary, shifted_box};
 use cl_medium::Leaf;
 use cl_region::Shift;
@@ -52,13 +52,13 @@ struct PieceBody<L: Leaf> {
 impl<L: Leaf> Model for Presented<L> {
     ghost use Rattle.std.specs.Prelude.{◌+◌};
     ghost use Rattle.std.proofs.Common.{arith};
-    ghost use Rattle.cl_record.specs.Branches.{ShownAt, shown_code};
+    ghost use Rattle.cl_record.specs.Branches.{PresentationAt, presentation_code};
     ghost use Rattle.cl_record.specs.Ranges.{IsSound};
     ghost use Rattle.cl_record.specs.Trees.{presentation, size_of_all, trees_of};
 
-    ghost Value = { ShownAt L };
+    ghost Value = { PresentationAt L };
 
-    ghost coded = { shown_code L.code };
+    ghost coded = { presentation_code L.code };
 
     ghost view = { λ s. record
         { label = s.body.value.label; place = s.place; inside = s.body.value.inside } };
@@ -74,13 +74,13 @@ impl<L: Leaf> Model for Presented<L> {
 impl<L: Leaf> Model for Piece<L> {
     ghost use Rattle.std.specs.Prelude.{◌+◌};
     ghost use Rattle.std.proofs.Common.{arith};
-    ghost use Rattle.cl_record.specs.Branches.{PieceAt, piece_code};
+    ghost use Rattle.cl_record.specs.Branches.{UpdateAt, update_code};
     ghost use Rattle.cl_record.specs.Ranges.{IsSound};
     ghost use Rattle.cl_record.specs.Trees.{update, size_of_all, trees_of};
 
-    ghost Value = { PieceAt L };
+    ghost Value = { UpdateAt L };
 
-    ghost coded = { piece_code L.code };
+    ghost coded = { update_code L.code };
 
     ghost view = { λ p. record
         { head = p.body.value.head; place = p.place; inside = p.body.value.inside } };
@@ -145,7 +145,7 @@ impl<L: Leaf> Presented<L> {
             { place = if are_bare (trees_of self.old.inside) then self.old.place else join_shifts self.old.place by } }
     {
         if self.body.inside.summary().extents.is_some() {
-            self.place = joined(self.place, by);
+            self.place = join_shifts(self.place, by);
         }
     }
 }
@@ -213,6 +213,6 @@ impl<L: Leaf> Piece<L> {
             (update self.old.head self.old.place (trees_of self.old.inside)) }
         ensures { self.new ≡ record self.old { place = join_shifts self.old.place by } }
     {
-        self.place = joined(self.place, by);
+        self.place = join_shifts(self.place, by);
     }
 }

@@ -11,7 +11,7 @@ use crate::heads::Head;
 use crate::labels::Label;
 use crate::lines::{Printable, put_head, put_label};
 use crate::nodes::{Node, Nodes};
-use crate::shifts::joined;
+use crate::shifts::join_shifts;
 use cl_region::Shift;
 use cl_value::Text;
 use std::alloc::{AllocError, Global};
@@ -34,13 +34,13 @@ fn print_node<L: Printable>(
         Node::Presentation(presented) => {
             print_label(alloc, presented.label(), margin, out)?;
             let deeper = deeper(alloc, margin)?;
-            let at = joined(presented.place(), at);
+            let at = join_shifts(presented.place(), at);
             print_inside(alloc, presented.inside(), at, deeper.as_slice(), out)?
         }
         Node::Update(piece) => {
             print_head(alloc, piece.head(), margin, out)?;
             let deeper = deeper(alloc, margin)?;
-            let at = joined(piece.place(), at);
+            let at = join_shifts(piece.place(), at);
             print_inside(alloc, piece.inside(), at, deeper.as_slice(), out)?
         }
     }

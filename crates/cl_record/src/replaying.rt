@@ -9,7 +9,7 @@ ghost use Rattle.cl_record.specs.Trees.{trees_of};
 
 use crate::canvases::Canvas;
 use crate::nodes::{Node, Nodes};
-use crate::shifts::joined;
+use crate::shifts::join_shifts;
 use cl_medium::Leaf;
 use cl_region::{Rect, Shift};
 
@@ -48,11 +48,11 @@ fn replay_node<L: Leaf, C: Canvas<L>>(node: &Node<L>, at: Shift, rects: &[Rect],
     match node {
         Node::Leaf(leaf) => replay_leaf(leaf, at, rects, canvas),
         Node::Presentation(presented) => {
-            let at = joined(presented.place(), at);
+            let at = join_shifts(presented.place(), at);
             replay_inside(presented.inside(), at, rects, canvas)
         }
         Node::Update(piece) => {
-            let at = joined(piece.place(), at);
+            let at = join_shifts(piece.place(), at);
             replay_inside(piece.inside(), at, rects, canvas)
         }
     }

@@ -8,7 +8,7 @@ use cl_region::Shift;
 pub const STILL: Shift = Shift { dx: 0, dy: 0 };
 
 /// One move after the other.
-pub(crate) fn joined(first: Shift, second: Shift) -> Shift
+pub(crate) fn join_shifts(first: Shift, second: Shift) -> Shift
     requires { IsShift (join_shifts first second) }
     ensures { result ≡ join_shifts first second }
 {

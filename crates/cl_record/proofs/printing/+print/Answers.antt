@@ -34,8 +34,8 @@ print_inside-loop-node-preserved g t c =
       whole = rw c.in_ok-print_node.ensures (append_assoc c.loop-node.out.items _ (lines (forest_of rest)) ∙ whole);
     })
 
-pub print_node-joined-at-requires : goal.print_node-joined-at-requires
-print_node-joined-at-requires g t c =
+pub print_node-join_shifts-at-requires : goal.print_node-join_shifts-at-requires
+print_node-join_shifts-at-requires g t c =
     let s = c.in-Presentation.presented in
     let placed = subst (λ (n : Node _). IsPlaced g.L.Leaf.bounds g.L.Leaf.moved_by c.args.at (tree_of n)) c.in-Presentation.is c.requires in
     rw c.place.ensures (placed-shown g.L.Leaf.bounds g.L.Leaf.moved_by g.met.L.Leaf.moves_bounds c.args.at s.place s.label (trees_of s.inside) placed).shift
@@ -44,10 +44,10 @@ pub print_node-print_inside-requires : goal.print_node-print_inside-requires
 print_node-print_inside-requires g t c κs within =
     let s = c.in-Presentation.presented in
     let placed = subst (λ (n : Node _). IsPlaced g.L.Leaf.bounds g.L.Leaf.moved_by c.args.at (tree_of n)) c.in-Presentation.is c.requires in
-    (search rules, (within, rw (c.joined-at.ensures, c.place.ensures, c.inside.ensures) (placed-shown g.L.Leaf.bounds g.L.Leaf.moved_by g.met.L.Leaf.moves_bounds c.args.at s.place s.label (trees_of s.inside) placed)))
+    (search rules, (within, rw (c.join_shifts-at.ensures, c.place.ensures, c.inside.ensures) (placed-shown g.L.Leaf.bounds g.L.Leaf.moved_by g.met.L.Leaf.moves_bounds c.args.at s.place s.label (trees_of s.inside) placed)))
 
-pub print_node-joined-at-requires-in-Update : goal.print_node-joined-at-requires-in-Update
-print_node-joined-at-requires-in-Update g t c =
+pub print_node-join_shifts-at-requires-in-Update : goal.print_node-join_shifts-at-requires-in-Update
+print_node-join_shifts-at-requires-in-Update g t c =
     let p = c.in-Update.piece in
     let placed = subst (λ (n : Node _). IsPlaced g.L.Leaf.bounds g.L.Leaf.moved_by c.args.at (tree_of n)) c.in-Update.is c.requires in
     rw c.place-in-Update.ensures (placed-piece g.L.Leaf.bounds g.L.Leaf.moved_by g.met.L.Leaf.moves_bounds c.args.at p.place p.head (trees_of p.inside) placed).shift
@@ -56,10 +56,10 @@ pub print_node-print_inside-requires-in-Update : goal.print_node-print_inside-re
 print_node-print_inside-requires-in-Update g t c κs within =
     let p = c.in-Update.piece in
     let placed = subst (λ (n : Node _). IsPlaced g.L.Leaf.bounds g.L.Leaf.moved_by c.args.at (tree_of n)) c.in-Update.is c.requires in
-    (search rules, (within, rw (c.joined-at-in-Update.ensures, c.place-in-Update.ensures, c.inside-in-Update.ensures) (placed-piece g.L.Leaf.bounds g.L.Leaf.moved_by g.met.L.Leaf.moves_bounds c.args.at p.place p.head (trees_of p.inside) placed)))
+    (search rules, (within, rw (c.join_shifts-at-in-Update.ensures, c.place-in-Update.ensures, c.inside-in-Update.ensures) (placed-piece g.L.Leaf.bounds g.L.Leaf.moved_by g.met.L.Leaf.moves_bounds c.args.at p.place p.head (trees_of p.inside) placed)))
 
 pub print_node-returns-in_ok-print_inside-in-Presentation :
     goal.print_node-returns-in_ok-print_inside-in-Presentation
 print_node-returns-in_ok-print_inside-in-Presentation g t c =
-    rw (c.in-Presentation.is, c.in_ok-print_inside-in-Presentation.ensures, c.inside.ensures, c.joined-at.ensures, c.place.ensures, c.as_slice.ensures.value, c.in_ok-deeper-in-Presentation.ensures, c.in_ok-print_label-in-Presentation.ensures, c.label.ensures)
+    rw (c.in-Presentation.is, c.in_ok-print_inside-in-Presentation.ensures, c.inside.ensures, c.join_shifts-at.ensures, c.place.ensures, c.as_slice.ensures.value, c.in_ok-deeper-in-Presentation.ensures, c.in_ok-print_label-in-Presentation.ensures, c.label.ensures)
     (append_assoc c.args.out.now.items (_ ∷ []) _)

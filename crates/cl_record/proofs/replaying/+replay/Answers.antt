@@ -37,8 +37,8 @@ replay_inside-returns-after-loop-node g t c =
     let last = subst (λ (ns : List (Node _)). GoesOn g.C.Canvas.shows g.C.Canvas.cell g.C.Canvas.keeps g.L.Leaf.cell g.L.Leaf.bounds g.L.Leaf.moved_by c.args.rects.now c.args.at c.args.canvas.now c.loop-node.canvas (trees_of c.args.inside.now) (forest_of ns)) none c.loop-node.invariant in
     all_done g.C.Canvas.shows g.C.Canvas.cell g.C.Canvas.keeps g.L.Leaf.cell g.L.Leaf.bounds g.L.Leaf.moved_by c.args.rects.now c.args.at c.args.canvas.now c.loop-node.canvas (trees_of c.args.inside.now) (g.met.C.Canvas.keeps_itself c.loop-node.canvas) last
 
-pub replay_node-joined-at-requires : goal.replay_node-joined-at-requires
-replay_node-joined-at-requires g t c =
+pub replay_node-join_shifts-at-requires : goal.replay_node-join_shifts-at-requires
+replay_node-join_shifts-at-requires g t c =
     let s = c.in-Presentation.presented in
     let placed = subst (λ (n : Node _). IsPlaced g.L.Leaf.bounds g.L.Leaf.moved_by c.args.at (tree_of n)) c.in-Presentation.is c.requires in
     rw c.place.ensures (placed-shown g.L.Leaf.bounds g.L.Leaf.moved_by g.met.L.Leaf.moves_bounds c.args.at s.place s.label (trees_of s.inside) placed).shift
@@ -47,10 +47,10 @@ pub replay_node-replay_inside-requires : goal.replay_node-replay_inside-requires
 replay_node-replay_inside-requires g t c κs within =
     let s = c.in-Presentation.presented in
     let placed = subst (λ (n : Node _). IsPlaced g.L.Leaf.bounds g.L.Leaf.moved_by c.args.at (tree_of n)) c.in-Presentation.is c.requires in
-    (search rules, (within.0, (within.1, rw (c.joined-at.ensures, c.place.ensures, c.inside.ensures) (placed-shown g.L.Leaf.bounds g.L.Leaf.moved_by g.met.L.Leaf.moves_bounds c.args.at s.place s.label (trees_of s.inside) placed))))
+    (search rules, (within.0, (within.1, rw (c.join_shifts-at.ensures, c.place.ensures, c.inside.ensures) (placed-shown g.L.Leaf.bounds g.L.Leaf.moved_by g.met.L.Leaf.moves_bounds c.args.at s.place s.label (trees_of s.inside) placed))))
 
-pub replay_node-joined-at-requires-in-Update : goal.replay_node-joined-at-requires-in-Update
-replay_node-joined-at-requires-in-Update g t c =
+pub replay_node-join_shifts-at-requires-in-Update : goal.replay_node-join_shifts-at-requires-in-Update
+replay_node-join_shifts-at-requires-in-Update g t c =
     let p = c.in-Update.piece in
     let placed = subst (λ (n : Node _). IsPlaced g.L.Leaf.bounds g.L.Leaf.moved_by c.args.at (tree_of n)) c.in-Update.is c.requires in
     rw c.place-in-Update.ensures (placed-piece g.L.Leaf.bounds g.L.Leaf.moved_by g.met.L.Leaf.moves_bounds c.args.at p.place p.head (trees_of p.inside) placed).shift
@@ -59,14 +59,14 @@ pub replay_node-replay_inside-requires-in-Update : goal.replay_node-replay_insid
 replay_node-replay_inside-requires-in-Update g t c κs within =
     let p = c.in-Update.piece in
     let placed = subst (λ (n : Node _). IsPlaced g.L.Leaf.bounds g.L.Leaf.moved_by c.args.at (tree_of n)) c.in-Update.is c.requires in
-    (search rules, (within.0, (within.1, rw (c.joined-at-in-Update.ensures, c.place-in-Update.ensures, c.inside-in-Update.ensures) (placed-piece g.L.Leaf.bounds g.L.Leaf.moved_by g.met.L.Leaf.moves_bounds c.args.at p.place p.head (trees_of p.inside) placed))))
+    (search rules, (within.0, (within.1, rw (c.join_shifts-at-in-Update.ensures, c.place-in-Update.ensures, c.inside-in-Update.ensures) (placed-piece g.L.Leaf.bounds g.L.Leaf.moved_by g.met.L.Leaf.moves_bounds c.args.at p.place p.head (trees_of p.inside) placed))))
 
 pub replay_node-returns-in-Presentation : goal.replay_node-returns-in-Presentation
 replay_node-returns-in-Presentation g t c =
-    rw (c.in-Presentation.is, touched_shown g.C.Canvas.shows g.C.Canvas.cell g.C.Canvas.keeps g.L.Leaf.cell g.L.Leaf.bounds g.L.Leaf.moved_by c.args.rects.now g.met.L.Leaf.moves_twice c.args.at c.in-Presentation.presented.place c.in-Presentation.presented.label (trees_of c.in-Presentation.presented.inside), ← c.place.ensures, ← c.inside.ensures, ← c.joined-at.ensures)
+    rw (c.in-Presentation.is, touched_shown g.C.Canvas.shows g.C.Canvas.cell g.C.Canvas.keeps g.L.Leaf.cell g.L.Leaf.bounds g.L.Leaf.moved_by c.args.rects.now g.met.L.Leaf.moves_twice c.args.at c.in-Presentation.presented.place c.in-Presentation.presented.label (trees_of c.in-Presentation.presented.inside), ← c.place.ensures, ← c.inside.ensures, ← c.join_shifts-at.ensures)
     c.replay_inside.ensures
 
 pub replay_node-returns-in-Update : goal.replay_node-returns-in-Update
 replay_node-returns-in-Update g t c =
-    rw (c.in-Update.is, touched_piece g.C.Canvas.shows g.C.Canvas.cell g.C.Canvas.keeps g.L.Leaf.cell g.L.Leaf.bounds g.L.Leaf.moved_by c.args.rects.now g.met.L.Leaf.moves_twice c.args.at c.in-Update.piece.place c.in-Update.piece.head (trees_of c.in-Update.piece.inside), ← c.place-in-Update.ensures, ← c.inside-in-Update.ensures, ← c.joined-at-in-Update.ensures)
+    rw (c.in-Update.is, touched_piece g.C.Canvas.shows g.C.Canvas.cell g.C.Canvas.keeps g.L.Leaf.cell g.L.Leaf.bounds g.L.Leaf.moved_by c.args.rects.now g.met.L.Leaf.moves_twice c.args.at c.in-Update.piece.place c.in-Update.piece.head (trees_of c.in-Update.piece.inside), ← c.place-in-Update.ensures, ← c.inside-in-Update.ensures, ← c.join_shifts-at-in-Update.ensures)
     c.replay_inside-in-Update.ensures

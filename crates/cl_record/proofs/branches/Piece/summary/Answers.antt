@@ -2,7 +2,7 @@ use Rattle.std.proofs.Common.{◌≡◌, ◌∙◌, ap, sym}
 use Rattle.cl_record.specs.Heads.{HeadAt, MeasuresAt, measures_of}
 use Rattle.cl_record.specs.declared.branches.PieceBody.{PieceBody}
 use Rattle.cl_record.specs.Boxes.{summary_of}
-use Rattle.cl_record.specs.Branches.{PieceAt}
+use Rattle.cl_record.specs.Branches.{UpdateAt}
 use Rattle.cl_record.specs.Marks.{marks_of, marks_of_all}
 use Rattle.cl_record.specs.Trees.{update, trees_of}
 use Rattle.cl_record.proofs.Ranges.{fits-inside, items-fit, summary-piece}
@@ -22,4 +22,4 @@ returns-clause-value g c =
     let extent : c.measures.result.extent ≡ body.head.measures.extent = ap (λ (m : MeasuresAt). m.extent) measures in
     rw (c.shifted_box.ensures, c.summary-inside.ensures.value, c.deref.ensures, c.shifted.ensures, extent)
     (sym (summary-piece g.L.Leaf.bounds g.L.Leaf.moved_by g.met.L.Leaf.moves_bounds c.self.inside.place body.head (trees_of body.inside) c.self.invariant.1.0)
-    ∙ ap (λ (s : PieceAt _). summary_of g.L.Leaf.bounds (marks_of g.L.Leaf.moved_by (update s.head s.place (trees_of s.inside)))) c.self.view_is)
+    ∙ ap (λ (s : UpdateAt _). summary_of g.L.Leaf.bounds (marks_of g.L.Leaf.moved_by (update s.head s.place (trees_of s.inside)))) c.self.view_is)

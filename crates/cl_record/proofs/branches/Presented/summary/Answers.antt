@@ -1,6 +1,6 @@
 use Rattle.std.proofs.Common.{◌∙◌, ap, sym}
 use Rattle.cl_record.specs.Boxes.{summary_of}
-use Rattle.cl_record.specs.Branches.{ShownAt}
+use Rattle.cl_record.specs.Branches.{PresentationAt}
 use Rattle.cl_record.specs.Marks.{marks_of, marks_of_all}
 use Rattle.cl_record.specs.Trees.{presentation, trees_of}
 use Rattle.cl_record.proofs.Ranges.{items-fit, place-fits, summary-shown}
@@ -21,4 +21,4 @@ returns-clause-value g c =
     let body = c.self.inside.body.value in
     c.shifted.ensures
     ∙ (rw (c.summary.ensures.value, c.deref.ensures) (sym (summary-shown g.L.Leaf.bounds g.L.Leaf.moved_by g.met.L.Leaf.moves_bounds c.self.inside.place body.label (trees_of body.inside)))
-    ∙ ap (λ (s : ShownAt _). summary_of g.L.Leaf.bounds (marks_of g.L.Leaf.moved_by (presentation s.label s.place (trees_of s.inside)))) c.self.view_is)
+    ∙ ap (λ (s : PresentationAt _). summary_of g.L.Leaf.bounds (marks_of g.L.Leaf.moved_by (presentation s.label s.place (trees_of s.inside)))) c.self.view_is)

@@ -2,7 +2,7 @@ use Rattle.std.proofs.Common.{arith}
 use Rattle.std.proofs.lemmas.Int.{ints}
 use Rattle.cl_record.specs.Shifts.{join_shifts}
 use Rattle.cl_record.proofs.Moves.{shift_is}
-use Rattle.cl_record.proofs.shifts.joined.Goals as goal
+use Rattle.cl_record.proofs.shifts.join_shifts.Goals as goal
 
 pub returns : goal.returns
 returns c =
