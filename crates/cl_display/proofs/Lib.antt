@@ -2,7 +2,9 @@ pub mod ItemLemmas
 pub mod FormLemmas
 pub mod CornerLemmas
 pub mod EndLemmas
+pub mod PartLemmas
 pub mod SumLemmas
+pub mod DisplayLemmas
 pub mod LimitLemmas
 pub mod FigureLemmas
 pub mod UseLemmas

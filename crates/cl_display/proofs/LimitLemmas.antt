@@ -25,7 +25,8 @@ use Rattle.cl_display.specs.Settings.{enter_room, indent, leave_room, restore_in
 use Rattle.cl_display.specs.Outcomes.{Draw, opens_none, run_of, ◌>->◌, ◌>>=◌}
 use Rattle.cl_display.specs.Fresh.{Allowance, Draws, call_display, draws, draws_to, for_each, in_order, shape_parts, within, write_value}
 use Rattle.cl_display.specs.Script.{fresh, whole_allowance}
-use Rattle.cl_display.proofs.SumLemmas.{AddsTo, adds-draw_parts, adds-indent, adds-newline, adds-set_ink, adds-write_value, adds_up}
+use Rattle.cl_display.proofs.SumLemmas.{AddsTo, adds-draw_parts, adds-indent, adds-newline, adds-set_ink, adds-write_value}
+use Rattle.cl_display.proofs.DisplayLemmas.{adds_up}
 
 -- ---- answers
 

@@ -1,8 +1,7 @@
--- What forms draw: items behind those that were there, the weight of these, and the lowest end of these. What used the margin or the
--- origin stays so.
-use Rattle.std.proofs.Common.{◌≡◌, ◌∙◌, ap, sym, ℕ, zero, suc, ◌+◌, ◌≤◌, ◌==◌, ℤ, pos, ◌+ℤ◌, Bool, true, false, if◌then◌else◌, nat_le, List}
+-- What forms draw: items behind those that were there, and their weight.
+use Rattle.std.proofs.Common.{◌≡◌, ℕ, zero, suc, ◌+◌, ◌≤◌, ◌==◌, pos, ◌+ℤ◌, Bool, true, false, if◌then◌else◌, nat_le, List}
 use Rattle.std.proofs.Common.{[]}
-use Rattle.std.proofs.Common.{◌∷◌, ◌++◌, length, Option, Some, None, Result, Ok, Err, append_assoc, append-nil, arith, refl, subst}
+use Rattle.std.proofs.Common.{◌∷◌, ◌++◌, length, Option, Some, None, Result, Ok, Err, arith, refl}
 use Rattle.std.proofs.lemmas.Bool.Decides.{nat_tests}
 use Rattle.std.specs.Prelude.{negsuc, int_le, int_lt, ◌||◌}
 use Rattle.cl_value.specs.Data.{Data, int, text}
@@ -12,24 +11,19 @@ use Rattle.cl_syntax.specs.ExprTree.{Bindings}
 use Rattle.cl_application.specs.App.{display_named}
 use Rattle.cl_application.specs.declared.applications.App.{App}
 use Rattle.cl_application.specs.declared.declarations.DisplayDecl.{DisplayDecl}
-use Rattle.cl_eval.specs.declared.metering.Limits.{Limits}
 use Rattle.cl_eval.specs.Outcome.{Outcome, Gives, Traps, Run, give, trap, lift, after}
 use Rattle.cl_eval.specs.Slots.{Slots, Env, bind_parameters}
 use Rattle.cl_eval.specs.Meaning.{Go, bind_each, each, entering, parts_of_list, means, truth_of}
 use Rattle.cl_medium.specs.Drawing.{text_leaf}
-use Rattle.cl_medium.specs.Ambients.{AmbientAt, after_indent, after_newline, ambient_start}
-use Rattle.cl_medium.specs.Items.{Item, bounds_of, item_bounds, move_item}
-use Rattle.cl_medium.specs.declared.shapes.LeafShape.{LeafShape}
-use Rattle.cl_medium.specs.declared.shapes.LeafShape.TheVariants as leaf_shape
+use Rattle.cl_medium.specs.Ambients.{AmbientAt, after_indent, after_newline}
+use Rattle.cl_medium.specs.Items.{bounds_of, item_bounds, Item}
 use Rattle.cl_medium.specs.declared.areas.Area.{Area}
 use Rattle.cl_region.specs.Places.{box}
-use Rattle.cl_record.specs.Marks.{draw, history_marks}
-use Rattle.cl_record.specs.Replays.{items_drawn as items_in}
+use Rattle.cl_record.specs.Marks.{draw}
 use Rattle.cl_record.proofs.Replayed.{drawn-append}
-use Rattle.cl_display.specs.Drawings.{DrawingAt, PartAt, add_item, after_text, blank_drawing, cursor_box, cursor_to, drawing_of}
+use Rattle.cl_display.specs.Drawings.{DrawingAt, add_item, after_text, cursor_box, cursor_to}
 use Rattle.cl_display.specs.Drawings.{is_in_range, is_near}
-use Rattle.cl_display.specs.Drawings.{join_parts, lower_end, newline, then_to, with_cursor, with_item, with_margin_used}
-use Rattle.cl_display.specs.declared.drawings.TheConstants.{MAX_WEIGHT}
+use Rattle.cl_display.specs.Drawings.{newline, then_to, with_cursor, with_item, with_margin_used}
 use Rattle.cl_display.specs.Drawings.{write_text}
 use Rattle.cl_display.specs.Figures.{area_at, draw_figure, draw_parts, draw_shape, figure_parts, leaf_in, with_origin_used}
 use Rattle.cl_display.specs.declared.figures.FigureItem.{FigureItem}
@@ -37,23 +31,12 @@ use Rattle.cl_display.specs.declared.figures.FigureItem.TheVariants as item
 use Rattle.cl_display.specs.declared.figures.FigureParts.{FigureParts}
 use Rattle.cl_display.specs.Settings.{behind_room, enter_room, indent, leave_room, margin_box, restore_ink, restore_margin, room_part}
 use Rattle.cl_display.specs.Settings.{set_ink, with_ink, with_margin}
-use Rattle.cl_display.specs.declared.drawings.Drawing.{Drawing}
 use Rattle.cl_display.specs.Outcomes.{Draw, opens_none, run_of, ◌>->◌, ◌>>=◌}
 use Rattle.cl_display.specs.Fresh.{Allowance, Draws, call_display, draws, draws_in, draws_to, for_each, in_order, shape_parts, within}
 use Rattle.cl_display.specs.Fresh.{write_value}
-use Rattle.cl_display.specs.Script.{fresh, whole_allowance}
-use Rattle.cl_display.proofs.CornerLemmas.{box-first, box-second, holds-itself, holds-then, holds_all-behind, holds_all-then}
-use Rattle.cl_display.proofs.EndLemmas.{lower_end-assoc, lower_end-none, lowest_of-behind}
-use Rattle.cl_display.specs.Sums.{AddsUp, Holds, HoldsAll, item_weight, lowest_of, shape_weight, weight_of}
-
--- what was drawn between two states of a part
-pub record PartAdds (s t : PartAt) (items : List Item) : Type 0 where
-  pub behind : items_in t.marks ≡ items_in s.marks ++ items
-  pub lowest : t.lowest ≡ lower_end s.lowest (lowest_of items)
-  pub wider : Holds t.extent s.extent
-  pub within : HoldsAll t.extent items
-  pub margin : s.margin_used ≡ true → t.margin_used ≡ true
-  pub origin : s.origin_used ≡ true → t.origin_used ≡ true
+use Rattle.cl_display.proofs.CornerLemmas.{box-first, box-second, holds-itself, holds-then, holds_all-then}
+use Rattle.cl_display.specs.Sums.{Holds, item_weight, weight_of}
+use Rattle.cl_display.proofs.PartLemmas.{PartAdds, part-join, part-none, part-then, weight_of-behind}
 
 -- what was drawn between two states, where all may weigh so much
 pub record Adds (most : ℕ) (s t : DrawingAt) : Type 0 where
@@ -62,55 +45,6 @@ pub record Adds (most : ℕ) (s t : DrawingAt) : Type 0 where
   pub weight : t.weight ≡ s.weight + weight_of items
   pub light : s.weight ≤ most → t.weight ≤ most
   pub cursor : Holds s.part.extent (cursor_box s.ambient) → Holds t.part.extent (cursor_box t.ambient)
-
--- ---- lists of items
-
-weight_of-behind : (xs ys : List Item) → weight_of (xs ++ ys) ≡ weight_of xs + weight_of ys
-weight_of-behind [] ys = omega arith
-weight_of-behind (x ∷ xs) ys = omega (arith, weight_of-behind xs ys)
-
--- ---- parts
-
--- no item, in an extent no less wide
-part-none : (s t : PartAt) → t.marks ≡ s.marks → t.lowest ≡ s.lowest → Holds t.extent s.extent
-    → (s.margin_used ≡ true → t.margin_used ≡ true) → (s.origin_used ≡ true → t.origin_used ≡ true) → PartAdds s t []
-part-none s t m l e mu ou = record {
-  behind = rw m (sym (append-nil (items_in s.marks)));
-  lowest = l ∙ sym (lower_end-none s.lowest);
-  wider = e;
-  within = tt;
-  margin = mu;
-  origin = ou;
-}
-
-part-then : (s t u : PartAt) (xs ys : List Item) → PartAdds s t xs → PartAdds t u ys → PartAdds s u (xs ++ ys)
-part-then s t u xs ys p q = record {
-  behind = q.behind ∙ ap (λ (l : List Item). l ++ ys) p.behind ∙ append_assoc (items_in s.marks) xs ys;
-  lowest =
-      q.lowest ∙ ap (λ (e : Option ℤ). lower_end e (lowest_of ys)) p.lowest ∙ lower_end-assoc s.lowest (lowest_of xs) (lowest_of ys)
-      ∙ sym (ap (λ (e : Option ℤ). lower_end s.lowest e) (lowest_of-behind xs ys));
-  wider = holds-then u.extent t.extent s.extent q.wider p.wider;
-  within = holds_all-behind u.extent xs ys (holds_all-then u.extent t.extent xs q.wider p.within) q.within;
-  margin = λ h. q.margin (p.margin h);
-  origin = λ h. q.origin (p.origin h);
-}
-
--- an inner part that started blank comes behind the outer one
-part-join : (a : AmbientAt) (s t : PartAt) (items : List Item) → items_in t.marks ≡ items → t.lowest ≡ lowest_of items
-    → HoldsAll t.extent items
-    → PartAdds s (join_parts s t) items
-part-join a s t items b l w = record {
-  behind = drawn-append s.marks t.marks ∙ ap (λ (is : List Item). items_in s.marks ++ is) b;
-  lowest = ap (λ (e : Option ℤ). lower_end s.lowest e) l;
-  wider = box-first s.extent t.extent;
-  within = holds_all-then (box s.extent t.extent) t.extent items (box-second s.extent t.extent) w;
-  margin = λ h. or-true t.margin_used s.margin_used h;
-  origin = λ h. or-true t.origin_used s.origin_used h;
-}
-  where
-    or-true : (a b : Bool) → b ≡ true → (a || b) ≡ true
-    or-true true b h = refl
-    or-true false b h = h
 
 module _ (most : ℕ) where
   -- ---- steps
@@ -403,72 +337,3 @@ module _ (most : ℕ) where
       (λ _. shape_parts app allowed (means left budget app slots) (draws left allowed app slots) (level + 1) env f s)
       (λ _. adds-shape_parts app budget (means left budget app slots) (draws left allowed app slots) (adds-draws left budget app slots)
       (level + 1) env f s)
-
--- ---- displays
-
-count-weight : (items : List Item) → length items ≤ weight_of items
-count-weight [] = omega arith
-count-weight (leaf ∷ items) = omega (arith, count-weight items, one-least leaf.shape)
-  where
-    one-least : (s : LeafShape) → 1 ≤ shape_weight s
-    one-least (leaf_shape.Text bytes) = omega arith
-    one-least (leaf_shape.Point byte) = omega arith
-    one-least (leaf_shape.Line direction) = omega arith
-    one-least leaf_shape.Outline = omega arith
-    one-least (leaf_shape.Fill byte) = omega arith
-
--- what a display adds up to
-pub adds-blank : (s : DrawingAt) → Adds MAX_WEIGHT blank_drawing s → AddsUp s
-adds-blank s p = record {
-  weight = rw p.part.behind (omega (arith, p.weight));
-  light = p.light (omega arith);
-  lowest = rw p.part.behind p.part.lowest;
-  count = rw p.part.behind (omega (arith, p.weight, p.light (omega arith), count-weight p.items));
-}
-
--- what holds all that a display draws
-pub holds-blank : (s : DrawingAt) → Adds MAX_WEIGHT blank_drawing s
-    → HoldsAll s.part.extent (items_in s.part.marks) × Holds s.part.extent (cursor_box s.ambient)
-holds-blank s p = (rw p.part.behind p.part.within, p.cursor (holds-itself (cursor_box ambient_start)))
-
-pub adds-fresh : (limits : Limits) (app : App) (fs : List ShapeTree) (env : Env) (slots : Slots)
-    → AddsOut MAX_WEIGHT blank_drawing (fresh limits app fs env slots).outcome
-unfolding fresh
-adds-fresh limits app fs env slots =
-    adds-in_order MAX_WEIGHT (draws limits.depth (whole_allowance limits) app slots)
-    (adds-draws MAX_WEIGHT limits.depth limits.budget app slots) 0 env (shape_trees_of fs) blank_drawing 0 0
-
-pub adds_up : (limits : Limits) (app : App) (fs : List ShapeTree) (env : Env) (slots : Slots) (s : DrawingAt) (cost reach : ℕ)
-    → (fresh limits app fs env slots).outcome ≡ Gives s cost reach → AddsUp s
-adds_up limits app fs env slots s cost reach p = adds-blank s (subst (AddsOut MAX_WEIGHT blank_drawing) p
-    (adds-fresh limits app fs env slots))
-
-pub holds_drawn : (limits : Limits) (app : App) (fs : List ShapeTree) (env : Env) (slots : Slots) (s : DrawingAt) (cost reach : ℕ)
-    → (fresh limits app fs env slots).outcome ≡ Gives s cost reach
-    → HoldsAll s.part.extent (items_in s.part.marks) × Holds s.part.extent (cursor_box s.ambient)
-holds_drawn limits app fs env slots s cost reach p = holds-blank s
-    (subst (AddsOut MAX_WEIGHT blank_drawing) p (adds-fresh limits app fs env slots))
-
-pub adds-body : (left : ℕ) (allowed : Allowance) (app : App) (slots : Slots) (level : ℕ) (env : Env) (body : ShapeTrees) (s end : DrawingAt)
-    (cost deepest c d : ℕ)
-    → (in_order (draws left allowed app slots) level env body s cost deepest).outcome ≡ Gives end c d → Adds allowed.weight s end
-adds-body left allowed app slots level env body s end cost deepest c d p =
-    subst (AddsOut allowed.weight s) p
-    (adds-in_order allowed.weight (draws left allowed app slots) (adds-draws allowed.weight left allowed.budget app slots) level env body s
-    cost deepest)
-
-pub room-ends : (left : ℕ) (allowed : Allowance) (app : App) (slots : Slots) (level : ℕ) (env : Env) (body : ShapeTrees) (s end : DrawingAt)
-    (cost deepest c d : ℕ)
-    → (in_order (draws left allowed app slots) level env body (enter_room s) cost deepest).outcome ≡ Gives end c d
-    → end.part.lowest ≡ lowest_of (items_in end.part.marks)
-room-ends left allowed app slots level env body s end cost deepest c d p =
-    let added = adds-body left allowed app slots level env body (enter_room s) end cost deepest c d p in
-    rw added.part.behind added.part.lowest
-
-pub few-shown : (limits : Limits) (app : App) (fs : List ShapeTree) (env : Env) (slots : Slots) (d : Drawing) (cost reach : ℕ)
-    → (in_order (draws limits.depth (whole_allowance limits) app slots) 0 env (shape_trees_of fs) blank_drawing 0 0).outcome ≡ Gives
-    (drawing_of d) cost reach
-    → length (items_in (history_marks move_item d.part.nodes)) ≤ MAX_WEIGHT
-few-shown limits app fs env slots d cost reach p =
-    (adds-blank (drawing_of d) (adds-body limits.depth (whole_allowance limits) app slots 0 env (shape_trees_of fs) blank_drawing
-    (drawing_of d) 0 0 cost reach p)).count

@@ -1,4 +1,4 @@
-use Rattle.cl_display.proofs.SumLemmas.{few-shown}
+use Rattle.cl_display.proofs.DisplayLemmas.{few-shown}
 use Rattle.cl_display.proofs.displays.display.Goals as goal
 
 pub returns-in-Ok-clause-few : goal.returns-in-Ok-clause-few

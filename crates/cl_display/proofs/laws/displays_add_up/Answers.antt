@@ -1,4 +1,4 @@
-use Rattle.cl_display.proofs.SumLemmas.{adds_up}
+use Rattle.cl_display.proofs.DisplayLemmas.{adds_up}
 use Rattle.cl_display.proofs.laws.displays_add_up.Goals as goal
 
 pub returns : goal.returns
