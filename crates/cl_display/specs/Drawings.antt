@@ -28,6 +28,7 @@ pub record DrawingAt : Type 0 where
   pub weight : ℕ
   pub part : PartAt
 
+-- what is seen of a part of the program
 abbrev pub part_of : Part → PartAt
 part_of p = record {
   extent = p.extent;
@@ -37,6 +38,7 @@ part_of p = record {
   marks = history_marks move_item p.nodes;
 }
 
+-- what is seen of a drawing of the program
 abbrev pub drawing_of : Drawing → DrawingAt
 drawing_of d = record { ambient = d.ambient; weight = d.weight; part = part_of d.part }
 

@@ -13,9 +13,11 @@ abbrev pub shape_weight : LeafShape → ℕ
 shape_weight (Text text) = length text + 1
 shape_weight shape = 1
 
+-- what an item weighs
 abbrev pub item_weight : Item → ℕ
 item_weight leaf = shape_weight leaf.shape
 
+-- what items weigh together
 abbrev pub weight_of : List Item → ℕ
 weight_of [] = 0
 weight_of (leaf ∷ items) = item_weight leaf + weight_of items

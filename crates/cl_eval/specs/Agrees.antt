@@ -10,6 +10,7 @@ use Rattle.cl_value.specs.Value.{data_of}
 use Rattle.cl_value.specs.declared.Value.{Value}
 use Rattle.std.specs.declared.alloc.Global.{Global}
 
+-- an answer is the outcome, with the meter's cost and depth; out of memory comes before the outcome's cost is passed
 abbrev pub Agrees : {A B : Type 0} → (A → B) → Result A Stop → Meter → Outcome B → Type 0
 Agrees f (Ok x) m o = o ≡ Gives (f x) m.cost m.deepest
 Agrees f (Err (Trap k)) m o = o ≡ Traps k m.cost m.deepest
@@ -27,6 +28,7 @@ Entered (Ok u) m o = o ≡ Gives tt m.cost m.deepest
 Entered (Err (Trap k)) m o = o ≡ Traps k m.cost m.deepest
 Entered (Err Memory) m o = ⊥
 
+-- what is seen of a value that is its own view
 abbrev pub itself : {A : Type 0} → A → A
 itself x = x
 
@@ -34,5 +36,6 @@ itself x = x
 abbrev pub items_are : Vec Value Global → List Data
 items_are v = map data_of v.items
 
+-- what is seen of an answer that says only that there is one
 abbrev pub always : {A B : Type 0} → B → A → B
 always y x = y

@@ -23,6 +23,7 @@ Evaluates (evaluated.Trap k cost) (Gives d c l) = ⊥
 Evaluates (evaluated.Trap k cost) (Traps kind c l) = (k ≡ kind) × (cost ≡ c)
 Evaluates evaluated.Memory o = Unit {0}
 
+-- whether an answer is out of memory
 abbrev pub met_memory : Evaluated → Bool
 met_memory (evaluated.Value v cost reach) = false
 met_memory (evaluated.Trap k cost) = false

@@ -35,6 +35,7 @@ Executes (executed.Trap k cost) (Gives e c deepest) = ⊥
 Executes (executed.Trap k cost) (Traps kind c deepest) = (k ≡ kind) × (cost ≡ c)
 Executes executed.Memory o = Unit {0}
 
+-- whether an answer is out of memory
 abbrev pub met_memory : Executed → Bool
 met_memory (executed.Done s lines cost) = false
 met_memory (executed.Trap k cost) = false

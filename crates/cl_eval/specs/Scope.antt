@@ -5,6 +5,7 @@ use Rattle.cl_eval.specs.Slots.{Env, bind_parameters}
 use Rattle.cl_eval.specs.declared.variables.Scope.{Scope}
 use Rattle.cl_eval.specs.declared.variables.Scope.TheVariants as scope
 
+-- the variables in sight, the nearest first
 abbrev pub variables_of : Scope → Env
 variables_of (scope.Given e) = e.now
 variables_of (scope.Bound' x v p s) = (x.now, data_of v.now) ∷ variables_of s

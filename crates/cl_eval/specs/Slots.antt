@@ -5,15 +5,19 @@ use Rattle.cl_value.specs.Data.{Data}
 use Rattle.cl_value.specs.declared.Value.{Value}
 use Rattle.cl_value.specs.Value.{data_of}
 
+-- names with their values
 abbrev pub Slots : Type 0
 Slots = List (List ℕ × Data)
 
+-- variables with their values, the nearest first
 abbrev pub Env : Type 0
 Env = List (List ℕ × Data)
 
+-- two names are the same
 abbrev pub is_name : List ℕ → List ℕ → Bool
 is_name x y = pointwise ◌==◌ x y
 
+-- the value of the first of a name
 abbrev pub value_named : List ℕ → List (List ℕ × Data) → Option Data
 value_named x [] = None
 value_named x (s ∷ slots) = if is_name s.0 x then Some s.1 else value_named x slots
@@ -33,5 +37,6 @@ bind_parameters (x ∷ xs) (d ∷ ds) = (x, d) ∷ bind_parameters xs ds
 abbrev pub entry_of : List ℕ × Value → List ℕ × Data
 entry_of e = (e.0, data_of e.1)
 
+-- one of them has the name
 abbrev pub is_named : List ℕ → List ℕ × Value → Bool
 is_named x e = is_name e.0 x

@@ -36,6 +36,7 @@ abbrev pub reply_with : Effects → Data → Result Effects ℕ
 reply_with s (text t) = if nat_le (s.reply_bytes + length t) MAX_REPLY_BYTES then Ok (add_reply t s) else Err 7
 reply_with s d = Err 1
 
+-- statements in order, each from the effects of the ones before it
 abbrev pub in_turn : Does → ℕ → Env → ActTrees → Effects → Run Effects
 in_turn go level env none s = give s
 in_turn go level env (statement a rest) s = go level env a s >>= in_turn go level env rest

@@ -45,11 +45,13 @@ abbrev mutual
   NamesBound calls r unbound Behind = Behind
   NamesBound calls r (binding x t bs) Behind = Names calls r t ⊎ (Apart x r × NamesBound calls r bs Behind)
 
+-- a root in the body of a function that a call of this name enters
 abbrev pub InBody : (List ℕ → Type 0) → Root → Option FunctionDecl → Type 0
 InBody calls (variable x) f = ⊥
 InBody calls (slot x) None = ⊥
 InBody calls (slot x) (Some f) = Names calls (slot x) f.body
 
+-- the functions by name
 abbrev pub Functions : Type 0
 Functions = List (List ℕ × FunctionDecl)
 
@@ -67,6 +69,7 @@ pub record Uses (fs : Functions) (r : Root) (t : ExprTree) : Type 0 where
 abbrev pub ReadsSlot : Functions → ExprTree → Type 0
 ReadsSlot fs t = (x : List ℕ) × Uses fs (slot x) t
 
+-- the value of a root, among slots and variables
 abbrev pub value_at : Root → Slots → Env → Option Data
 value_at (variable x) slots env = value_named x env
 value_at (slot x) slots env = value_named x slots

@@ -30,6 +30,7 @@ ambient_start = record { x = pos 0; y = pos 0; margin = pos 0; origin_x = pos 0;
 abbrev pub after_newline : AmbientAt → AmbientAt
 after_newline a = record a { x = a.margin; y = a.y +ℤ pos 1 }
 
+-- the margin so many columns further to the right
 abbrev pub after_indent : AmbientAt → ℤ → AmbientAt
 after_indent a n = record a { margin = a.margin +ℤ n }
 

@@ -15,6 +15,7 @@ use Rattle.cl_medium.specs.declared.placing.Fit.TheVariants as fit
 abbrev pub text_area : AmbientAt → ℕ → Area
 text_area a count = record { x = a.x; y = a.y; width = pos count; height = pos 1; ink = a.ink }
 
+-- a text at the cursor
 abbrev pub text_leaf : AmbientAt → List ℕ → Item
 text_leaf a text = record { area = text_area a (columns_of text); shape = Text text }
 
@@ -23,18 +24,23 @@ abbrev pub shape_area : AmbientAt → (x y width height : ℤ) → Area
 shape_area a x y width height =
     record { x = a.origin_x +ℤ x; y = a.origin_y +ℤ y; width = width; height = height; ink = a.ink }
 
+-- one byte in an area of one cell
 abbrev pub point_leaf : Area → ℕ → Item
 point_leaf area byte = record { area = area; shape = Point byte }
 
+-- a line to the right
 abbrev pub hline_leaf : Area → Item
 hline_leaf area = record { area = area; shape = Line Horizontal }
 
+-- a line down
 abbrev pub vline_leaf : Area → Item
 vline_leaf area = record { area = area; shape = Line Vertical }
 
+-- an outline
 abbrev pub box_leaf : Area → Item
 box_leaf area = record { area = area; shape = Outline }
 
+-- one byte all over an area
 abbrev pub fill_leaf : Area → ℕ → Item
 fill_leaf area byte = record { area = area; shape = Fill byte }
 
@@ -58,6 +64,7 @@ abbrev pub IsStart : (first size : ℤ) → Option ℤ → Type 0
 IsStart first size None = IsNear first → IsNear (first +ℤ size) → ⊥
 IsStart first size (Some found) = (found ≡ first) × IsNear first × IsNear (first +ℤ size)
 
+-- the area, where it has cells and is in the range
 abbrev pub IsFit : Area → Fit → Type 0
 IsFit area (fit.Within found) = (found ≡ area) × IsArea area × HasSize area
 IsFit area fit.Nothing = HasNoSize area

@@ -10,9 +10,11 @@ use Rattle.cl_medium.specs.declared.shapes.Direction.TheVariants.{Horizontal, Ve
 use Rattle.cl_medium.specs.declared.shapes.LeafShape.{LeafShape}
 use Rattle.cl_medium.specs.declared.shapes.LeafShape.TheVariants.{Fill, Line, Outline, Point, Text}
 
+-- the rectangle of an area
 abbrev pub bounds_of : Area → Rect
 bounds_of a = record { x1 = a.x; y1 = a.y; x2 = a.x +ℤ a.width; y2 = a.y +ℤ a.height }
 
+-- the same area elsewhere
 abbrev pub move_area : Shift → Area → Area
 move_area v a = record { x = a.x +ℤ v.dx; y = a.y +ℤ v.dy; width = a.width; height = a.height; ink = a.ink }
 
@@ -63,6 +65,7 @@ pub record Painted : Type 0 where
   pub glyph : ℕ
   pub ink : ℕ
 
+-- the numbers of a cell
 abbrev pub painted_of : Cell → Painted
 painted_of c = record { glyph = c.glyph; ink = c.ink }
 
@@ -99,6 +102,7 @@ shape_glyph (Line direction) width height across down = Some (line_byte directio
 shape_glyph Outline width height across down = outline (is_end across width) (is_end down height)
 shape_glyph (Fill byte) width height across down = Some (glyph_of byte)
 
+-- a glyph in an ink, where there is one
 abbrev pub with_ink : ℕ → Option ℕ → Option Painted
 with_ink ink None = None
 with_ink ink (Some glyph) = Some (record { glyph = glyph; ink = ink })
@@ -110,9 +114,11 @@ item_cell i x y =
     then with_ink i.area.ink (shape_glyph i.shape i.area.width i.area.height (x -ℤ i.area.x) (y -ℤ i.area.y))
     else None
 
+-- the rectangle of an item
 abbrev pub item_bounds : Item → Rect
 item_bounds i = bounds_of i.area
 
+-- the same item elsewhere
 abbrev pub move_item : Shift → Item → Item
 move_item v i = record { area = move_area v i.area; shape = i.shape }
 

@@ -4,6 +4,7 @@ use Rattle.cl_outside.specs.Device.{IsGlyph}
 use Rattle.cl_region.specs.Places.{holds}
 use Rattle.cl_region.specs.declared.rects.Rect.{Rect}
 
+-- the sizes of a screen, and its glyphs and inks row by row
 pub record Picture : Type 0 where
   pub width : ℕ
   pub height : ℕ
@@ -32,12 +33,15 @@ blank_picture width height =
 abbrev pub at_place : List ℕ → ℕ → ℕ → ℕ → ℕ
 at_place cells width x y = slice_index cells (y * width + x)
 
+-- the glyph in column x of row y
 abbrev pub glyph_at : Picture → ℕ → ℕ → ℕ
 glyph_at p x y = at_place p.glyphs p.width x y
 
+-- the ink in column x of row y
 abbrev pub ink_at : Picture → ℕ → ℕ → ℕ
 ink_at p x y = at_place p.inks p.width x y
 
+-- two pictures have the same sizes
 pub record SameSize (old new : Picture) : Type 0 where
   pub width : new.width ≡ old.width
   pub height : new.height ≡ old.height

@@ -33,6 +33,7 @@ pub record HeadAt : Type 0 where
   pub cache : Option (List Data)
   pub measures : MeasuresAt
 
+-- the measures of the program; a margin and an origin that were not used are no part of them
 abbrev pub measures_of : Measures → MeasuresAt
 measures_of m = record {
   cost = m.cost;
@@ -48,17 +49,21 @@ measures_of m = record {
 
 -- ---- moved
 
+-- a cursor or an origin elsewhere
 abbrev pub move_point : Shift → Point → Point
 move_point v p = record { x = p.x +ℤ v.dx; y = p.y +ℤ v.dy }
 
+-- a margin elsewhere, if there is one
 abbrev pub move_margin : Shift → Option ℤ → Option ℤ
 move_margin v None = None
 move_margin v (Some x) = Some (x +ℤ v.dx)
 
+-- an origin elsewhere, if there is one
 abbrev pub move_origin : Shift → Option Point → Option Point
 move_origin v None = None
 move_origin v (Some p) = Some (move_point v p)
 
+-- the same measures elsewhere
 abbrev pub move_measures : Shift → MeasuresAt → MeasuresAt
 move_measures v m = record m {
   extent = move_rect v m.extent;

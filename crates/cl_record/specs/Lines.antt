@@ -27,6 +27,7 @@ shape_line (Line Vertical) a = codes "vline" ++ numbers (a.x ∷ a.y ∷ a.heigh
 shape_line Outline a = codes "box" ++ numbers (a.x ∷ a.y ∷ a.width ∷ a.height ∷ pos a.ink ∷ [])
 shape_line (Fill byte) a = codes "fill" ++ numbers (a.x ∷ a.y ∷ a.width ∷ a.height ∷ pos a.ink ∷ []) ++ 32 ∷ byte ∷ []
 
+-- the line of an item
 abbrev pub item_line : Item → List ℕ
 item_line i = shape_line i.shape i.area
 
@@ -43,6 +44,7 @@ abbrev pub margin : ℕ → List ℕ
 margin zero = []
 margin (suc depth) = 32 ∷ 32 ∷ margin depth
 
+-- one level further out
 abbrev pub outer : ℕ → ℕ
 outer zero = zero
 outer (suc depth) = depth
@@ -56,5 +58,6 @@ module _ {A : Type 0} (line_of : A → List ℕ) where
   lines_from depth (open_update h ∷ ms) = (margin depth ++ head_line h) ∷ lines_from (suc depth) ms
   lines_from depth (close ∷ ms) = lines_from (outer depth) ms
 
+  -- the lines of a history
   abbrev pub history_lines : (Shift → A → A) → List (Tree A) → List (List ℕ)
   history_lines move ts = lines_from 0 (history_marks move ts)

@@ -20,6 +20,7 @@ module _ {A : Type 0} (move : Shift → A → A) where
   move_mark v (open_update h) = open_update (move_head v h)
   move_mark v close = close
 
+  -- marks elsewhere
   abbrev pub move_marks : Shift → List (Mark A) → List (Mark A)
   move_marks v [] = []
   move_marks v (m ∷ ms) = move_mark v m ∷ move_marks v ms

@@ -5,6 +5,7 @@ use Rattle.cl_record.specs.declared.nodes.Node.{Node}
 use Rattle.cl_record.specs.declared.nodes.Node.TheVariants as node
 
 module _ {A : Type 0} where
+  -- the tree of a node
   abbrev pub tree_of : Node A → Tree A
   tree_of (node.Leaf a) = leaf a
   tree_of (node.Presentation s) = presentation s.label s.place (trees_of s.inside)

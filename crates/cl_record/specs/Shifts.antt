@@ -15,6 +15,7 @@ pub record IsFar (z : ℤ) : Type 0 where
   pub low : neg_ℤ (pos 2000000) ≤ℤ z
   pub high : z ≤ℤ pos 2000000
 
+-- a move of which neither part is too far
 pub record IsShift (v : Shift) : Type 0 where
   pub dx : IsFar v.dx
   pub dy : IsFar v.dy

@@ -23,6 +23,7 @@ mutual
     tree : Tree A → Trees A → Trees A
 
 module _ {A : Type 0} where
+  -- the trees of a list
   abbrev pub trees_of : List (Tree A) → Trees A
   trees_of [] = none
   trees_of (t ∷ ts) = tree t (trees_of ts)

@@ -7,6 +7,7 @@ use Rattle.cl_record.specs.Marks.{Mark}
 use Rattle.cl_record.specs.Replays.{items_drawn, cell_after}
 use Rattle.cl_redisplay.specs.declared.areas.Area.{Area}
 
+-- a space with ink 0
 abbrev pub blank_cell : Painted
 blank_cell = record { glyph = 32; ink = 0 }
 
@@ -59,6 +60,7 @@ pub record Repaints (old new : Picture) (area : Area) (marks : List (Mark Item))
 
 -- ---- the rows of a screen
 
+-- the glyph of a cell
 abbrev pub glyph_in : Painted → ℕ
 glyph_in cell = cell.glyph
 
@@ -66,6 +68,7 @@ glyph_in cell = cell.glyph
 abbrev pub ink_digit : ℕ → ℕ
 ink_digit ink = 48 + ink
 
+-- the digit of a cell's ink
 abbrev pub digit_in : Painted → ℕ
 digit_in cell = ink_digit cell.ink
 
@@ -75,6 +78,7 @@ module _ (tell : Painted → ℕ) (area : Area) (marks : List (Mark Item)) where
   row_from y x zero = []
   row_from y x (suc more) = tell (shown_at area marks x y) ∷ row_from y (x + 1) more
 
+  -- what is told of a row, from its first column on
   abbrev pub told_row : (width y : ℕ) → List ℕ
   told_row width y = row_from y 0 width
 
@@ -87,6 +91,7 @@ module _ (tell : Painted → ℕ) (area : Area) (marks : List (Mark Item)) where
 abbrev pub shown_row : Area → List (Mark Item) → (width y : ℕ) → List ℕ
 shown_row area marks width y = told_row glyph_in area marks width y
 
+-- the digits of a row's inks
 abbrev pub shown_ink_row : Area → List (Mark Item) → (width y : ℕ) → List ℕ
 shown_ink_row area marks width y = told_row digit_in area marks width y
 
@@ -94,5 +99,6 @@ shown_ink_row area marks width y = told_row digit_in area marks width y
 abbrev pub shown_rows : Area → List (Mark Item) → (width height : ℕ) → List (List ℕ)
 shown_rows area marks width height = rows_from glyph_in area marks width 0 height
 
+-- the rows of the digits of inks
 abbrev pub shown_ink_rows : Area → List (Mark Item) → (width height : ℕ) → List (List ℕ)
 shown_ink_rows area marks width height = rows_from digit_in area marks width 0 height

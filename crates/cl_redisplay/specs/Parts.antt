@@ -26,6 +26,7 @@ abbrev pub window_place : Picture → Area → ℤ → ℤ → Painted
 window_place p area (pos x) (pos y) = cell_at p (area.x + x) (area.y + y)
 window_place p area x y = blank_cell
 
+-- the cell of a window in a column and a row; a blank one where it shows none
 abbrev pub window_cell : Picture → Area → ℤ → ℤ → Painted
 window_cell p area x y = if holds (own_rect area) x y then window_place p area x y else blank_cell
 
@@ -34,6 +35,7 @@ abbrev pub painted_in : Option (Option Cell) → Option Painted
 painted_in None = None
 painted_in (Some found) = option_map painted_of found
 
+-- what cells in a row paint, in the row from the first of them on
 abbrev pub row_cell : List (Option Cell) → ℤ → ℤ → Option Painted
 row_cell cells (pos n) y = painted_in (slice_get cells n)
 row_cell cells (negsuc n) y = None

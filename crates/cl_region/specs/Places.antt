@@ -54,5 +54,6 @@ pub record IsInRange (r : Rect) : Type 0 where
   pub x2 : IsNear r.x2
   pub y2 : IsNear r.y2
 
+-- the rectangle, moved so far, is in the range
 abbrev pub FitsMoved : Rect → Shift → Type 0
 FitsMoved r v = IsInRange (move_rect v r)
