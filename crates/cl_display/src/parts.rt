@@ -12,6 +12,9 @@ use cl_medium::{Ambient, AnyLeaf, Leaf};
 use cl_record::{Node, Nodes};
 use std::alloc::{AllocError, Global};
 
+// An item in a history takes little room: a branch stands behind a pointer.
+const _: () = prove!(size_of::<Node<AnyLeaf>>() <= 72);
+
 /// What was drawn since a body began: its extent, the greatest end of an item down, whether the margin
 /// and the origin of the start were used, and the records.
 #[derive(Drop)]
