@@ -1,5 +1,6 @@
 -- Which trees hold together, and where they may stand.
 use Rattle.std.specs.Prelude.{◌≡◌, ◌≤ℤ◌, List, [], ◌∷◌, Option, Some, None, IfSome}
+use Rattle.cl_medium.specs.declared.leaves.Leaf.{Ghosts}
 use Rattle.cl_region.specs.Places.{IsInRange, move_rect}
 use Rattle.cl_region.specs.declared.rects.Rect.{Rect}
 use Rattle.cl_region.specs.declared.rects.Shift.{Shift}
@@ -79,7 +80,14 @@ module _ {A : Type 0} (bounds : A → Rect) (move : Shift → A → A) where
     pub sound : AreSound ts
     pub range : StayInRange v ts
 
-  -- trees in a row with the summary of their marks
-  pub record IsRow (ts : Trees A) (summary : Summary) : Type 0 where
-    pub sound : AreSound ts
-    pub summary_is : summary ≡ summary_of bounds (marks_of_all move ts)
+-- ---- what the types of records keep: records over all members of the leaf's trait, since a fact over some of them leaves callers at a
+-- concrete leaf without a proof
+
+-- a tree that holds together
+pub record IsKept {A : Type 0} (g : Ghosts A) (t : Tree A) : Type 0 where
+  pub sound : IsSound g.bounds g.moved_by t
+
+-- trees in a row with the summary of their marks
+pub record IsRow {A : Type 0} (g : Ghosts A) (ts : Trees A) (summary : Summary) : Type 0 where
+  pub sound : AreSound g.bounds g.moved_by ts
+  pub summary_is : summary ≡ summary_of g.bounds (marks_of_all g.moved_by ts)

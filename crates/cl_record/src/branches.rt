@@ -53,7 +53,7 @@ impl<L: Leaf> Model for Presented<L> {
     ghost use Rattle.std.specs.Prelude.{◌+◌};
     ghost use Rattle.std.proofs.Common.{arith};
     ghost use Rattle.cl_record.specs.Branches.{PresentationAt, presentation_code};
-    ghost use Rattle.cl_record.specs.Ranges.{IsSound};
+    ghost use Rattle.cl_record.specs.Ranges.{IsKept};
     ghost use Rattle.cl_record.specs.Trees.{presentation, size_of_all, trees_of};
 
     ghost Value = { PresentationAt L };
@@ -63,7 +63,7 @@ impl<L: Leaf> Model for Presented<L> {
     ghost view = { λ s. record
         { label = s.body.value.label; place = s.place; inside = s.body.value.inside } };
 
-    ghost invariant = { λ s. IsSound L.bounds L.moved_by
+    ghost invariant = { λ s. IsKept L.Leaf
         (presentation s.body.value.label s.place (trees_of s.body.value.inside)) };
 
     ghost size = { λ s. 3 + size_of_all (trees_of s.inside) };
@@ -75,7 +75,7 @@ impl<L: Leaf> Model for Piece<L> {
     ghost use Rattle.std.specs.Prelude.{◌+◌};
     ghost use Rattle.std.proofs.Common.{arith};
     ghost use Rattle.cl_record.specs.Branches.{UpdateAt, update_code};
-    ghost use Rattle.cl_record.specs.Ranges.{IsSound};
+    ghost use Rattle.cl_record.specs.Ranges.{IsKept};
     ghost use Rattle.cl_record.specs.Trees.{update, size_of_all, trees_of};
 
     ghost Value = { UpdateAt L };
@@ -85,7 +85,7 @@ impl<L: Leaf> Model for Piece<L> {
     ghost view = { λ p. record
         { head = p.body.value.head; place = p.place; inside = p.body.value.inside } };
 
-    ghost invariant = { λ p. IsSound L.bounds L.moved_by
+    ghost invariant = { λ p. IsKept L.Leaf
         (update p.body.value.head p.place (trees_of p.body.value.inside)) };
 
     ghost size = { λ p. 3 + size_of_all (trees_of p.inside) };

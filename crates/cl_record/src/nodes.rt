@@ -50,7 +50,7 @@ impl<L: Leaf> Model for Nodes<L> {
 
     ghost view = { λ a. map tree_of a.items.items };
 
-    ghost invariant = { λ a. IsRow L.bounds L.moved_by (forest_of a.items.items) a.summary };
+    ghost invariant = { λ a. IsRow L.Leaf (forest_of a.items.items) a.summary };
 
     ghost size = { λ ts. size_of_all (trees_of ts) };
 

@@ -6,4 +6,4 @@ use Rattle.cl_record.proofs.branches.Piece.new.Goals as goal
 pub invariant_of-result : goal.invariant_of-result
 invariant_of-result g c =
     rw c.in_ok-body.ensures.ok
-    (c.summary.ensures.sound, (c.requires, subst IsInRange (sym (moved-still c.args.head.measures.extent)) c.requires.range))
+    (record { sound = (c.summary.ensures.sound, (c.requires, subst IsInRange (sym (moved-still c.args.head.measures.extent)) c.requires.range)) })

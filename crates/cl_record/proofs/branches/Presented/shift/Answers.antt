@@ -17,7 +17,7 @@ join_shifts-self-inside-requires g c =
     let fits = subst (λ (s : PresentationAt _). StaysInRange g.L.Leaf.bounds g.L.Leaf.moved_by c.args.by (presentation s.label s.place (trees_of s.inside))) (sym c.self.view_is) c.requires in
     let summary = c.summary.ensures.value ∙ ap (λ (b : PresentedBody _). summary_of g.L.Leaf.bounds (marks_of_all g.L.Leaf.moved_by (trees_of b.inside))) c.deref.ensures in
     let some = ap (λ (s : Summary). is_some s.extents) (sym summary) ∙ (sym c.is_some.ensures ∙ c.if-is_some.true) in
-    (moves-shown g.L.Leaf.bounds g.L.Leaf.moved_by g.met.L.Leaf.moves_bounds c.args.by c.self.inside.place body.label (trees_of body.inside) some c.self.invariant fits).shift
+    (moves-shown g.L.Leaf.bounds g.L.Leaf.moved_by g.met.L.Leaf.moves_bounds c.args.by c.self.inside.place body.label (trees_of body.inside) some c.self.invariant.sound fits).shift
 
 pub invariant_of-self : goal.invariant_of-self
 invariant_of-self g c =
@@ -26,7 +26,7 @@ invariant_of-self g c =
     let summary = c.summary.ensures.value ∙ ap (λ (b : PresentedBody _). summary_of g.L.Leaf.bounds (marks_of_all g.L.Leaf.moved_by (trees_of b.inside))) c.deref.ensures in
     let some = ap (λ (s : Summary). is_some s.extents) (sym summary) ∙ (sym c.is_some.ensures ∙ c.if-is_some.true) in
     rw c.join_shifts-self-inside.ensures
-    (moves-shown g.L.Leaf.bounds g.L.Leaf.moved_by g.met.L.Leaf.moves_bounds c.args.by c.self.inside.place body.label (trees_of body.inside) some c.self.invariant fits).sound
+    (record { sound = (moves-shown g.L.Leaf.bounds g.L.Leaf.moved_by g.met.L.Leaf.moves_bounds c.args.by c.self.inside.place body.label (trees_of body.inside) some c.self.invariant.sound fits).sound })
 
 pub returns-then-is_some : goal.returns-then-is_some
 returns-then-is_some g c =

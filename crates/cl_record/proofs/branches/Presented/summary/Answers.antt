@@ -10,11 +10,11 @@ pub shifted-requires-clause-items : goal.shifted-requires-clause-items
 shifted-requires-clause-items g c =
     let body = c.self.inside.body.value in
     rw (c.summary.ensures.value, c.deref.ensures)
-    (items-fit g.L.Leaf.bounds c.self.inside.place (marks_of_all g.L.Leaf.moved_by (trees_of body.inside)) (place-fits c.self.inside.place _ c.self.invariant.1))
+    (items-fit g.L.Leaf.bounds c.self.inside.place (marks_of_all g.L.Leaf.moved_by (trees_of body.inside)) (place-fits c.self.inside.place _ c.self.invariant.sound.1))
 
 pub shifted-requires-clause-extents : goal.shifted-requires-clause-extents
 shifted-requires-clause-extents g c =
-    rw (c.summary.ensures.value, c.deref.ensures) (place-fits c.self.inside.place _ c.self.invariant.1)
+    rw (c.summary.ensures.value, c.deref.ensures) (place-fits c.self.inside.place _ c.self.invariant.sound.1)
 
 pub returns-clause-value : goal.returns-clause-value
 returns-clause-value g c =
