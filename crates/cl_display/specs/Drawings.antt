@@ -7,7 +7,7 @@ use Rattle.cl_region.specs.declared.rects.Rect.{Rect}
 use Rattle.cl_region.specs.declared.rects.TheConstants.{MAX_COORDINATE}
 use Rattle.cl_medium.specs.Ambients.{AmbientAt, after_newline, ambient_start}
 use Rattle.cl_medium.specs.Drawing.{text_leaf}
-use Rattle.cl_medium.specs.Items.{item_bounds, move_item, Item}
+use Rattle.cl_medium.specs.Items.{Item, columns_of, item_bounds, move_item}
 use Rattle.cl_record.specs.Marks.{Mark, draw, history_marks}
 use Rattle.cl_display.specs.declared.drawings.Drawing.{Drawing}
 use Rattle.cl_display.specs.declared.parts.Part.{Part}
@@ -120,7 +120,7 @@ then_to a (Err k) = Err k
 
 -- the cursor behind a text
 abbrev pub after_text : AmbientAt → List ℕ → AmbientAt
-after_text a text = record a { x = a.x +ℤ pos (length text) }
+after_text a text = record a { x = a.x +ℤ pos (columns_of text) }
 
 -- a text in the range, which weighs its bytes and 1, with the cursor behind it
 abbrev pub place_text : (most : ℕ) → List ℕ → DrawingAt → Result DrawingAt ℕ
