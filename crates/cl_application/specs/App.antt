@@ -1,7 +1,7 @@
 -- What is found in an application.
-use Rattle.std.specs.Prelude.{◌<◌, ℕ, List, [], length, Option, Some, None}
+use Rattle.std.specs.Prelude.{ℕ, List, [], Option, Some, None}
 use Rattle.cl_syntax.specs.ShapeTree.{ShapeTree}
-use Rattle.cl_table.specs.Names.{named, declared_at}
+use Rattle.cl_table.specs.Names.{named}
 use Rattle.cl_application.specs.declared.applications.App.{App}
 use Rattle.cl_application.specs.declared.declarations.RecordDecl.{RecordDecl}
 use Rattle.cl_application.specs.declared.declarations.FunctionDecl.{FunctionDecl}
@@ -38,17 +38,6 @@ body_of (Some d) = d.body
 abbrev pub pane_named : List ℕ → App → Option PaneDecl
 pane_named x app = named x app.frame.panes
 
-abbrev pub HasPane : App → Type 0
-HasPane app = 0 < length app.frame.panes
-
-abbrev pub first_of : Option PaneDecl → PaneDecl
-first_of None = record { name = []; x = 0; y = 0; width = 0; height = 0; display = []; at = 0 }
-first_of (Some p) = p
-
--- the first pane of the frame, which is the only one that is built so far; one without cells where there is none
-abbrev pub pane_of : App → PaneDecl
-pane_of app = first_of (declared_at 0 app.frame.panes)
-
--- the forms of the display that the pane names; none where there is no such display
-abbrev pub pane_forms : App → List ShapeTree
-pane_forms app = body_of (display_named (pane_of app).display app)
+-- the forms of the display that a pane names; none where there is no such display
+abbrev pub forms_of : PaneDecl → App → List ShapeTree
+forms_of pane app = body_of (display_named pane.display app)

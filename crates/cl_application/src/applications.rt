@@ -1,6 +1,6 @@
 //! Applications.
 ghost use Rattle.std.specs.Prelude.{◌≡◌, option_map};
-ghost use Rattle.cl_application.specs.App.{record_named, function_named, display_named, command_named, slot_type, pane_named, pane_of, pane_forms, HasPane};
+ghost use Rattle.cl_application.specs.App.{record_named, function_named, display_named, command_named, slot_type, pane_named, forms_of};
 
 use crate::declarations::{
     CommandDecl, Commands, DisplayDecl, Displays, FrameDecl, FunctionDecl, Functions, PaneDecl,
@@ -65,23 +65,11 @@ impl App {
         self.frame.panes.get(name)
     }
 
-    /// The first pane of the frame, which is the only one that is built so far.
-    pub fn first_pane(&self) -> &PaneDecl
-        requires { HasPane self.now }
-        ensures { result.now ≡ pane_of self.now }
+    /// The body of the display that a pane names; no forms where there is no such display.
+    pub fn forms_of(&self, pane: &PaneDecl) -> &[Shape]
+        ensures { result.now ≡ forms_of pane.now self.now }
     {
-        let Some(pane) = self.frame.panes.at(0) else {
-            unreachable!()
-        };
-        pane
-    }
-
-    /// The body of the display that the first pane names; no forms where there is no such display.
-    pub fn pane_forms(&self) -> &[Shape]
-        requires { HasPane self.now }
-        ensures { result.now ≡ pane_forms self.now }
-    {
-        match self.shape_of(self.first_pane().display.as_slice()) {
+        match self.shape_of(pane.display.as_slice()) {
             Some(display) => display.body.as_slice(),
             None => &[],
         }

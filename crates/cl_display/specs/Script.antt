@@ -2,8 +2,9 @@
 use Rattle.std.specs.Prelude.{ℕ, List, [], ◌∷◌, ◌++◌, codes}
 use Rattle.std.specs.Fmt.{decimal}
 use Rattle.cl_syntax.specs.ShapeTree.{ShapeTree, shape_trees_of}
-use Rattle.cl_application.specs.App.{pane_forms}
+use Rattle.cl_application.specs.App.{forms_of}
 use Rattle.cl_application.specs.declared.applications.App.{App}
+use Rattle.cl_application.specs.declared.declarations.PaneDecl.{PaneDecl}
 use Rattle.cl_eval.specs.declared.metering.Limits.{Limits}
 use Rattle.cl_eval.specs.Outcome.{Outcome, Gives, Traps}
 use Rattle.cl_eval.specs.Slots.{Slots, Env}
@@ -38,12 +39,12 @@ history_of (Traps kind cost deepest) = trap_history kind
 abbrev pub script : Limits → App → List ShapeTree → Env → Slots → List (Mark Item)
 script limits app forms env slots = history_of (fresh limits app forms env slots).outcome
 
--- ---- the pane of a frame: the forms of its display, with no variables
+-- ---- a pane of a frame: the forms of its display, with no variables
 
--- what the display of the pane comes to
-abbrev pub pane_fresh : Limits → App → Slots → Outcome DrawingAt
-pane_fresh limits app slots = (fresh limits app (pane_forms app) [] slots).outcome
+-- what the display of a pane comes to
+abbrev pub pane_fresh : Limits → App → PaneDecl → Slots → Outcome DrawingAt
+pane_fresh limits app pane slots = (fresh limits app (forms_of pane app) [] slots).outcome
 
 -- its marks
-abbrev pub pane_script : Limits → App → Slots → List (Mark Item)
-pane_script limits app slots = history_of (pane_fresh limits app slots)
+abbrev pub pane_script : Limits → App → PaneDecl → Slots → List (Mark Item)
+pane_script limits app pane slots = history_of (pane_fresh limits app pane slots)

@@ -7,3 +7,4 @@ pub mod PlaceSteps
 pub mod Spans
 pub mod Tables
 pub mod Walks
+pub mod WritingLemmas

@@ -1,7 +1,13 @@
 -- What callers see of the adapters over the system.
 use Rattle.std.specs.Prelude.{ℕ, Bool, List, Option}
 
--- over a reader the bytes that it has left, over a writer those that it holds, where they are told
+-- over a reader: the bytes that it has left, where they are told, and how often it was read
+pub record Reading : Type 0 where
+  pub bytes : Option (List ℕ)
+  pub faults : ℕ
+  pub reads : ℕ
+
+-- over a writer: the bytes that it holds, where they are told
 pub record Adapter : Type 0 where
   pub bytes : Option (List ℕ)
   pub faults : ℕ

@@ -48,8 +48,10 @@ abbrev pub Blanks : ℕ → ℕ → Option Picture → Type 0
 Blanks width height None = ⊤
 Blanks width height (Some p) = IsBlank width height p
 
+-- a picture that is not told stays untold
 abbrev pub Paints : Option Picture → Option Picture → ℕ → ℕ → ℕ → List ℕ → Type 0
-Paints None new x y ink glyphs = ⊤
+Paints None None x y ink glyphs = ⊤
+Paints None (Some q) x y ink glyphs = ⊥
 Paints (Some p) None x y ink glyphs = ⊥
 Paints (Some p) (Some q) x y ink glyphs = IsPainted p q x y ink glyphs
 

@@ -10,3 +10,4 @@ pub mod Named
 pub mod Outside
 pub mod Place
 pub mod Told
+pub mod Writing

@@ -29,10 +29,12 @@ abbrev pub CountsFault : ℕ → ℕ → Took → Type 0
 CountsFault before now (Bytes n) = now ≡ before
 CountsFault before now Failed = now ≡ one_more before
 
+-- reads: how many there were
 pub record MemorySource : Type 0 where
   pub left : List ℕ
   pub plan : Plan
   pub faults : ℕ
+  pub reads : ℕ
 
 -- pieces are those of the writes to come
 pub record MemorySink : Type 0 where

@@ -1,6 +1,7 @@
 //! The ledger that counts steps.
 ghost use Rattle.std.specs.Prelude.{◌≡◌, ℕ, ◌+◌, ◌-◌, ◌^◌, min};
 
+use crate::tallies::Tally;
 use std::marker::Model;
 
 /// What counts steps.
@@ -46,32 +47,6 @@ impl<L: Ledger> Steps<L> {
     {
         &self.ledger
     }
-}
-
-// A number that proofs alone see; it takes no memory.
-#[derive(Drop)]
-struct Tally {
-    ghost count: { ℕ },
-}
-
-impl Model for Tally {
-    ghost use base.Fml.{ftrue};
-
-    ghost also_owns = { λ _. ftrue };
-}
-
-impl Tally {
-    // Nothing counted.
-    fn new() -> Tally
-        ensures { result.count ≡ 0 }
-    {
-        Tally {}
-    }
-
-    // Counts one more.
-    fn up(&mut self)
-        ensures { self.new.count ≡ self.old.count + 1 }
-    {}
 }
 
 /// A ledger of this crate. A clause sees its count, which has no bound; `seen` can be looked at.

@@ -23,6 +23,8 @@ impl<'a, G: Source> LentSource<'a, G> {
 impl<'a, G: Source> Source for LentSource<'a, G> {
     ghost left = { λ s. G.left s.source.now };
 
+    ghost calls = { λ s. G.calls s.source.now };
+
     ghost faults = { λ s. G.faults s.source.now };
 
     ghost lent = { λ s. s.source.ghost_name };

@@ -7,6 +7,7 @@ use crate::answers::Took;
 use crate::handing::hand_over;
 use crate::plan::{FaultPlan, raised};
 use crate::sources::Source;
+use crate::tallies::Tally;
 use std::marker::Model;
 
 /// A source over bytes in memory. It hands over as much as the buffer holds.
@@ -16,6 +17,7 @@ pub struct MemSource {
     at: usize,
     plan: FaultPlan,
     faults: u64,
+    reads: Tally,
 }
 
 impl Model for MemSource {
@@ -25,7 +27,7 @@ impl Model for MemSource {
     ghost Value = { MemorySource };
 
     ghost view = { λ s. record
-        { left = drop s.at s.content.items; plan = s.plan; faults = s.faults } };
+        { left = drop s.at s.content.items; plan = s.plan; faults = s.faults; reads = s.reads.count } };
 
     ghost invariant = { λ s. s.at ≤ length s.content.items };
 }
@@ -36,12 +38,14 @@ impl MemSource {
         ensures left { result.left ≡ content.items }
         ensures plan { result.plan ≡ new_plan fails.items }
         ensures faults { result.faults ≡ 0 }
+        ensures reads { result.reads ≡ 0 }
     {
         MemSource {
             content,
             at: 0,
             plan: FaultPlan::new(fails),
             faults: 0,
+            reads: Tally::new(),
         }
     }
 }
@@ -49,17 +53,21 @@ impl MemSource {
 impl Source for MemSource {
     ghost left = { λ s. Some s.left };
 
+    ghost calls = { λ s. s.reads };
+
     ghost faults = { λ s. s.faults };
 
     fn read(&mut self, buf: &mut [u8]) -> Took
         requires { 0 < length buf.old }
         ensures bytes { ReadTook (Some self.old.left) (Some self.new.left) buf.new result }
+        ensures calls { self.new.reads ≡ self.old.reads + 1 }
         ensures cause { FailedRose self.old.faults self.new.faults result }
         ensures fails { (result ≡ Took.Failed) ↔ IsToFail self.old.plan }
         ensures plan { self.new.plan ≡ counted self.old.plan }
         ensures count { CountsFault self.old.faults self.new.faults result }
         ensures amount { ReadsAll self.old.left buf.new result }
     {
+        self.reads.up();
         if self.plan.next_fails() {
             self.faults = raised(self.faults);
             return Took::Failed;

@@ -1,5 +1,5 @@
 //! What a caller may rest on of a source.
-ghost use Rattle.std.specs.Prelude.{◌≡◌, ℕ, ◌<◌, List, Option, length};
+ghost use Rattle.std.specs.Prelude.{◌≡◌, ℕ, ◌+◌, ◌<◌, List, Option, length};
 ghost use Rattle.cl_outside.specs.Outside.{ReadTook, FailedRose};
 
 use crate::answers::Took;
@@ -8,6 +8,9 @@ use crate::answers::Took;
 pub trait Source {
     // the bytes that are still to come; None: not told
     ghost left: { Self → Option (List ℕ) };
+
+    // how often it was read
+    ghost calls: { Self → ℕ };
 
     // how often a read failed; never falls, and stands still at 2^64 - 1
     ghost faults: { Self → ℕ };
@@ -19,6 +22,7 @@ pub trait Source {
     fn read(&mut self, buf: &mut [u8]) -> Took
         requires { 0 < length buf.old }
         ensures lent { lent self.new ≡ lent self.old }
+        ensures calls { calls self.new ≡ calls self.old + 1 }
         ensures bytes { ReadTook (left self.old) (left self.new) buf.new result }
         ensures cause { FailedRose (faults self.old) (faults self.new) result };
 }

@@ -10,10 +10,10 @@ use denote.Steps.{nothing}
 use denote.Triple.Entry.{on_entry}
 use denote.Triple.Walked.{says, Stays, walk_of, ends_at}
 use Rattle.cl_outside.proofs.Walks.{none, none_made}
-use Rattle.cl_outside.specs.contracts.ledgers.Tally.{the_row as Row}
-use Rattle.cl_outside.specs.contracts.ledgers.Tally.new as f
-use Rattle.cl_outside.proofs.ledgers.Tally.new.Statement.{statement}
-use Rattle.cl_outside.proofs.ledgers.Tally.new.Code as code
+use Rattle.cl_outside.specs.contracts.tallies.Tally.{the_row as Row}
+use Rattle.cl_outside.specs.contracts.tallies.Tally.new as f
+use Rattle.cl_outside.proofs.tallies.Tally.new.Statement.{statement}
+use Rattle.cl_outside.proofs.tallies.Tally.new.Code as code
 
 abbrev stayed : Stays f.ended.signature.params f.ended.kept
 stayed = tt

@@ -11,10 +11,10 @@ use denote.Ref.{MutRef, mut_vals, mut_Tells}
 use denote.Signature.{plain}
 use denote.Steps.{nothing, opens, closes}
 use denote.Triple.Walked.{Stays, walk_of, says, stay_ref, Goes-ref, ends_at}
-use Rattle.cl_outside.specs.contracts.ledgers.Tally.{the_row as R}
-use Rattle.cl_outside.specs.contracts.ledgers.Tally.up as f
-use Rattle.cl_outside.proofs.ledgers.Tally.up.Statement.{statement}
-use Rattle.cl_outside.proofs.ledgers.Tally.up.Code as code
+use Rattle.cl_outside.specs.contracts.tallies.Tally.{the_row as R}
+use Rattle.cl_outside.specs.contracts.tallies.Tally.up as f
+use Rattle.cl_outside.proofs.tallies.Tally.up.Statement.{statement}
+use Rattle.cl_outside.proofs.tallies.Tally.up.Code as code
 
 abbrev stayed : Stays f.ended.signature.params f.ended.kept
 stayed = (stay_ref (0 ∷ []) tt (plain (λ _. R)), tt)
