@@ -105,6 +105,13 @@ well_cut_last : (held : List ℕ) → IsPiece (line held) → All IsPiece (last_
 well_cut_last [] ok = All-nil IsPiece
 well_cut_last (byte ∷ bytes) ok = All-cons IsPiece _ [] ok (All-nil IsPiece)
 
+-- a line that ended has at most 4,096 bytes
+pub ended-short : (bytes line_bytes : List ℕ) → ended bytes ≡ line line_bytes ∷ [] → length line_bytes ≤ 4096
+ended-short bytes line_bytes is =
+    let P : List Piece → Type 0 = λ ps. All IsPiece ps in
+    let all = subst P is (well_cut_from [] bytes (omega arith, All-nil IsNoFeed)).0 in
+    (All-head IsPiece (line line_bytes) [] all).0
+
 pub are_well_cut : AreWellCut
 are_well_cut bytes =
     let all = well_cut_from [] bytes (omega arith, All-nil IsNoFeed) in

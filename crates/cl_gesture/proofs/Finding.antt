@@ -1,5 +1,5 @@
 -- Lemmas on where the first piece of some bytes ends.
-use Rattle.std.proofs.Common.{◌≡◌, ◌⊎◌, inl, inr, ◌≤◌, ◌<◌, ◌+◌, ℕ, List, [], ◌∷◌, ◌++◌, length, take, drop, get_or, Option, All, append-nil, length-append, refl, sym, ap, subst, ◌∙◌, arith}
+use Rattle.std.proofs.Common.{◌≡◌, inr, ◌≤◌, ◌<◌, ◌+◌, ℕ, List, [], ◌∷◌, ◌++◌, length, take, drop, get_or, Option, All, append-nil, length-append, refl, sym, ap, subst, ◌∙◌, arith}
 use Rattle.std.proofs.KnownBytes.{Consumes-nil, Consumes-kept}
 use Rattle.std.proofs.Math.Seq.{take-append_seam}
 use Rattle.std.proofs.lemmas.List.{take_more, length-take-le, take-append-drop, nil_from_length}
@@ -10,9 +10,10 @@ use Rattle.cl_outside.specs.declared.answers.Took.TheVariants.{Bytes, Failed}
 use Rattle.cl_gesture.specs.Ahead.{FillTook}
 use Rattle.cl_gesture.specs.declared.cut.Found.TheVariants as found
 use Rattle.cl_gesture.specs.declared.cut.Cut.TheVariants as cut
-use Rattle.cl_gesture.specs.Lines.{Piece, line, long, ended, held_from, IsNoFeed, Reads}
+use Rattle.cl_gesture.specs.Lines.{ended, held_from, IsNoFeed, Reads}
 use Rattle.cl_gesture.specs.Cut.{FoundIn, CutOf}
-use Rattle.cl_gesture.proofs.Cutting.{ended-line, ended-whole, ended-plain, ended-more, pieces-last, Reads-trans}
+use Rattle.cl_gesture.specs.Reading.{ReadsNoFurther, AreNone}
+use Rattle.cl_gesture.proofs.Cutting.{ended-line, ended-whole, ended-plain, pieces-last, Reads-trans}
 
 -- a line feed at a place, and none before it
 pub FoundIn-line : (bytes : List ℕ) (at : ℕ) → at < length bytes → at ≤ 4096 → All IsNoFeed (take at bytes) → get_or bytes at 0 ≡ 10 → FoundIn bytes (found.Line at)
@@ -108,26 +109,25 @@ CutOf-failed a b c u v w before mid now r none f early rose =
     let P : List ℕ → Type 0 = λ xs. FoundIn xs found.Unended in
     CutOf-fault a c u w before now (Reads-kept a b c u v w r f) (subst P (sym f.1) none) (omega (arith, rose.1))
 
--- ---- what was not read
+-- ---- how far the source was read
 
--- the source was read only where no piece ends in the bytes that were ahead
-abbrev pub NotRead : {A : Type 0} → A → A → List ℕ → List ℕ → Type 0
-NotRead source_old source_new ahead_old ahead_new = (ended ahead_old ≡ []) ⊎ ((source_new ≡ source_old) × (ahead_new ≡ ahead_old))
+-- a read where no line had ended in what the source had handed over before
+pub LastRead-fill : {G : Type 0} (left : G → Option (List ℕ)) (calls : G → ℕ) (a b c : G) (u v : List ℕ) → Reads (left a) (left b) u v [] → FoundIn v found.Unended
+    → calls c ≡ calls b + 1 → ReadsNoFurther left calls AreNone a c u
+LastRead-fill left calls a b c u v r f once = inr (record {
+  mid = b;
+  earlier = r.handed;
+  handed = r.consumed;
+  once = once;
+  passed = ap ended r.same ∙ (ended-plain v f.1 f.0).0;
+})
 
-pub NotRead-none : {A : Type 0} (s t : A) (u v : List ℕ) → NotRead s t u v → FoundIn v found.Unended → ended u ≡ []
-NotRead-none s t u v (inl none) f = none
-NotRead-none s t u v (inr k) f = ap ended (sym k.1) ∙ (ended-plain v f.1 f.0).0
-
-first_ended : (n : ℕ) (v : List ℕ) (piece : Piece) → ended (take n v) ≡ piece ∷ [] → held_from [] (take n v) ≡ [] → ended v ≡ piece ∷ ended (drop n v)
-first_ended n v piece is none =
-    ap ended (sym (take-append-drop n v)) ∙ ended-more (take n v) (drop n v) none ∙ ap (λ l. l ++ ended (drop n v)) is
-
-pub NotRead-line : {A : Type 0} (s t : A) (u v : List ℕ) (n : ℕ) → NotRead s t u v → FoundIn v (found.Line n)
-    → (ended u ≡ []) ⊎ ((t ≡ s) × (ended u ≡ line (take n v) ∷ ended (drop (n + 1) v)))
-NotRead-line s t u v n (inl none) f = inl none
-NotRead-line s t u v n (inr k) f = inr (k.0, ap ended (sym k.1) ∙ first_ended (n + 1) v (line (take n v)) f.1 f.2)
-
-pub NotRead-long : {A : Type 0} (s t : A) (u v : List ℕ) → NotRead s t u v → FoundIn v found.Long
-    → (ended u ≡ []) ⊎ ((t ≡ s) × (ended u ≡ long (take 4097 v) ∷ ended (drop 4097 v)))
-NotRead-long s t u v (inl none) f = inl none
-NotRead-long s t u v (inr k) f = inr (k.0, ap ended (sym k.1) ∙ first_ended 4097 v (long (take 4097 v)) f.1 f.2)
+-- one read, with no byte ahead
+pub LastRead-first : {G : Type 0} (left : G → Option (List ℕ)) (calls : G → ℕ) (a c : G) (u : List ℕ) → u ≡ [] → calls c ≡ calls a + 1 → ReadsNoFurther left calls AreNone a c u
+LastRead-first left calls a c u none once = inr (record {
+  mid = a;
+  earlier = [];
+  handed = Consumes-nil (left a);
+  once = once;
+  passed = ap ended (append-nil u ∙ none);
+})

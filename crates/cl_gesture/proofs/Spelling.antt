@@ -1,15 +1,16 @@
 -- A line does a gesture exactly where it is that gesture's spelling.
-use Rattle.std.proofs.Common.{◌≡◌, ◌==◌, ◌&&◌, ◌<◌, not, ℕ, Bool, true, false, cond, List, [], ◌∷◌, ◌++◌, length, drop, nat_eq, codes, Some, None, All, refl, ap, subst, ◌∙◌, arith}
-use Rattle.std.specs.List.{list_all, starts_with}
+use Rattle.std.proofs.Common.{◌≡◌, ◌==◌, ◌<◌, not, ℕ, Bool, true, false, cond, List, [], ◌∷◌, ◌++◌, length, codes, Option, Some, None, All, append-nil, refl, ap, subst, ◌∙◌, arith}
+use Rattle.std.specs.List.{list_all}
 use Rattle.std.specs.Str.{bytes_eq}
-use Rattle.std.proofs.lemmas.Slice.Eq.{bytes_eq-Decides, starts_is}
-use Rattle.std.proofs.lemmas.Bool.Decides.{Decides-eqb, nat_tests}
+use Rattle.std.proofs.lemmas.Slice.Eq.{bytes_eq-Decides}
+use Rattle.std.proofs.lemmas.Bool.Decides.{nat_tests}
 use Rattle.std.proofs.lemmas.Grind.{common_steps}
 use Rattle.std.proofs.lemmas.List.Elements.{All-nil, All-cons, All-head, All-tail}
 use Rattle.std.proofs.lemmas.Bool.{and_parts, and_from, ne_eqb}
 use Rattle.cl_gesture.specs.declared.answers.Gesture.{Gesture}
 use Rattle.cl_gesture.specs.declared.answers.Gesture.TheVariants as gesture
-use Rattle.cl_gesture.specs.Gesture.{idle, does, is_idle, is_printable, is_typable, is_no_space, is_word, asking, typing, says, spelling_of, IsNoSpace, IsPrintable, IsTypable, AreSpelled}
+use Rattle.cl_gesture.specs.Gesture.{idle, bad, does, is_idle, is_printable, is_typable, is_no_space, is_word, verb_of, rest_of, alone, asking, typing, verb_says, says, spelling_of, IsNoSpace, IsPrintable, IsTypable, AreSpelled}
+use Rattle.cl_gesture.proofs.Verbs.{behind, rejoin}
 
 is_printable-true : (byte : ℕ) → is_printable byte ≡ true → IsPrintable byte
 is_printable-true byte h = grind (arith, nat_tests, common_steps)
@@ -64,45 +65,66 @@ is_word-yes (x ∷ xs) h = and_from (not (length (x ∷ xs) == 0)) (list_all is_
 same_gesture : (bytes : List ℕ) (g h : Gesture) → g ≡ h → (bytes ≡ spelling_of g) × IsTypable g → (bytes ≡ spelling_of h) × IsTypable h
 same_gesture bytes g h e s = let P : Gesture → Type 0 = λ k. (bytes ≡ spelling_of k) × IsTypable k in subst P e s
 
-forward : (bytes : List ℕ) (g : Gesture) (i r f k n t : Bool) → (r ≡ true → bytes ≡ codes "return") → (f ≡ true → bytes ≡ codes "frame")
-    → (k ≡ true → bytes ≡ codes "inks")
-    → (n ≡ true → (bytes ≡ codes "history " ++ drop 8 bytes) × IsTypable (gesture.History (drop 8 bytes)))
-    → (t ≡ true → (bytes ≡ codes "type " ++ drop 5 bytes) × IsTypable (gesture.«Type» (drop 5 bytes)))
-    → cond i idle (cond r (does gesture.Return) (cond f (does gesture.Frame) (cond k (does gesture.Inks)
-    (asking (cond n (Some (drop 8 bytes)) None) (typing (cond t (Some (drop 5 bytes)) None)))))) ≡ does g
+-- ---- a gesture that is said is spelled
+
+alone_spelled : (verb : List ℕ) (rest : Option (List ℕ)) (g h : Gesture) → verb ≡ spelling_of g → IsTypable g → alone g rest ≡ does h
+    → (verb ++ behind rest ≡ spelling_of h) × IsTypable h
+alone_spelled verb None g h is ok same = same_gesture (verb ++ []) g h (cc) (append-nil verb ∙ is, ok)
+alone_spelled verb (Some rest) g h is ok same = absurd (cc)
+
+asking_by : (verb name : List ℕ) (h : Gesture) (word : Bool) → is_word name ≡ word → verb ≡ codes "history" → cond word (does (gesture.History name)) bad ≡ does h
+    → (verb ++ 32 ∷ name ≡ spelling_of h) × IsTypable h
+asking_by verb name h true word is same =
+    same_gesture (verb ++ 32 ∷ name) (gesture.History name) h (cc) (ap (λ v. v ++ 32 ∷ name) is, is_word-true name word)
+asking_by verb name h false word is same = absurd (cc)
+
+asking_spelled : (verb : List ℕ) (rest : Option (List ℕ)) (h : Gesture) → verb ≡ codes "history" → asking rest ≡ does h → (verb ++ behind rest ≡ spelling_of h) × IsTypable h
+asking_spelled verb None h is same = absurd (cc)
+asking_spelled verb (Some name) h is same = asking_by verb name h (is_word name) refl is same
+
+typing_by : (verb text : List ℕ) (h : Gesture) (typable : Bool) → is_typable text ≡ typable → verb ≡ codes "type" → cond typable (does (gesture.«Type» text)) bad ≡ does h
+    → (verb ++ 32 ∷ text ≡ spelling_of h) × IsTypable h
+typing_by verb text h true typable is same =
+    same_gesture (verb ++ 32 ∷ text) (gesture.«Type» text) h (cc) (ap (λ v. v ++ 32 ∷ text) is, is_typable-true text typable)
+typing_by verb text h false typable is same = absurd (cc)
+
+typing_spelled : (verb : List ℕ) (rest : Option (List ℕ)) (h : Gesture) → verb ≡ codes "type" → typing rest ≡ does h → (verb ++ behind rest ≡ spelling_of h) × IsTypable h
+typing_spelled verb None h is same = absurd (cc)
+typing_spelled verb (Some text) h is same = typing_by verb text h (is_typable text) refl is same
+
+verb_spelled : (verb : List ℕ) (rest : Option (List ℕ)) (g : Gesture) (r f i o n t : Bool) → (r ≡ true → verb ≡ codes "return") → (f ≡ true → verb ≡ codes "frame")
+    → (i ≡ true → verb ≡ codes "inks") → (o ≡ true → verb ≡ codes "force") → (n ≡ true → verb ≡ codes "history") → (t ≡ true → verb ≡ codes "type")
+    → cond r (alone gesture.Return rest) (cond f (alone gesture.Frame rest) (cond i (alone gesture.Inks rest) (cond o (alone gesture.Force rest)
+    (cond n (asking rest) (cond t (typing rest) bad))))) ≡ does g
+    → (verb ++ behind rest ≡ spelling_of g) × IsTypable g
+verb_spelled verb rest g true f i o n t is_r is_f is_i is_o is_n is_t same = alone_spelled verb rest gesture.Return g (is_r refl) tt same
+verb_spelled verb rest g false true i o n t is_r is_f is_i is_o is_n is_t same = alone_spelled verb rest gesture.Frame g (is_f refl) tt same
+verb_spelled verb rest g false false true o n t is_r is_f is_i is_o is_n is_t same = alone_spelled verb rest gesture.Inks g (is_i refl) tt same
+verb_spelled verb rest g false false false true n t is_r is_f is_i is_o is_n is_t same = alone_spelled verb rest gesture.Force g (is_o refl) tt same
+verb_spelled verb rest g false false false false true t is_r is_f is_i is_o is_n is_t same = asking_spelled verb rest g (is_n refl) same
+verb_spelled verb rest g false false false false false true is_r is_f is_i is_o is_n is_t same = typing_spelled verb rest g (is_t refl) same
+verb_spelled verb rest g false false false false false false is_r is_f is_i is_o is_n is_t same = absurd (cc)
+
+line_by : (bytes : List ℕ) (g : Gesture) (quiet : Bool) → cond quiet idle (verb_says (verb_of bytes) (rest_of bytes)) ≡ does g
     → (bytes ≡ spelling_of g) × IsTypable g
-forward bytes g true r f k n t is_r is_f is_k is_n is_t same = absurd (cc)
-forward bytes g false true f k n t is_r is_f is_k is_n is_t same = same_gesture bytes gesture.Return g (cc) (is_r refl, tt)
-forward bytes g false false true k n t is_r is_f is_k is_n is_t same = same_gesture bytes gesture.Frame g (cc) (is_f refl, tt)
-forward bytes g false false false true n t is_r is_f is_k is_n is_t same = same_gesture bytes gesture.Inks g (cc) (is_k refl, tt)
-forward bytes g false false false false true t is_r is_f is_k is_n is_t same = same_gesture bytes (gesture.History (drop 8 bytes)) g (cc) (is_n refl)
-forward bytes g false false false false false true is_r is_f is_k is_n is_t same = same_gesture bytes (gesture.«Type» (drop 5 bytes)) g (cc) (is_t refl)
-forward bytes g false false false false false false is_r is_f is_k is_n is_t same = absurd (cc)
+line_by bytes g true same = absurd (cc)
+line_by bytes g false same =
+    let verb = verb_of bytes in
+    let spelled = verb_spelled verb (rest_of bytes) g (bytes_eq verb (codes "return")) (bytes_eq verb (codes "frame")) (bytes_eq verb (codes "inks"))
+    (bytes_eq verb (codes "force")) (bytes_eq verb (codes "history")) (bytes_eq verb (codes "type"))
+    (bytes_eq-Decides verb (codes "return")).0 (bytes_eq-Decides verb (codes "frame")).0 (bytes_eq-Decides verb (codes "inks")).0
+    (bytes_eq-Decides verb (codes "force")).0 (bytes_eq-Decides verb (codes "history")).0 (bytes_eq-Decides verb (codes "type")).0 same in
+    (rejoin bytes ∙ spelled.0, spelled.1)
+
+-- ---- a spelling is said
 
 backward : (g : Gesture) → IsTypable g → says (spelling_of g) ≡ does g
 backward gesture.Return h = refl
 backward gesture.Frame h = refl
 backward gesture.Inks h = refl
+backward gesture.Force h = refl
 backward (gesture.History name) h = rw (is_word-yes name h)
 backward (gesture.«Type» text) h = rw (is_typable-yes text h)
 
-typed-is : (bytes : List ℕ) → (starts_with nat_eq bytes (codes "type ") && is_typable (drop 5 bytes)) ≡ true
-    → (bytes ≡ codes "type " ++ drop 5 bytes) × IsTypable (gesture.«Type» (drop 5 bytes))
-typed-is bytes h =
-    let parts = and_parts (starts_with nat_eq bytes (codes "type ")) (is_typable (drop 5 bytes)) h in
-    ((starts_is Decides-eqb bytes (codes "type ") (starts_with nat_eq bytes (codes "type ")) refl).0 parts.0, is_typable-true (drop 5 bytes) parts.1)
-
-named-is : (bytes : List ℕ) → (starts_with nat_eq bytes (codes "history ") && is_word (drop 8 bytes)) ≡ true
-    → (bytes ≡ codes "history " ++ drop 8 bytes) × IsTypable (gesture.History (drop 8 bytes))
-named-is bytes h =
-    let parts = and_parts (starts_with nat_eq bytes (codes "history ")) (is_word (drop 8 bytes)) h in
-    ((starts_is Decides-eqb bytes (codes "history ") (starts_with nat_eq bytes (codes "history ")) refl).0 parts.0, is_word-true (drop 8 bytes) parts.1)
-
 pub are_spelled : AreSpelled
-are_spelled bytes g =
-    let there : says bytes ≡ does g → (bytes ≡ spelling_of g) × IsTypable g = λ same.
-    forward bytes g (is_idle bytes) (bytes_eq bytes (codes "return")) (bytes_eq bytes (codes "frame")) (bytes_eq bytes (codes "inks"))
-    (starts_with nat_eq bytes (codes "history ") && is_word (drop 8 bytes)) (starts_with nat_eq bytes (codes "type ") && is_typable (drop 5 bytes))
-    (bytes_eq-Decides bytes (codes "return")).0 (bytes_eq-Decides bytes (codes "frame")).0 (bytes_eq-Decides bytes (codes "inks")).0
-    (named-is bytes) (typed-is bytes) same in
-    (there, λ h. ap says h.0 ∙ backward g h.1)
+are_spelled bytes g = (λ same. line_by bytes g (is_idle bytes) same, λ h. ap says h.0 ∙ backward g h.1)

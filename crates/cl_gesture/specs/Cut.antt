@@ -1,5 +1,5 @@
 -- What the search for the next line answers.
-use Rattle.std.specs.Prelude.{◌≡◌, ◌⊎◌, ◌+◌, ◌<◌, ◌≤◌, ℕ, Option, List, [], ◌∷◌, true, false, length, take, drop, All}
+use Rattle.std.specs.Prelude.{◌≡◌, ◌+◌, ◌<◌, ◌≤◌, ℕ, Option, List, [], ◌∷◌, true, false, length, take, drop, All}
 use Rattle.cl_outside.specs.Causes.{Rose}
 use Rattle.cl_gesture.specs.declared.cut.Found.{Found}
 use Rattle.cl_gesture.specs.declared.cut.Found.TheVariants as found
@@ -23,13 +23,3 @@ CutOf old new ahead_old ahead_new faults_old faults_new cut.Last = Lines old new
 CutOf old new ahead_old ahead_new faults_old faults_new cut.End = Lines old new ahead_old ahead_new true []
 CutOf old new ahead_old ahead_new faults_old faults_new cut.Fault =
     Reads old new ahead_old [] ahead_new × (ended ahead_new ≡ []) × Rose faults_old faults_new
-
--- the source was read only where no piece ends in the bytes that were ahead; else the first of these pieces was cut
-abbrev pub UnreadCut : {A : Type 0} → A → A → List ℕ → List ℕ → Cut → Type 0
-UnreadCut source_old source_new ahead_old ahead_new (cut.Line n) =
-    (ended ahead_old ≡ []) ⊎ ((source_new ≡ source_old) × (ended ahead_old ≡ line (take n ahead_new) ∷ ended (drop (n + 1) ahead_new)))
-UnreadCut source_old source_new ahead_old ahead_new cut.Long =
-    (ended ahead_old ≡ []) ⊎ ((source_new ≡ source_old) × (ended ahead_old ≡ long (take 4097 ahead_new) ∷ ended (drop 4097 ahead_new)))
-UnreadCut source_old source_new ahead_old ahead_new cut.Last = ended ahead_old ≡ []
-UnreadCut source_old source_new ahead_old ahead_new cut.End = ended ahead_old ≡ []
-UnreadCut source_old source_new ahead_old ahead_new cut.Fault = ended ahead_old ≡ []

@@ -1,6 +1,6 @@
 -- What a line of the stream says.
-use Rattle.std.specs.Prelude.{◌≡◌, ◌≢◌, ◌==◌, ◌&&◌, ◌↔◌, ◌<◌, ◌≤◌, ◌++◌, All, not, ◌-◌, ℕ, Bool, true, nat_eq, nat_le, if◌then◌else◌, Option, Some, None, List, [], ◌∷◌, length, take, drop, codes}
-use Rattle.std.specs.List.{list_all, starts_with, ends_with}
+use Rattle.std.specs.Prelude.{◌≡◌, ◌≢◌, ◌==◌, ◌&&◌, ◌↔◌, ◌<◌, ◌≤◌, ◌++◌, All, not, ◌-◌, ℕ, Bool, true, nat_eq, nat_le, if◌then◌else◌, Option, Some, None, List, [], ◌∷◌, length, take, codes}
+use Rattle.std.specs.List.{list_all, list_any, ends_with, before_first, after_first}
 use Rattle.std.specs.Str.{bytes_eq}
 use Rattle.cl_gesture.specs.declared.answers.Gesture.{Gesture}
 use Rattle.cl_gesture.specs.declared.answers.Gesture.TheVariants as gesture
@@ -28,38 +28,52 @@ is_printable byte = nat_le 32 byte && nat_le byte 126
 abbrev pub is_typable : List ℕ → Bool
 is_typable bytes = not (length bytes == 0) && list_all is_printable bytes
 
--- TEXT of a line `type TEXT`: all that stands behind the word and one space
-abbrev pub typed_text : List ℕ → Option (List ℕ)
-typed_text bytes = if starts_with nat_eq bytes (codes "type ") && is_typable (drop 5 bytes) then Some (drop 5 bytes) else None
+abbrev pub is_space : ℕ → Bool
+is_space byte = nat_eq byte 32
 
 abbrev pub is_no_space : ℕ → Bool
-is_no_space byte = not (nat_eq byte 32)
+is_no_space byte = not (is_space byte)
 
 -- 1 or more bytes without a space
 abbrev pub is_word : List ℕ → Bool
 is_word bytes = not (length bytes == 0) && list_all is_no_space bytes
 
--- NAME of a line `history NAME`: the one word behind the first one and a space
-abbrev pub pane_name : List ℕ → Option (List ℕ)
-pane_name bytes = if starts_with nat_eq bytes (codes "history ") && is_word (drop 8 bytes) then Some (drop 8 bytes) else None
+-- the verb of a line: what stands before its first space, or all of it
+abbrev pub verb_of : List ℕ → List ℕ
+verb_of bytes = before_first is_space bytes
 
+-- what stands behind the first space; None: there is no space
+abbrev pub rest_of : List ℕ → Option (List ℕ)
+rest_of bytes = if list_any is_space bytes then Some (after_first is_space bytes) else None
+
+-- a gesture whose verb stands alone
+abbrev pub alone : Gesture → Option (List ℕ) → LineKind
+alone g None = does g
+alone g (Some rest) = bad
+
+-- the name of a pane: one word
+abbrev pub asking : Option (List ℕ) → LineKind
+asking None = bad
+asking (Some name) = if is_word name then does (gesture.History name) else bad
+
+-- a text that can be typed
 abbrev pub typing : Option (List ℕ) → LineKind
 typing None = bad
-typing (Some text) = does (gesture.«Type» text)
+typing (Some text) = if is_typable text then does (gesture.«Type» text) else bad
 
--- the gesture that asks for the history of a pane of this name, where there is one
-abbrev pub asking : Option (List ℕ) → LineKind → LineKind
-asking None other = other
-asking (Some name) other = does (gesture.History name)
+-- what a verb says, with what stands behind it
+abbrev pub verb_says : List ℕ → Option (List ℕ) → LineKind
+verb_says verb rest =
+    if bytes_eq verb (codes "return") then alone gesture.Return rest else
+    (if bytes_eq verb (codes "frame") then alone gesture.Frame rest else
+    (if bytes_eq verb (codes "inks") then alone gesture.Inks rest else
+    (if bytes_eq verb (codes "force") then alone gesture.Force rest else
+    (if bytes_eq verb (codes "history") then asking rest else
+    (if bytes_eq verb (codes "type") then typing rest else bad)))))
 
--- `return`, `frame`, `inks`, `history NAME` or `type TEXT`, byte for byte
+-- what a line says, byte for byte
 abbrev pub says : List ℕ → LineKind
-says bytes =
-    if is_idle bytes then idle else
-    (if bytes_eq bytes (codes "return") then does gesture.Return else
-    (if bytes_eq bytes (codes "frame") then does gesture.Frame else
-    (if bytes_eq bytes (codes "inks") then does gesture.Inks else
-    asking (pane_name bytes) (typing (typed_text bytes)))))
+says bytes = if is_idle bytes then idle else verb_says (verb_of bytes) (rest_of bytes)
 
 -- what a piece of the stream says; one that was cut is no line of the grammar, whatever it holds
 abbrev pub kind_of : Piece → LineKind
@@ -73,6 +87,7 @@ abbrev pub spelling_of : Gesture → List ℕ
 spelling_of gesture.Return = codes "return"
 spelling_of gesture.Frame = codes "frame"
 spelling_of gesture.Inks = codes "inks"
+spelling_of gesture.Force = codes "force"
 spelling_of (gesture.History name) = codes "history " ++ name
 spelling_of (gesture.«Type» text) = codes "type " ++ text
 
@@ -87,6 +102,7 @@ abbrev pub IsTypable : Gesture → Type 0
 IsTypable gesture.Return = Unit {0}
 IsTypable gesture.Frame = Unit {0}
 IsTypable gesture.Inks = Unit {0}
+IsTypable gesture.Force = Unit {0}
 IsTypable (gesture.History name) = (0 < length name) × All IsNoSpace name
 IsTypable (gesture.«Type» text) = (0 < length text) × All IsPrintable text
 

@@ -1,7 +1,11 @@
 pub mod Lines
+pub mod Progress
+pub mod Idle
+pub mod Reading
 pub mod Gesture
 pub mod Said
 pub mod Ahead
 pub mod Cut
+pub mod LineReader
 pub mod Next
 pub mod Reader

@@ -1,5 +1,5 @@
 //! Bytes of a stream that were read and are not answered yet.
-ghost use Rattle.std.specs.Prelude.{◌≡◌, ◌<◌, ◌≤◌, ◌-◌, [], length, take, drop, IfOk};
+ghost use Rattle.std.specs.Prelude.{◌≡◌, ◌+◌, ◌<◌, ◌≤◌, ◌-◌, [], length, take, drop, IfOk};
 ghost use Rattle.cl_outside.specs.Outside.{ReadTook, FailedRose};
 ghost use Rattle.cl_gesture.specs.Ahead.{FillTook};
 
@@ -74,6 +74,7 @@ impl Ahead {
     pub fn fill<G: Source>(&mut self, source: &mut G) -> Took
         requires { length self.old ≤ 4096 }
         ensures lent { G.lent source.new ≡ G.lent source.old }
+        ensures calls { G.calls source.new ≡ G.calls source.old + 1 }
         ensures bytes { FillTook (G.left source.old) (G.left source.new) self.old self.new result }
         ensures cause { FailedRose (G.faults source.old) (G.faults source.new) result }
     {
@@ -94,6 +95,7 @@ fn read_behind<G: Source>(source: &mut G, bytes: &mut [u8], start: usize, end: u
     requires room { end - start < length bytes.old }
     ensures kept { take (end - start) bytes.new ≡ take (end - start) (drop start bytes.old) }
     ensures lent { G.lent source.new ≡ G.lent source.old }
+    ensures calls { G.calls source.new ≡ G.calls source.old + 1 }
     ensures bytes { ReadTook (G.left source.old) (G.left source.new)
         (drop (end - start) bytes.new) result }
     ensures cause { FailedRose (G.faults source.old) (G.faults source.new) result }

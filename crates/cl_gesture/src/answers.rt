@@ -12,6 +12,8 @@ pub enum Gesture {
     Frame,
     /// Asked for the inks of what the screen shows.
     Inks,
+    /// Asked that all panes are shown anew, from nothing.
+    Force,
     /// Asked for the history of the pane of this name, 1 or more bytes without a space, as it was
     /// written.
     History(Text),

@@ -1,7 +1,8 @@
 //! The next line of a stream, cut from the bytes that were read.
 ghost use Rattle.std.specs.Prelude.{◌≡◌, ◌≤◌, All, length, take};
 ghost use Rattle.cl_gesture.specs.Lines.{IsNoFeed, longest_line};
-ghost use Rattle.cl_gesture.specs.Cut.{FoundIn, CutOf, UnreadCut};
+ghost use Rattle.cl_gesture.specs.Reading.{ReadsNoFurther, AreNone};
+ghost use Rattle.cl_gesture.specs.Cut.{FoundIn, CutOf};
 
 use crate::ahead::Ahead;
 use cl_outside::{Source, Took};
@@ -56,7 +57,7 @@ fn find_line(bytes: &[u8], seen: usize) -> Found
 pub fn next_cut<G: Source>(ahead: &mut Ahead, source: &mut G) -> Cut
     ensures lent { G.lent source.new ≡ G.lent source.old }
     ensures later { G.faults source.old ≤ G.faults source.new }
-    ensures unread { UnreadCut source.old source.new ahead.old ahead.new result }
+    ensures reads { ReadsNoFurther G.left G.calls AreNone source.old source.new ahead.old }
     ensures cut { CutOf (G.left source.old) (G.left source.new) ahead.old ahead.new
         (G.faults source.old) (G.faults source.new) result }
 {

@@ -1,8 +1,9 @@
 //! The grammar of gesture lines.
-ghost use Rattle.std.specs.Prelude.{◌≡◌, MatchOption, None, Some};
+ghost use Rattle.std.specs.Prelude.{◌≡◌, option_copied, position};
 ghost use Rattle.std.specs.List.{list_all};
 ghost use Rattle.cl_gesture.specs.declared.answers.Gesture.TheVariants as gesture;
-ghost use Rattle.cl_gesture.specs.Gesture.{does, without_return, is_idle, is_no_space, is_printable, is_typable, is_word, pane_name, typed_text, says};
+ghost use Rattle.cl_gesture.specs.Gesture.{is_idle, is_no_space, is_printable, is_space, is_typable, is_word, without_return};
+ghost use Rattle.cl_gesture.specs.Gesture.{alone, asking, does, rest_of, says, typing, verb_of, verb_says};
 ghost use Rattle.cl_gesture.specs.Said.{SaidOf, AnswerOf};
 
 use crate::answers::{Gesture, Next};
@@ -59,19 +60,11 @@ fn is_typable(text: &[u8]) -> bool
     !text.is_empty() && are_printable(text)
 }
 
-/// The text of a line `type TEXT`.
-fn typed_text(line: &[u8]) -> Option<&[u8]>
-    ensures { MatchOption result (typed_text line.now ≡ None)
-        (λ text. typed_text line.now ≡ Some text.now) }
+/// Whether a byte is a space, which ends a verb and no word holds.
+fn is_space(byte: u8) -> bool
+    ensures { result ≡ is_space byte }
 {
-    line.strip_prefix(b"type ").filter(|text| is_typable(text))
-}
-
-/// Whether a byte may stand in a word.
-fn is_no_space(byte: u8) -> bool
-    ensures { result ≡ is_no_space byte }
-{
-    byte != b' '
+    byte == b' '
 }
 
 /// Whether these bytes are one word.
@@ -85,18 +78,58 @@ fn is_word(bytes: &[u8]) -> bool
 fn have_no_space(bytes: &[u8]) -> bool
     ensures { result ≡ list_all is_no_space bytes.now }
 {
-    bytes.iter().all(|byte| is_no_space(*byte))
+    bytes.iter().all(|byte| !is_space(*byte))
 }
 
-/// The name of a line `history NAME`.
-fn pane_name(line: &[u8]) -> Option<&[u8]>
-    ensures { MatchOption result (pane_name line.now ≡ None)
-        (λ name. pane_name line.now ≡ Some name.now) }
+/// Where the first space of a line stands.
+fn first_space(line: &[u8]) -> Option<usize>
+    ensures { result ≡ position is_space line.now }
 {
-    line.strip_prefix(b"history ").filter(|name| is_word(name))
+    line.iter().position(|byte| is_space(*byte))
 }
 
-/// What a line with this text says.
+/// The verb of a line, and what stands behind its first space.
+fn cut_verb(line: &[u8]) -> (&[u8], Option<&[u8]>)
+    ensures verb { result.0.now ≡ verb_of line.now }
+    ensures rest { option_copied result.1 ≡ rest_of line.now }
+{
+    match first_space(line) {
+        Some(at) => (&line[..at], Some(&line[at + 1..])),
+        None => (line, None),
+    }
+}
+
+/// What a verb says that stands alone.
+fn read_alone(gesture: Gesture, rest: Option<&[u8]>) -> Said
+    ensures { SaidOf (alone gesture (option_copied rest.entry)) result }
+{
+    match rest {
+        None => Said::Gesture(gesture),
+        Some(_) => Said::Bad,
+    }
+}
+
+/// What `history` says of the pane of this name.
+fn asked(alloc: Global, name: &[u8]) -> Said
+    ensures { SaidOf (does (gesture.History name.now)) result }
+{
+    match Text::from_slice(alloc, name) {
+        Ok(name) => Said::Gesture(Gesture::History(name)),
+        Err(_) => Said::Memory,
+    }
+}
+
+/// What `history` says with what stands behind it.
+fn read_history(alloc: Global, rest: Option<&[u8]>) -> Said
+    ensures { SaidOf (asking (option_copied rest.entry)) result }
+{
+    match rest {
+        Some(name) if is_word(name) => asked(alloc, name),
+        _ => Said::Bad,
+    }
+}
+
+/// What `type` says with this text.
 fn typed(alloc: Global, text: &[u8]) -> Said
     ensures { SaidOf (does (gesture.«Type» text.now)) result }
 {
@@ -106,13 +139,34 @@ fn typed(alloc: Global, text: &[u8]) -> Said
     }
 }
 
-/// What a line with this name of a pane says.
-fn asked(alloc: Global, name: &[u8]) -> Said
-    ensures { SaidOf (does (gesture.History name.now)) result }
+/// What `type` says with what stands behind it.
+fn read_type(alloc: Global, rest: Option<&[u8]>) -> Said
+    ensures { SaidOf (typing (option_copied rest.entry)) result }
 {
-    match Text::from_slice(alloc, name) {
-        Ok(name) => Said::Gesture(Gesture::History(name)),
-        Err(_) => Said::Memory,
+    match rest {
+        Some(text) if is_typable(text) => typed(alloc, text),
+        _ => Said::Bad,
+    }
+}
+
+/// What a verb says, with what stands behind it.
+fn read_verb(alloc: Global, verb: &[u8], rest: Option<&[u8]>) -> Said
+    ensures { SaidOf (verb_says verb.now (option_copied rest.entry)) result }
+{
+    if verb == b"return".as_slice() {
+        read_alone(Gesture::Return, rest)
+    } else if verb == b"frame".as_slice() {
+        read_alone(Gesture::Frame, rest)
+    } else if verb == b"inks".as_slice() {
+        read_alone(Gesture::Inks, rest)
+    } else if verb == b"force".as_slice() {
+        read_alone(Gesture::Force, rest)
+    } else if verb == b"history".as_slice() {
+        read_history(alloc, rest)
+    } else if verb == b"type".as_slice() {
+        read_type(alloc, rest)
+    } else {
+        Said::Bad
     }
 }
 
@@ -124,22 +178,8 @@ pub fn read_line(alloc: Global, line: &[u8]) -> Said
     if is_idle(line) {
         return Said::Idle;
     }
-    if line == b"return".as_slice() {
-        return Said::Gesture(Gesture::Return);
-    }
-    if line == b"frame".as_slice() {
-        return Said::Gesture(Gesture::Frame);
-    }
-    if line == b"inks".as_slice() {
-        return Said::Gesture(Gesture::Inks);
-    }
-    if let Some(name) = pane_name(line) {
-        return asked(alloc, name);
-    }
-    let Some(text) = typed_text(line) else {
-        return Said::Bad;
-    };
-    typed(alloc, text)
+    let (verb, rest) = cut_verb(line);
+    read_verb(alloc, verb, rest)
 }
 
 /// The answer for a line of this number; None: the line does nothing.

@@ -4,8 +4,12 @@
 //! bytes without one is cut there and is bad, and the next byte begins the next line. One carriage
 //! return at a line's end is dropped. An empty line and a line that begins with `#` do nothing, but
 //! they are counted. `type TEXT` types TEXT, 1 or more bytes from 32 to 126, which begins right
-//! behind the one space; `history NAME` asks for a pane by its name, one word behind one space; `return`,
-//! `frame` and `inks` stand alone. Any other line is bad. A reader reads at most 1,000,000 lines.
+//! behind the first space; `history NAME` asks for a pane by its name, one word behind the first
+//! space; `return`, `frame`, `inks` and `force` stand alone. Any other line is bad. A reader reads at
+//! most 1,000,000 lines.
+//!
+//! `LineReader` cuts the lines of any such stream and counts them; `Gestures` is one with the grammar
+//! of gestures. Neither reads its source again once the line that it answers has ended.
 #![tactic(auto)]
 
 mod ahead;
@@ -13,6 +17,7 @@ mod answers;
 mod cut;
 mod grammar;
 mod laws;
+mod lines;
 mod reader;
 
 pub use ahead::Ahead;
@@ -20,4 +25,5 @@ pub use answers::{Gesture, Next, Stop};
 pub use laws::{
     cutting_keeps_the_bytes, gestures_are_spelled, pieces_are_well_cut, there_is_one_cut,
 };
+pub use lines::{LineReader, NextLine};
 pub use reader::Gestures;
