@@ -1,3 +1,9 @@
+pub mod Agreements
+pub mod Choices
+pub mod OperationLemmas
 pub mod PartLemmas
 pub mod RowLemmas
+pub mod Runs
+pub mod ShownLemmas
+pub mod ShownRows
 pub mod WindowLemmas

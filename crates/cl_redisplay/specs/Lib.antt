@@ -1,3 +1,7 @@
+pub mod Operations
 pub mod Paint
 pub mod Parts
+pub mod Screens
+pub mod Sending
+pub mod Shown
 pub mod Windows

@@ -1,8 +1,9 @@
 //! Painting of a history in an area of a screen.
-ghost use Rattle.std.specs.Prelude.{◌≡◌, []};
+ghost use Rattle.std.specs.Prelude.{◌≡◌, [], option_copied};
 ghost use Rattle.cl_medium.specs.Items.{move_item};
 ghost use Rattle.cl_record.specs.Marks.{history_marks};
 ghost use Rattle.cl_redisplay.specs.Paint.{LiesIn, Repaints};
+ghost use Rattle.cl_redisplay.specs.Screens.{pane_marks};
 
 use crate::areas::Area;
 use crate::windows::Window;
@@ -36,4 +37,15 @@ pub fn paint(raster: &mut Raster, area: Area, history: &History<AnyLeaf>)
     blank(raster, area);
     let mut window = Window::new(raster, area);
     history.replay_in(&area.own_rect(), &mut window);
+}
+
+// Paints a history, or blanks the area where there is none.
+pub(crate) fn paint_pane(raster: &mut Raster, area: Area, history: Option<&History<AnyLeaf>>)
+    requires { LiesIn area raster.old }
+    ensures { Repaints raster.old raster.new area (pane_marks (option_copied history.entry)) }
+{
+    match history {
+        Some(history) => paint(raster, area, history),
+        None => blank(raster, area),
+    }
 }

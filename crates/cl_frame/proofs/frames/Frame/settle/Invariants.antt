@@ -1,0 +1,20 @@
+use Rattle.std.proofs.Common.{◌≡◌, ◌≤◌, ◌++◌, List, ℕ, drop, take}
+use Rattle.cl_application.specs.Panes.{panes_of}
+use Rattle.cl_frame.specs.Frames.{GoesStale, IsFrameOf, SettlesPanes}
+use Rattle.cl_frame.specs.Ground.{ground}
+use Rattle.cl_frame.specs.declared.panes.Pane.{Pane}
+use Rattle.cl_redisplay.specs.Screens.{Agree}
+use Rattle.cl_frame.proofs.frames.Frame.settle.Given as goal
+
+abbrev pub invariant-panes : goal.invariant-panes
+invariant-panes g l = record {
+  frame : IsFrameOf l.program.app.now l.self;
+  agree : Agree l.self.screen.stale l.self.screen.raster (g.D.Device.broken l.device) (g.D.Device.cleared l.device) (g.D.Device.picture l.device);
+  rest : drop l.place l.self.panes.items ≡ drop l.place l.initial.self.panes.items;
+  goes_on : (ns : List Pane) (last : ℕ)
+      → SettlesPanes (ground l.program.app.now l.program.limits) l.which l.slots (drop l.place (panes_of l.program.app.now)) (drop l.place l.initial.self.panes.items) ns l.steps last
+      → SettlesPanes (ground l.program.app.now l.program.limits) l.which l.slots (panes_of l.program.app.now) l.initial.self.panes.items (take l.place l.self.panes.items ++ ns) l.initial.steps last;
+  goes_stale : GoesStale l.initial.self.screen.stale l.self.screen.stale (g.D.Device.faults l.initial.device) (g.D.Device.faults l.device);
+  lent : g.D.Device.lent l.device ≡ g.D.Device.lent l.initial.device;
+  later : l.initial.steps ≤ l.steps;
+}

@@ -1,0 +1,4 @@
+pub mod Ground
+pub mod Panes
+pub mod Settling
+pub mod Frames

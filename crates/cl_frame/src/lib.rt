@@ -1,0 +1,12 @@
+//! The panes of an application's frame on one screen.
+#![tactic(auto)]
+
+mod frames;
+mod panes;
+mod reports;
+mod settling;
+
+pub use frames::Frame;
+pub use panes::{Pane, area_of};
+pub use reports::{PaneReport, Report};
+pub use settling::Which;

@@ -1,0 +1,218 @@
+//! Panes that are settled, one after another.
+ghost use Rattle.std.specs.Prelude.{◌≡◌, ◌≤◌, ◌<◌, true, length, map, slice_set};
+ghost use Rattle.cl_application.specs.Panes.{panes_of};
+ghost use Rattle.cl_raster.specs.Raster.{SameSize};
+ghost use Rattle.cl_redisplay.specs.Paint.{LiesIn, Repaints};
+ghost use Rattle.cl_frame.specs.Frames.{AreShown, GoesStale, IsFrameOf, Replaces, Settles, SettlesAt, fault_between, is_stale_under, marks_of_frame, reports_of_frame};
+ghost use Rattle.cl_frame.specs.Ground.{ground};
+ghost use Rattle.cl_frame.specs.Panes.{marks_in, marks_of_pane};
+ghost use Rattle.cl_frame.specs.Settling.{SpendsPanes, is_due, met_memory, settle_panes};
+ghost use Rattle.cl_redisplay.specs.Screens.{Agree, PaintedRose, StaleAfter, is_fault};
+
+use crate::frames::Frame;
+use crate::panes::Pane;
+use crate::reports::PaneReport;
+use cl_eval::{Program, Slots, Types};
+use cl_outside::{Device, Ledger, Steps};
+use cl_redisplay::{Painted, Screen, repaint};
+
+/// Which panes are settled.
+#[derive(Clone, Copy, PartialEq, Eq, Debug)]
+pub enum Which {
+    /// Each of them.
+    All,
+    /// Those that are blank for want of memory.
+    Blank,
+    /// Each of them, from nothing, on a screen that is redrawn in full afterwards.
+    Force,
+}
+
+impl Which {
+    // Whether a pane is settled.
+    fn is_due(self, pane: &Pane) -> bool
+        ensures { result ≡ is_due self (marks_of_pane pane.now) }
+    {
+        match self {
+            Which::All => true,
+            Which::Blank => pane.history.is_none(),
+            Which::Force => true,
+        }
+    }
+
+    // Makes a screen stale whose panes are settled from nothing.
+    fn start(self, screen: &mut Screen)
+        ensures raster { screen.new.raster ≡ screen.old.raster }
+        ensures stale { screen.new.stale ≡ is_stale_under self screen.old.stale }
+    {
+        match self {
+            Which::All => {}
+            Which::Blank => {}
+            Which::Force => screen.make_stale(),
+        }
+    }
+}
+
+impl Frame {
+    /// Settles panes in their order: each that is asked for shows its display, evaluated once, from
+    /// nothing, and is blank where it meets want of memory. A pane that is not asked for stays as it
+    /// is, and its report is `Quiet`. The area of each settled pane is sent to the device, unless the
+    /// screen is stale. `Force` sends nothing and leaves the screen stale, so that a refresh must
+    /// follow.
+    pub fn settle<T: Types, D: Device, L: Ledger>(
+        &mut self,
+        program: &Program<'_, T>,
+        which: Which,
+        slots: &Slots,
+        device: &mut D,
+        steps: &mut Steps<L>,
+    ) -> Painted
+        requires depth { program.now.limits.depth ≤ 512 }
+        requires frame { IsFrameOf program.now.app.now self.old }
+        requires agree { Agree self.old.screen.stale self.old.screen.raster (D.broken device.old)
+            (D.cleared device.old) (D.picture device.old) }
+        ensures settles { Settles (ground program.now.app.now program.now.limits) which slots.now
+            self.old self.new }
+        ensures ledger { SpendsPanes (settle_panes (ground program.now.app.now program.now.limits)
+            which slots.now (panes_of program.now.app.now) (marks_of_frame self.old)
+            (map met_memory (reports_of_frame self.new))) steps.old steps.new }
+        ensures frame { IsFrameOf program.now.app.now self.new }
+        ensures agree { Agree self.new.screen.stale self.new.screen.raster (D.broken device.new)
+            (D.cleared device.new) (D.picture device.new) }
+        ensures stale { StaleAfter (is_stale_under which self.old.screen.stale)
+            self.new.screen.stale result }
+        ensures fresh { is_stale_under which self.old.screen.stale ≡ true → result ≡ Painted.Done }
+        ensures lent { D.lent device.new ≡ D.lent device.old }
+        ensures cause { PaintedRose (D.faults device.old) (D.faults device.new) result }
+        ensures later { steps.old ≤ steps.new }
+    {
+        which.start(&mut self.screen);
+        let was_stale = self.screen.stale();
+        'panes: for place in 0..self.panes.len() {
+            self.settle_at(place, program, which, slots, device, steps);
+        }
+        fault_between(was_stale, self.screen.stale())
+    }
+
+    /// Settles panes, and then redraws in full a screen that was stale before or whose histories were
+    /// discarded. The screen is stale afterwards exactly where the device failed here.
+    pub fn update<T: Types, D: Device, L: Ledger>(
+        &mut self,
+        program: &Program<'_, T>,
+        which: Which,
+        slots: &Slots,
+        device: &mut D,
+        steps: &mut Steps<L>,
+    ) -> Painted
+        requires depth { program.now.limits.depth ≤ 512 }
+        requires frame { IsFrameOf program.now.app.now self.old }
+        requires agree { Agree self.old.screen.stale self.old.screen.raster (D.broken device.old)
+            (D.cleared device.old) (D.picture device.old) }
+        ensures settles { Settles (ground program.now.app.now program.now.limits) which slots.now
+            self.old self.new }
+        ensures ledger { SpendsPanes (settle_panes (ground program.now.app.now program.now.limits)
+            which slots.now (panes_of program.now.app.now) (marks_of_frame self.old)
+            (map met_memory (reports_of_frame self.new))) steps.old steps.new }
+        ensures frame { IsFrameOf program.now.app.now self.new }
+        ensures agree { Agree self.new.screen.stale self.new.screen.raster (D.broken device.new)
+            (D.cleared device.new) (D.picture device.new) }
+        ensures stale { self.new.screen.stale ≡ is_fault result }
+        ensures lent { D.lent device.new ≡ D.lent device.old }
+        ensures cause { PaintedRose (D.faults device.old) (D.faults device.new) result }
+        ensures later { steps.old ≤ steps.new }
+    {
+        let is_stale = which == Which::Force || self.screen.stale();
+        let painted = self.settle(program, which, slots, device, steps);
+        if is_stale {
+            self.refresh(device)
+        } else {
+            painted
+        }
+    }
+
+    // Settles the pane in this place, where that is asked for.
+    fn settle_at<T: Types, D: Device, L: Ledger>(
+        &mut self,
+        place: usize,
+        program: &Program<'_, T>,
+        which: Which,
+        slots: &Slots,
+        device: &mut D,
+        steps: &mut Steps<L>,
+    )
+        requires depth { program.now.limits.depth ≤ 512 }
+        requires place { place < length self.old.panes.items }
+        requires frame { IsFrameOf program.now.app.now self.old }
+        requires agree { Agree self.old.screen.stale self.old.screen.raster (D.broken device.old)
+            (D.cleared device.old) (D.picture device.old) }
+        ensures settles { SettlesAt (ground program.now.app.now program.now.limits) which slots.now
+            place self.old.panes.items self.new.panes.items steps.old steps.new }
+        ensures frame { IsFrameOf program.now.app.now self.new }
+        ensures agree { Agree self.new.screen.stale self.new.screen.raster (D.broken device.new)
+            (D.cleared device.new) (D.picture device.new) }
+        ensures goes_stale { GoesStale self.old.screen.stale self.new.screen.stale
+            (D.faults device.old) (D.faults device.new) }
+        ensures lent { D.lent device.new ≡ D.lent device.old }
+        ensures later { steps.old ≤ steps.new }
+    {
+        let Some(declared) = program.app.frame.panes.at(place) else {
+            unreachable!()
+        };
+        if !which.is_due(&self.panes[place]) {
+            self.panes[place].report = PaneReport::Quiet;
+            return;
+        }
+        let pane = self.panes[place].evaluated(program, declared, slots, steps);
+        self.put(place, pane, device);
+    }
+
+    // Puts a pane in the place of one with the same area, and shows it.
+    fn put<D: Device>(&mut self, place: usize, pane: Pane, device: &mut D)
+        requires place { place < length self.old.panes.items }
+        requires replaces { Replaces self.old.panes.items place pane }
+        requires shown { AreShown self.old.panes.items self.old.screen.raster }
+        requires agree { Agree self.old.screen.stale self.old.screen.raster (D.broken device.old)
+            (D.cleared device.old) (D.picture device.old) }
+        ensures panes { self.new.panes.items ≡ slice_set self.old.panes.items place pane }
+        ensures size { SameSize self.old.screen.raster self.new.screen.raster }
+        ensures shown { AreShown self.new.panes.items self.new.screen.raster }
+        ensures agree { Agree self.new.screen.stale self.new.screen.raster (D.broken device.new)
+            (D.cleared device.new) (D.picture device.new) }
+        ensures goes_stale { GoesStale self.old.screen.stale self.new.screen.stale
+            (D.faults device.old) (D.faults device.new) }
+        ensures lent { D.lent device.new ≡ D.lent device.old }
+    {
+        self.show(&pane, device);
+        self.panes[place] = pane;
+    }
+
+    // Shows a pane in its area of the screen.
+    fn show<D: Device>(&mut self, pane: &Pane, device: &mut D)
+        requires lies { LiesIn pane.now.area self.old.screen.raster }
+        requires agree { Agree self.old.screen.stale self.old.screen.raster (D.broken device.old)
+            (D.cleared device.old) (D.picture device.old) }
+        ensures panes { self.new.panes ≡ self.old.panes }
+        ensures repaints { Repaints self.old.screen.raster self.new.screen.raster pane.now.area
+            (marks_in (marks_of_pane pane.now)) }
+        ensures agree { Agree self.new.screen.stale self.new.screen.raster (D.broken device.new)
+            (D.cleared device.new) (D.picture device.new) }
+        ensures goes_stale { GoesStale self.old.screen.stale self.new.screen.stale
+            (D.faults device.old) (D.faults device.new) }
+        ensures lent { D.lent device.new ≡ D.lent device.old }
+    {
+        let _ = match &pane.history {
+            Some(history) => repaint(&mut self.screen, pane.area, Some(history), device),
+            None => repaint(&mut self.screen, pane.area, None, device),
+        };
+    }
+}
+
+// A fault of the device, where a screen has become stale.
+fn fault_between(was_stale: bool, is_stale: bool) -> Painted
+    ensures { result ≡ fault_between was_stale is_stale }
+{
+    if !was_stale && is_stale {
+        Painted::DeviceFault
+    } else {
+        Painted::Done
+    }
+}
