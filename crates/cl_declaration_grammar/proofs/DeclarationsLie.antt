@@ -156,8 +156,8 @@ module _ (w : Signatures) where
   panes_lie : (ds : List Datum) (from to : ℕ) → LieList from ds to → LieParts from (panes_seen ds) to
   panes_lie [] from to h = h
   panes_lie (p ∷ more) from to h =
-      parts_joined (pane_seen (parts_of p)) (planned_parts more) from h.0 to (pane_lies (parts_of p) from h.0 (inside p from h.0 h.1))
-      (planned_lie more h.0 to h.2)
+      parts_joined (pane_seen (parts_of p)) (panes_seen more) from h.0 to (pane_lies (parts_of p) from h.0 (inside p from h.0 h.1))
+      (panes_lie more h.0 to h.2)
 
   section_lies : (k : Key) (at : ℕ) (ds : List Datum) (from to : ℕ) → LieKey from (record { key = k; at = at; values = ds }) to
       → LieParts from (section_seen w (record { key = k; at = at; values = ds })) to

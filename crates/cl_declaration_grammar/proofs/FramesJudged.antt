@@ -8,12 +8,12 @@ use Rattle.cl_forms.specs.declared.keys.Key.{Key}
 use Rattle.cl_forms.specs.declared.keys.Key.TheVariants as key
 use Rattle.cl_words.specs.declared.signatures.Signatures.{Signatures}
 use Rattle.cl_declare.specs.Frames.{frame_keys, frame_shape}
-use Rattle.cl_declare.specs.Sections.{SlotTable, parse_slot, parse_slots, note_display, note_pane, no_more, parse_panes, parse_section}
+use Rattle.cl_declare.specs.Sections.{SlotTable, parse_slot, parse_slots, note_display, note_pane, note_panes, parse_section}
 use Rattle.cl_declare.specs.Sections.{parse_sections, frame_of, parse_shaped, parse_keyed, parse_frame}
 use Rattle.cl_declare.specs.declared.frames.FrameShape.{FrameShape}
 use Rattle.cl_grammar.specs.Sights.{expression}
 use Rattle.cl_grammar.proofs.Judging.{Any}
-use Rattle.cl_declaration_grammar.specs.Parts.{expressions, wrong, planned_parts}
+use Rattle.cl_declaration_grammar.specs.Parts.{expressions, wrong}
 use Rattle.cl_declaration_grammar.specs.Types.{type_seen}
 use Rattle.cl_declaration_grammar.specs.Frames.{slot_seen, slots_seen, pane_display_seen, pane_seen, panes_seen, section_seen, sections_seen}
 use Rattle.cl_declaration_grammar.specs.Frames.{keyed_frame_seen, frame_seen}
@@ -35,10 +35,6 @@ module _ (w : Signatures) where
   slots_judged (d ∷ ds) slots =
       joined w (slot_seen w (parts_of d)) (slots_seen w ds) (slot_judged (offset d) (parts_of d) slots) λ more i. slots_judged ds more
 
-  pub planned_judged : (ds : List Datum) → Judges w (planned_parts ds) Any (no_more ds)
-  planned_judged [] = ended w
-  planned_judged (d ∷ ds) = refused_first w 0 (offset d) (planned_parts ds)
-
   shown_judged : (at : ℕ) (o : Option (List ℕ)) → Judges w (pane_display_seen at o) Any (note_display w at o)
   shown_judged at None = ended w
   shown_judged at (Some x) = display_name_judged w x at
@@ -53,9 +49,9 @@ module _ (w : Signatures) where
   pane_judged (n ∷ x ∷ y ∷ a ∷ b ∷ []) = ended w
   pane_judged (n ∷ x ∷ y ∷ a ∷ b ∷ d ∷ e ∷ ds) = ended w
 
-  panes_judged : (ds : List Datum) → Judges w (panes_seen ds) Any (parse_panes w ds)
+  panes_judged : (ds : List Datum) → Judges w (panes_seen ds) Any (note_panes w ds)
   panes_judged [] = ended w
-  panes_judged (p ∷ more) = joined w (pane_seen (parts_of p)) (planned_parts more) (pane_judged (parts_of p)) λ u i. planned_judged more
+  panes_judged (p ∷ more) = joined w (pane_seen (parts_of p)) (panes_seen more) (pane_judged (parts_of p)) λ u i. panes_judged more
 
   section_judged : (k : Key) (at : ℕ) (ds : List Datum) (slots : SlotTable)
       → Judges w (section_seen w (record { key = k; at = at; values = ds })) Any (parse_section w (record { key = k; at = at; values = ds }) slots)

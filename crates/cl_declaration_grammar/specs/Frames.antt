@@ -7,7 +7,7 @@ use Rattle.cl_forms.specs.declared.keys.Key.TheVariants as key
 use Rattle.cl_words.specs.declared.signatures.Signatures.{Signatures}
 use Rattle.cl_declare.specs.Frames.{frame_keys, frame_shape}
 use Rattle.cl_grammar.specs.Sights.{expression}
-use Rattle.cl_declaration_grammar.specs.Parts.{Part, display_name, expressions, wrong, planned, planned_parts}
+use Rattle.cl_declaration_grammar.specs.Parts.{Part, display_name, expressions, wrong, planned}
 use Rattle.cl_declaration_grammar.specs.Types.{type_seen}
 
 -- `NAME TYPE E`: an opening value sees no variable
@@ -29,10 +29,9 @@ abbrev pub pane_seen : List Datum → List Part
 pane_seen (n ∷ x ∷ y ∷ a ∷ b ∷ d ∷ []) = pane_display_seen (offset d) (name_in d)
 pane_seen parts = []
 
--- one pane is built
 abbrev pub panes_seen : List Datum → List Part
 panes_seen [] = []
-panes_seen (p ∷ more) = pane_seen (parts_of p) ++ planned_parts more
+panes_seen (p ∷ more) = pane_seen (parts_of p) ++ panes_seen more
 
 -- a section by its key
 abbrev pub section_seen : Signatures → Keyed → List Part
@@ -51,7 +50,7 @@ abbrev pub sections_seen : Signatures → List Keyed → List Part
 sections_seen w [] = []
 sections_seen w (k ∷ ks) = section_seen w k ++ sections_seen w ks
 
--- the frame has a name, two numbers as its size, slots that are slots, and a first pane that is one
+-- the frame has a name, two numbers as its size, slots that are slots, and one pane or more that are panes
 abbrev pub keyed_frame_seen : Signatures → ℕ → Datum → Option (List Keyed) → List Part
 keyed_frame_seen w at n None = wrong at
 keyed_frame_seen w at n (Some ks) = if is_some (frame_shape w n ks) then sections_seen w ks else wrong at

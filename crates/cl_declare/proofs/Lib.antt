@@ -1,2 +1,3 @@
 pub mod DeclarationCounts
+pub mod PaneLemmas
 pub mod DeclareSteps

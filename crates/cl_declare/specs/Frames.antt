@@ -1,4 +1,4 @@
--- The shape of a frame, but for the forms in it: its sizes and the place of its pane are any numbers.
+-- The shape of a frame, but for the forms in it: its sizes and the places of its panes are any numbers.
 use Rattle.std.specs.Prelude.{ℕ, ℤ, Bool, true, false, ◌&&◌, is_some, if◌then◌else◌, List, [], ◌∷◌, Option, Some, None}
 use Rattle.cl_forms.specs.Datum.{Datum, number, literal, word, quoted, stray, list, parts_of, offset}
 use Rattle.cl_forms.specs.Keys.{Keyed, values_of}
@@ -8,7 +8,7 @@ use Rattle.cl_forms.specs.declared.keys.Key.TheVariants as key
 use Rattle.cl_words.specs.Signatures.{display_in}
 use Rattle.cl_words.specs.declared.signatures.Signatures.{Signatures}
 use Rattle.cl_declare.specs.declared.frames.FrameShape.{FrameShape}
-use Rattle.cl_declare.specs.declared.frames.PaneForm.{PaneForm}
+use Rattle.cl_declare.specs.declared.pane_forms.PaneForm.{PaneForm}
 use Rattle.cl_declare.specs.declared.frames.Place.{Place}
 use Rattle.cl_declare.specs.declared.frames.Size.{Size}
 
@@ -74,16 +74,26 @@ pane_listed w at (n ∷ x ∷ y ∷ a ∷ b ∷ d ∷ []) =
     pane_of w at (name_in n) (place_in x y a b) (name_in d)
 pane_listed w at parts = None
 
--- the first pane; one is built so far
-abbrev pub first_pane : Signatures → List Datum → Option PaneForm
-first_pane w [] = None
-first_pane w (p ∷ more) = pane_listed w (offset p) (parts_of p)
+abbrev pub pane_before : Option PaneForm → Option (List PaneForm) → Option (List PaneForm)
+pane_before None more = None
+pane_before (Some p) None = None
+pane_before (Some p) (Some ps) = Some (p ∷ ps)
 
-abbrev pub shape_of : Option (List ℕ) → Option Size → Option PaneForm → Option FrameShape
-shape_of (Some x) (Some s) (Some p) = Some (record { name = x; size = s; pane = p })
+-- panes in the order of the text; None where one of them is malformed
+abbrev pub all_panes : Signatures → List Datum → Option (List PaneForm)
+all_panes w [] = Some []
+all_panes w (d ∷ ds) = pane_before (pane_listed w (offset d) (parts_of d)) (all_panes w ds)
+
+-- one pane or more
+abbrev pub some_panes : Signatures → List Datum → Option (List PaneForm)
+some_panes w [] = None
+some_panes w (d ∷ ds) = all_panes w (d ∷ ds)
+
+abbrev pub shape_of : Option (List ℕ) → Option Size → Option (List PaneForm) → Option FrameShape
+shape_of (Some x) (Some s) (Some ps) = Some (record { name = x; size = s; panes = ps })
 shape_of (Some x) (Some s) None = None
-shape_of (Some x) None pane = None
-shape_of None size pane = None
+shape_of (Some x) None panes = None
+shape_of None size panes = None
 
 abbrev pub or_nothing : Option (List Datum) → List Datum
 or_nothing None = []
@@ -93,9 +103,9 @@ or_nothing (Some ds) = ds
 abbrev pub behind : Key → List Keyed → List Datum
 behind k ks = or_nothing (values_of k ks)
 
--- the name, the size and the pane; None where the frame is wrong by itself
+-- the name, the size and the panes; None where the frame is wrong by itself
 abbrev pub frame_shape : Signatures → Datum → List Keyed → Option FrameShape
 frame_shape w n ks =
     if are_slots (behind key.Slots ks)
-    then shape_of (name_in n) (size_in (behind key.Size ks)) (first_pane w (behind key.Panes ks))
+    then shape_of (name_in n) (size_in (behind key.Size ks)) (some_panes w (behind key.Panes ks))
     else None

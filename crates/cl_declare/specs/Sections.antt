@@ -38,19 +38,14 @@ abbrev pub note_pane : Signatures → List Datum → Load (Unit {0})
 note_pane w (n ∷ x ∷ y ∷ a ∷ b ∷ d ∷ []) = note_display w (offset d) (name_in d)
 note_pane w parts = give tt
 
--- one pane is built
-abbrev pub no_more : List Datum → Load (Unit {0})
-no_more [] = give tt
-no_more (d ∷ ds) = refuse 0 (offset d)
-
-abbrev pub parse_panes : Signatures → List Datum → Load (Unit {0})
-parse_panes w [] = give tt
-parse_panes w (p ∷ more) = note_pane w (parts_of p) >>= λ u. no_more more
+abbrev pub note_panes : Signatures → List Datum → Load (Unit {0})
+note_panes w [] = give tt
+note_panes w (p ∷ more) = note_pane w (parts_of p) >>= λ u. note_panes w more
 
 abbrev pub parse_section : Signatures → Keyed → SlotTable → Load SlotTable
 parse_section w k slots = elim k.key [
   | key.Slots ↦ parse_slots w k.values slots
-  | key.Panes ↦ parse_panes w k.values >>= λ u. give slots
+  | key.Panes ↦ note_panes w k.values >>= λ u. give slots
   | key.CommandTable ↦ refuse 0 k.at
   | key.Size ↦ give slots
   | key.Name ↦ give slots
@@ -64,7 +59,7 @@ parse_sections w [] slots = give slots
 parse_sections w (k ∷ ks) slots = parse_section w k slots >>= λ more. parse_sections w ks more
 
 abbrev pub frame_of : FrameShape → SlotTable → ℕ → FrameForm
-frame_of f slots at = record { name = f.name; width = f.size.width; height = f.size.height; slots = slots; pane = f.pane; at = at }
+frame_of f slots at = record { name = f.name; width = f.size.width; height = f.size.height; slots = slots; panes = f.panes; at = at }
 
 abbrev pub parse_shaped : Signatures → ℕ → List Keyed → Option FrameShape → Load FrameForm
 parse_shaped w at ks None = refuse 6 at
@@ -74,7 +69,7 @@ abbrev pub parse_keyed : Signatures → ℕ → Datum → Option (List Keyed) �
 parse_keyed w at n None = refuse 6 at
 parse_keyed w at n (Some ks) = parse_shaped w at ks (frame_shape w n ks)
 
--- `(define-application-frame NAME (:size WIDTH HEIGHT) (:slots SLOT ...) (:panes PANE) (:command-table TABLE))`
+-- `(define-application-frame NAME (:size WIDTH HEIGHT) (:slots SLOT ...) (:panes PANE ...) (:command-table TABLE))`
 abbrev pub parse_frame : Signatures → ℕ → List Datum → Load FrameForm
 parse_frame w at [] = refuse 6 at
 parse_frame w at (n ∷ sections) = parse_keyed w at n (keyed_sections frame_keys [] sections)

@@ -3,13 +3,14 @@ ghost use Rattle.std.specs.Prelude.{◌≡◌, IfOk, map, option_map};
 ghost use Rattle.cl_forms.specs.Datum.{parts_of};
 ghost use Rattle.cl_forms.specs.DatumView.{datum_of};
 ghost use Rattle.cl_forms.specs.KeyedView.{keyed_of};
-ghost use Rattle.cl_declare.specs.Frames.{number_in, size_in, is_slot, are_slots, takes_none, place_in, pane_of, pane_listed, first_pane, behind, frame_shape};
+ghost use Rattle.cl_declare.specs.Frames.{number_in, size_in, is_slot, are_slots, takes_none, place_in, pane_of, pane_listed, some_panes, behind, frame_shape};
 
+use crate::pane_forms::{PaneForm, PaneForms};
 use cl_application::SlotDecls;
 use cl_forms::{Datum, Key, Keyed, fits, name_in, values_of};
 use cl_value::Text;
 use cl_words::Signatures;
-use std::alloc::AllocError;
+use std::alloc::{AllocError, Global};
 
 /// The keys that a frame may have.
 pub const FRAME_KEYS: [Key; 4] = [Key::Size, Key::Slots, Key::Panes, Key::CommandTable];
@@ -21,19 +22,7 @@ pub struct FrameForm {
     pub width: i64,
     pub height: i64,
     pub slots: SlotDecls,
-    pub pane: PaneForm,
-    pub at: u32,
-}
-
-/// A pane as its text gives it, in cells of the frame.
-#[derive(Drop)]
-pub struct PaneForm {
-    pub name: Text,
-    pub x: i64,
-    pub y: i64,
-    pub width: i64,
-    pub height: i64,
-    pub display: Text,
+    pub panes: PaneForms,
     pub at: u32,
 }
 
@@ -58,11 +47,12 @@ struct Place {
 pub struct FrameShape {
     pub name: Text,
     pub size: Size,
-    pub pane: PaneForm,
+    pub panes: PaneForms,
 }
 
-/// The name, the size and the pane of a frame; None where the frame is wrong by itself.
+/// The name, the size and the panes of a frame; None where the frame is wrong by itself.
 pub fn frame_shape(
+    alloc: Global,
     signatures: &Signatures,
     name: &Datum,
     sections: &[Keyed],
@@ -79,11 +69,11 @@ pub fn frame_shape(
     let Some(size) = size_in(behind(Key::Size, sections)) else {
         return Ok(None);
     };
-    let Some(pane) = first_pane(signatures, behind(Key::Panes, sections))? else {
+    let Some(panes) = some_panes(alloc, signatures, behind(Key::Panes, sections))? else {
         return Ok(None);
     };
     let name = name.copy()?;
-    Ok(Some(FrameShape { name, size, pane }))
+    Ok(Some(FrameShape { name, size, panes }))
 }
 
 /// What stands behind a key; nothing where the frame has no such section.
@@ -150,14 +140,29 @@ fn is_slot(parts: &[Datum]) -> bool
     }
 }
 
-/// The first pane, which is the only one that is built so far.
-fn first_pane(signatures: &Signatures, panes: &[Datum]) -> Result<Option<PaneForm>, AllocError>
-    ensures { IfOk result (λ p. p ≡ first_pane signatures.now (map datum_of panes.now)) }
+/// The panes of a frame; None where there is none, or one of them is wrong by itself.
+#[tactic(auto, using(crate::proofs::PaneLemmas::pane_behind))]
+fn some_panes(
+    alloc: Global,
+    signatures: &Signatures,
+    panes: &[Datum],
+) -> Result<Option<PaneForms>, AllocError>
+    ensures { IfOk result (λ p. p ≡ some_panes signatures.now (map datum_of panes.now)) }
 {
-    match panes {
-        [] => Ok(None),
-        [pane, ..] => pane_listed(signatures, pane.offset(), pane.parts()),
+    let Some((first, more)) = panes.split_first() else {
+        return Ok(None);
+    };
+    let Some(first) = pane_listed(signatures, first.offset(), first.parts())? else {
+        return Ok(None);
+    };
+    let mut forms = PaneForms::of(alloc, first)?;
+    for pane in more {
+        let Some(pane) = pane_listed(signatures, pane.offset(), pane.parts())? else {
+            return Ok(None);
+        };
+        forms.push(pane)?;
     }
+    Ok(Some(forms))
 }
 
 /// `(NAME X Y WIDTH HEIGHT DISPLAY)`

@@ -8,8 +8,10 @@ mod declarations;
 mod frames;
 mod in_order;
 mod names;
+mod pane_forms;
 mod sections;
 
 pub use declarations::{Declarations, parse_declarations};
-pub use frames::{FrameForm, PaneForm};
+pub use frames::FrameForm;
 pub use in_order::{FrameForms, InOrder};
+pub use pane_forms::{PaneForm, PaneForms};

@@ -6,7 +6,7 @@ ghost use Rattle.cl_forms.specs.KeyedView.{keyed_of};
 ghost use Rattle.cl_forms.specs.Naming.{name_in};
 ghost use Rattle.cl_expressions.specs.Load.{Gives, Notes as Noted, itself};
 ghost use Rattle.cl_expressions.specs.Leaves.{Leaves, LeavesNotes};
-ghost use Rattle.cl_declare.specs.Sections.{parse_slot, parse_slots, note_display, note_pane, no_more, parse_panes, parse_section, parse_sections, parse_frame};
+ghost use Rattle.cl_declare.specs.Sections.{parse_slot, parse_slots, note_display, note_pane, note_panes, parse_section, parse_sections, parse_frame};
 
 use crate::frames::{FRAME_KEYS, FrameForm, frame_shape};
 use cl_application::{SlotDecl, SlotDecls};
@@ -31,7 +31,8 @@ pub fn parse_frame(
     let Some(sections) = keyed_sections(reader.alloc, &FRAME_KEYS, sections)? else {
         return Err(LoadRefusal::Refused(6, at));
     };
-    let Some(shape) = frame_shape(reader.signatures, name, sections.as_slice())? else {
+    let shape = frame_shape(reader.alloc, reader.signatures, name, sections.as_slice())?;
+    let Some(shape) = shape else {
         return Err(LoadRefusal::Refused(6, at));
     };
     let slots = parse_sections(reader, sections.as_slice(), notes)?;
@@ -40,7 +41,7 @@ pub fn parse_frame(
         width: shape.size.width,
         height: shape.size.height,
         slots,
-        pane: shape.pane,
+        panes: shape.panes,
         at,
     })
 }
@@ -72,7 +73,10 @@ fn parse_section(
 {
     match section.key {
         Key::Slots => parse_slots(reader, section.values, slots, notes),
-        Key::Panes => parse_panes(reader, section.values, notes),
+        Key::Panes => {
+            note_panes(reader, section.values, notes);
+            Ok(())
+        }
         Key::CommandTable => Err(LoadRefusal::Refused(0, section.at)),
         Key::Size => Ok(()),
         Key::Name => Ok(()),
@@ -130,26 +134,13 @@ fn parse_slot(
     }
 }
 
-/// The display of the first pane is noted where it is not declared; a second pane is not built yet.
-fn parse_panes(reader: &Reader, panes: &[Datum], notes: &mut Notes) -> Result<(), LoadRefusal>
-    ensures { LeavesNotes result notes.new
-        (parse_panes reader.now.signatures.now (map datum_of panes.now) notes.old) }
+/// The display of each pane is noted where it is not declared.
+fn note_panes(reader: &Reader, panes: &[Datum], notes: &mut Notes)
+    ensures { note_panes reader.now.signatures.now (map datum_of panes.now) notes.old
+        ≡ Ok (tt, notes.new) }
 {
-    match panes {
-        [] => Ok(()),
-        [pane, more @ ..] => {
-            note_pane(reader, pane.parts(), notes);
-            no_more(more)
-        }
-    }
-}
-
-fn no_more(panes: &[Datum]) -> Result<(), LoadRefusal>
-    ensures { (n : Noted) → LeavesNotes result n (no_more (map datum_of panes.now) n) }
-{
-    match panes {
-        [] => Ok(()),
-        [pane, ..] => Err(LoadRefusal::Refused(0, pane.offset())),
+    for pane in panes {
+        note_pane(reader, pane.parts(), notes);
     }
 }
 

@@ -10,10 +10,10 @@ use Rattle.cl_forms.specs.declared.keys.Key.TheVariants as key
 use Rattle.cl_words.specs.Signatures.{display_in}
 use Rattle.cl_words.specs.declared.signatures.Signatures.{Signatures}
 use Rattle.cl_declare.specs.Frames.{frame_keys, frame_shape}
-use Rattle.cl_declare.specs.Sections.{SlotTable, parse_slot, parse_slots, note_display, note_pane, no_more, parse_panes, parse_section, parse_sections, parse_shaped, parse_keyed, parse_frame}
+use Rattle.cl_declare.specs.Sections.{SlotTable, parse_slot, parse_slots, note_display, note_pane, note_panes, parse_section, parse_sections, parse_shaped, parse_keyed, parse_frame}
 use Rattle.cl_declare.specs.declared.frames.FrameShape.{FrameShape}
 use Rattle.cl_faults.proofs.FaultLemmas.{FaultsAt, gives, refuses, notes, binds}
-use Rattle.cl_faults.proofs.ExpressionFaults.{covers_offset, expr_faults}
+use Rattle.cl_faults.proofs.ExpressionFaults.{expr_faults}
 use Rattle.cl_faults.proofs.DataFaults.{CoversEach, covers_parts}
 use Rattle.cl_faults.proofs.KeyFaults.{CoversKeys, sections_covered}
 use Rattle.cl_faults.proofs.TypeFaults.{type_faults}
@@ -28,10 +28,6 @@ module _ {P : ℕ → Type 0} where
   slots_faults w (d ∷ ds) slots c =
       binds (slot_faults w (offset d) (parts_of d) slots (covers_parts d c.0)) λ more. slots_faults w ds more c.1
 
-  more_faults : (ds : List Datum) → CoversEach P ds → FaultsAt P (no_more ds)
-  more_faults [] c = gives
-  more_faults (d ∷ ds) c = refuses (covers_offset d c.0)
-
   display_faults : (w : Signatures) (at : ℕ) (name : Option (List ℕ)) → FaultsAt P (note_display w at name)
   display_faults w at None = gives
   display_faults w at (Some x) = notes (is_some (display_in w x)) at
@@ -40,14 +36,14 @@ module _ {P : ℕ → Type 0} where
   pane_faults w (n ∷ x ∷ y ∷ a ∷ b ∷ d ∷ []) = display_faults w (offset d) (name_in d)
   pane_faults w ds = gives
 
-  panes_faults : (w : Signatures) (ds : List Datum) → CoversEach P ds → FaultsAt P (parse_panes w ds)
-  panes_faults w [] c = gives
-  panes_faults w (p ∷ more) c = binds (pane_faults w (parts_of p)) λ u. more_faults more c.1
+  panes_faults : (w : Signatures) (ds : List Datum) → FaultsAt P (note_panes w ds)
+  panes_faults w [] = gives
+  panes_faults w (p ∷ more) = binds (pane_faults w (parts_of p)) λ u. panes_faults w more
 
   section_faults : (w : Signatures) (k : Key) (at : ℕ) (ds : List Datum) (slots : SlotTable) → P at → CoversEach P ds
       → FaultsAt P (parse_section w (record { key = k; at = at; values = ds }) slots)
   section_faults w key.Slots at ds slots h c = slots_faults w ds slots c
-  section_faults w key.Panes at ds slots h c = binds (panes_faults w ds c) λ u. gives
+  section_faults w key.Panes at ds slots h c = binds (panes_faults w ds) λ u. gives
   section_faults w key.CommandTable at ds slots h c = refuses h
   section_faults w key.Size at ds slots h c = gives
   section_faults w key.Name at ds slots h c = gives

@@ -1,5 +1,6 @@
 pub mod ReadingLemmas
 pub mod OpeningLemmas
+pub mod PlacingLemmas
 pub mod SettlingLemmas
 pub mod ConcludeLemmas
 pub mod OneOutcome

@@ -1,6 +1,7 @@
 pub mod SlotTypes
 pub mod Opening
 pub mod Placing
+pub mod Apart
 pub mod Readings
 pub mod Refusals
 pub mod Outcome

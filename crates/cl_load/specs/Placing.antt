@@ -1,59 +1,81 @@
--- The device of a frame, and its pane in it.
-use Rattle.std.specs.Prelude.{ℕ, ◌+◌, ◌≤◌, ◌<◌, [], ◌∷◌, length, ℤ, pos, negsuc, ◌&&◌, nat_le, Option, Some, None, Result, Ok, Err}
+-- The device of a frame, and its panes in it.
+use Rattle.std.specs.Prelude.{◌≡◌, ℕ, ◌+◌, List, [], ◌∷◌, ℤ, pos, negsuc, Bool, true, ◌&&◌, nat_le, if◌then◌else◌, Option, Some, None, Result, Ok, Err}
 use Rattle.cl_expressions.specs.Load.{Fault}
 use Rattle.cl_forms.specs.Naming.{some_if}
-use Rattle.cl_table.specs.Names.{declared_at}
-use Rattle.cl_application.specs.App.{first_of}
+use Rattle.cl_forms.specs.declared.refusals.LoadRefusal.{LoadRefusal}
+use Rattle.cl_forms.specs.declared.refusals.LoadRefusal.TheVariants.{Refused, Memory}
+use Rattle.cl_table.specs.Names.{with_first}
+use Rattle.cl_application.specs.Panes.{declared_by, lie_apart}
 use Rattle.cl_application.specs.declared.declarations.FrameDecl.{FrameDecl}
 use Rattle.cl_application.specs.declared.declarations.PaneDecl.{PaneDecl}
 use Rattle.cl_declare.specs.declared.frames.FrameForm.{FrameForm}
-use Rattle.cl_declare.specs.declared.frames.PaneForm.{PaneForm}
+use Rattle.cl_declare.specs.declared.pane_forms.PaneForm.{PaneForm}
 use Rattle.cl_load.specs.declared.placing.Span.{Span}
+
+abbrev pub PaneTable : Type 0
+PaneTable = List (List ℕ × PaneDecl)
 
 -- a side of the device has at least one cell, and no more than the most
 abbrev pub side : ℕ → ℤ → Option ℕ
 side most (pos n) = some_if (nat_le 1 n && nat_le n most) n
 side most (negsuc n) = None
 
--- a side of the pane has at least one cell, and lies within that of the frame
+-- a side of a pane has at least one cell, and lies within that of the device
 abbrev pub span_of : ℕ → ℤ → ℤ → Option Span
 span_of most (pos from) (pos count) = some_if (nat_le 1 count && nat_le (from + count) most) (record { from = from; count = count })
 span_of most (pos from) (negsuc count) = None
 span_of most (negsuc from) count = None
 
-abbrev pub pane_at : PaneForm → Span → Span → PaneDecl
-pane_at p across down = record { name = p.name; x = across.from; y = down.from; width = across.count; height = down.count; display = p.display; at = p.at }
+abbrev pub pane_at : PaneForm → Option Span → Option Span → Option PaneDecl
+pane_at p (Some across) (Some down) =
+    Some (record { name = p.name; x = across.from; y = down.from; width = across.count; height = down.count; display = p.display; at = p.at })
+pane_at p (Some across) None = None
+pane_at p None down = None
 
-abbrev pub place_sized : FrameForm → ℕ → ℕ → Option Span → Option Span → Result FrameDecl Fault
-place_sized f w h (Some across) (Some down) =
-    Ok (record { name = f.name; width = w; height = h; slots = f.slots; panes = (f.pane.name, pane_at f.pane across down) ∷ []; at = f.at })
-place_sized f w h (Some across) None = Err (15, f.pane.at)
-place_sized f w h None down = Err (15, f.pane.at)
+-- the pane on a device of these sides; None where a side of it is below 1 or leaves the device
+abbrev pub pane_on : (width height : ℕ) → PaneForm → Option PaneDecl
+pane_on width height p = pane_at p (span_of width p.x p.width) (span_of height p.y p.height)
+
+-- the pane lies apart from all that were placed
+abbrev pub is_apart : PaneDecl → PaneTable → Bool
+is_apart p [] = true
+is_apart p (e ∷ placed) = lie_apart (declared_by e) p && is_apart p placed
+
+abbrev pub place_apart : ℕ → Option PaneDecl → PaneTable → Result PaneTable Fault
+place_apart at None placed = Err (15, at)
+place_apart at (Some p) placed = if is_apart p placed then Ok (with_first (λ d. d.name) placed p) else Err (15, at)
+
+-- a pane behind those that were placed, or 15 at the pane where it has no place or overlaps one of them
+abbrev pub place_pane : (width height : ℕ) → PaneForm → PaneTable → Result PaneTable Fault
+place_pane width height p placed = place_apart p.at (pane_on width height p) placed
+
+-- what is made of it, unless it is a fault
+abbrev pub unless_fault : {A B : Type 0} → Result A Fault → (A → Result B Fault) → Result B Fault
+unless_fault (Ok x) f = f x
+unless_fault (Err fault) f = Err fault
+
+-- all panes in order of declaration, or the fault of the first that has one
+abbrev pub place_panes : (width height : ℕ) → List PaneForm → PaneTable → Result PaneTable Fault
+place_panes width height [] placed = Ok placed
+place_panes width height (p ∷ ps) placed = unless_fault (place_pane width height p placed) (λ more. place_panes width height ps more)
+
+abbrev pub frame_with : FrameForm → (width height : ℕ) → PaneTable → FrameDecl
+frame_with f width height panes = record { name = f.name; width = width; height = height; slots = f.slots; panes = panes; at = f.at }
 
 abbrev pub place_on : FrameForm → Option ℕ → Option ℕ → Result FrameDecl Fault
-place_on f (Some w) (Some h) = place_sized f w h (span_of w f.pane.x f.pane.width) (span_of h f.pane.y f.pane.height)
+place_on f (Some w) (Some h) = unless_fault (place_panes w h f.panes []) (λ panes. Ok (frame_with f w h panes))
 place_on f (Some w) None = Err (15, f.at)
 place_on f None h = Err (15, f.at)
 
--- the frame, or 15 at the frame whose device is too large or has a side below 1, or at the pane that has a side below 1 or leaves it
+-- the frame, or 15 at the frame whose device is too large or has a side below 1, or at the first pane that has a side below 1, leaves
+-- the device or overlaps an earlier one
 abbrev pub place_frame : FrameForm → Result FrameDecl Fault
 place_frame f = place_on f (side 512 f.width) (side 256 f.height)
 
--- ---- what the program keeps
+-- ---- what the program answers
 
-abbrev pub IsSize : ℕ → ℕ → Type 0
-IsSize width height = (1 ≤ width) × (width ≤ 512) × (1 ≤ height) × (height ≤ 256)
-
-abbrev pub Lies : ℕ → Span → Type 0
-Lies most s = (1 ≤ s.count) × (s.from + s.count ≤ most)
-
-abbrev pub LiesIn : FrameDecl → PaneDecl → Type 0
-LiesIn f p = (1 ≤ p.width) × (p.x + p.width ≤ f.width) × (1 ≤ p.height) × (p.y + p.height ≤ f.height)
-
--- the first pane lies in the frame
-abbrev pub IsWithin : FrameDecl → Type 0
-IsWithin f = LiesIn f (first_of (declared_at 0 f.panes))
-
--- the frame has a pane
-abbrev pub IsShown : FrameDecl → Type 0
-IsShown f = 0 < length f.panes
+-- the panes that are placed now; want of memory answers nothing
+abbrev pub Places : {A : Type 0} → Result A LoadRefusal → PaneTable → Result PaneTable Fault → Type 0
+Places (Ok done) placed r = r ≡ Ok placed
+Places (Err (Refused number at)) placed r = r ≡ Err (number, at)
+Places (Err Memory) placed r = Unit {0}

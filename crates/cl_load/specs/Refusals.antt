@@ -33,7 +33,7 @@ abbrev pub fault_in : {A : Type 0} → Result A Fault → Option Fault
 fault_in (Ok x) = None
 fault_in (Err fault) = Some fault
 
--- the frame or its pane has no place
+-- the frame or one of its panes has no place
 abbrev pub no_place : List FrameForm → Option Fault
 no_place [] = None
 no_place (f ∷ more) = fault_in (place_frame f)

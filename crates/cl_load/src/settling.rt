@@ -1,6 +1,6 @@
 //! The frame of declarations, and the application that they make.
 ghost use Rattle.std.specs.Prelude.{◌≡◌};
-ghost use Rattle.cl_load.specs.Placing.{IsShown, IsSize, IsWithin};
+ghost use Rattle.cl_application.specs.Panes.{IsPlaced};
 ghost use Rattle.cl_load.specs.Refusals.{app_of};
 ghost use Rattle.cl_load.specs.Settling.{Opens, Settles, TakesFrame};
 
@@ -60,9 +60,7 @@ fn app_of(declarations: Declarations, frame: FrameDecl) -> App
 
 /// The application with its opening slots, or refusal 12.
 fn open(alloc: Global, app: App) -> Result<Opened, LoadRefusal>
-    requires size { IsSize app.frame.width app.frame.height }
-    requires shown { IsShown app.frame }
-    requires within { IsWithin app.frame }
+    requires { IsPlaced app.frame }
     ensures { Opens result app }
 {
     let slots = opening_slots(alloc, &app)?;

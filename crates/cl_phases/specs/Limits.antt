@@ -2,7 +2,7 @@
 use Rattle.std.specs.Prelude.{ℕ, nat_lt, List, [], ◌∷◌, length, slice_get, Option, Some, None}
 use Rattle.cl_forms.specs.Datum.{Datum, Datums, number, literal, word, quoted, stray, list, none, item, datums_of, offset, parts_of}
 use Rattle.cl_forms.specs.Keys.{section_values}
-use Rattle.cl_forms.specs.declared.keys.Key.TheVariants.{Slots}
+use Rattle.cl_forms.specs.declared.keys.Key.TheVariants.{Slots, Panes}
 use Rattle.cl_forms.specs.Outer.{Outer, behind_name, outer_in}
 use Rattle.cl_forms.specs.declared.outer.DeclarationKind.{DeclarationKind}
 use Rattle.cl_forms.specs.declared.outer.DeclarationKind.TheVariants.{Record, Function, Display, Command, Frame}
@@ -37,10 +37,13 @@ abbrev pub past_parameters : List Datum → Option ℕ
 past_parameters [] = None
 past_parameters (d ∷ ds) = past 16 (parts_of d)
 
--- a frame has at most 256 slots
+-- a frame has at most 256 slots and 16 panes
+abbrev pub past_section : Datum → Option ℕ
+past_section d = earlier (past 256 (section_values Slots d)) (past 16 (section_values Panes d))
+
 abbrev pub past_sections : List Datum → Option ℕ
 past_sections [] = None
-past_sections (d ∷ ds) = earlier (past 256 (section_values Slots d)) (past_sections ds)
+past_sections (d ∷ ds) = earlier (past_section d) (past_sections ds)
 
 -- a record has at most 16 fields
 abbrev pub past_kind : DeclarationKind → List Datum → Option ℕ

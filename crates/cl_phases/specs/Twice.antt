@@ -2,7 +2,7 @@
 use Rattle.std.specs.Prelude.{ℕ, List, [], ◌∷◌, Option, None}
 use Rattle.cl_forms.specs.Datum.{Datum, parts_of}
 use Rattle.cl_forms.specs.Keys.{section_values}
-use Rattle.cl_forms.specs.declared.keys.Key.TheVariants.{Slots}
+use Rattle.cl_forms.specs.declared.keys.Key.TheVariants.{Slots, Panes}
 use Rattle.cl_forms.specs.Outer.{Outer, behind_name}
 use Rattle.cl_forms.specs.declared.outer.DeclarationKind.{DeclarationKind}
 use Rattle.cl_forms.specs.declared.outer.DeclarationKind.TheVariants.{Record, Function, Display, Command, Frame}
@@ -31,9 +31,13 @@ commands_twice ns = earlier (first_repeated ns) (first_repeated (line_names ns))
 
 -- ---- within one declaration
 
+-- the slots of a frame, and its panes
+abbrev pub section_twice : Datum → Option ℕ
+section_twice d = earlier (first_repeated (names_at (section_values Slots d))) (first_repeated (names_at (section_values Panes d)))
+
 abbrev pub sections_twice : List Datum → Option ℕ
 sections_twice [] = None
-sections_twice (d ∷ ds) = earlier (first_repeated (names_at (section_values Slots d))) (sections_twice ds)
+sections_twice (d ∷ ds) = earlier (section_twice d) (sections_twice ds)
 
 abbrev pub parameters_twice : List Datum → Option ℕ
 parameters_twice [] = None

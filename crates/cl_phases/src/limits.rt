@@ -3,7 +3,7 @@ ghost use Rattle.std.specs.Prelude.{◌≡◌, map};
 ghost use Rattle.cl_forms.specs.Datum.{datums_of};
 ghost use Rattle.cl_forms.specs.DatumView.{datum_of};
 ghost use Rattle.cl_forms.specs.OuterView.{outer_of};
-ghost use Rattle.cl_phases.specs.Limits.{first_past, long_among, long_in, past, past_declaration, past_declarations, past_kind, past_parameters, past_sections};
+ghost use Rattle.cl_phases.specs.Limits.{first_past, long_among, long_in, past, past_declaration, past_declarations, past_kind, past_parameters, past_section, past_sections};
 
 use crate::earlier::{at_if, earlier};
 use cl_forms::{Datum, DeclarationKind, Key, Outer, OuterKind, outer_in, section_values};
@@ -18,9 +18,11 @@ const MOST_FORMS: usize = 4_096;
 const MOST_NAMES: usize = 16;
 /// The most slots of a frame.
 const MOST_SLOTS: usize = 256;
+/// The most panes of a frame.
+const MOST_PANES: usize = 16;
 
 /// The least offset of what is past a limit: a symbol or a text that is too long, and the first
-/// form, field, parameter or slot that is one too many.
+/// form, field, parameter, slot or pane that is one too many.
 pub fn first_past(forms: &[Datum]) -> Option<u32>
     ensures { result ≡ first_past (map datum_of forms.now) }
 {
@@ -117,7 +119,15 @@ fn past_sections(sections: &[Datum]) -> Option<u32>
 {
     let mut first = None;
     for section in sections {
-        first = earlier(first, past(MOST_SLOTS, section_values(Key::Slots, section)));
+        first = earlier(first, past_section(section));
     }
     first
+}
+
+fn past_section(section: &Datum) -> Option<u32>
+    ensures { result ≡ past_section (datum_of section.now) }
+{
+    let slots = past(MOST_SLOTS, section_values(Key::Slots, section));
+    let panes = past(MOST_PANES, section_values(Key::Panes, section));
+    earlier(slots, panes)
 }

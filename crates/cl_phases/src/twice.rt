@@ -4,7 +4,7 @@ ghost use Rattle.cl_forms.specs.DatumView.{datum_of};
 ghost use Rattle.cl_forms.specs.OuterView.{outer_of};
 ghost use Rattle.cl_phases.specs.DeclaredNames.{declared_in, names_at};
 ghost use Rattle.cl_phases.specs.Repeats as repeats;
-ghost use Rattle.cl_phases.specs.Twice.{commands_twice, declaration_twice, declarations_twice, first_reserved, first_twice, names_twice, parameters_twice, parts_twice, sections_twice, spaces_twice};
+ghost use Rattle.cl_phases.specs.Twice.{commands_twice, declaration_twice, declarations_twice, first_reserved, first_twice, names_twice, parameters_twice, parts_twice, section_twice, sections_twice, spaces_twice};
 ghost use Rattle.cl_phases.specs.declared.declared_names.Space.TheVariants.{Commands};
 
 use crate::declared_names::{Space, declared_in, is_reserved, line_names, names_at};
@@ -66,7 +66,7 @@ fn first_reserved(space: Space, names: &[NameAt]) -> Option<u32>
     first
 }
 
-/// What stands twice within one declaration: fields, parameters or slots.
+/// What stands twice within one declaration: fields, parameters, slots or panes.
 #[tactic(auto, using(crate::proofs::EarlierLemmas::earlier_assoc, crate::proofs::EarlierLemmas::earlier_none))]
 fn declarations_twice(alloc: Global, outers: &[Outer<'_>]) -> Result<Option<u32>, AllocError>
     ensures { IfOk result (λ r. r ≡ declarations_twice (map outer_of outers.now)) }
@@ -128,8 +128,16 @@ fn sections_twice(alloc: Global, sections: &[Datum]) -> Result<Option<u32>, Allo
 {
     let mut first = None;
     for section in sections {
-        let within = all_twice(alloc, section_values(Key::Slots, section))?;
+        let within = section_twice(alloc, section)?;
         first = earlier(first, within);
     }
     Ok(first)
+}
+
+fn section_twice(alloc: Global, section: &Datum) -> Result<Option<u32>, AllocError>
+    ensures { IfOk result (λ r. r ≡ section_twice (datum_of section.now)) }
+{
+    let slots = all_twice(alloc, section_values(Key::Slots, section))?;
+    let panes = all_twice(alloc, section_values(Key::Panes, section))?;
+    Ok(earlier(slots, panes))
 }

@@ -14,18 +14,18 @@ use Rattle.cl_words.specs.declared.signatures.Signatures.{Signatures}
 use Rattle.cl_expressions.specs.Load.{Load, Fault}
 use Rattle.cl_application.specs.declared.declarations.SlotDecl.{SlotDecl}
 use Rattle.cl_declare.specs.Frames.{frame_keys, number_in, size_of, size_in, is_slot, are_slots, place_of, takes_none, pane_of, pane_listed}
-use Rattle.cl_declare.specs.Frames.{first_pane, shape_of, or_nothing, behind, frame_shape}
-use Rattle.cl_declare.specs.Sections.{SlotTable, parse_slot, parse_slots, note_pane, parse_panes, parse_sections, frame_of, parse_shaped, parse_keyed, parse_frame}
+use Rattle.cl_declare.specs.Frames.{pane_before, all_panes, some_panes, shape_of, or_nothing, behind, frame_shape}
+use Rattle.cl_declare.specs.Sections.{SlotTable, parse_slot, parse_slots, note_panes, parse_sections, frame_of, parse_shaped, parse_keyed, parse_frame}
 use Rattle.cl_declare.specs.declared.frames.FrameForm.{FrameForm}
 use Rattle.cl_declare.specs.declared.frames.FrameShape.{FrameShape}
-use Rattle.cl_declare.specs.declared.frames.PaneForm.{PaneForm}
+use Rattle.cl_declare.specs.declared.pane_forms.PaneForm.{PaneForm}
 use Rattle.cl_declare.specs.declared.frames.Size.{Size}
 use Rattle.cl_grammar.specs.Heads.{CallsNames}
 use Rattle.cl_grammar.proofs.Endings.{Ends, gives, refuses, binds, ends_weaker}
 use Rattle.cl_grammar.proofs.Spelled.{false_true, both_parts, name_is, some_same, nothing_found}
 use Rattle.cl_grammar.proofs.Written.{expression_ends}
-use Rattle.cl_text_grammar.specs.WritesFrames.{WritesSlots, no_slot, one_slot, with_slots, slots_of, WritesPane, a_pane, WritesSections, no_section}
-use Rattle.cl_text_grammar.specs.WritesFrames.{a_size, some_slots, one_pane}
+use Rattle.cl_text_grammar.specs.WritesFrames.{WritesSlots, no_slot, one_slot, with_slots, slots_of, WritesPane, a_pane, WritesPanes, no_pane}
+use Rattle.cl_text_grammar.specs.WritesFrames.{one_pane, WritesSections, no_section, a_size, some_slots, its_panes}
 use Rattle.cl_text_grammar.specs.WritesDeclarations.{of_frame, WritesDeclared, a_frame}
 use Rattle.cl_text_grammar.proofs.TypesWritten.{type_ends}
 use Rattle.cl_text_grammar.proofs.KeyWords.{key_word, IsSection, a_section, AreSections, no_more, one_more, StandApart, Sections, sections_stand, has_last, stood_before}
@@ -38,7 +38,11 @@ anything (Err fault) = tt
 any_ends : {A : Type 0} (m : Load A) → Ends (λ x. Unit {0}) m
 any_ends m = record { ends = λ u. anything (m u) }
 
--- ---- a pane
+both_same : (p q : PaneForm) (ps qs : List PaneForm) → ◌≡◌ {A = Option PaneForm} (Some p) (Some q) → ◌≡◌ {A = Option (List PaneForm)} (Some ps) (Some qs)
+    → ◌≡◌ {A = Option (List PaneForm)} (Some (p ∷ ps)) (Some (q ∷ qs))
+both_same p q ps qs e f = cc
+
+-- ---- panes
 
 module _ (w : Signatures) where
   -- the pane is made, and writes the datum
@@ -83,41 +87,48 @@ module _ (w : Signatures) where
   pane_written (quoted s at name_at) l = absurd (false_true l)
   pane_written (stray at) l = absurd (false_true l)
 
+  -- the panes are made, and write the data
+  record PanesMade (o : Option (List PaneForm)) (ds : List Datum) : Type 0 where
+    panes : List PaneForm
+    made : o ≡ Some panes
+    written : WritesPanes w panes ds
+
+  before_made : (o : Option PaneForm) (more : Option (List PaneForm)) (d : Datum) (ds : List Datum) → (is_some o ≡ true → PaneMade o d)
+      → (is_some more ≡ true → PanesMade more ds) → is_some (pane_before o more) ≡ true → PanesMade (pane_before o more) (d ∷ ds)
+  before_made (Some p) (Some ps) d ds one others l =
+      let a : PaneMade (Some p) d = one refl in
+      let b : PanesMade (Some ps) ds = others refl in
+      record { panes = a.pane ∷ b.panes; made = both_same p a.pane ps b.panes a.made b.made; written = one_pane a.written b.written }
+  before_made (Some p) None d ds one others l = absurd (false_true l)
+  before_made None more d ds one others l = absurd (false_true l)
+
+  panes_written : (ds : List Datum) → is_some (all_panes w ds) ≡ true → PanesMade (all_panes w ds) ds
+  panes_written [] l = record { panes = []; made = refl; written = no_pane }
+  panes_written (d ∷ ds) l = before_made (pane_listed w (offset d) (parts_of d)) (all_panes w ds) d ds (pane_written d) (panes_written ds) l
+
   -- ---- sections
 
-  size_made : (a b : Datum) (i j : Option ℤ) (ss : Option (List SlotDecl)) (p : Option PaneForm) (h at : ℕ) (ds : List Datum) → number_in a ≡ i
-      → number_in b ≡ j → is_some (size_of i j) ≡ true → WritesSections w None ss p ds
-      → WritesSections w (size_of i j) ss p (list (item (word (codes ":size") h) (item a (item b none))) at ∷ ds)
-  size_made a b (Some i) (Some j) ss p h at ds e f l r = a_size e f r
-  size_made a b (Some i) None ss p h at ds e f l r = absurd (false_true l)
-  size_made a b None j ss p h at ds e f l r = absurd (false_true l)
+  size_made : (a b : Datum) (i j : Option ℤ) (ss : Option (List SlotDecl)) (ps : Option (List PaneForm)) (h at : ℕ) (ds : List Datum) → number_in a ≡ i
+      → number_in b ≡ j → is_some (size_of i j) ≡ true → WritesSections w None ss ps ds
+      → WritesSections w (size_of i j) ss ps (list (item (word (codes ":size") h) (item a (item b none))) at ∷ ds)
+  size_made a b (Some i) (Some j) ss ps h at ds e f l r = a_size e f r
+  size_made a b (Some i) None ss ps h at ds e f l r = absurd (false_true l)
+  size_made a b None j ss ps h at ds e f l r = absurd (false_true l)
 
-  size_row : (es : Datums) (ss : Option (List SlotDecl)) (p : Option PaneForm) (h at : ℕ) (ds : List Datum) → is_some (size_in (in_order es)) ≡ true
-      → WritesSections w None ss p ds → WritesSections w (size_in (in_order es)) ss p (list (item (word (codes ":size") h) es) at ∷ ds)
-  size_row (item a (item b none)) ss p h at ds l r = size_made a b (number_in a) (number_in b) ss p h at ds refl refl l r
-  size_row none ss p h at ds l r = absurd (false_true l)
-  size_row (item a none) ss p h at ds l r = absurd (false_true l)
-  size_row (item a (item b (item c es))) ss p h at ds l r = absurd (false_true l)
+  size_row : (es : Datums) (ss : Option (List SlotDecl)) (ps : Option (List PaneForm)) (h at : ℕ) (ds : List Datum) → is_some (size_in (in_order es)) ≡ true
+      → WritesSections w None ss ps ds → WritesSections w (size_in (in_order es)) ss ps (list (item (word (codes ":size") h) es) at ∷ ds)
+  size_row (item a (item b none)) ss ps h at ds l r = size_made a b (number_in a) (number_in b) ss ps h at ds refl refl l r
+  size_row none ss ps h at ds l r = absurd (false_true l)
+  size_row (item a none) ss ps h at ds l r = absurd (false_true l)
+  size_row (item a (item b (item c es))) ss ps h at ds l r = absurd (false_true l)
 
-  -- one pane alone
-  abbrev IsOne : Datums → Type 0
-  IsOne none = Unit {0}
-  IsOne (item p none) = Unit {0}
-  IsOne (item p (item q es)) = ⊥
-
-  panes_end : (es : Datums) → Ends (λ u. IsOne es) (parse_panes w (in_order es))
-  panes_end none = gives tt
-  panes_end (item p none) = binds (any_ends (note_pane w (parts_of p))) λ u i. gives tt
-  panes_end (item p (item q es)) = binds (any_ends (note_pane w (parts_of p))) λ u i. refuses
-
-  pane_row : (es : Datums) (z : Option Size) (ss : Option (List SlotDecl)) (h at : ℕ) (ds : List Datum) → IsOne es
-      → is_some (first_pane w (in_order es)) ≡ true → WritesSections w z ss None ds
-      → WritesSections w z ss (first_pane w (in_order es)) (list (item (word (codes ":panes") h) es) at ∷ ds)
-  pane_row none z ss h at ds i l r = absurd (false_true l)
-  pane_row (item p none) z ss h at ds i l r =
-      let one : PaneMade (pane_listed w (offset p) (parts_of p)) p = pane_written p l in
-      subst (λ o. WritesSections w z ss o (list (item (word (codes ":panes") h) (item p none)) at ∷ ds)) (sym one.made) (one_pane one.written r)
-  pane_row (item p (item q es)) z ss h at ds i l r = absurd i
+  panes_row : (es : Datums) (z : Option Size) (ss : Option (List SlotDecl)) (h at : ℕ) (ds : List Datum)
+      → is_some (some_panes w (in_order es)) ≡ true → WritesSections w z ss None ds
+      → WritesSections w z ss (some_panes w (in_order es)) (list (item (word (codes ":panes") h) es) at ∷ ds)
+  panes_row none z ss h at ds l r = absurd (false_true l)
+  panes_row (item p es) z ss h at ds l r =
+      let all : PanesMade (all_panes w (p ∷ in_order es)) (p ∷ in_order es) = panes_written (p ∷ in_order es) l in
+      subst (λ o. WritesSections w z ss o (list (item (word (codes ":panes") h) (item p es)) at ∷ ds)) (sym all.made) (its_panes all.written r)
 
 -- slots behind others, where there is a section of them
 abbrev with_taken : SlotTable → Option (List SlotDecl) → SlotTable
@@ -171,14 +182,14 @@ module _ (w : Signatures) (names : CallsNames w) where
   record Fine (ks : List Keyed) : Type 0 where
     size : IfSome (values_of key.Size ks) (λ vs. is_some (size_in vs) ≡ true)
     slots : IfSome (values_of key.Slots ks) (λ vs. are_slots vs ≡ true)
-    pane : IfSome (values_of key.Panes ks) (λ vs. is_some (first_pane w vs) ≡ true)
+    panes : IfSome (values_of key.Panes ks) (λ vs. is_some (some_panes w vs) ≡ true)
 
   -- the slots that are read of the sections, and what is written so
   record Read (ks : List Keyed) (ds : List Datum) (slots more : SlotTable) : Type 0 where
     taken : Option (List SlotDecl)
     none_taken : values_of key.Slots ks ≡ None → taken ≡ None
     added : more ≡ with_taken slots taken
-    written : WritesSections w (size_in (behind key.Size ks)) taken (first_pane w (behind key.Panes ks)) ds
+    written : WritesSections w (size_in (behind key.Size ks)) taken (some_panes w (behind key.Panes ks)) ds
 
   gone : (P : List Datum → Type 0) (o : Option (List Datum)) → o ≡ None → IfSome o P
   gone P o e = subst (λ r. IfSome r P) (sym e) tt
@@ -203,10 +214,10 @@ module _ (w : Signatures) (names : CallsNames w) where
                 taken = r.taken;
                 none_taken = r.none_taken;
                 added = r.added;
-                written = size_row w es r.taken (first_pane w (behind key.Panes ks)) h at ds f.size
-                    (subst (λ o. WritesSections w (size_in (or_nothing o)) r.taken (first_pane w (behind key.Panes ks)) ds) no_other r.written);
+                written = size_row w es r.taken (some_panes w (behind key.Panes ks)) h at ds f.size
+                    (subst (λ o. WritesSections w (size_in (or_nothing o)) r.taken (some_panes w (behind key.Panes ks)) ds) no_other r.written);
               })
-              (rest slots (record { size = gone _ _ no_other; slots = f.slots; pane = f.pane }))).ends;
+              (rest slots (record { size = gone _ _ no_other; slots = f.slots; panes = f.panes }))).ends;
         }
 
     slots_section : SectionEnds key.Slots
@@ -220,31 +231,31 @@ module _ (w : Signatures) (names : CallsNames w) where
           none_taken = λ e. absurd (nothing_found (sym e));
           added = r.added ∙ (ap (with_taken more) (r.none_taken no_other) ∙ i.added);
           written = some_slots i.written
-              (subst (λ o. WritesSections w (size_in (behind key.Size ks)) o (first_pane w (behind key.Panes ks)) ds) (r.none_taken no_other) r.written);
+              (subst (λ o. WritesSections w (size_in (behind key.Size ks)) o (some_panes w (behind key.Panes ks)) ds) (r.none_taken no_other) r.written);
         })
-        (rest more (record { size = f.size; slots = gone _ _ no_other; pane = f.pane }))
+        (rest more (record { size = f.size; slots = gone _ _ no_other; panes = f.panes }))
 
-    pane_ends : SectionEnds key.Panes
-    pane_ends a f =
+    panes_section : SectionEnds key.Panes
+    panes_section a f =
         let no_other : values_of key.Panes ks ≡ None =
         stood_before key.Panes (so_far ++ keyed key.Panes h es ∷ []) ks a.1 (has_last key.Panes so_far (keyed key.Panes h es) refl) in
         binds
-        (binds {Q = λ s. (s ≡ slots) × IsOne w es} (panes_end w es) λ u i. gives (refl, i)) λ s i.
-        subst (λ z. Ends (Read (keyed key.Panes h es ∷ ks) (list (item (word (codes ":panes") h) es) at ∷ ds) slots) (parse_sections w ks z)) (sym i.0)
+        (binds {Q = λ s. s ≡ slots} (any_ends (note_panes w (in_order es))) λ u i. gives refl) λ s i.
+        subst (λ z. Ends (Read (keyed key.Panes h es ∷ ks) (list (item (word (codes ":panes") h) es) at ∷ ds) slots) (parse_sections w ks z)) (sym i)
         (ends_weaker
         (λ t r. record {
           taken = r.taken;
           none_taken = r.none_taken;
           added = r.added;
-          written = pane_row w es (size_in (behind key.Size ks)) r.taken h at ds i.1 f.pane
-              (subst (λ o. WritesSections w (size_in (behind key.Size ks)) r.taken (first_pane w (or_nothing o)) ds) no_other r.written);
+          written = panes_row w es (size_in (behind key.Size ks)) r.taken h at ds f.panes
+              (subst (λ o. WritesSections w (size_in (behind key.Size ks)) r.taken (some_panes w (or_nothing o)) ds) no_other r.written);
         })
-        (rest slots (record { size = f.size; slots = f.slots; pane = gone _ _ no_other })))
+        (rest slots (record { size = f.size; slots = f.slots; panes = gone _ _ no_other })))
 
     key_ends : (k : Key) → is_among frame_keys k ≡ true → SectionEnds k
     key_ends key.Size i a f = size_ends a f
     key_ends key.Slots i a f = slots_section a f
-    key_ends key.Panes i a f = pane_ends a f
+    key_ends key.Panes i a f = panes_section a f
     key_ends key.CommandTable i a f = record { ends = λ u. tt }
     key_ends key.Name i a f = absurd (false_true i)
     key_ends key.Keystroke i a f = absurd (false_true i)
@@ -269,23 +280,23 @@ module _ (w : Signatures) (names : CallsNames w) where
     name : name_in n ≡ Some f.name
     slots : are_slots (behind key.Slots ks) ≡ true
     size : size_in (behind key.Size ks) ≡ Some f.size
-    pane : first_pane w (behind key.Panes ks) ≡ Some f.pane
+    panes : some_panes w (behind key.Panes ks) ≡ Some f.panes
 
-  shape_is : (x : Option (List ℕ)) (z : Option Size) (p : Option PaneForm) (f : FrameShape) → shape_of x z p ≡ Some f
-      → (x ≡ Some f.name) × (z ≡ Some f.size) × (p ≡ Some f.pane)
-  shape_is (Some x) (Some z) (Some p) f e =
-      let same : ◌≡◌ {A = FrameShape} (record { name = x; size = z; pane = p }) f = some_same e in
-      (ap (λ g. Some g.name) same, ap (λ g. Some g.size) same, ap (λ g. Some g.pane) same)
+  shape_is : (x : Option (List ℕ)) (z : Option Size) (ps : Option (List PaneForm)) (f : FrameShape) → shape_of x z ps ≡ Some f
+      → (x ≡ Some f.name) × (z ≡ Some f.size) × (ps ≡ Some f.panes)
+  shape_is (Some x) (Some z) (Some ps) f e =
+      let same : ◌≡◌ {A = FrameShape} (record { name = x; size = z; panes = ps }) f = some_same e in
+      (ap (λ g. Some g.name) same, ap (λ g. Some g.size) same, ap (λ g. Some g.panes) same)
   shape_is (Some x) (Some z) None f e = absurd (nothing_found e)
-  shape_is (Some x) None p f e = absurd (nothing_found e)
-  shape_is None z p f e = absurd (nothing_found e)
+  shape_is (Some x) None ps f e = absurd (nothing_found e)
+  shape_is None z ps f e = absurd (nothing_found e)
 
   shaped : (n : Datum) (ks : List Keyed) (f : FrameShape) (b : Bool) → are_slots (behind key.Slots ks) ≡ b
-      → (if b then shape_of (name_in n) (size_in (behind key.Size ks)) (first_pane w (behind key.Panes ks)) else None) ≡ Some f → Shaped n ks f
+      → (if b then shape_of (name_in n) (size_in (behind key.Size ks)) (some_panes w (behind key.Panes ks)) else None) ≡ Some f → Shaped n ks f
   shaped n ks f true h e =
-      let found : (name_in n ≡ Some f.name) × (size_in (behind key.Size ks) ≡ Some f.size) × (first_pane w (behind key.Panes ks) ≡ Some f.pane) =
-      shape_is (name_in n) (size_in (behind key.Size ks)) (first_pane w (behind key.Panes ks)) f e in
-      record { name = found.0; slots = h; size = found.1; pane = found.2 }
+      let found : (name_in n ≡ Some f.name) × (size_in (behind key.Size ks) ≡ Some f.size) × (some_panes w (behind key.Panes ks) ≡ Some f.panes) =
+      shape_is (name_in n) (size_in (behind key.Size ks)) (some_panes w (behind key.Panes ks)) f e in
+      record { name = found.0; slots = h; size = found.1; panes = found.2 }
   shaped n ks f false h e = absurd (nothing_found e)
 
   -- what holds behind a key holds of what was found there
@@ -297,7 +308,7 @@ module _ (w : Signatures) (names : CallsNames w) where
   fine n ks f h = record {
     size = found_there (λ vs. is_some (size_in vs)) (values_of key.Size ks) (ap is_some h.size);
     slots = found_there are_slots (values_of key.Slots ks) h.slots;
-    pane = found_there (λ vs. is_some (first_pane w vs)) (values_of key.Panes ks) (ap is_some h.pane);
+    panes = found_there (λ vs. is_some (some_panes w vs)) (values_of key.Panes ks) (ap is_some h.panes);
   }
 
   -- what is read writes the head with the parts behind it
@@ -308,8 +319,8 @@ module _ (w : Signatures) (names : CallsNames w) where
       → WritesDeclared w at (of_frame (frame_of f slots at)) (word (codes "define-application-frame") h ∷ n ∷ ds)
   frame_writes h at n ds ks f slots i r =
       subst (λ t. WritesDeclared w at (of_frame (frame_of f t at)) (word (codes "define-application-frame") h ∷ n ∷ ds)) (sym (r.added ∙ taken_alone r.taken))
-      (a_frame i.name (subst (λ z. WritesSections w z r.taken (Some f.pane) ds) i.size
-      (subst (λ p. WritesSections w (size_in (behind key.Size ks)) r.taken p ds) i.pane r.written)))
+      (a_frame i.name (subst (λ z. WritesSections w z r.taken (Some f.panes) ds) i.size
+      (subst (λ ps. WritesSections w (size_in (behind key.Size ks)) r.taken ps ds) i.panes r.written)))
 
   shaped_ends : (h at : ℕ) (n : Datum) (ds : List Datum) (ks : List Keyed) (o : Option FrameShape) → Sections frame_keys [] ks ds → frame_shape w n ks ≡ o
       → FrameEnds h at (n ∷ ds) (parse_shaped w at ks o)

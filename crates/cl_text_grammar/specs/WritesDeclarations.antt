@@ -16,7 +16,7 @@ use Rattle.cl_application.specs.declared.declarations.CommandDecl.{CommandDecl}
 use Rattle.cl_application.specs.declared.declarations.SlotDecl.{SlotDecl}
 use Rattle.cl_declare.specs.declared.declarations.Declarations.{Declarations}
 use Rattle.cl_declare.specs.declared.frames.FrameForm.{FrameForm}
-use Rattle.cl_declare.specs.declared.frames.PaneForm.{PaneForm}
+use Rattle.cl_declare.specs.declared.pane_forms.PaneForm.{PaneForm}
 use Rattle.cl_declare.specs.declared.frames.Size.{Size}
 use Rattle.cl_declare.specs.Declarations.{nothing_declared}
 use Rattle.cl_grammar.specs.Writes.{Writes}
@@ -65,9 +65,9 @@ pub data WritesDeclared (w : Signatures) (at : ℕ) : Declaration → List Datum
       → WritesDeclared w at (of_command (record { name = x; line_name = line_name_of x; body = ss; at = at }))
       (word (codes "define-command") h ∷ n ∷ list none list_at ∷ ds)
   -- (define-application-frame NAME SECTION ...)
-  a_frame : {x : List ℕ} {z : Size} {ss : Option (List SlotDecl)} {p : PaneForm} {n : Datum} {ds : List Datum} {h : ℕ} → name_in n ≡ Some x
-      → WritesSections w (Some z) ss (Some p) ds
-      → WritesDeclared w at (of_frame (record { name = x; width = z.width; height = z.height; slots = slots_of ss; pane = p; at = at }))
+  a_frame : {x : List ℕ} {z : Size} {ss : Option (List SlotDecl)} {ps : List PaneForm} {n : Datum} {ds : List Datum} {h : ℕ} → name_in n ≡ Some x
+      → WritesSections w (Some z) ss (Some ps) ds
+      → WritesDeclared w at (of_frame (record { name = x; width = z.width; height = z.height; slots = slots_of ss; panes = ps; at = at }))
       (word (codes "define-application-frame") h ∷ n ∷ ds)
 
 -- a declaration writes a datum

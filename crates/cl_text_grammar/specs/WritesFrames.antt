@@ -10,7 +10,7 @@ use Rattle.cl_words.specs.declared.signatures.Signatures.{Signatures}
 use Rattle.cl_application.specs.declared.declarations.SlotDecl.{SlotDecl}
 use Rattle.cl_declare.specs.Frames.{number_in, takes_none}
 use Rattle.cl_declare.specs.Sections.{SlotTable}
-use Rattle.cl_declare.specs.declared.frames.PaneForm.{PaneForm}
+use Rattle.cl_declare.specs.declared.pane_forms.PaneForm.{PaneForm}
 use Rattle.cl_declare.specs.declared.frames.Size.{Size}
 use Rattle.cl_grammar.specs.Writes.{Writes}
 use Rattle.cl_text_grammar.specs.WritesTypes.{WritesType}
@@ -41,16 +41,23 @@ pub data WritesPane (w : Signatures) : PaneForm → Datum → Type 0 where
       → WritesPane w (record { name = x; x = i; y = j; width = k; height = l; display = s; at = at })
       (list (item n (item a (item b (item c (item d (item e none)))))) at)
 
--- a size, slots and a pane, as far as they are there, write the sections of a frame
-pub data WritesSections (w : Signatures) : Option Size → Option (List SlotDecl) → Option PaneForm → List Datum → Type 0 where
+-- panes write data, one each
+pub data WritesPanes (w : Signatures) : List PaneForm → List Datum → Type 0 where
+  no_pane : WritesPanes w [] []
+  one_pane : {p : PaneForm} {ps : List PaneForm} {d : Datum} {ds : List Datum} → WritesPane w p d → WritesPanes w ps ds
+      → WritesPanes w (p ∷ ps) (d ∷ ds)
+
+-- a size, slots and panes, as far as they are there, write the sections of a frame
+pub data WritesSections (w : Signatures) : Option Size → Option (List SlotDecl) → Option (List PaneForm) → List Datum → Type 0 where
   no_section : WritesSections w None None None []
   -- (:size WIDTH HEIGHT)
-  a_size : {i j : ℤ} {ss : Option (List SlotDecl)} {p : Option PaneForm} {a b : Datum} {ds : List Datum} {key_at at : ℕ} → number_in a ≡ Some i
-      → number_in b ≡ Some j → WritesSections w None ss p ds
-      → WritesSections w (Some (record { width = i; height = j })) ss p (list (item (word (codes ":size") key_at) (item a (item b none))) at ∷ ds)
+  a_size : {i j : ℤ} {ss : Option (List SlotDecl)} {ps : Option (List PaneForm)} {a b : Datum} {ds : List Datum} {key_at at : ℕ} → number_in a ≡ Some i
+      → number_in b ≡ Some j → WritesSections w None ss ps ds
+      → WritesSections w (Some (record { width = i; height = j })) ss ps (list (item (word (codes ":size") key_at) (item a (item b none))) at ∷ ds)
   -- (:slots SLOT ...)
-  some_slots : {z : Option Size} {ss : List SlotDecl} {p : Option PaneForm} {es : Datums} {ds : List Datum} {key_at at : ℕ} → WritesSlots w ss (in_order es)
-      → WritesSections w z None p ds → WritesSections w z (Some ss) p (list (item (word (codes ":slots") key_at) es) at ∷ ds)
-  -- (:panes PANE)
-  one_pane : {z : Option Size} {ss : Option (List SlotDecl)} {p : PaneForm} {a : Datum} {ds : List Datum} {key_at at : ℕ} → WritesPane w p a
-      → WritesSections w z ss None ds → WritesSections w z ss (Some p) (list (item (word (codes ":panes") key_at) (item a none)) at ∷ ds)
+  some_slots : {z : Option Size} {ss : List SlotDecl} {ps : Option (List PaneForm)} {es : Datums} {ds : List Datum} {key_at at : ℕ} → WritesSlots w ss (in_order es)
+      → WritesSections w z None ps ds → WritesSections w z (Some ss) ps (list (item (word (codes ":slots") key_at) es) at ∷ ds)
+  -- (:panes PANE ...): at least one
+  its_panes : {z : Option Size} {ss : Option (List SlotDecl)} {ps : List PaneForm} {a : Datum} {es : Datums} {ds : List Datum} {key_at at : ℕ}
+      → WritesPanes w ps (a ∷ in_order es) → WritesSections w z ss None ds
+      → WritesSections w z ss (Some ps) (list (item (word (codes ":panes") key_at) (item a es)) at ∷ ds)
