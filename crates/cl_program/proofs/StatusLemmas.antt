@@ -1,7 +1,7 @@
 -- When a status is due.
-use Rattle.std.proofs.Common.{◌≡◌, refl, ◌<◌, ◌≤◌, ℕ, List, [], ◌∷◌, ◌++◌, length, sym, ◌∙◌, arith, append_assoc, Some, None, Option, subst}
+use Rattle.std.proofs.Common.{◌≡◌, refl, ◌<◌, ◌≤◌, ℕ, List, [], ◌∷◌, ◌++◌, length, sym, ◌∙◌, ap, arith, append_assoc, append-nil, Some, None, Option, subst}
 use Rattle.std.specs.Prelude.{codes, Result, Ok, Err}
-use Rattle.std.specs.Io.KnownBytes.{Consumes}
+use Rattle.std.specs.Io.KnownBytes.{Consumes, IsAtEnd}
 use Rattle.cl_application.specs.declared.applications.App.{App}
 use Rattle.cl_gesture.specs.Lines.{ended, pieces, held_from}
 use Rattle.cl_gesture.proofs.Cutting.{pieces-further}
@@ -11,8 +11,8 @@ use Rattle.cl_session.specs.declared.serving.End.{End}
 use Rattle.cl_session.specs.declared.serving.End.TheVariants as end
 use Rattle.cl_program.specs.Command.{IsRun}
 use Rattle.cl_program.specs.Texts.{IsTextOf, first_bytes}
-use Rattle.cl_program.specs.Run.{Streams, Refuses, ReadToLimit, Serves}
-use Rattle.cl_program.specs.Statuses.{DeclaresApplication, HasFewLines, HasRefusal}
+use Rattle.cl_program.specs.Run.{ReadToEnd, Refuses, ReadToLimit, Serves, Streams}
+use Rattle.cl_program.specs.Statuses.{DeclaresApplication, HasFewLines, HasManyLines, HasRefusal}
 
 -- words name one file at most
 pub one_name : (words : List (List ℕ)) (a b : List ℕ) → IsRun words a → IsRun words b → a ≡ b
@@ -77,3 +77,22 @@ limit_passed words file old new end.TooMany e s few =
 limit_passed words file old new end.Done e s few = cc
 limit_passed words file old new end.ReadFault e s few = cc
 limit_passed words file old new end.OutputFault e s few = cc
+
+few_lines : (left_old left_new : Option (List ℕ)) (read : List ℕ) → Consumes left_old left_new read → IsAtEnd left_new
+    → length (pieces read) ≤ 1000000 → HasManyLines left_old → ⊥
+few_lines None left_new read c at_end few many = many
+few_lines (Some bytes) None read c at_end few many = c
+few_lines (Some bytes) (Some rest) read c at_end few many =
+    let same : bytes ≡ read = c ∙ (ap (λ xs. read ++ xs) at_end ∙ append-nil read) in
+    let P : List ℕ → Type 0 = λ xs. 1000000 < length (pieces xs) in
+    let long : 1000000 < length (pieces read) = subst P same many in
+    omega (arith, few, long)
+
+-- gestures that were read to their end are at most a million lines
+pub end_reached : (words : List (List ℕ)) (file : List ℕ → Option (Option (List ℕ))) (old new : Streams) (how : End) → how ≡ end.Done
+    → Serves words file old new how → HasManyLines old.left → ⊥
+end_reached words file old new end.Done e s many =
+    let r : ReadToEnd s.app old new = s.ended in few_lines old.left new.left r.read r.consumed r.at_end r.few many
+end_reached words file old new end.TooMany e s many = cc
+end_reached words file old new end.ReadFault e s many = cc
+end_reached words file old new end.OutputFault e s many = cc

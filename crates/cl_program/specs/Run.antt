@@ -3,18 +3,16 @@ use Rattle.std.specs.Prelude.{◌≡◌, ◌<◌, ◌≤◌, ◌⊎◌, ◌+◌,
 use Rattle.std.specs.Io.KnownBytes.{Appends, Consumes, IsAtEnd}
 use Rattle.cl_outside.specs.Causes.{Rose}
 use Rattle.cl_application.specs.declared.applications.App.{App}
-use Rattle.cl_display.specs.Script.{pane_fresh}
 use Rattle.cl_eval.specs.declared.metering.Limits.{Limits}
-use Rattle.cl_eval.specs.Outcome.{cost_of}
+use Rattle.cl_frame.specs.Ground.{Ground, ground}
 use Rattle.cl_gesture.specs.Lines.{Piece, pieces, ended, held_from}
 use Rattle.cl_gesture.specs.Next.{most_lines}
 use Rattle.cl_load.specs.Application.{IsApplication, IsRefusal}
 use Rattle.cl_load.specs.Opening.{opening_slots}
-use Rattle.cl_session.specs.World.{World}
-use Rattle.cl_session.specs.Step.{opening}
-use Rattle.cl_session.specs.Transcript.{IsTranscript}
-use Rattle.cl_session.specs.Writing.{Says}
-use Rattle.cl_session.specs.Session.{Fits, world_of}
+use Rattle.cl_outside.specs.Writing.{Says}
+use Rattle.cl_session.specs.Session.{Fits, cost_of_panes, world_of}
+use Rattle.cl_session.specs.Transcript.{IsTranscript, Meters, meters}
+use Rattle.cl_session.specs.World.{World, opening}
 use Rattle.cl_session.specs.declared.serving.End.{End}
 use Rattle.cl_session.specs.declared.serving.End.TheVariants as end
 use Rattle.cl_program.specs.Command.{IsRun, IsNoCommand, usage_line, refusal_line}
@@ -27,15 +25,23 @@ use Rattle.cl_program.specs.declared.running.How.TheVariants as how
 abbrev pub run_limits : Limits
 run_limits = record { budget = 1000000; depth = 512 }
 
--- what the display costs at the opening
-abbrev pub opening_cost : App → ℕ
-opening_cost app = cost_of (pane_fresh run_limits app (opening_slots app))
+-- what an application is run on
+abbrev pub run_ground : App → Ground
+run_ground app = ground app run_limits
 
--- these bytes are a transcript of the pieces, from the opening of the application on, and the ledger rose by what the opening costs
--- and then by what the commands and displays of the transcript cost
+-- the world at its opening: nobody looks at its screen, so no device fails
+abbrev pub opening_world : App → World
+opening_world app = opening (run_ground app) (opening_slots app) false
+
+-- what the displays of all panes cost at the opening
+abbrev pub opening_cost : App → ℕ
+opening_cost app = cost_of_panes (run_ground app) (opening_slots app)
+
+-- These bytes are a transcript of the pieces, from the opening of the application on, and the ledger rose by what the opening costs and
+-- then by what the commands and displays of the transcript cost. The faults of the device stay at 0, so no line tells of one.
 abbrev pub IsTranscriptOf : App → List Piece → List ℕ → (spent_old spent_new : ℕ) → Type 0
 IsTranscriptOf app ps bytes spent_old spent_new =
-    (to : World) × IsTranscript app run_limits (opening app run_limits (opening_slots app)) to 0 ps bytes (spent_old + opening_cost app) spent_new
+    (to : World) × IsTranscript (run_ground app) (opening_world app) to 0 ps bytes (meters (spent_old + opening_cost app) 0) (meters spent_new 0)
 
 -- what is told of the gestures and of the output, with their counts of faults, and what the ledger stands at
 pub record Streams : Type 0 where
@@ -127,13 +133,14 @@ pub record WrittenToFault (app : App) (old new : Streams) : Type 0 where
   pub few : length (earlier ++ last ∷ []) ≤ most_lines
   pub rose : Rose old.output_faults new.output_faults
   pub between : World
-  pub spent : ℕ
+  pub stood : Meters
   pub whole : List ℕ
-  pub transcript : IsTranscript app run_limits (opening app run_limits (opening_slots app)) between 0 earlier whole (old.spent + opening_cost app) spent
+  pub transcript : IsTranscript (run_ground app) (opening_world app) between 0 earlier whole (meters (old.spent + opening_cost app) 0) stood
   pub to : World
   pub begun : List ℕ
   pub lost : List ℕ
-  pub answer : IsTranscript app run_limits between to (length earlier) (last ∷ []) (begun ++ lost) spent new.spent
+  pub some : 0 < length lost
+  pub answer : IsTranscript (run_ground app) between to (length earlier) (last ∷ []) (begun ++ lost) stood (meters new.spent 0)
   pub appended : Appends old.taken new.taken (whole ++ begun)
 
 abbrev pub EndsAs : App → Streams → Streams → End → Type 0
@@ -233,6 +240,6 @@ RanLoaded app old new (how.Ended end) = EndsAs app old new end
 -- a frame that was just opened for an application
 pub record IsOpening (app : App) (o : Opening) : Type 0 where
   pub same : o.loaded.app ≡ app
-  pub limits : o.session.limits ≡ run_limits
-  pub world : world_of o.session o.slots ≡ opening app run_limits (opening_slots app)
-  pub fits : Fits app o.slots o.session
+  pub world : world_of o.session o.slots ≡ opening_world app
+  pub fits : Fits (run_ground app) o.slots o.session
+  pub fresh : o.session.frame.screen.stale ≡ false

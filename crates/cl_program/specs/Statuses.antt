@@ -1,24 +1,33 @@
 -- The statuses of the program, and when they are due.
-use Rattle.std.specs.Prelude.{◌≡◌, ◌≤◌, ◌⊎◌, ℕ, List, length, Option, None, Some}
+use Rattle.std.specs.Prelude.{◌≡◌, ◌<◌, ◌≤◌, ℕ, List, length, Option, None, Some}
 use Rattle.cl_application.specs.declared.applications.App.{App}
 use Rattle.cl_gesture.specs.Lines.{pieces}
 use Rattle.cl_gesture.specs.Next.{most_lines}
 use Rattle.cl_load.specs.Application.{IsApplication, IsRefusal}
 use Rattle.cl_session.specs.declared.serving.End.TheVariants as end
-use Rattle.cl_program.specs.Command.{IsNoCommand, usage_line}
 use Rattle.cl_program.specs.Texts.{first_bytes}
-use Rattle.cl_program.specs.Run.{Streams, Serves, RefusesCut, SaysCut}
+use Rattle.cl_program.specs.Run.{Ran, Streams}
+use Rattle.cl_program.specs.declared.running.How.{How}
+use Rattle.cl_program.specs.declared.running.How.TheVariants as how
 
--- there are no others
-abbrev pub IsStatus : ℕ → Type 0
-IsStatus n = (n ≤ 5) ⊎ (n ≡ 7) ⊎ (n ≡ 8)
+-- the status that a run ends with
+abbrev pub status_of : How → ℕ
+status_of how.Usage = 2
+status_of how.UsageCut = 5
+status_of how.AppFault = 3
+status_of how.Refused = 1
+status_of how.RefusalCut = 5
+status_of how.Memory = 7
+status_of (how.Ended end.Done) = 0
+status_of (how.Ended end.ReadFault) = 4
+status_of (how.Ended end.TooMany) = 8
+status_of (how.Ended end.OutputFault) = 5
 
--- the output failed: in the usage line, in the refusal line, or in the transcript
-abbrev pub OutputFailed : List (List ℕ) → (List ℕ → Option (Option (List ℕ))) → Streams → Streams → Type 0
-OutputFailed words file old new =
-    (IsNoCommand words × SaysCut old new usage_line)
-    ⊎ RefusesCut words file old new
-    ⊎ Serves words file old new end.OutputFault
+-- a run ended with this status: in one of the ways that have it, and what that says holds
+pub record EndsWith (words : List (List ℕ)) (file : List ℕ → Option (Option (List ℕ))) (faults_old faults_new : List ℕ → ℕ) (old new : Streams) (status : ℕ) : Type 0 where
+  pub how : How
+  pub status_is : status ≡ status_of how
+  pub ran : Ran words file faults_old faults_new old new how
 
 -- a file that is told, whose text declares an application
 abbrev pub DeclaresApplication : Option (Option (List ℕ)) → Type 0
@@ -36,3 +45,8 @@ HasRefusal (Some (Some bytes)) number at = IsRefusal (first_bytes bytes) number 
 abbrev pub HasFewLines : Option (List ℕ) → Type 0
 HasFewLines None = ⊥
 HasFewLines (Some bytes) = length (pieces bytes) ≤ most_lines
+
+-- gestures that are told, of more than a million lines
+abbrev pub HasManyLines : Option (List ℕ) → Type 0
+HasManyLines None = ⊥
+HasManyLines (Some bytes) = most_lines < length (pieces bytes)

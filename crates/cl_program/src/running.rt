@@ -1,15 +1,16 @@
 //! The run of an application: its text is read and loaded, it is opened, and gestures are served.
 ghost use Rattle.std.specs.Prelude.{◌≡◌, ◌≤◌, ◌+◌, ℕ, List, [], IfOk, map};
-ghost use Rattle.cl_program.specs.Run.{EndsAs, IsOpening, Ran, RanLoaded, RanText, opening_cost, streams};
+ghost use Rattle.cl_program.specs.Run.{EndsAs, IsOpening, Ran, RanLoaded, RanText, opening_cost, run_limits, streams};
 
 use crate::saying::{say_refusal, say_usage};
 use crate::texts::{TextRead, read_text};
 use crate::words::application_name;
-use cl_eval::Slots;
+use cl_application::App;
+use cl_eval::{Limits, Program, Slots};
 use cl_gesture::{Ahead, Gestures};
-use cl_load::{LoadRefusal, Loaded, load};
-use cl_outside::{Ledger, LentSource, Place, Sink, Source, Steps};
-use cl_session::{End, Session};
+use cl_load::{LoadRefusal, Loaded, SlotTypes, load};
+use cl_outside::{Ledger, LentSource, NullDevice, Place, Sink, Source, Steps};
+use cl_session::{DEPTH, End, Session};
 use std::alloc::{AllocError, Global};
 
 /// How many forms a display or a command may enter.
@@ -40,6 +41,23 @@ struct Opening {
     loaded: Loaded,
     session: Session,
     slots: Slots,
+    device: NullDevice,
+}
+
+// What an application is run on.
+fn program(alloc: Global, app: &App) -> Program<'_, SlotTypes>
+    ensures app { result.app.now ≡ app.now }
+    ensures limits { result.limits ≡ run_limits }
+{
+    Program {
+        alloc,
+        app,
+        types: &SlotTypes,
+        limits: Limits {
+            budget: BUDGET,
+            depth: DEPTH,
+        },
+    }
 }
 
 /// Runs the program on these words.
@@ -57,6 +75,8 @@ pub fn run_words<P: Place, G: Source, O: Sink, L: Ledger>(
         (streams (G.left gestures.new) (G.faults gestures.new) (O.taken out.new) (O.faults out.new)
         steps.new) result }
     ensures files { (name : List ℕ) → P.file place.new name ≡ P.file place.old name }
+    ensures making { P.making_faults place.new ≡ P.making_faults place.old }
+    ensures writing { P.writing_faults place.new ≡ P.writing_faults place.old }
     ensures place_lent { P.lent place.new ≡ P.lent place.old }
     ensures place_later { (name : List ℕ)
         → P.app_faults place.old name ≤ P.app_faults place.new name }
@@ -145,11 +165,13 @@ fn open<L: Ledger>(
     ensures at_most { steps.new ≤ steps.old + opening_cost loaded.app }
 {
     let slots = loaded.slots.copy(alloc)?;
-    let session = Session::new(alloc, &loaded, &slots, BUDGET, steps)?;
+    let mut device = NullDevice::new();
+    let session = Session::new(&program(alloc, &loaded.app), &slots, &mut device, steps)?;
     Ok(Opening {
         loaded,
         session,
         slots,
+        device,
     })
 }
 
@@ -176,11 +198,11 @@ fn serve<G: Source, O: Sink, L: Ledger>(
 {
     let mut reader = Gestures::with_room(alloc, room, LentSource::new(gestures));
     let end = opening.session.serve(
-        alloc,
-        &opening.loaded,
+        &program(alloc, &opening.loaded.app),
         &mut opening.slots,
         &mut reader,
         out,
+        &mut opening.device,
         steps,
     );
     let lent = reader.into_source();

@@ -1,10 +1,9 @@
 //! The usage line and the line of a refusal.
-ghost use Rattle.std.specs.Prelude.{◌≡◌, ◌≤◌, [], map};
-ghost use Rattle.cl_session.specs.Writing.{Puts, Says, joined};
+ghost use Rattle.std.specs.Prelude.{◌≡◌, ◌≤◌};
+ghost use Rattle.cl_outside.specs.Writing.{Says};
 ghost use Rattle.cl_program.specs.Command.{refusal_line, usage_line};
 
-use cl_outside::Sink;
-use cl_session::write_all;
+use cl_outside::{Sink, write_all, write_pieces};
 use itoa::Buffer;
 
 /// The line that is said of words that are no command.
@@ -40,19 +39,4 @@ pub fn say_refusal<O: Sink>(out: &mut O, number: u8, offset: u32) -> bool
             b"\n",
         ],
     )
-}
-
-// Writes pieces, one after another.
-fn write_pieces<O: Sink>(out: &mut O, pieces: &[&[u8]]) -> bool
-    ensures lent { O.lent out.new ≡ O.lent out.old }
-    ensures puts { Puts result (O.taken out.old) (O.taken out.new)
-        (joined (map (λ p. p.now) pieces.now)) [] (O.faults out.old) (O.faults out.new) }
-    ensures later { O.faults out.old ≤ O.faults out.new }
-{
-    for piece in pieces {
-        if !write_all(out, piece) {
-            return false;
-        }
-    }
-    true
 }

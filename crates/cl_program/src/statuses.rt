@@ -1,10 +1,9 @@
 //! The top call and its exit status.
 ghost use Rattle.std.specs.Prelude.{◌≡◌, ◌≤◌, ◌⊎◌, ℕ, List, map};
 ghost use Rattle.cl_outside.specs.Causes.{Rose};
-ghost use Rattle.cl_session.specs.declared.serving.End.TheVariants as end;
-ghost use Rattle.cl_program.specs.Command.{IsNoCommand, IsRun, usage_line};
-ghost use Rattle.cl_program.specs.Run.{AppFaultRose, RanOutOfMemory, Refuses, SaysWhole, Serves, streams};
-ghost use Rattle.cl_program.specs.Statuses.{DeclaresApplication, HasFewLines, HasRefusal, IsStatus, OutputFailed};
+ghost use Rattle.cl_program.specs.Command.{IsNoCommand, IsRun};
+ghost use Rattle.cl_program.specs.Run.{streams};
+ghost use Rattle.cl_program.specs.Statuses.{DeclaresApplication, EndsWith, HasFewLines, HasManyLines, HasRefusal};
 
 use crate::running::{How, run_words};
 use cl_outside::{Ledger, Place, Sink, Source, Steps};
@@ -31,57 +30,11 @@ pub fn clim_main<P: Place, G: Source, O: Sink, L: Ledger>(
     out: &mut O,
     steps: &mut Steps<L>,
 ) -> Status
-    // What each status says.
-    ensures status_0 { result.0 ≡ 0
-        → Serves (map (λ w. w.now) words.now) (P.file place.old)
-        (streams (G.left gestures.old) (G.faults gestures.old) (O.taken out.old)
-        (O.faults out.old) steps.old)
-        (streams (G.left gestures.new) (G.faults gestures.new) (O.taken out.new)
-        (O.faults out.new) steps.new) end.Done }
-    ensures status_1 { result.0 ≡ 1
-        → Refuses (map (λ w. w.now) words.now) (P.file place.old)
-        (streams (G.left gestures.old) (G.faults gestures.old) (O.taken out.old)
-        (O.faults out.old) steps.old)
-        (streams (G.left gestures.new) (G.faults gestures.new) (O.taken out.new)
-        (O.faults out.new) steps.new) }
-    ensures status_2 { result.0 ≡ 2
-        → IsNoCommand (map (λ w. w.now) words.now)
-        × SaysWhole (streams (G.left gestures.old) (G.faults gestures.old) (O.taken out.old)
-        (O.faults out.old) steps.old)
-        (streams (G.left gestures.new) (G.faults gestures.new) (O.taken out.new)
-        (O.faults out.new) steps.new) usage_line }
-    ensures status_3 { result.0 ≡ 3
-        → AppFaultRose (map (λ w. w.now) words.now) (P.app_faults place.old)
-        (P.app_faults place.new)
-        × (streams (G.left gestures.new) (G.faults gestures.new) (O.taken out.new)
-        (O.faults out.new) steps.new
-        ≡ streams (G.left gestures.old) (G.faults gestures.old) (O.taken out.old)
-        (O.faults out.old) steps.old) }
-    ensures status_4 { result.0 ≡ 4
-        → Serves (map (λ w. w.now) words.now) (P.file place.old)
-        (streams (G.left gestures.old) (G.faults gestures.old) (O.taken out.old)
-        (O.faults out.old) steps.old)
-        (streams (G.left gestures.new) (G.faults gestures.new) (O.taken out.new)
-        (O.faults out.new) steps.new) end.ReadFault }
-    ensures status_5 { result.0 ≡ 5
-        → OutputFailed (map (λ w. w.now) words.now) (P.file place.old)
-        (streams (G.left gestures.old) (G.faults gestures.old) (O.taken out.old)
-        (O.faults out.old) steps.old)
-        (streams (G.left gestures.new) (G.faults gestures.new) (O.taken out.new)
-        (O.faults out.new) steps.new) }
-    ensures status_7 { result.0 ≡ 7
-        → RanOutOfMemory (map (λ w. w.now) words.now) (P.file place.old)
-        (streams (G.left gestures.old) (G.faults gestures.old) (O.taken out.old)
-        (O.faults out.old) steps.old)
-        (streams (G.left gestures.new) (G.faults gestures.new) (O.taken out.new)
-        (O.faults out.new) steps.new) }
-    ensures status_8 { result.0 ≡ 8
-        → Serves (map (λ w. w.now) words.now) (P.file place.old)
-        (streams (G.left gestures.old) (G.faults gestures.old) (O.taken out.old)
-        (O.faults out.old) steps.old)
-        (streams (G.left gestures.new) (G.faults gestures.new) (O.taken out.new)
-        (O.faults out.new) steps.new) end.TooMany }
-    ensures no_other { IsStatus result.0 }
+    ensures ends { EndsWith (map (λ w. w.now) words.now) (P.file place.old) (P.app_faults place.old)
+        (P.app_faults place.new) (streams (G.left gestures.old) (G.faults gestures.old)
+        (O.taken out.old) (O.faults out.old) steps.old)
+        (streams (G.left gestures.new) (G.faults gestures.new) (O.taken out.new) (O.faults out.new)
+        steps.new) result.0 }
 
     // When they are due.
     ensures usage_due { IsNoCommand (map (λ w. w.now) words.now) → (result.0 ≡ 2) ⊎ (result.0 ≡ 5) }
@@ -91,7 +44,13 @@ pub fn clim_main<P: Place, G: Source, O: Sink, L: Ledger>(
         → (Rose (G.faults gestures.old) (G.faults gestures.new) → ⊥) → (Rose (O.faults out.old) (O.faults out.new) → ⊥)
         → DeclaresApplication (P.file place.old name) → HasFewLines (G.left gestures.old) → (result.0 ≡ 0) ⊎ (result.0 ≡ 7) }
 
+    ensures limit_due { (name : List ℕ) → IsRun (map (λ w. w.now) words.now) name → (Rose (P.app_faults place.old name) (P.app_faults place.new name) → ⊥)
+        → (Rose (G.faults gestures.old) (G.faults gestures.new) → ⊥) → (Rose (O.faults out.old) (O.faults out.new) → ⊥)
+        → DeclaresApplication (P.file place.old name) → HasManyLines (G.left gestures.old) → (result.0 ≡ 8) ⊎ (result.0 ≡ 7) }
+
     ensures files { (name : List ℕ) → P.file place.new name ≡ P.file place.old name }
+    ensures making { P.making_faults place.new ≡ P.making_faults place.old }
+    ensures writing { P.writing_faults place.new ≡ P.writing_faults place.old }
     ensures place_lent { P.lent place.new ≡ P.lent place.old }
     ensures place_later { (name : List ℕ)
         → P.app_faults place.old name ≤ P.app_faults place.new name }

@@ -41,6 +41,8 @@ pub fn read_text<P: Place>(alloc: Global, place: &mut P, name: &str) -> TextRead
     ensures files { (other : List ℕ) → P.file place.new other ≡ P.file place.old other }
     ensures later { (other : List ℕ) → P.app_faults place.old other ≤ P.app_faults place.new other }
     ensures lent { P.lent place.new ≡ P.lent place.old }
+    ensures making { P.making_faults place.new ≡ P.making_faults place.old }
+    ensures writing { P.writing_faults place.new ≡ P.writing_faults place.old }
 {
     match place.open_source(name) {
         Opened::Done => read_opened(alloc, place),
@@ -58,6 +60,8 @@ fn read_opened<P: Place>(alloc: Global, place: &mut P) -> TextRead
     ensures files { (other : List ℕ) → P.file place.new other ≡ P.file place.old other }
     ensures later { (other : List ℕ) → P.app_faults place.old other ≤ P.app_faults place.new other }
     ensures lent { P.lent place.new ≡ P.lent place.old }
+    ensures making { P.making_faults place.new ≡ P.making_faults place.old }
+    ensures writing { P.writing_faults place.new ≡ P.writing_faults place.old }
 {
     let mut text = Vec::new(alloc);
     'pieces: while text.len() < MOST_BYTES {
@@ -82,6 +86,8 @@ fn read_piece<P: Place>(place: &mut P, text: &mut Vec<u8>) -> PieceRead
     ensures files { (other : List ℕ) → P.file place.new other ≡ P.file place.old other }
     ensures later { (other : List ℕ) → P.app_faults place.old other ≤ P.app_faults place.new other }
     ensures lent { P.lent place.new ≡ P.lent place.old }
+    ensures making { P.making_faults place.new ≡ P.making_faults place.old }
+    ensures writing { P.writing_faults place.new ≡ P.writing_faults place.old }
     ensures opened { P.opened place.new ≡ true }
     ensures reads { (name : List ℕ) → P.reads place.old name → P.reads place.new name }
 {

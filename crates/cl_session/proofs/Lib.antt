@@ -1,3 +1,12 @@
-pub mod RowLemmas
 pub mod WritingLemmas
+pub mod StreamLemmas
 pub mod ServingLemmas
+pub mod StoppedLemmas
+pub mod KeptLemmas
+pub mod CurrentLemmas
+pub mod DeterminedLemmas
+pub mod StepLemmas
+pub mod OpeningLemmas
+pub mod ToldLemmas
+pub mod TellingLemmas
+pub mod HistoryLemmas

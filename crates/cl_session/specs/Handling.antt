@@ -1,24 +1,55 @@
 -- What handling a gesture answers, against what the definition says.
-use Rattle.std.specs.Prelude.{◌≡◌, ℕ, Bool, true, false, List, [], ◌∷◌}
+use Rattle.std.specs.Prelude.{◌≡◌, ℕ, Bool, true, false, List, [], ◌∷◌, Result, Ok, Err}
 use Rattle.cl_eval.specs.Slots.{Slots}
+use Rattle.cl_frame.specs.Frames.{marks_of_frame}
+use Rattle.cl_frame.specs.declared.frames.Frame.{Frame}
+use Rattle.cl_redisplay.specs.Screens.{is_fault}
+use Rattle.cl_redisplay.specs.declared.screens.Painted.{Painted}
+use Rattle.cl_session.specs.declared.answers.Replies.{Replies}
+use Rattle.cl_session.specs.declared.handling.After.{After}
+use Rattle.cl_session.specs.declared.handling.After.TheVariants as after
+use Rattle.cl_session.specs.declared.handling.Desk.{Desk}
 use Rattle.cl_session.specs.declared.handling.Handling.{Handling}
 use Rattle.cl_session.specs.declared.handling.Handling.TheVariants as handling
 use Rattle.cl_session.specs.Step.{Handled}
+use Rattle.cl_session.specs.World.{World}
 
--- the replies, the slots and the line, and whether a command committed; want of memory leaves slots and line
-abbrev pub HandlesTo : Handled → Handling → (slots_old slots_new : Slots) → (line_old line_new : List ℕ) → Type 0
-HandlesTo h (handling.Replied replies) slots_old slots_new line_old line_new =
-    (h ≡ record { replies = replies; slots = slots_new; line = line_new; commits = false; cost = h.cost }) × (slots_new ≡ slots_old)
-HandlesTo h (handling.Committed replies) slots_old slots_new line_old line_new =
-    h ≡ record { replies = replies; slots = slots_new; line = line_new; commits = true; cost = h.cost }
-HandlesTo h handling.Memory slots_old slots_new line_old line_new = (slots_new ≡ slots_old) × (line_new ≡ line_old)
+-- a session as a world: these slots, what lies on the desk, and the frame
+abbrev pub world_at : Slots → Desk → Frame → World
+world_at slots desk frame = record { slots = slots; line = desk.line; panes = marks_of_frame frame; stale = frame.screen.stale }
+
+-- slots change only where a command commits
+abbrev pub KeepsSlots : After → (old new : Slots) → Type 0
+KeepsSlots after.Nothing old new = new ≡ old
+KeepsSlots after.Commit old new = Unit {0}
+KeepsSlots after.Force old new = new ≡ old
+
+-- the replies, the world and what follows; want of memory leaves slots and desk
+abbrev pub HandlesTo : Handled → Frame → Handling → (slots_old slots_new : Slots) → (desk_old desk_new : Desk) → Type 0
+HandlesTo h frame (handling.Replied replies next) slots_old slots_new desk_old desk_new =
+    (h ≡ record { replies = replies; world = world_at slots_new desk_new frame; after = next; cost = h.cost }) × KeepsSlots next slots_old slots_new
+HandlesTo h frame handling.Memory slots_old slots_new desk_old desk_new = (slots_new ≡ slots_old) × (desk_new ≡ desk_old)
 
 abbrev pub handling_met : Handling → Bool
-handling_met (handling.Replied replies) = false
-handling_met (handling.Committed replies) = false
+handling_met (handling.Replied replies next) = false
 handling_met handling.Memory = true
 
+-- one line and nothing else, where there is memory for it
 abbrev pub IsReply : List ℕ → Handling → Type 0
-IsReply bytes (handling.Replied replies) = replies ≡ bytes ∷ []
-IsReply bytes (handling.Committed replies) = ⊥
+IsReply bytes (handling.Replied replies next) = (replies ≡ bytes ∷ []) × (next ≡ after.Nothing)
 IsReply bytes handling.Memory = Unit {0}
+
+-- lines and nothing else; want of memory, where there are none
+abbrev pub ToldOf : {E : Type 0} → Result (List (List ℕ)) E → Handling → Type 0
+ToldOf (Ok lines) answer = answer ≡ handling.Replied lines after.Nothing
+ToldOf (Err e) answer = answer ≡ handling.Memory
+
+-- what follows a handling; nothing where it met want of memory
+abbrev pub after_of : Handling → After
+after_of (handling.Replied replies next) = next
+after_of handling.Memory = after.Nothing
+
+-- the replies behind a handling, and whether the device failed
+abbrev pub AreRepliesOf : Handling → Painted → Replies → Type 0
+AreRepliesOf (handling.Replied replies next) painted r = (r.own ≡ replies) × (r.memory ≡ false) × (r.wire ≡ is_fault painted)
+AreRepliesOf handling.Memory painted r = (r.own ≡ []) × (r.memory ≡ true) × (r.wire ≡ is_fault painted)

@@ -1,10 +1,13 @@
 pub mod World
+pub mod Current
 pub mod Step
-pub mod Pane
 pub mod Replies
 pub mod Handling
+pub mod Telling
 pub mod Session
+pub mod Streams
 pub mod Transcript
 pub mod Writing
 pub mod Serving
 pub mod Turns
+pub mod Laws

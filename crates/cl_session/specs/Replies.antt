@@ -1,28 +1,22 @@
 -- The lines of the replies to a gesture.
-use Rattle.std.specs.Prelude.{ℕ, Bool, true, false, List, [], ◌∷◌, ◌++◌, codes}
-use Rattle.cl_session.specs.declared.answers.PaneReport.{PaneReport}
-use Rattle.cl_session.specs.declared.answers.PaneReport.TheVariants as report
+use Rattle.std.specs.Prelude.{ℕ, Bool, true, false, List, [], ◌∷◌, ◌++◌, codes, map}
+use Rattle.cl_application.specs.Panes.{panes_of}
+use Rattle.cl_application.specs.declared.applications.App.{App}
+use Rattle.cl_frame.specs.Frames.{reports_of_frame}
+use Rattle.cl_frame.specs.Settling.{met_memory}
+use Rattle.cl_frame.specs.declared.frames.Frame.{Frame}
 use Rattle.cl_session.specs.declared.answers.Replies.{Replies}
-use Rattle.cl_session.specs.Step.{Met, report_line, trap_line, memory_line}
+use Rattle.cl_session.specs.Step.{Met, pane_lines, wire_lines}
 
+-- the own lines, or want of memory in their place
 abbrev pub own_lines : Bool → List (List ℕ) → List (List ℕ)
 own_lines true own = codes "! memory" ∷ []
 own_lines false own = own
 
-abbrev pub report_lines : List ℕ → PaneReport → List (List ℕ)
-report_lines name (report.Shown r) = report_line name r.kept r.moved r.drawn r.erased ∷ []
-report_lines name (report.Trapped k) = trap_line name k ∷ []
-report_lines name report.Memory = memory_line name ∷ []
-report_lines name report.Quiet = []
+-- the own lines, then those of the panes that were settled, and last that of a device that failed
+abbrev pub lines_of : App → Frame → Replies → List (List ℕ)
+lines_of app frame r = own_lines r.memory r.own ++ (pane_lines (panes_of app) (reports_of_frame frame) ++ wire_lines r.wire)
 
-abbrev pub lines_of : List ℕ → Replies → List (List ℕ)
-lines_of name r = own_lines r.memory r.own ++ report_lines name r.pane
-
-abbrev pub met_memory : PaneReport → Bool
-met_memory (report.Shown r) = false
-met_memory (report.Trapped k) = false
-met_memory report.Memory = true
-met_memory report.Quiet = false
-
-abbrev pub met_of : Replies → Met
-met_of r = record { handling = r.memory; pane = met_memory r.pane }
+-- what met want of memory, and whether the device failed
+abbrev pub met_of : Frame → Replies → Met
+met_of frame r = record { handling = r.memory; panes = map met_memory (reports_of_frame frame); wire = r.wire }

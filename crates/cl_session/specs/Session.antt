@@ -1,51 +1,42 @@
 -- What a session is as a world, and when it fits an application and slots.
-use Rattle.std.specs.Prelude.{◌≡◌, ◌⊎◌, ◌≤◌, Bool, true, ◌||◌, is_none, Option, Some, None, List, []}
-use Rattle.cl_application.specs.App.{pane_of}
-use Rattle.cl_application.specs.declared.applications.App.{App}
+use Rattle.std.specs.Prelude.{◌≡◌, ℕ, ◌+◌, true, List, [], ◌∷◌, map}
+use Rattle.cl_application.specs.Panes.{panes_of}
+use Rattle.cl_application.specs.declared.declarations.PaneDecl.{PaneDecl}
 use Rattle.cl_eval.specs.Slots.{Slots}
-use Rattle.cl_eval.specs.declared.metering.Limits.{Limits}
-use Rattle.cl_medium.specs.Items.{Item}
-use Rattle.cl_record.specs.Marks.{Mark}
-use Rattle.cl_display.specs.Script.{pane_script}
+use Rattle.cl_frame.specs.Frames.{IsFrameOf, reports_of_frame}
+use Rattle.cl_frame.specs.Ground.{Ground}
+use Rattle.cl_frame.specs.Settling.{report_after}
 use Rattle.cl_gesture.specs.declared.answers.Gesture.{Gesture}
-use Rattle.cl_session.specs.declared.answers.PaneReport.{PaneReport}
 use Rattle.cl_session.specs.declared.answers.Replies.{Replies}
 use Rattle.cl_session.specs.declared.sessions.Session.{Session}
-use Rattle.cl_session.specs.World.{World, area_of, marks_of_pane}
-use Rattle.cl_session.specs.Step.{handled_or_not, next, settled_behind, settled_if}
-use Rattle.cl_session.specs.Pane.{IsPainted}
-use Rattle.cl_session.specs.Replies.{met_memory, met_of, own_lines, report_lines}
+use Rattle.cl_session.specs.Current.{IsCurrent}
+use Rattle.cl_session.specs.Handling.{world_at}
+use Rattle.cl_session.specs.Replies.{met_of, own_lines}
+use Rattle.cl_session.specs.Step.{handled_or_not, next, settled_behind}
+use Rattle.cl_session.specs.World.{World, cost_of_pane}
 
 abbrev pub world_of : Session → Slots → World
-world_of session slots = record { slots = slots; line = session.line; pane = marks_of_pane session.pane.history }
+world_of session slots = world_at slots session.desk session.frame
 
--- the history is the script of these slots, unless it is blank
-abbrev pub IsCurrent : App → Limits → Slots → Option (List (Mark Item)) → Type 0
-IsCurrent app limits slots history = (history ≡ None) ⊎ (history ≡ Some (pane_script limits app slots))
+-- A session fits an application and slots: its frame is that of the application, with the cells of its histories on the screen, and each
+-- pane has the script of its display on these slots, or is blank for want of memory.
+pub record Fits (g : Ground) (slots : Slots) (session : Session) : Type 0 where
+  pub frame : IsFrameOf g.app session.frame
+  pub current : IsCurrent g (world_of session slots)
 
--- A session fits an application and slots: its screen is as large as the frame, its pane is where the frame has it, the cells there
--- are those of its history and all is blank elsewhere, its history is the script of these slots, unless it is blank for want of
--- memory, and no bytes wait to be written.
-pub record Fits (app : App) (slots : Slots) (session : Session) : Type 0 where
-  pub depth : session.limits.depth ≤ 512
-  pub width : session.pane.screen.width ≡ app.frame.width
-  pub height : session.pane.screen.height ≡ app.frame.height
-  pub area : session.pane.area ≡ area_of (pane_of app)
-  pub painted : IsPainted session.pane
-  pub current : IsCurrent app session.limits slots (marks_of_pane session.pane.history)
-  pub none_waits : session.outgoing ≡ []
+-- what the displays of panes cost together on these slots
+abbrev pub costs_of_panes : Ground → Slots → List PaneDecl → ℕ
+costs_of_panes g slots [] = 0
+costs_of_panes g slots (d ∷ ds) = cost_of_pane g slots d + costs_of_panes g slots ds
 
--- the history and the lines of a pane that is settled where that is due or where it is blank
-pub record SettlesIf (due : Bool) (app : App) (limits : Limits) (slots : Slots) (old new : Option (List (Mark Item))) (report : PaneReport) : Type 0 where
-  pub history : new ≡ (settled_if (due || is_none old) app limits slots old (met_memory report)).pane
-  pub lines : report_lines (pane_of app).name report ≡ (settled_if (due || is_none old) app limits slots old (met_memory report)).lines
+-- what those of all panes cost
+abbrev pub cost_of_panes : Ground → Slots → ℕ
+cost_of_panes g slots = costs_of_panes g slots (panes_of g.app)
 
--- A gesture took the world to the next one, and these are the replies: the own lines of its handling and the line of the pane, each
--- in its place.
-pub record Steps (app : App) (old new : Session) (slots_old slots_new : Slots) (gesture : Gesture) (replies : Replies) : Type 0 where
-  pub world : world_of new slots_new ≡ (next app old.limits (world_of old slots_old) gesture (met_of replies)).world
-  pub own : own_lines replies.memory replies.own ≡ (handled_or_not app old.limits (world_of old slots_old) gesture replies.memory).replies
+-- A gesture took the world to the next one, and these are the replies: the own lines of its handling, and the reports of the panes.
+pub record StepsTo (g : Ground) (old new : Session) (slots_old slots_new : Slots) (act : Gesture) (replies : Replies) : Type 0 where
+  pub world : world_of new slots_new ≡ (next g (world_of old slots_old) act (met_of new.frame replies)).world
+  pub own : own_lines replies.memory replies.own ≡ (handled_or_not g (world_of old slots_old) act replies.memory).replies
   pub none_of_own : replies.memory ≡ true → replies.own ≡ []
-  pub report : report_lines (pane_of app).name replies.pane
-      ≡ (settled_behind app old.limits (world_of old slots_old) (handled_or_not app old.limits (world_of old slots_old) gesture replies.memory) (met_memory replies.pane)).lines
-  pub limits : new.limits ≡ old.limits
+  pub reports : reports_of_frame new.frame
+      ≡ map report_after (settled_behind g (handled_or_not g (world_of old slots_old) act replies.memory) (met_of new.frame replies).panes)

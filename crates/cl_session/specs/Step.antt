@@ -1,54 +1,64 @@
 -- The step of a world by a gesture: the next world and the lines that are said of it.
-use Rattle.std.specs.Prelude.{◌≡◌, ◌≤◌, ℕ, ◌+◌, Bool, true, false, ◌||◌, nat_le, is_none, if◌then◌else◌, List, [], ◌∷◌, ◌++◌, length, Option, Some, None, codes}
+use Rattle.std.specs.Prelude.{◌≡◌, ℕ, ◌+◌, Bool, true, false, nat_le, if◌then◌else◌, List, [], ◌∷◌, ◌++◌, length, map, Option, Some, None, codes}
 use Rattle.std.specs.Fmt.{decimal}
+use Rattle.std.specs.Str.{str_eq_ignore_ascii_case}
 use Rattle.cl_table.specs.Names.{declared_at}
-use Rattle.cl_application.specs.App.{pane_of}
-use Rattle.cl_application.specs.declared.applications.App.{App}
+use Rattle.cl_application.specs.Panes.{panes_of}
 use Rattle.cl_application.specs.declared.declarations.CommandDecl.{CommandDecl}
-use Rattle.cl_eval.specs.declared.metering.Limits.{Limits}
-use Rattle.cl_eval.specs.Outcome.{Outcome, Gives, RisesBy, Traps, cost_of}
+use Rattle.cl_application.specs.declared.declarations.PaneDecl.{PaneDecl}
+use Rattle.cl_eval.specs.Outcome.{Outcome, Gives, RisesBy, Traps}
 use Rattle.cl_eval.specs.Slots.{Slots}
 use Rattle.cl_eval.specs.Executed.{outcome_of_exec}
 use Rattle.cl_eval.specs.declared.effects.Effects.{Effects}
 use Rattle.cl_load.specs.SlotTypes.{is_member}
-use Rattle.cl_display.specs.Drawings.{DrawingAt}
-use Rattle.cl_display.specs.Script.{history_of, pane_fresh, pane_script}
-use Rattle.std.specs.Str.{str_eq_ignore_ascii_case}
-use Rattle.cl_medium.specs.Items.{Item}
 use Rattle.cl_record.specs.Lines.{item_line, lines_from}
-use Rattle.cl_record.specs.Marks.{Mark}
-use Rattle.cl_record.specs.Counts.{count_of}
-use Rattle.cl_redisplay.specs.Paint.{shown_ink_rows, shown_rows}
+use Rattle.cl_redisplay.specs.Shown.{Shown, shown_ink_rows, shown_rows}
 use Rattle.cl_command.specs.declared.lines.Finished.{Finished}
 use Rattle.cl_command.specs.declared.lines.Finished.TheVariants.{Command, Unknown, Surplus}
 use Rattle.cl_command.specs.Line.{finish_of}
 use Rattle.cl_command.specs.Naming.{line_names}
+use Rattle.cl_frame.specs.Ground.{Ground}
+use Rattle.cl_frame.specs.Panes.{PaneMarks, marks_in, shown_panes}
+use Rattle.cl_frame.specs.Settling.{PaneStep, SpendsPanes, costs, marks_after, report_after, settle_panes}
+use Rattle.cl_frame.specs.declared.reports.PaneReport.{PaneReport}
+use Rattle.cl_frame.specs.declared.reports.PaneReport.TheVariants as report
+use Rattle.cl_frame.specs.declared.settling.Which.{Which}
+use Rattle.cl_frame.specs.declared.settling.Which.TheVariants as which
 use Rattle.cl_gesture.specs.declared.answers.Gesture.{Gesture}
 use Rattle.cl_gesture.specs.declared.answers.Gesture.TheVariants as gesture
-use Rattle.cl_session.specs.World.{World, area_of, marks_in}
+use Rattle.cl_session.specs.declared.handling.After.{After}
+use Rattle.cl_session.specs.declared.handling.After.TheVariants as after
+use Rattle.cl_session.specs.World.{World}
 
--- what met want of memory in a gesture: its handling, and the settling of the pane
+-- What met want of memory in a gesture: its handling, and the settling of each pane, in order; and whether the device failed.
 pub record Met : Type 0 where
   pub handling : Bool
-  pub pane : Bool
+  pub panes : List Bool
+  pub wire : Bool
 
--- what the handling of a gesture comes to: its own replies, the slots and the line, whether a command committed, and its cost
+-- ---- the handling
+
+-- what the handling of a gesture comes to: its own replies, the world then, what follows it, and its cost
 pub record Handled : Type 0 where
   pub replies : List (List ℕ)
-  pub slots : Slots
-  pub line : List ℕ
-  pub commits : Bool
+  pub world : World
+  pub after : After
   pub cost : ℕ
 
--- one reply, and nothing changes
-abbrev pub refused : World → ℕ → List ℕ → Handled
-refused w cost reply = record { replies = reply ∷ []; slots = w.slots; line = w.line; commits = false; cost = cost }
+-- these replies, and nothing changes
+abbrev pub tell : World → (cost : ℕ) → List (List ℕ) → Handled
+tell w cost replies = record { replies = replies; world = w; after = after.Nothing; cost = cost }
 
-abbrev pub typed : World → List ℕ → Handled
-typed w text =
+-- one reply, and nothing changes
+abbrev pub refuse : World → (cost : ℕ) → List ℕ → Handled
+refuse w cost reply = tell w cost (reply ∷ [])
+
+-- the characters stand behind the line, where that has room for them
+abbrev pub type_text : World → List ℕ → Handled
+type_text w text =
     if nat_le (length w.line + length text) 256
-    then record { replies = []; slots = w.slots; line = w.line ++ text; commits = false; cost = 0 }
-    else refused w 0 (codes "! full")
+    then tell (record w { line = w.line ++ text }) 0 []
+    else refuse w 0 (codes "! full")
 
 -- `= TEXT` for each text that the command replied
 abbrev pub text_lines : List (List ℕ) → List (List ℕ)
@@ -58,78 +68,94 @@ text_lines (t ∷ ts) = (codes "= " ++ t) ∷ text_lines ts
 abbrev pub ok_lines : List ℕ → List (List ℕ) → List (List ℕ)
 ok_lines name replies = (codes "ok " ++ name) ∷ text_lines replies
 
+-- the line of a command that trapped
+abbrev pub command_trap_line : ℕ → List ℕ
+command_trap_line kind = codes "! trap " ++ decimal kind
+
 -- the run of a command of this command-line name: an end without a trap commits the slots and empties the line, a trap leaves both
-abbrev pub run_of : List ℕ → World → Outcome Effects → Handled
-run_of name w (Gives effects cost deepest) =
-    record { replies = ok_lines name effects.replies; slots = effects.slots; line = []; commits = true; cost = cost }
-run_of name w (Traps kind cost deepest) = refused w cost (codes "! trap " ++ decimal kind)
+abbrev pub run_command : List ℕ → World → Outcome Effects → Handled
+run_command name w (Gives effects cost deepest) = record {
+  replies = ok_lines name effects.replies;
+  world = record w { slots = effects.slots; line = [] };
+  after = after.Commit;
+  cost = cost;
+}
+run_command name w (Traps kind cost deepest) = refuse w cost (command_trap_line kind)
 
--- the run of a command's statements, with no variables
-abbrev pub command_run : Limits → App → CommandDecl → Slots → Outcome Effects
-command_run limits app command slots = outcome_of_exec limits app is_member command.body [] slots
+-- what a command's statements come to, with no variables
+abbrev pub command_outcome : Ground → CommandDecl → Slots → Outcome Effects
+command_outcome g command slots = outcome_of_exec g.limits g.app is_member command.body [] slots
 
--- a command that a line names is run
-abbrev pub run_named : App → Limits → World → Option CommandDecl → Handled
-run_named app limits w None = refused w 0 (codes "! unknown")
-run_named app limits w (Some command) = run_of command.line_name w (command_run limits app command w.slots)
+-- the command in a place of the order, from 0, is run
+abbrev pub run_named : Ground → World → Option CommandDecl → Handled
+run_named g w None = refuse w 0 (codes "! unknown")
+run_named g w (Some command) = run_command command.line_name w (command_outcome g command w.slots)
 
--- the command in this place of the order, from 0
-abbrev pub command_at : App → ℕ → Option CommandDecl
-command_at app place = declared_at place app.commands
+abbrev pub finish_line : Ground → World → Finished → Handled
+finish_line g w (Command place) = run_named g w (declared_at place g.app.commands)
+finish_line g w Unknown = refuse w 0 (codes "! unknown")
+finish_line g w Surplus = refuse w 0 (codes "! surplus")
 
-abbrev pub returned : App → Limits → World → Finished → Handled
-returned app limits w (Command place) = run_named app limits w (command_at app place)
-returned app limits w Unknown = refused w 0 (codes "! unknown")
-returned app limits w Surplus = refused w 0 (codes "! surplus")
-
--- these replies, and nothing changes
-abbrev pub told : World → List (List ℕ) → Handled
-told w replies = record { replies = replies; slots = w.slots; line = w.line; commits = false; cost = 0 }
+-- what the screen shows, and where
+abbrev pub shown_in : Ground → World → List Shown
+shown_in g w = shown_panes (panes_of g.app) w.panes
 
 -- the rows of the screen, by their glyphs and by their inks
-abbrev pub glyph_rows : App → World → List (List ℕ)
-glyph_rows app w = shown_rows (area_of (pane_of app)) (marks_in w.pane) app.frame.width app.frame.height
+abbrev pub glyph_rows : Ground → World → List (List ℕ)
+glyph_rows g w = shown_rows (shown_in g w) g.app.frame.width g.app.frame.height
 
-abbrev pub ink_rows : App → World → List (List ℕ)
-ink_rows app w = shown_ink_rows (area_of (pane_of app)) (marks_in w.pane) app.frame.width app.frame.height
+abbrev pub ink_rows : Ground → World → List (List ℕ)
+ink_rows g w = shown_ink_rows (shown_in g w) g.app.frame.width g.app.frame.height
 
 -- `history NAME N` and N lines
-abbrev pub headed : List ℕ → List (List ℕ) → List (List ℕ)
-headed name lines = (codes "history " ++ name ++ 32 ∷ decimal (length lines)) ∷ lines
+abbrev pub headed_lines : List ℕ → List (List ℕ) → List (List ℕ)
+headed_lines name lines = (codes "history " ++ name ++ 32 ∷ decimal (length lines)) ∷ lines
 
-abbrev pub history_rows : App → World → List (List ℕ)
-history_rows app w = headed (pane_of app).name (lines_from item_line 0 (marks_in w.pane))
+-- the lines of the history of a pane
+abbrev pub history_rows : List ℕ → PaneMarks → List (List ℕ)
+history_rows name marks = headed_lines name (lines_from item_line 0 (marks_in marks))
 
--- the history of the pane of this name, without regard to case
-abbrev pub asked : App → World → List ℕ → Handled
-asked app w name =
-    if str_eq_ignore_ascii_case name (pane_of app).name then told w (history_rows app w) else refused w 0 (codes "! pane")
+-- the history of the first pane of this name, without regard to case
+abbrev pub tell_history : World → List PaneDecl → List PaneMarks → List ℕ → Handled
+tell_history w [] marks name = refuse w 0 (codes "! pane")
+tell_history w (d ∷ ds) [] name = refuse w 0 (codes "! pane")
+tell_history w (d ∷ ds) (m ∷ ms) name =
+    if str_eq_ignore_ascii_case name d.name then tell w 0 (history_rows d.name m) else tell_history w ds ms name
 
-abbrev pub handled : App → Limits → World → Gesture → Handled
-handled app limits w (gesture.«Type» text) = typed w text
-handled app limits w gesture.Return = returned app limits w (finish_of (line_names app.commands) w.line)
-handled app limits w gesture.Frame = told w (glyph_rows app w)
-handled app limits w gesture.Inks = told w (ink_rows app w)
-handled app limits w (gesture.History name) = asked app w name
+abbrev pub handled : Ground → World → Gesture → Handled
+handled g w (gesture.«Type» text) = type_text w text
+handled g w gesture.Return = finish_line g w (finish_of (line_names g.app.commands) w.line)
+handled g w gesture.Frame = tell w 0 (glyph_rows g w)
+handled g w gesture.Inks = tell w 0 (ink_rows g w)
+handled g w (gesture.History name) = tell_history w (panes_of g.app) w.panes name
+handled g w gesture.Force = record { replies = []; world = w; after = after.Force; cost = 0 }
 
 -- a handling that met want of memory changes nothing
-abbrev pub handled_or_not : App → Limits → World → Gesture → Bool → Handled
-handled_or_not app limits w g true = refused w 0 (codes "! memory")
-handled_or_not app limits w g false = handled app limits w g
+abbrev pub handled_or_not : Ground → World → Gesture → (met : Bool) → Handled
+handled_or_not g w act true = refuse w 0 (codes "! memory")
+handled_or_not g w act false = handled g w act
 
--- what becomes of the pane: its history, its line, and the cost
-pub record Settled : Type 0 where
-  pub pane : Option (List (Mark Item))
-  pub lines : List (List ℕ)
-  pub cost : ℕ
+-- ---- the panes behind it
 
+-- all panes are settled where a command committed, all anew at `force`, and else those that are blank for want of memory
+abbrev pub which_after : After → Which
+which_after after.Nothing = which.Blank
+which_after after.Commit = which.All
+which_after after.Force = which.Force
+
+-- what becomes of the panes behind a handling
+abbrev pub settled_behind : Ground → Handled → (mets : List Bool) → List PaneStep
+settled_behind g h mets = settle_panes g (which_after h.after) h.world.slots (panes_of g.app) h.world.panes mets
+
+-- `pane NAME kept K moved M`
 abbrev pub report_head : List ℕ → (kept moved : ℕ) → List ℕ
 report_head name kept moved = codes "pane " ++ name ++ codes " kept " ++ decimal kept ++ codes " moved " ++ decimal moved
 
+-- ` drawn D erased E`
 abbrev pub report_tail : (drawn erased : ℕ) → List ℕ
 report_tail drawn erased = codes " drawn " ++ decimal drawn ++ codes " erased " ++ decimal erased
 
--- `pane NAME kept K moved M drawn D erased E`
+-- the line of a pane that shows its display
 abbrev pub report_line : List ℕ → (kept moved drawn erased : ℕ) → List ℕ
 report_line name kept moved drawn erased = report_head name kept moved ++ report_tail drawn erased
 
@@ -139,50 +165,47 @@ trap_line name kind = codes "pane " ++ name ++ codes " trap " ++ decimal kind
 abbrev pub memory_line : List ℕ → List ℕ
 memory_line name = codes "pane " ++ name ++ codes " memory"
 
--- the line of a pane whose display was evaluated: nothing is kept, its items are drawn and so many are erased
-abbrev pub pane_line : List ℕ → ℕ → Outcome DrawingAt → List ℕ
-pane_line name erased (Gives s cost deepest) = report_line name 0 0 (count_of s.part.marks) erased
-pane_line name erased (Traps kind cost deepest) = trap_line name kind
+-- the line of a pane of this name, where it was settled
+abbrev pub report_lines : List ℕ → PaneReport → List (List ℕ)
+report_lines name (report.Shown r) = report_line name r.kept r.moved r.drawn r.erased ∷ []
+report_lines name (report.Trapped k) = trap_line name k ∷ []
+report_lines name report.Memory = memory_line name ∷ []
+report_lines name report.Quiet = []
 
--- a pane that is settled has its script, or is blank where it met want of memory
-abbrev pub settled : App → Outcome DrawingAt → List (Mark Item) → Bool → Settled
-settled app shown old true = record { pane = None; lines = memory_line (pane_of app).name ∷ []; cost = cost_of shown }
-settled app shown old false =
-    record { pane = Some (history_of shown); lines = pane_line (pane_of app).name (count_of old) shown ∷ []; cost = cost_of shown }
+-- the lines of all panes, in order of declaration
+abbrev pub pane_lines : List PaneDecl → List PaneReport → List (List ℕ)
+pane_lines [] rs = []
+pane_lines (d ∷ ds) [] = []
+pane_lines (d ∷ ds) (r ∷ rs) = report_lines d.name r ++ pane_lines ds rs
 
--- a pane is settled where a command committed, and tried again where it is blank
-abbrev pub settled_if : Bool → App → Limits → Slots → Option (List (Mark Item)) → Bool → Settled
-settled_if true app limits slots pane met = settled app (pane_fresh limits app slots) (marks_in pane) met
-settled_if false app limits slots pane met = record { pane = pane; lines = []; cost = 0 }
+-- `! wire`, where the device failed
+abbrev pub wire_lines : Bool → List (List ℕ)
+wire_lines true = codes "! wire" ∷ []
+wire_lines false = []
+
+-- ---- the step
 
 pub record Next : Type 0 where
   pub world : World
   pub lines : List (List ℕ)
   pub cost : ℕ
 
-abbrev pub joined : Handled → Settled → Next
-joined h s = record {
-  world = record { slots = h.slots; line = h.line; pane = s.pane };
-  lines = h.replies ++ s.lines;
-  cost = h.cost + s.cost;
+-- a handling, and then the panes: a screen that was stale before is redrawn in full at the end, so it is stale then exactly where the
+-- device failed in this gesture
+abbrev pub next_behind : Ground → Handled → List PaneStep → (failed : Bool) → Next
+next_behind g h steps failed = record {
+  world = record h.world { panes = map marks_after steps; stale = failed };
+  lines = h.replies ++ (pane_lines (panes_of g.app) (map report_after steps) ++ wire_lines failed);
+  cost = h.cost + costs steps;
 }
 
--- the pane behind a handling
-abbrev pub settled_behind : App → Limits → World → Handled → Bool → Settled
-settled_behind app limits w h met = settled_if (h.commits || is_none w.pane) app limits h.slots w.pane met
+abbrev pub next : Ground → World → Gesture → Met → Next
+next g w act met =
+    next_behind g (handled_or_not g w act met.handling) (settled_behind g (handled_or_not g w act met.handling) met.panes) met.wire
 
-abbrev pub after_handling : App → Limits → World → Handled → Bool → Next
-after_handling app limits w h met = joined h (settled_behind app limits w h met)
-
-abbrev pub next : App → Limits → World → Gesture → Met → Next
-next app limits w g met = after_handling app limits w (handled_or_not app limits w g met.handling) met.pane
-
--- the ledger rises by the cost of what the handling ran, and then by the cost of the display, where the pane was settled
-pub record Spends (app : App) (limits : Limits) (w : World) (g : Gesture) (met : Met) (old new : ℕ) : Type 0 where
+-- the ledger rises by the cost of what the handling ran, and then by the costs of the displays of the panes that were settled; by no
+-- more, where one of these met want of memory
+pub record Spends (g : Ground) (w : World) (act : Gesture) (met : Met) (old new : ℕ) : Type 0 where
   pub handled_at : ℕ
-  pub handling : RisesBy met.handling old handled_at (handled app limits w g).cost
-  pub settling : RisesBy met.pane handled_at new (settled_behind app limits w (handled_or_not app limits w g met.handling) met.pane).cost
-
--- the world at the opening
-abbrev pub opening : App → Limits → Slots → World
-opening app limits slots = record { slots = slots; line = []; pane = Some (pane_script limits app slots) }
+  pub handling : RisesBy met.handling old handled_at (handled g w act).cost
+  pub settling : SpendsPanes (settled_behind g (handled_or_not g w act met.handling) met.panes) handled_at new

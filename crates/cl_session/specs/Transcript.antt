@@ -1,20 +1,23 @@
--- The transcript: what is said of the pieces of a stream, one after another.
-use Rattle.std.specs.Prelude.{◌≡◌, ℕ, ◌+◌, List, [], ◌∷◌, ◌++◌, codes, map}
+-- The transcript of a session: what is said of the pieces of a stream, one after another.
+use Rattle.std.specs.Prelude.{◌≡◌, ◌≤◌, ℕ, ◌+◌, Bool, true, false, List, [], ◌∷◌, ◌++◌, codes, map}
 use Rattle.std.specs.Fmt.{decimal}
-use Rattle.cl_application.specs.declared.applications.App.{App}
-use Rattle.cl_eval.specs.declared.metering.Limits.{Limits}
+use Rattle.cl_outside.specs.Causes.{Rose}
+use Rattle.cl_outside.specs.Writing.{joined}
 use Rattle.cl_gesture.specs.Lines.{Piece}
 use Rattle.cl_gesture.specs.Gesture.{LineKind, idle, bad, does, kind_of}
+use Rattle.cl_gesture.specs.declared.answers.Gesture.{Gesture}
+use Rattle.cl_frame.specs.Ground.{Ground}
 use Rattle.cl_session.specs.World.{World}
 use Rattle.cl_session.specs.Step.{Met, Spends, next}
-use Rattle.cl_session.specs.Writing.{joined}
+use Rattle.cl_session.specs.Streams as streams
 
 -- a line with the line feed that ends it
 abbrev pub ended_line : List ℕ → List ℕ
 ended_line bytes = bytes ++ 10 ∷ []
 
-abbrev pub said : List (List ℕ) → List ℕ
-said lines = joined (map ended_line lines)
+-- lines, each with its line feed
+abbrev pub line_bytes : List (List ℕ) → List ℕ
+line_bytes lines = joined (map ended_line lines)
 
 abbrev pub bad_line : ℕ → List ℕ
 bad_line number = codes "! bad " ++ decimal number
@@ -24,32 +27,57 @@ pub data Went : Type 0 where
   lost : Went
   stepped : Met → Went
 
--- what is said of a piece, where so many lines were read before
-abbrev pub said_of : App → Limits → World → ℕ → LineKind → Went → List ℕ
-said_of app limits w before idle went = []
-said_of app limits w before bad went = said (bad_line (before + 1) ∷ [])
-said_of app limits w before (does g) lost = said (codes "! memory" ∷ [])
-said_of app limits w before (does g) (stepped met) = said (next app limits w g met).lines
+-- what is said of a line, where so many were read before
+abbrev pub said_of : Ground → World → ℕ → LineKind → Went → List ℕ
+said_of g w before idle went = []
+said_of g w before bad went = line_bytes (bad_line (before + 1) ∷ [])
+said_of g w before (does act) lost = line_bytes (codes "! memory" ∷ [])
+said_of g w before (does act) (stepped met) = line_bytes (next g w act met).lines
 
-abbrev pub world_after : App → Limits → World → LineKind → Went → World
-world_after app limits w idle went = w
-world_after app limits w bad went = w
-world_after app limits w (does g) lost = w
-world_after app limits w (does g) (stepped met) = (next app limits w g met).world
+abbrev pub world_after : Ground → World → LineKind → Went → World
+world_after g w idle went = w
+world_after g w bad went = w
+world_after g w (does act) lost = w
+world_after g w (does act) (stepped met) = (next g w act met).world
 
--- what a piece spends: the ledger rises by what its gesture ran
-abbrev pub Spent : App → Limits → World → LineKind → Went → (old new : ℕ) → Type 0
-Spent app limits w idle went old new = new ≡ old
-Spent app limits w bad went old new = new ≡ old
-Spent app limits w (does g) lost old new = new ≡ old
-Spent app limits w (does g) (stepped met) old new = Spends app limits w g met old new
+-- what the ledger stands at, and how many faults the device had
+pub record Meters : Type 0 where
+  pub spent : ℕ
+  pub faults : ℕ
 
--- These bytes are a transcript of the pieces on the way from one world to another, where so many lines were read before, and the
--- ledger rose from one number to another. Want of memory is chosen anew at each gesture; nothing else is free, but for the steps of
--- what met it.
-abbrev pub IsTranscript : App → Limits → (from to : World) → ℕ → List Piece → List ℕ → (old new : ℕ) → Type 0
-IsTranscript app limits w to before [] bytes old new = (bytes ≡ []) × (new ≡ old) × (to ≡ w)
-IsTranscript app limits w to before (p ∷ ps) bytes old new =
-    (went : Went) × (rest : List ℕ) × (spent : ℕ) × (bytes ≡ said_of app limits w before (kind_of p) went ++ rest)
-    × Spent app limits w (kind_of p) went old spent
-    × IsTranscript app limits (world_after app limits w (kind_of p) went) to (before + 1) ps rest spent new
+abbrev pub meters : (spent faults : ℕ) → Meters
+meters spent faults = record { spent = spent; faults = faults }
+
+-- no count falls, and one rose where this holds
+abbrev pub RoseIf : Bool → (old new : ℕ) → Type 0
+RoseIf true old new = (old ≤ new) × Rose old new
+RoseIf false old new = old ≤ new
+
+-- what a gesture spends: the ledger rises by what it ran, and the device's faults rise where it says `! wire`
+pub record SpendsStep (g : Ground) (w : World) (act : Gesture) (met : Met) (old new : Meters) : Type 0 where
+  pub ran : Spends g w act met old.spent new.spent
+  pub failed : RoseIf met.wire old.faults new.faults
+
+-- what a line spends
+abbrev pub Spent : Ground → World → LineKind → Went → (old new : Meters) → Type 0
+Spent g w idle went old new = new ≡ old
+Spent g w bad went old new = new ≡ old
+Spent g w (does act) lost old new = new ≡ old
+Spent g w (does act) (stepped met) old new = SpendsStep g w act met old new
+
+-- ---- the session as a machine over a stream
+
+abbrev pub said_of_piece : Ground → World → ℕ → Piece → Went → List ℕ
+said_of_piece g w before p went = said_of g w before (kind_of p) went
+
+abbrev pub world_after_piece : Ground → World → Piece → Went → World
+world_after_piece g w p went = world_after g w (kind_of p) went
+
+abbrev pub SpentOfPiece : Ground → World → Piece → Went → (old new : Meters) → Type 0
+SpentOfPiece g w p went old new = Spent g w (kind_of p) went old new
+
+-- These bytes are a transcript of the pieces. Want of memory and faults of the device are chosen at each gesture; nothing else is free,
+-- but for the steps of what met want of memory.
+abbrev pub IsTranscript : Ground → (from to : World) → ℕ → List Piece → List ℕ → (old new : Meters) → Type 0
+IsTranscript g from to before ps bytes old new =
+    streams.IsTranscript (said_of_piece g) (world_after_piece g) (SpentOfPiece g) from to before ps bytes old new

@@ -1,27 +1,28 @@
 -- What a session is between two gestures.
-use Rattle.std.specs.Prelude.{ℕ, List, [], Option, Some, None, unwrap_or}
-use Rattle.cl_eval.specs.Slots.{Slots}
-use Rattle.cl_medium.specs.Items.{move_item, Item}
-use Rattle.cl_record.specs.Marks.{Mark, history_marks}
-use Rattle.cl_record.specs.Trees.{Tree}
-use Rattle.cl_redisplay.specs.declared.areas.Area.{Area}
+use Rattle.std.specs.Prelude.{ℕ, Bool, List, [], map, Some}
+use Rattle.cl_application.specs.Panes.{panes_of}
 use Rattle.cl_application.specs.declared.declarations.PaneDecl.{PaneDecl}
+use Rattle.cl_display.specs.Script.{pane_fresh, pane_script}
+use Rattle.cl_eval.specs.Outcome.{cost_of}
+use Rattle.cl_eval.specs.Slots.{Slots}
+use Rattle.cl_frame.specs.Ground.{Ground}
+use Rattle.cl_frame.specs.Panes.{PaneMarks}
 
+-- the slots, the command line, the marks of each pane, and whether the screen is stale: its device may show anything else
 pub record World : Type 0 where
   pub slots : Slots
   pub line : List ℕ
-  -- the marks of the pane's history; None where it is blank for want of memory
-  pub pane : Option (List (Mark Item))
+  pub panes : List PaneMarks
+  pub stale : Bool
 
--- the area of the screen that a pane is declared to have
-abbrev pub area_of : PaneDecl → Area
-area_of pane = record { x = pane.x; y = pane.y; width = pane.width; height = pane.height }
+-- a pane has its script
+abbrev pub script_of : Ground → Slots → PaneDecl → PaneMarks
+script_of g slots d = Some (pane_script g.limits g.app d slots)
 
--- the marks of a history that a pane may have
-abbrev pub marks_of_pane : Option (List (Tree Item)) → Option (List (Mark Item))
-marks_of_pane None = None
-marks_of_pane (Some h) = Some (history_marks move_item h)
+-- The world at the opening: an empty line, and each pane has its script. The screen is stale where the device failed in it.
+abbrev pub opening : Ground → Slots → (failed : Bool) → World
+opening g slots failed = record { slots = slots; line = []; panes = map (script_of g slots) (panes_of g.app); stale = failed }
 
--- the marks that a pane shows
-abbrev pub marks_in : Option (List (Mark Item)) → List (Mark Item)
-marks_in pane = unwrap_or pane []
+-- what the display of a pane costs
+abbrev pub cost_of_pane : Ground → Slots → PaneDecl → ℕ
+cost_of_pane g slots d = cost_of (pane_fresh g.limits g.app d slots)

@@ -1,73 +1,101 @@
-//! How a gesture is handled, before the pane is settled.
-ghost use Rattle.std.specs.Prelude.{◌≡◌, ◌≤◌, ◌++◌, ◌∷◌, [], codes, IfOk};
-ghost use Rattle.std.specs.Fmt.{decimal};
+//! How a gesture is handled, before panes are settled.
+ghost use Rattle.std.specs.Prelude.{◌≡◌, ◌≤◌, ◌++◌, ◌∷◌, [], IfOk};
 ghost use Rattle.cl_command.specs.Line.{finish_of};
 ghost use Rattle.cl_command.specs.Naming.{line_names};
 ghost use Rattle.cl_eval.specs.Outcome.{RisesBy};
-ghost use Rattle.cl_application.specs.App.{HasPane, pane_of};
-ghost use Rattle.cl_session.specs.World.{area_of, marks_of_pane};
-ghost use Rattle.cl_session.specs.Step.{asked, command_run, handled, ok_lines, returned, run_of, text_lines, typed};
-ghost use Rattle.cl_session.specs.Pane.{IsPainted};
-ghost use Rattle.cl_session.specs.Handling.{HandlesTo, IsReply, handling_met};
+ghost use Rattle.cl_application.specs.Panes.{panes_of};
+ghost use Rattle.cl_frame.specs.Frames.{IsFrameOf, marks_of_frame};
+ghost use Rattle.cl_frame.specs.Ground.{ground};
+ghost use Rattle.cl_session.specs.Step.{command_outcome, command_trap_line, finish_line, handled, ok_lines, run_command, tell_history, type_text, which_after};
+ghost use Rattle.cl_session.specs.Handling.{HandlesTo, IsReply, ToldOf, after_of, handling_met, world_at};
 
-use crate::panes::Pane;
-use crate::telling::{frame_lines, history_lines, ink_lines};
+use crate::telling::{frame_lines, history_lines, ink_lines, place_of_pane};
 use cl_application::{App, CommandDecl};
 use cl_command::{Finished, Line, Pushed};
 use cl_eval::{Env, Executed, Lines, Program, Slots, exec};
+use cl_frame::{Frame, Which};
 use cl_gesture::Gesture;
 use cl_load::SlotTypes;
 use cl_outside::{Ledger, Steps};
 use cl_value::Text;
 use std::alloc::{AllocError, Global};
 
+/// What lies on a session's desk, beside the slots: the command line.
+#[derive(Drop)]
+pub struct Desk {
+    pub line: Line,
+}
+
+/// What follows a handling.
+#[derive(Clone, Copy, PartialEq, Eq, Debug)]
+pub enum After {
+    /// Nothing.
+    Nothing,
+    /// A command committed: all panes are settled.
+    Commit,
+    /// All panes are settled from nothing, and the screen is redrawn in full.
+    Force,
+}
+
 /// How a gesture was handled.
 #[derive(Drop)]
 pub enum Handling {
-    /// With these replies.
-    Replied(Lines),
-    /// With these replies of a command that committed.
-    Committed(Lines),
+    /// With these replies, and what follows.
+    Replied(Lines, After),
     /// It met want of memory, and nothing is changed.
     Memory,
 }
 
-/// Handles a gesture: its own replies, and what becomes of the slots and of the line.
+impl Handling {
+    /// Which panes are settled behind it.
+    pub fn which(&self) -> Which
+        ensures { result ≡ which_after (after_of self.now) }
+    {
+        match self {
+            Handling::Replied(_, After::Nothing) => Which::Blank,
+            Handling::Replied(_, After::Commit) => Which::All,
+            Handling::Replied(_, After::Force) => Which::Force,
+            Handling::Memory => Which::Blank,
+        }
+    }
+}
+
+/// Handles a gesture: its own replies, and what becomes of the slots and of the desk.
 pub fn handle<L: Ledger>(
     program: &Program<'_, SlotTypes>,
     gesture: &Gesture,
-    pane: &Pane,
+    frame: &Frame,
     slots: &mut Slots,
-    line: &mut Line,
+    desk: &mut Desk,
     steps: &mut Steps<L>,
 ) -> Handling
     requires depth { program.now.limits.depth ≤ 512 }
-    requires has_pane { HasPane program.now.app.now }
-    requires painted { IsPainted pane.now }
-    requires width { pane.now.screen.width ≡ program.now.app.now.frame.width }
-    requires height { pane.now.screen.height ≡ program.now.app.now.frame.height }
-    requires area { pane.now.area ≡ area_of (pane_of program.now.app.now) }
-    ensures handles { HandlesTo (handled program.now.app.now program.now.limits
-        (record { slots = slots.old; line = line.old; pane = marks_of_pane pane.now.history })
-        gesture.now) result slots.old slots.new line.old line.new }
+    requires frame { IsFrameOf program.now.app.now frame.now }
+    ensures handles { HandlesTo (handled (ground program.now.app.now program.now.limits)
+        (world_at slots.old desk.old frame.now) gesture.now) frame.now result slots.old slots.new
+        desk.old desk.new }
     ensures ledger { RisesBy (handling_met result) steps.old steps.new
-        (handled program.now.app.now program.now.limits
-        (record { slots = slots.old; line = line.old; pane = marks_of_pane pane.now.history })
-        gesture.now).cost }
+        (handled (ground program.now.app.now program.now.limits)
+        (world_at slots.old desk.old frame.now) gesture.now).cost }
 {
     let (alloc, app) = (program.alloc, program.app);
     match gesture {
-        Gesture::Type(text) => type_text(alloc, text.as_slice(), pane, slots, line),
-        Gesture::Return => finish_line(program, pane, slots, line, steps),
-        Gesture::Frame => match frame_lines(alloc, pane) {
-            Ok(lines) => Handling::Replied(lines),
-            Err(_) => Handling::Memory,
-        },
-        Gesture::Inks => match ink_lines(alloc, pane) {
-            Ok(lines) => Handling::Replied(lines),
-            Err(_) => Handling::Memory,
-        },
-        Gesture::History(name) => tell_history(alloc, app, pane, name.as_slice(), slots, line),
+        Gesture::Type(text) => type_text(alloc, text.as_slice(), frame, slots, desk),
+        Gesture::Return => finish_line(program, frame, slots, desk, steps),
+        Gesture::Frame => told(frame_lines(alloc, app, frame)),
+        Gesture::Inks => told(ink_lines(alloc, app, frame)),
+        Gesture::History(name) => tell_history(alloc, app, frame, name.as_slice(), slots, desk),
+        Gesture::Force => Handling::Replied(Lines::new(alloc), After::Force),
+    }
+}
+
+// These lines, and nothing follows.
+fn told(lines: Result<Lines, AllocError>) -> Handling
+    ensures { ToldOf lines result }
+{
+    match lines {
+        Ok(lines) => Handling::Replied(lines, After::Nothing),
+        Err(_) => Handling::Memory,
     }
 }
 
@@ -75,66 +103,58 @@ pub fn handle<L: Ledger>(
 fn tell_history(
     alloc: Global,
     app: &App,
-    pane: &Pane,
+    frame: &Frame,
     name: &[u8],
     slots: &Slots,
-    line: &Line,
+    desk: &Desk,
 ) -> Handling
-    requires { HasPane app.now }
-    ensures handles { HandlesTo (asked app.now
-        (record { slots = slots.now; line = line.now; pane = marks_of_pane pane.now.history })
-        name.now) result slots.now slots.now line.now line.now }
-    ensures cost { (asked app.now (record
-        { slots = slots.now; line = line.now; pane = marks_of_pane pane.now.history })
-        name.now).cost ≡ 0 }
+    requires { IsFrameOf app.now frame.now }
+    ensures handles { HandlesTo (tell_history (world_at slots.now desk.now frame.now)
+        (panes_of app.now) (marks_of_frame frame.now) name.now) frame.now result slots.now slots.now
+        desk.now desk.now }
+    ensures cost { (tell_history (world_at slots.now desk.now frame.now) (panes_of app.now)
+        (marks_of_frame frame.now) name.now).cost ≡ 0 }
 {
-    let own_name = app.first_pane().name.as_slice();
-    if !name.eq_ignore_ascii_case(own_name) {
-        return reply(alloc, b"! pane");
-    }
-    match history_lines(alloc, pane, own_name) {
-        Ok(lines) => Handling::Replied(lines),
-        Err(_) => Handling::Memory,
+    match place_of_pane(app, name) {
+        Some(place) => told(history_lines(alloc, app, frame, place)),
+        None => reply(alloc, b"! pane"),
     }
 }
 
-fn type_text(alloc: Global, text: &[u8], pane: &Pane, slots: &Slots, line: &mut Line) -> Handling
-    ensures handles { HandlesTo (typed
-        (record { slots = slots.now; line = line.old; pane = marks_of_pane pane.now.history })
-        text.now) result slots.now slots.now line.old line.new }
-    ensures cost { (typed (record
-        { slots = slots.now; line = line.old; pane = marks_of_pane pane.now.history })
-        text.now).cost ≡ 0 }
+fn type_text(alloc: Global, text: &[u8], frame: &Frame, slots: &Slots, desk: &mut Desk) -> Handling
+    ensures handles { HandlesTo (type_text (world_at slots.now desk.old frame.now) text.now)
+        frame.now result slots.now slots.now desk.old desk.new }
+    ensures cost { (type_text (world_at slots.now desk.old frame.now) text.now).cost ≡ 0 }
 {
-    match line.push_text(text) {
-        Pushed::Done => Handling::Replied(Lines::new(alloc)),
+    match desk.line.push_text(text) {
+        Pushed::Done => Handling::Replied(Lines::new(alloc), After::Nothing),
         Pushed::Full => reply(alloc, b"! full"),
     }
 }
 
 fn finish_line<L: Ledger>(
     program: &Program<'_, SlotTypes>,
-    pane: &Pane,
+    frame: &Frame,
     slots: &mut Slots,
-    line: &mut Line,
+    desk: &mut Desk,
     steps: &mut Steps<L>,
 ) -> Handling
     requires { program.now.limits.depth ≤ 512 }
-    ensures handles { HandlesTo (returned program.now.app.now program.now.limits
-        (record { slots = slots.old; line = line.old; pane = marks_of_pane pane.now.history })
-        (finish_of (line_names program.now.app.now.commands) line.old)) result slots.old slots.new
-        line.old line.new }
+    ensures handles { HandlesTo (finish_line (ground program.now.app.now program.now.limits)
+        (world_at slots.old desk.old frame.now)
+        (finish_of (line_names program.now.app.now.commands) desk.old.line)) frame.now result
+        slots.old slots.new desk.old desk.new }
     ensures ledger { RisesBy (handling_met result) steps.old steps.new
-        (returned program.now.app.now program.now.limits
-        (record { slots = slots.old; line = line.old; pane = marks_of_pane pane.now.history })
-        (finish_of (line_names program.now.app.now.commands) line.old)).cost }
+        (finish_line (ground program.now.app.now program.now.limits)
+        (world_at slots.old desk.old frame.now)
+        (finish_of (line_names program.now.app.now.commands) desk.old.line)).cost }
 {
-    match line.finish(&program.app.commands) {
+    match desk.line.finish(&program.app.commands) {
         Finished::Unknown => reply(program.alloc, b"! unknown"),
         Finished::Surplus => reply(program.alloc, b"! surplus"),
         Finished::Command(place) => match program.app.commands.at(place) {
             None => reply(program.alloc, b"! unknown"),
-            Some(command) => run_command(program, command, pane, slots, line, steps),
+            Some(command) => run_command(program, command, frame, slots, desk, steps),
         },
     }
 }
@@ -142,20 +162,19 @@ fn finish_line<L: Ledger>(
 fn run_command<L: Ledger>(
     program: &Program<'_, SlotTypes>,
     command: &CommandDecl,
-    pane: &Pane,
+    frame: &Frame,
     slots: &mut Slots,
-    line: &mut Line,
+    desk: &mut Desk,
     steps: &mut Steps<L>,
 ) -> Handling
     requires { program.now.limits.depth ≤ 512 }
-    ensures handles { HandlesTo (run_of command.now.line_name
-        (record { slots = slots.old; line = line.old; pane = marks_of_pane pane.now.history })
-        (command_run program.now.limits program.now.app.now command.now slots.old)) result slots.old
-        slots.new line.old line.new }
+    ensures handles { HandlesTo (run_command command.now.line_name
+        (world_at slots.old desk.old frame.now)
+        (command_outcome (ground program.now.app.now program.now.limits) command.now slots.old))
+        frame.now result slots.old slots.new desk.old desk.new }
     ensures ledger { RisesBy (handling_met result) steps.old steps.new
-        (run_of command.now.line_name
-        (record { slots = slots.old; line = line.old; pane = marks_of_pane pane.now.history })
-        (command_run program.now.limits program.now.app.now command.now slots.old)).cost }
+        (run_command command.now.line_name (world_at slots.old desk.old frame.now)
+        (command_outcome (ground program.now.app.now program.now.limits) command.now slots.old)).cost }
 {
     let env = Env::new(program.alloc);
     match exec(program, &command.body, &env, slots, steps) {
@@ -166,15 +185,12 @@ fn run_command<L: Ledger>(
         ) {
             Ok(lines) => {
                 *slots = next;
-                line.clear();
-                Handling::Committed(lines)
+                desk.line.clear();
+                Handling::Replied(lines, After::Commit)
             }
             Err(_) => Handling::Memory,
         },
-        Executed::Trap(kind, _) => match trap_line(program.alloc, kind) {
-            Ok(lines) => Handling::Replied(lines),
-            Err(_) => Handling::Memory,
-        },
+        Executed::Trap(kind, _) => told(trap_line(program.alloc, kind)),
         Executed::Memory => Handling::Memory,
     }
 }
@@ -184,7 +200,7 @@ fn reply(alloc: Global, bytes: &[u8]) -> Handling
     ensures { IsReply bytes.now result }
 {
     match one_line(alloc, bytes) {
-        Ok(lines) => Handling::Replied(lines),
+        Ok(lines) => Handling::Replied(lines, After::Nothing),
         Err(_) => Handling::Memory,
     }
 }
@@ -220,7 +236,7 @@ pub(crate) fn joined(alloc: Global, first: &[u8], second: &[u8]) -> Result<Vec<u
 }
 
 fn trap_line(alloc: Global, kind: u8) -> Result<Lines, AllocError>
-    ensures { IfOk result (λ l. l ≡ (codes "! trap " ++ decimal kind) ∷ []) }
+    ensures { IfOk result (λ l. l ≡ command_trap_line kind ∷ []) }
 {
     let line = format!(in alloc; "! trap {kind}")?;
     one_line(alloc, line.as_bytes())

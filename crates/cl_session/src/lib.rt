@@ -3,16 +3,16 @@
 
 mod answers;
 mod handling;
-mod panes;
+mod laws;
 mod serving;
 mod sessions;
 mod speaking;
 mod telling;
 mod writing;
 
-pub use answers::{PaneReport, Replies, Report};
+pub use answers::Replies;
 pub use cl_eval::Lines;
-pub use panes::Pane;
+pub use cl_frame::{PaneReport, Report};
+pub use handling::Desk;
 pub use serving::End;
-pub use sessions::Session;
-pub use writing::write_all;
+pub use sessions::{DEPTH, Session};

@@ -1,71 +1,72 @@
 //! Bytes that wait to be written, and how they are.
-ghost use Rattle.std.specs.Prelude.{◌≡◌, ◌+◌, ◌≤◌, ◌++◌, [], true, IfOk, length, map};
-ghost use Rattle.cl_session.specs.Writing.{Puts, joined};
+ghost use Rattle.std.specs.Prelude.{◌≡◌, ◌+◌, ◌≤◌, ◌++◌, [], length, map};
+ghost use Rattle.cl_outside.specs.Writing.{Says, joined};
+ghost use Rattle.cl_session.specs.Writing.{Puts};
 
-use cl_outside::{Sink, Took};
-use std::alloc::{AllocError, Global};
+use cl_outside::{Sink, write_all};
 use std::marker::Model;
 
 /// How many bytes wait at most before they are written.
 const ROOM: usize = 8192;
 
-/// Bytes that wait to be written, so that the replies to a gesture go out in few writes. Contracts
-/// see them as their list.
+/// Bytes that wait to be written, so that the replies to a gesture go out in few writes. It takes no
+/// memory. Contracts see it as their list.
 #[derive(Drop)]
 pub struct Outgoing {
-    bytes: Vec<u8>,
+    bytes: [u8; ROOM],
+    count: usize,
 }
 
 impl Model for Outgoing {
-    ghost use Rattle.std.specs.Prelude.{ℕ, List, ◌≤◌, vec_capacity, vec_len};
+    ghost use Rattle.std.specs.Prelude.{ℕ, List, ◌≤◌, take};
 
     ghost Value = { List ℕ };
 
-    ghost view = { λ o. o.bytes.items };
+    ghost view = { λ o. take o.count o.bytes };
 
-    ghost invariant = { λ o. (8192 ≤ vec_capacity o.bytes) × (vec_len o.bytes ≤ 8192) };
+    ghost invariant = { λ o. o.count ≤ 8192 };
 }
 
 impl Outgoing {
-    /// No bytes wait. It takes its room at once.
-    pub fn new(alloc: Global) -> Result<Outgoing, AllocError>
-        ensures { IfOk result (λ o. o ≡ []) }
+    /// No bytes wait.
+    pub fn new() -> Outgoing
+        ensures { result ≡ [] }
     {
-        Ok(Outgoing {
-            bytes: Vec::with_capacity(alloc, ROOM)?,
-        })
+        Outgoing {
+            bytes: [0; ROOM],
+            count: 0,
+        }
     }
 
-    /// Lets bytes wait, or writes them where they are too many; false where the sink failed. It takes
-    /// no memory.
+    /// Lets bytes wait, or writes them where they are too many; false where the sink failed.
     pub fn put<O: Sink>(&mut self, out: &mut O, bytes: &[u8]) -> bool
         ensures lent { O.lent out.new ≡ O.lent out.old }
         ensures puts { Puts result (O.taken out.old) (O.taken out.new) (self.old ++ bytes.now)
             self.new (O.faults out.old) (O.faults out.new) }
         ensures later { O.faults out.old ≤ O.faults out.new }
     {
-        if bytes.len() <= ROOM - self.bytes.len() {
-            return self.keep(bytes);
+        if bytes.len() <= ROOM - self.count {
+            self.keep(bytes);
+            return true;
         }
         if !self.flush(out) {
             return false;
         }
         if bytes.len() <= ROOM {
-            return self.keep(bytes);
+            self.keep(bytes);
+            return true;
         }
         write_all(out, bytes)
     }
 
-    // Lets bytes wait that have room; always true.
-    fn keep(&mut self, bytes: &[u8]) -> bool
+    // Lets bytes wait that have room.
+    fn keep(&mut self, bytes: &[u8])
         requires { length self.old + length bytes.now ≤ 8192 }
-        ensures done { result ≡ true }
-        ensures waits { self.new ≡ self.old ++ bytes.now }
+        ensures { self.new ≡ self.old ++ bytes.now }
     {
-        match self.bytes.extend_from_slice(bytes) {
-            Ok(()) => true,
-            Err(_) => unreachable!(),
-        }
+        let end = self.count + bytes.len();
+        self.bytes[self.count..end].copy_from_slice(bytes);
+        self.count = end;
     }
 
     /// Lets pieces wait, one after another.
@@ -84,40 +85,16 @@ impl Outgoing {
         true
     }
 
-    /// No bytes wait any more.
-    pub fn clear(&mut self)
-        ensures { self.new ≡ [] }
-    {
-        self.bytes.clear();
-    }
-
     /// Writes all that waits; false where the sink failed, and then what was not written is lost.
     pub fn flush<O: Sink>(&mut self, out: &mut O) -> bool
         ensures lent { O.lent out.new ≡ O.lent out.old }
-        ensures puts { Puts result (O.taken out.old) (O.taken out.new) self.old self.new
-            (O.faults out.old) (O.faults out.new) }
+        ensures says { Says result (O.taken out.old) (O.taken out.new) self.old (O.faults out.old)
+            (O.faults out.new) }
         ensures none { self.new ≡ [] }
         ensures later { O.faults out.old ≤ O.faults out.new }
     {
-        let done = write_all(out, self.bytes.as_slice());
-        self.bytes.clear();
+        let done = write_all(out, &self.bytes[..self.count]);
+        self.count = 0;
         done
     }
-}
-
-/// Writes bytes by repeated writes; false where the sink failed. It takes no memory.
-pub fn write_all<O: Sink>(out: &mut O, bytes: &[u8]) -> bool
-    ensures lent { O.lent out.new ≡ O.lent out.old }
-    ensures puts { Puts result (O.taken out.old) (O.taken out.new) bytes.now [] (O.faults out.old)
-        (O.faults out.new) }
-    ensures later { O.faults out.old ≤ O.faults out.new }
-{
-    let mut at = 0;
-    while at < bytes.len() {
-        match out.write(&bytes[at..]) {
-            Took::Bytes(count) => at += count,
-            Took::Failed => return false,
-        }
-    }
-    true
 }

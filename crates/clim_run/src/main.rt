@@ -2,12 +2,14 @@
 //! replies to standard output.
 #![tactic(auto)]
 
-ghost use Rattle.std.specs.Prelude.{◌≡◌, ◌⊎◌, ℕ, IfOk, List, map, string_bytes};
+ghost use Rattle.std.specs.Prelude.{◌≡◌, ◌≤◌, ◌⊎◌, ℕ, IfOk, List, map, string_bytes};
 ghost use Rattle.std.specs.Process.{exit_status};
+ghost use Rattle.cl_outside.specs.Causes.{Rose};
 ghost use Rattle.cl_program.specs.Command.{IsNoCommand, IsRun};
-ghost use Rattle.cl_program.specs.Statuses.{IsStatus};
+ghost use Rattle.cl_program.specs.Run.{streams};
+ghost use Rattle.cl_program.specs.Statuses.{DeclaresApplication, EndsWith, HasFewLines, HasManyLines, HasRefusal};
 
-use cl_outside::{FilePlace, ReaderSource, WriterSink, own_steps};
+use cl_outside::{FilePlace, Place, ReaderSource, Sink, Source, WriterSink, own_steps};
 use cl_program::{Status, clim_main};
 use std::alloc::{AllocError, Global};
 use std::process::ExitCode;
@@ -31,33 +33,53 @@ fn main(rt: HostRuntime) -> ExitCode {
             }
         }
     }
-    run(rt, words.as_slice())
-}
-
-// Ends with the status of a run on these words.
-fn run(rt: HostRuntime, words: &[String]) -> ExitCode
-    ensures no_other { IsStatus (exit_status result) }
-    ensures command_due { (name : List ℕ) → IsRun (map string_bytes words.now) name
-        → exit_status result ≡ 2 → ⊥ }
-    ensures usage_due { IsNoCommand (map string_bytes words.now)
-        → (exit_status result ≡ 2) ⊎ (exit_status result ≡ 5) ⊎ (exit_status result ≡ 7) }
-{
     let alloc = rt.alloc();
-    let Ok(texts) = texts_of(alloc, words) else {
+    let Ok(texts) = texts_of(alloc, words.as_slice()) else {
         return exit_code(Status(7));
     };
     let mut gestures = ReaderSource::new(rt.stdin());
     let mut out = WriterSink::new(rt.stdout());
     let mut place = FilePlace::new(rt);
+    run(alloc, texts.as_slice(), &mut place, &mut gestures, &mut out)
+}
+
+// Ends with the status of a run on these words.
+fn run<P: Place, G: Source, O: Sink>(
+    alloc: Global,
+    words: &[&str],
+    place: &mut P,
+    gestures: &mut G,
+    out: &mut O,
+) -> ExitCode
+    ensures ends { (spent : ℕ) × EndsWith (map (λ w. w.now) words.now) (P.file place.old)
+        (P.app_faults place.old) (P.app_faults place.new) (streams (G.left gestures.old)
+        (G.faults gestures.old) (O.taken out.old) (O.faults out.old) 0)
+        (streams (G.left gestures.new) (G.faults gestures.new) (O.taken out.new) (O.faults out.new)
+        spent) (exit_status result) }
+    ensures usage_due { IsNoCommand (map (λ w. w.now) words.now)
+        → (exit_status result ≡ 2) ⊎ (exit_status result ≡ 5) }
+    ensures refusal_due { (name : List ℕ) (number at : ℕ) → IsRun (map (λ w. w.now) words.now) name
+        → (Rose (P.app_faults place.old name) (P.app_faults place.new name) → ⊥)
+        → HasRefusal (P.file place.old name) number at
+        → (exit_status result ≡ 1) ⊎ (exit_status result ≡ 5) ⊎ (exit_status result ≡ 7) }
+    ensures complete { (name : List ℕ) → IsRun (map (λ w. w.now) words.now) name
+        → (Rose (P.app_faults place.old name) (P.app_faults place.new name) → ⊥)
+        → (Rose (G.faults gestures.old) (G.faults gestures.new) → ⊥)
+        → (Rose (O.faults out.old) (O.faults out.new) → ⊥)
+        → DeclaresApplication (P.file place.old name) → HasFewLines (G.left gestures.old)
+        → (exit_status result ≡ 0) ⊎ (exit_status result ≡ 7) }
+    ensures limit_due { (name : List ℕ) → IsRun (map (λ w. w.now) words.now) name
+        → (Rose (P.app_faults place.old name) (P.app_faults place.new name) → ⊥)
+        → (Rose (G.faults gestures.old) (G.faults gestures.new) → ⊥)
+        → (Rose (O.faults out.old) (O.faults out.new) → ⊥)
+        → DeclaresApplication (P.file place.old name) → HasManyLines (G.left gestures.old)
+        → (exit_status result ≡ 8) ⊎ (exit_status result ≡ 7) }
+    ensures files { (name : List ℕ) → P.file place.new name ≡ P.file place.old name }
+    ensures making { P.making_faults place.new ≡ P.making_faults place.old }
+    ensures writing { P.writing_faults place.new ≡ P.writing_faults place.old }
+{
     let mut steps = own_steps();
-    exit_code(clim_main(
-        alloc,
-        texts.as_slice(),
-        &mut place,
-        &mut gestures,
-        &mut out,
-        &mut steps,
-    ))
+    exit_code(clim_main(alloc, words, place, gestures, out, &mut steps))
 }
 
 // The words as texts.

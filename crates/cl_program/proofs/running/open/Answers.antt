@@ -1,25 +1,24 @@
 use Rattle.std.proofs.Common.{◌≡◌, ◌+◌, ◌∙◌, refl, ap}
-use Rattle.cl_session.specs.Step.{opening}
+use Rattle.cl_frame.specs.Ground.{ground}
 use Rattle.cl_load.specs.Opening.{opening_slots}
-use Rattle.cl_program.specs.Run.{run_limits}
-use Rattle.cl_program.proofs.RunLemmas.{cost-opening, limits_are}
+use Rattle.cl_program.proofs.RunLemmas.{cost_at, fresh_by, ground_at, opened_at}
 use Rattle.cl_program.proofs.running.open.Goals as goal
 
 pub returns-clause-opening : goal.returns-clause-opening
 returns-clause-opening g c =
-    let limits : c.in_ok-session.session.limits ≡ run_limits = limits_are c.in_ok-session.session.limits c.in_ok-session.ensures.limits.0 c.in_ok-session.ensures.limits.1 in
     let slots : c.in_ok-slots.slots ≡ opening_slots c.args.loaded.app = c.in_ok-slots.ensures ∙ c.args.loaded.opening in
+    let same = ground_at c.args.loaded.app c.program.result.app.now c.program.result.limits c.program.ensures.app c.program.ensures.limits in
+    let fresh = fresh_by c.in_ok-session.session.frame.screen.stale c.in_ok-session.ensures.failed in
     record {
       same = refl;
-      limits = limits;
-      world = c.in_ok-session.ensures.world
-          ∙ (ap (λ l. opening c.args.loaded.app l c.in_ok-slots.slots) limits ∙ ap (λ s. opening c.args.loaded.app run_limits s) slots);
-      fits = c.in_ok-session.ensures.fits;
+      world = opened_at c.args.loaded.app (ground c.program.result.app.now c.program.result.limits) c.in_ok-session.session c.in_ok-slots.slots same slots fresh c.in_ok-session.ensures.world;
+      fits = rw same at c.in_ok-session.ensures.fits;
+      fresh = fresh;
     }
 
 pub returns-clause-ledger : goal.returns-clause-ledger
 returns-clause-ledger g c =
-    let limits : c.in_ok-session.session.limits ≡ run_limits = limits_are c.in_ok-session.session.limits c.in_ok-session.ensures.limits.0 c.in_ok-session.ensures.limits.1 in
     let slots : c.in_ok-slots.slots ≡ opening_slots c.args.loaded.app = c.in_ok-slots.ensures ∙ c.args.loaded.opening in
+    let same = ground_at c.args.loaded.app c.program.result.app.now c.program.result.limits c.program.ensures.app c.program.ensures.limits in
     c.in_ok-session.ensures.ledger
-    ∙ ap (λ n. c.args.steps.now + n) (cost-opening c.args.loaded.app c.in_ok-session.session.limits c.in_ok-slots.slots limits slots)
+    ∙ ap (λ n. c.args.steps.now + n) (cost_at c.args.loaded.app (ground c.program.result.app.now c.program.result.limits) c.in_ok-slots.slots same slots)

@@ -12,6 +12,8 @@ invariant-pieces g l = record {
   files : (other : List ℕ) → g.P.Place.file l.place other ≡ g.P.Place.file l.initial.place other;
   later : (other : List ℕ) → g.P.Place.app_faults l.initial.place other ≤ g.P.Place.app_faults l.place other;
   lent : g.P.Place.lent l.place ≡ g.P.Place.lent l.initial.place;
+  making : g.P.Place.making_faults l.place ≡ g.P.Place.making_faults l.initial.place;
+  writing : g.P.Place.writing_faults l.place ≡ g.P.Place.writing_faults l.initial.place;
 }
 
 abbrev pub decreases-pieces : goal.decreases-pieces

@@ -1,7 +1,8 @@
 use Rattle.std.proofs.Common.{◌≡◌, ◌++◌, get_or, ◌+◌, ◌∙◌, arith, drop, map}
 use Rattle.cl_session.specs.Transcript.{ended_line}
-use Rattle.cl_session.specs.Writing.{joined}
-use Rattle.cl_session.proofs.WritingLemmas.{Wrote-piece, Wrote-trans, Puts-piece}
+use Rattle.cl_outside.specs.Writing.{joined}
+use Rattle.cl_session.proofs.WritingLemmas.{Puts-piece, Wrote-piece}
+use Rattle.cl_outside.proofs.WritingLemmas.{Wrote-trans}
 use Rattle.cl_session.proofs.speaking.put_lines.Goals as goal
 
 pub returns-then-not-put_all-clause-puts : goal.returns-then-not-put_all-clause-puts

@@ -1,6 +1,6 @@
 use Rattle.std.proofs.Common.{◌≡◌, ◌≤◌, ◌++◌, drop, map}
 use Rattle.cl_session.specs.Transcript.{ended_line}
-use Rattle.cl_session.specs.Writing.{Wrote, joined}
+use Rattle.cl_outside.specs.Writing.{Wrote, joined}
 use Rattle.cl_session.proofs.speaking.put_lines.Given as goal
 
 abbrev pub invariant-loop-line : goal.invariant-loop-line

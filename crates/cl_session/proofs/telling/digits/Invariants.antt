@@ -1,5 +1,5 @@
 use Rattle.std.proofs.Common.{◌≡◌, ◌++◌, drop, map}
-use Rattle.cl_redisplay.specs.Paint.{ink_digit}
+use Rattle.cl_redisplay.specs.Shown.{ink_digit}
 use Rattle.cl_session.proofs.telling.digits.Given as goal
 
 abbrev pub invariant-loop-ink : goal.invariant-loop-ink

@@ -1,9 +1,11 @@
 use Rattle.std.proofs.Common.{◌≡◌, ◌++◌, ◌-◌}
-use Rattle.cl_session.specs.World.{marks_in, marks_of_pane}
-use Rattle.cl_redisplay.specs.Paint.{glyph_in, rows_from, shown_rows}
+use Rattle.cl_application.specs.Panes.{panes_of}
+use Rattle.cl_frame.specs.Frames.{marks_of_frame}
+use Rattle.cl_frame.specs.Panes.{shown_panes}
+use Rattle.cl_redisplay.specs.Shown.{glyph_in, rows_from, shown_rows}
 use Rattle.cl_session.proofs.telling.frame_lines.Given as goal
 
 abbrev pub invariant-loop-y : goal.invariant-loop-y
 invariant-loop-y l =
-    l.lines ++ rows_from glyph_in l.pane.area (marks_in (marks_of_pane l.pane.history)) l.pane.screen.width l.y (l.y-end - l.y)
-    ≡ shown_rows l.pane.area (marks_in (marks_of_pane l.pane.history)) l.pane.screen.width l.y-end
+    l.lines ++ rows_from glyph_in (shown_panes (panes_of l.app) (marks_of_frame l.frame)) l.app.frame.width l.y (l.y-end - l.y)
+    ≡ shown_rows (shown_panes (panes_of l.app) (marks_of_frame l.frame)) l.app.frame.width l.y-end

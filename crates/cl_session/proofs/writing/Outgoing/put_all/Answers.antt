@@ -1,7 +1,8 @@
 use Rattle.std.proofs.Common.{◌++◌, ◌+◌, ◌∙◌, arith, drop, map, List, ℕ}
 use denote.Bor.{Bor}
-use Rattle.cl_session.specs.Writing.{joined}
-use Rattle.cl_session.proofs.WritingLemmas.{Wrote-piece, Wrote-trans, Puts-piece}
+use Rattle.cl_outside.specs.Writing.{joined}
+use Rattle.cl_session.proofs.WritingLemmas.{Puts-piece, Wrote-piece}
+use Rattle.cl_outside.proofs.WritingLemmas.{Wrote-trans}
 use Rattle.cl_session.proofs.writing.Outgoing.put_all.Goals as goal
 
 pub returns-then-not-put-clause-puts : goal.returns-then-not-put-clause-puts

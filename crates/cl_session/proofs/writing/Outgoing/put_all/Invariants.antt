@@ -1,5 +1,5 @@
 use Rattle.std.proofs.Common.{◌≡◌, ◌≤◌, ◌++◌, drop, map}
-use Rattle.cl_session.specs.Writing.{Wrote, joined}
+use Rattle.cl_outside.specs.Writing.{Wrote, joined}
 use Rattle.cl_session.proofs.writing.Outgoing.put_all.Given as goal
 
 abbrev pub invariant-loop-piece : goal.invariant-loop-piece

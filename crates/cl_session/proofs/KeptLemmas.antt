@@ -1,0 +1,80 @@
+-- What a handling keeps of its world.
+use Rattle.std.proofs.Common.{◌≡◌, ℕ, ◌+◌, Bool, true, false, List, [], ◌∷◌, ◌++◌, length, get_or, Option, Some, None, arith, refl, ap}
+use Rattle.std.specs.Prelude.{nat_le, codes, if◌then◌else◌}
+use Rattle.std.specs.Str.{str_eq_ignore_ascii_case}
+use Rattle.cl_application.specs.Panes.{panes_of}
+use Rattle.cl_application.specs.declared.declarations.CommandDecl.{CommandDecl}
+use Rattle.cl_application.specs.declared.declarations.PaneDecl.{PaneDecl}
+use Rattle.cl_command.specs.declared.lines.Finished.{Finished}
+use Rattle.cl_command.specs.declared.lines.Finished.TheVariants as finished
+use Rattle.cl_command.specs.Line.{finish_of}
+use Rattle.cl_command.specs.Naming.{line_names}
+use Rattle.cl_eval.specs.Outcome.{Outcome, Gives, Traps}
+use Rattle.cl_eval.specs.declared.effects.Effects.{Effects}
+use Rattle.cl_frame.specs.Ground.{Ground}
+use Rattle.cl_frame.specs.Panes.{PaneMarks}
+use Rattle.cl_gesture.specs.declared.answers.Gesture.{Gesture}
+use Rattle.cl_gesture.specs.declared.answers.Gesture.TheVariants as gesture
+use Rattle.cl_table.specs.Names.{declared_at}
+use Rattle.cl_session.specs.Handling.{KeepsSlots}
+use Rattle.cl_session.specs.Step.{Handled, command_outcome, command_trap_line, finish_line, handled, handled_or_not, history_rows, refuse, run_command, run_named, tell, tell_history}
+use Rattle.cl_session.specs.World.{World}
+
+-- The panes stay; slots change only where a command commits; and where the one reply is the line of a trap, slots and line stay.
+pub record Keeps (w : World) (h : Handled) : Type 0 where
+  pub panes : h.world.panes ≡ w.panes
+  pub slots : KeepsSlots h.after w.slots h.world.slots
+  pub trapped : (kind : ℕ) → h.replies ≡ command_trap_line kind ∷ [] → (h.world.slots ≡ w.slots) × (h.world.line ≡ w.line)
+
+keeps_told : (w : World) (cost : ℕ) (replies : List (List ℕ)) → Keeps w (tell w cost replies)
+keeps_told w cost replies = record { panes = refl; slots = refl; trapped = λ kind e. (refl, refl) }
+
+-- no lines are not one line
+none_is_one : {A : Type 0} (x : A) → ◌≡◌ {A = List A} [] (x ∷ []) → ⊥
+none_is_one x e = cc
+
+keeps_typed : (w : World) (line : List ℕ) → Keeps w (tell (record w { line = line }) 0 [])
+keeps_typed w line = record { panes = refl; slots = refl; trapped = λ kind e. absurd (none_is_one (command_trap_line kind) e) }
+
+keeps_if : (w : World) (b : Bool) (h k : Handled) → Keeps w h → Keeps w k → Keeps w (if b then h else k)
+keeps_if w true h k p q = p
+keeps_if w false h k p q = q
+
+-- the first line of a run is not that of a trap
+ok_is_no_trap : (name : List ℕ) (rest : List (List ℕ)) (kind : ℕ) → ◌≡◌ {A = List (List ℕ)} ((codes "ok " ++ name) ∷ rest) (command_trap_line kind ∷ []) → ⊥
+ok_is_no_trap name rest kind e =
+    let first = ap (λ (l : List (List ℕ)). get_or (get_or l 0 []) 0 0) e in omega (arith, first)
+
+keeps_run : (name : List ℕ) (w : World) (o : Outcome Effects) → Keeps w (run_command name w o)
+keeps_run name w (Gives effects cost deepest) = record { panes = refl; slots = tt; trapped = λ kind e. absurd (ok_is_no_trap name _ kind e) }
+keeps_run name w (Traps kind cost deepest) = keeps_told w cost (command_trap_line kind ∷ [])
+
+keeps_named : (g : Ground) (w : World) (c : Option CommandDecl) → Keeps w (run_named g w c)
+keeps_named g w None = keeps_told w 0 (codes "! unknown" ∷ [])
+keeps_named g w (Some command) = keeps_run command.line_name w (command_outcome g command w.slots)
+
+keeps_finished : (g : Ground) (w : World) (f : Finished) → Keeps w (finish_line g w f)
+keeps_finished g w (finished.Command place) = keeps_named g w (declared_at place g.app.commands)
+keeps_finished g w finished.Unknown = keeps_told w 0 (codes "! unknown" ∷ [])
+keeps_finished g w finished.Surplus = keeps_told w 0 (codes "! surplus" ∷ [])
+
+keeps_history : (w : World) (ds : List PaneDecl) (ms : List PaneMarks) (name : List ℕ) → Keeps w (tell_history w ds ms name)
+keeps_history w [] ms name = keeps_told w 0 (codes "! pane" ∷ [])
+keeps_history w (d ∷ ds) [] name = keeps_told w 0 (codes "! pane" ∷ [])
+keeps_history w (d ∷ ds) (m ∷ ms) name =
+    keeps_if w (str_eq_ignore_ascii_case name d.name) (tell w 0 (history_rows d.name m)) (tell_history w ds ms name)
+    (keeps_told w 0 (history_rows d.name m)) (keeps_history w ds ms name)
+
+pub keeps_handled : (g : Ground) (w : World) (act : Gesture) → Keeps w (handled g w act)
+keeps_handled g w (gesture.«Type» text) =
+    keeps_if w (nat_le (length w.line + length text) 256) (tell (record w { line = w.line ++ text }) 0 []) (refuse w 0 (codes "! full"))
+    (keeps_typed w (w.line ++ text)) (keeps_told w 0 (codes "! full" ∷ []))
+keeps_handled g w gesture.Return = keeps_finished g w (finish_of (line_names g.app.commands) w.line)
+keeps_handled g w gesture.Frame = keeps_told w 0 (handled g w gesture.Frame).replies
+keeps_handled g w gesture.Inks = keeps_told w 0 (handled g w gesture.Inks).replies
+keeps_handled g w (gesture.History name) = keeps_history w (panes_of g.app) w.panes name
+keeps_handled g w gesture.Force = record { panes = refl; slots = refl; trapped = λ kind e. (refl, refl) }
+
+pub keeps_handled_or_not : (g : Ground) (w : World) (act : Gesture) (met : Bool) → Keeps w (handled_or_not g w act met)
+keeps_handled_or_not g w act true = keeps_told w 0 (codes "! memory" ∷ [])
+keeps_handled_or_not g w act false = keeps_handled g w act

@@ -1,0 +1,144 @@
+-- A step, by its handling and by what became of the panes.
+use Rattle.std.proofs.Common.{◌≡◌, ℕ, Bool, true, false, List, [], ◌∷◌, ◌++◌, map, refl, sym, ◌∙◌, ap, subst}
+use Rattle.std.specs.Prelude.{codes}
+use Rattle.cl_application.specs.Panes.{panes_of}
+use Rattle.cl_eval.specs.Outcome.{RisesBy}
+use Rattle.cl_eval.specs.Slots.{Slots}
+use Rattle.cl_frame.specs.Frames.{Settles, marks_of_frame, reports_of_frame}
+use Rattle.cl_frame.specs.Ground.{Ground}
+use Rattle.cl_frame.specs.Panes.{PaneMarks}
+use Rattle.cl_frame.specs.Settling.{PaneStep, SpendsPanes, marks_after, met_memory, report_after, settle_panes}
+use Rattle.cl_frame.specs.declared.frames.Frame.{Frame}
+use Rattle.cl_frame.specs.declared.reports.PaneReport.{PaneReport}
+use Rattle.cl_gesture.specs.declared.answers.Gesture.{Gesture}
+use Rattle.cl_redisplay.specs.Screens.{PaintedRose, is_fault}
+use Rattle.cl_redisplay.specs.declared.screens.Painted.{Painted}
+use Rattle.cl_redisplay.specs.declared.screens.Painted.TheVariants as painted
+use Rattle.cl_session.specs.Handling.{AreRepliesOf, HandlesTo, after_of, handling_met, world_at}
+use Rattle.cl_session.specs.Replies.{lines_of, met_of, own_lines}
+use Rattle.cl_session.specs.Session.{StepsTo, world_of}
+use Rattle.cl_session.specs.Step.{Handled, Spends, handled, handled_or_not, next, next_behind, pane_lines, settled_behind, wire_lines, which_after}
+use Rattle.cl_session.specs.Transcript.{RoseIf}
+use Rattle.cl_session.specs.World.{World}
+use Rattle.cl_session.specs.declared.answers.Replies.{Replies}
+use Rattle.cl_session.specs.declared.handling.After.{After}
+use Rattle.cl_session.specs.declared.handling.Desk.{Desk}
+use Rattle.cl_session.specs.declared.handling.Handling.{Handling}
+use Rattle.cl_session.specs.declared.handling.Handling.TheVariants as handling
+use Rattle.cl_session.specs.declared.sessions.Session.{Session}
+
+-- a world by its parts
+abbrev world_by : Slots → List ℕ → List PaneMarks → Bool → World
+world_by slots line panes stale = record { slots = slots; line = line; panes = panes; stale = stale }
+
+-- what each pane of a frame met
+abbrev mets_of : Frame → List Bool
+mets_of f = map met_memory (reports_of_frame f)
+
+-- what a handling leaves: this world on these slots and this desk, and what follows it
+pub record Leaves (h : Handled) (slots : Slots) (desk : Desk) (frame : Frame) (follows : After) (lines : List (List ℕ)) : Type 0 where
+  pub world : h.world ≡ world_at slots desk frame
+  pub after : h.after ≡ follows
+  pub replies : h.replies ≡ lines
+
+-- the lines of a handling: its own, or want of memory
+abbrev lines_by : Handling → List (List ℕ)
+lines_by (handling.Replied replies follows) = replies
+lines_by handling.Memory = codes "! memory" ∷ []
+
+leaves : (g : Ground) (w : World) (act : Gesture) (frame : Frame) (h : Handling) (slots_old slots_new : Slots) (desk_old desk_new : Desk)
+    → w ≡ world_at slots_old desk_old frame → HandlesTo (handled g w act) frame h slots_old slots_new desk_old desk_new
+    → Leaves (handled_or_not g w act (handling_met h)) slots_new desk_new frame (after_of h) (lines_by h)
+leaves g w act frame (handling.Replied replies follows) slots_old slots_new desk_old desk_new e h = record {
+  world = ap (λ (x : Handled). x.world) h.0;
+  after = ap (λ (x : Handled). x.after) h.0;
+  replies = ap (λ (x : Handled). x.replies) h.0;
+}
+leaves g w act frame handling.Memory slots_old slots_new desk_old desk_new e h = record {
+  world = e ∙ (ap (λ (s : Slots). world_at s desk_old frame) (sym h.0) ∙ ap (λ (d : Desk). world_at slots_new d frame) (sym h.1));
+  after = refl;
+  replies = refl;
+}
+
+-- what becomes of the panes behind it
+steps-same : (g : Ground) (h : Handled) (slots : Slots) (desk : Desk) (frame : Frame) (follows : After) (lines : List (List ℕ)) (mets : List Bool)
+    → Leaves h slots desk frame follows lines
+    → settled_behind g h mets ≡ settle_panes g (which_after follows) slots (panes_of g.app) (marks_of_frame frame) mets
+steps-same g h slots desk frame follows lines mets l =
+    ap (λ (a : After). settle_panes g (which_after a) h.world.slots (panes_of g.app) h.world.panes mets) l.after
+    ∙ ap (λ (w : World). settle_panes g (which_after follows) w.slots (panes_of g.app) w.panes mets) l.world
+
+world-same : (g : Ground) (h : Handled) (slots : Slots) (desk : Desk) (old new : Frame) (follows : After) (lines : List (List ℕ)) (wire : Bool)
+    → Leaves h slots desk old follows lines → Settles g (which_after follows) slots old new → new.screen.stale ≡ wire
+    → world_at slots desk new ≡ (next_behind g h (settled_behind g h (mets_of new)) wire).world
+world-same g h slots desk old new follows lines wire l s e =
+    let steps = settle_panes g (which_after follows) slots (panes_of g.app) (marks_of_frame old) (mets_of new) in
+    ap (λ (ps : List PaneMarks). world_by slots desk.line ps new.screen.stale) (s.marks ∙ ap (λ (ss : List PaneStep). map marks_after ss) (sym (steps-same g h slots desk old follows lines (mets_of new) l)))
+    ∙ (ap (λ (b : Bool). world_by slots desk.line (map marks_after (settled_behind g h (mets_of new))) b) e
+    ∙ ap (λ (w : World). world_by w.slots w.line (map marks_after (settled_behind g h (mets_of new))) wire) (sym l.world))
+
+memory_of : (h : Handling) (p : Painted) (r : Replies) → AreRepliesOf h p r → r.memory ≡ handling_met h
+memory_of (handling.Replied replies follows) p r a = a.1
+memory_of handling.Memory p r a = a.1
+
+wire_of : (h : Handling) (p : Painted) (r : Replies) → AreRepliesOf h p r → r.wire ≡ is_fault p
+wire_of (handling.Replied replies follows) p r a = a.2
+wire_of handling.Memory p r a = a.2
+
+own_of : (h : Handling) (p : Painted) (r : Replies) → AreRepliesOf h p r → own_lines (handling_met h) r.own ≡ lines_by h
+own_of (handling.Replied replies follows) p r a = a.0
+own_of handling.Memory p r a = refl
+
+none_of : (h : Handling) (p : Painted) (r : Replies) → AreRepliesOf h p r → r.memory ≡ true → r.own ≡ []
+none_of (handling.Replied replies follows) p r a e = let no : false ≡ true = sym a.1 ∙ e in cc
+none_of handling.Memory p r a e = a.0
+
+rose_if : (p : Painted) (x y : ℕ) → PaintedRose x y p → RoseIf (is_fault p) x y
+rose_if painted.Done x y h = h
+rose_if painted.DeviceFault x y h = h
+
+module _ (g : Ground) (old new : Session) (slots_old slots_new : Slots) (act : Gesture) (h : Handling) (p : Painted) (r : Replies)
+    (handles : HandlesTo (handled g (world_of old slots_old) act) old.frame h slots_old slots_new old.desk new.desk)
+    (settles : Settles g (which_after (after_of h)) slots_new old.frame new.frame)
+    (stale : new.frame.screen.stale ≡ is_fault p) (are : AreRepliesOf h p r) where
+  left : Leaves (handled_or_not g (world_of old slots_old) act (handling_met h)) slots_new new.desk old.frame (after_of h) (lines_by h)
+  left = leaves g (world_of old slots_old) act old.frame h slots_old slots_new old.desk new.desk refl handles
+
+  memory : r.memory ≡ handling_met h
+  memory = memory_of h p r are
+
+  pub steps-to : StepsTo g old new slots_old slots_new act r
+  steps-to =
+      let w = world_of old slots_old in
+      let hd = handled_or_not g w act (handling_met h) in
+      record {
+        world = subst (λ (b : Bool). world_of new slots_new ≡ (next_behind g (handled_or_not g w act b) (settled_behind g (handled_or_not g w act b) (mets_of new.frame)) r.wire).world)
+            (sym memory) (world-same g hd slots_new new.desk old.frame new.frame (after_of h) (lines_by h) r.wire left settles (stale ∙ sym (wire_of h p r are)));
+        own = subst (λ (b : Bool). own_lines b r.own ≡ (handled_or_not g w act b).replies) (sym memory) (own_of h p r are ∙ sym left.replies);
+        none_of_own = none_of h p r are;
+        reports = subst (λ (b : Bool). reports_of_frame new.frame ≡ map report_after (settled_behind g (handled_or_not g w act b) (mets_of new.frame)))
+            (sym memory) (settles.reports ∙ ap (λ (ss : List PaneStep). map report_after ss) (sym (steps-same g hd slots_new new.desk old.frame (after_of h) (lines_by h) (mets_of new.frame) left)));
+      }
+
+  pub spends-to : (from at to : ℕ) → RisesBy (handling_met h) from at (handled g (world_of old slots_old) act).cost
+      → SpendsPanes (settle_panes g (which_after (after_of h)) slots_new (panes_of g.app) (marks_of_frame old.frame) (mets_of new.frame)) at to
+      → Spends g (world_of old slots_old) act (met_of new.frame r) from to
+  spends-to from at to rises spends =
+      let w = world_of old slots_old in
+      let hd = handled_or_not g w act (handling_met h) in
+      record {
+        handled_at = at;
+        handling = subst (λ (b : Bool). RisesBy b from at (handled g w act).cost) (sym memory) rises;
+        settling = subst (λ (b : Bool). SpendsPanes (settled_behind g (handled_or_not g w act b) (mets_of new.frame)) at to) (sym memory)
+            (subst (λ (ss : List PaneStep). SpendsPanes ss at to) (sym (steps-same g hd slots_new new.desk old.frame (after_of h) (lines_by h) (mets_of new.frame) left)) spends);
+      }
+
+  pub wire-to : (x y : ℕ) → PaintedRose x y p → RoseIf r.wire x y
+  wire-to x y rose = subst (λ (b : Bool). RoseIf b x y) (sym (wire_of h p r are)) (rose_if p x y rose)
+
+-- the replies are the lines of the step
+pub lines-said : (g : Ground) (old new : Session) (slots_old slots_new : Slots) (act : Gesture) (r : Replies) → StepsTo g old new slots_old slots_new act r
+    → lines_of g.app new.frame r ≡ (next g (world_of old slots_old) act (met_of new.frame r)).lines
+lines-said g old new slots_old slots_new act r s =
+    ap (λ (o : List (List ℕ)). o ++ (pane_lines (panes_of g.app) (reports_of_frame new.frame) ++ wire_lines r.wire)) s.own
+    ∙ ap (λ (rs : List PaneReport). (handled_or_not g (world_of old slots_old) act r.memory).replies ++ (pane_lines (panes_of g.app) rs ++ wire_lines r.wire)) s.reports
