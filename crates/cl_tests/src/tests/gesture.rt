@@ -1,6 +1,5 @@
 //! A stream of gestures, from a source in memory and from one that tells nothing.
-ghost use Rattle.std.specs.Prelude.{◌≡◌, ◌<◌, ◌≤◌, length, None};
-ghost use Rattle.cl_outside.specs.Outside.{ReadTook, FailedRose};
+ghost use Rattle.std.specs.Prelude.{None};
 
 use super::saying::put_bytes;
 use cl_gesture::{Ahead, Gesture, Gestures, Next};
@@ -8,22 +7,21 @@ use cl_outside::{MemSource, Source, Took};
 use std::alloc::{AllocError, Global};
 use std::test::Fail;
 
-/// Hands over one byte a read, and tells nothing.
+/// Hands over one byte a read, and does not tell what is left.
 #[derive(Drop)]
-struct Dribble<'a>(&'a [u8]);
+struct Dribble {
+    source: MemSource,
+}
 
-impl Source for Dribble<'_> {
+impl Source for Dribble {
     ghost left = { λ _. None };
 
-    ghost faults = { λ _. 0 };
+    ghost calls = { λ s. s.source.reads };
+
+    ghost faults = { λ s. s.source.faults };
 
     fn read(&mut self, buf: &mut [u8]) -> Took {
-        let Some((first, rest)) = self.0.split_first() else {
-            return Took::Bytes(0);
-        };
-        buf[0] = *first;
-        self.0 = rest;
-        Took::Bytes(1)
+        self.source.read(&mut buf[..1])
     }
 }
 
@@ -38,6 +36,7 @@ fn put_gesture(told: &mut String, gesture: Gesture) -> Result<(), AllocError> {
         Gesture::Return => Ok(told.push_str("return")?),
         Gesture::Frame => Ok(told.push_str("frame")?),
         Gesture::Inks => Ok(told.push_str("inks")?),
+        Gesture::Force => Ok(told.push_str("force")?),
         Gesture::History(name) => put_text(told, "history ", name.as_slice()),
     }
 }
@@ -86,8 +85,24 @@ const TOLD: &str = "return\nframe\nhistory a\tb\ntype  two \nbad 7\nbad 8\nbad 9
 fn a_stream_is_read_by_the_byte(rt: HostRuntime) -> Result<(), Fail> {
     let alloc = rt.alloc();
     let room = Ahead::new(alloc)?;
-    let mut gestures = Gestures::with_room(alloc, room, Dribble(STREAM));
+    let source = MemSource::new(STREAM.to_vec(alloc)?, Vec::new(alloc));
+    let mut gestures = Gestures::with_room(alloc, room, Dribble { source });
     assert_eq!(rt; answers(alloc, &mut gestures)?.as_str(), TOLD);
+    Ok(())
+}
+
+const VERBS: &[u8] =
+    b"force\nforce \nForce\nreturn x\nhistory\nhistory \nhistory a b\ntype\ntype \nframe x\ninks\n";
+
+#[test]
+fn verbs_are_read_with_what_stands_behind(rt: HostRuntime) -> Result<(), Fail> {
+    let alloc = rt.alloc();
+    let source = MemSource::new(VERBS.to_vec(alloc)?, Vec::new(alloc));
+    let mut gestures = Gestures::new(alloc, source)?;
+    assert_eq!(rt;
+        answers(alloc, &mut gestures)?.as_str(),
+        "force\nbad 2\nbad 3\nbad 4\nbad 5\nbad 6\nbad 7\nbad 8\nbad 9\nbad 10\ninks\nend"
+    );
     Ok(())
 }
 

@@ -5,12 +5,16 @@ use cl_phases::{first_past, first_twice};
 use std::test::Fail;
 
 /// Forms, with the offset of the first name that is declared twice or is reserved.
-const TWICE: [(&str, Option<u32>); 3] = [
+const TWICE: [(&str, Option<u32>); 4] = [
     (
         "(define-command (com-a :command-table t1) ())(define-command com-a ())",
         Some(61),
     ),
     ("(define-command com-a ((k integer) (k integer)))", Some(36)),
+    (
+        "(define-application-frame w (:slots (p) (q)) (:panes (q) (p) (q)))",
+        Some(62),
+    ),
     ("(a) 5", None),
 ];
 
@@ -35,12 +39,12 @@ fn one_form_too_many_is_found(rt: HostRuntime) -> Result<(), Fail> {
     Ok(())
 }
 
-/// The limit of 256 is one of slots.
+/// A frame has at most 16 panes, though it may have 256 slots.
 #[test]
-fn panes_are_not_counted_as_slots(rt: HostRuntime) -> Result<(), Fail> {
-    let panes = " (n t 1)".repeat(rt.alloc(), 257)?;
+fn one_pane_too_many_is_found(rt: HostRuntime) -> Result<(), Fail> {
+    let panes = " (n t 1)".repeat(rt.alloc(), 17)?;
     let text = format!(in rt.alloc(); "(define-application-frame w (:panes{panes}))")?;
     let data = data_of(rt.alloc(), text.as_bytes())?;
-    assert_eq!(rt; first_past(data.as_slice()), None);
+    assert_eq!(rt; first_past(data.as_slice()), Some(164));
     Ok(())
 }

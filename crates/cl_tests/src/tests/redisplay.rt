@@ -1,8 +1,9 @@
 //! What no clause says: that calls succeed while there is memory.
 use cl_medium::{Ambient, AnyLeaf, Drawn, draw_box, draw_text, newline};
+use cl_outside::MemDevice;
 use cl_raster::Raster;
 use cl_record::{History, Node, Nodes};
-use cl_redisplay::{Area, blank, paint};
+use cl_redisplay::{Area, Painted, Screen, blank, paint, redraw_all, repaint};
 use cl_value::Text;
 use std::alloc::{AllocError, Global};
 use std::test::Fail;
@@ -76,5 +77,37 @@ fn areas_in_a_larger_screen(rt: HostRuntime) -> Result<(), Fail> {
     blank(&mut screen, area);
     assert!(rt; screen.row(1) == b"      -a".as_slice());
     assert!(rt; screen.inks(1) == [0, 0, 0, 0, 0, 0, 0, 2].as_slice());
+    Ok(())
+}
+
+// The third span of the painted area fails, and, after a redraw of one clear and six spans, the first one
+// of the blank area.
+#[test]
+fn one_span_for_each_run_of_one_ink(rt: HostRuntime) -> Result<(), Fail> {
+    let area = Area {
+        x: 2,
+        y: 1,
+        width: 4,
+        height: 2,
+    };
+    let history = items(rt.alloc())?;
+    let mut device = MemDevice::new(rt.alloc(), [8, 16].to_vec(rt.alloc())?)?;
+    let mut screen = Screen::new(rt.alloc(), 8, 4)?;
+    assert_eq!(rt; redraw_all(&mut screen, &mut device), Painted::Done);
+    assert_eq!(rt;
+        repaint(&mut screen, area, Some(&history), &mut device),
+        Painted::DeviceFault
+    );
+    assert_eq!(rt;
+        repaint(&mut screen, area, Some(&history), &mut device),
+        Painted::Done
+    );
+    assert!(rt; screen.stale());
+    assert_eq!(rt; redraw_all(&mut screen, &mut device), Painted::Done);
+    assert!(rt; !screen.stale());
+    assert_eq!(rt;
+        repaint(&mut screen, area, None, &mut device),
+        Painted::DeviceFault
+    );
     Ok(())
 }

@@ -1,0 +1,183 @@
+//! A frame of two panes, and a session with it, over a device in memory, which fails at one call.
+ghost use Rattle.std.specs.Prelude.{◌≡◌, ◌≤◌};
+ghost use Rattle.cl_application.specs.Panes.{IsPlaced};
+
+use super::saying::put_bytes;
+use super::showing::shows;
+use cl_application::App;
+use cl_eval::{Limits, Program, Slots};
+use cl_frame::{Frame, PaneReport, Which};
+use cl_gesture::Gesture;
+use cl_load::{SlotTypes, load};
+use cl_outside::{MemDevice, own_steps};
+use cl_redisplay::Painted;
+use cl_session::{DEPTH, Session};
+use cl_value::Text;
+use std::alloc::{AllocError, Global};
+use std::test::Fail;
+
+/// Two panes that touch, and a column beside them: a redraw is a clear and four spans, three of the first row and one of the second.
+const TWO: &[u8] = b"(define-application-frame two (:size 7 2) (:slots (n integer 3))
+  (:panes (count 0 0 3 2 show-count) (part 3 0 3 2 show-part)))
+(define-display show-count () (write-text (text (slot n))) (write-text \"clipped\"))
+(define-display show-part () (with-ink 4 (write-text \"q\") (write-text (text (div 9 (slot n))))))
+(define-command com-clear () (setf (slot n) 0))
+";
+
+/// The application with the limits of a run.
+fn program(alloc: Global, app: &App) -> Program<'_, SlotTypes>
+    ensures app { result.app.now ≡ app.now }
+    ensures depth { result.limits.depth ≤ 512 }
+{
+    Program {
+        alloc,
+        app,
+        types: &SlotTypes,
+        limits: Limits {
+            budget: 1_000_000,
+            depth: DEPTH,
+        },
+    }
+}
+
+/// What became of the panes, in words.
+fn put_reports(said: &mut String, frame: &Frame) -> Result<(), AllocError> {
+    for pane in &frame.panes {
+        match pane.report {
+            PaneReport::Shown(report) => {
+                write!(said, "drawn {} erased {}|", report.drawn, report.erased)?
+            }
+            PaneReport::Trapped(kind) => write!(said, "trap {kind}|")?,
+            PaneReport::Memory => said.push_str("memory|")?,
+            PaneReport::Quiet => said.push_str("quiet|")?,
+        }
+    }
+    Ok(())
+}
+
+/// Whether the device failed, whether it shows the screen, what became of the panes, and the first row.
+fn put_state(said: &mut String, failed: bool, shown: bool, frame: &Frame) -> Result<(), Fail> {
+    said.push_str(if failed { "failed, " } else { "done, " })?;
+    said.push_str(if shown { "shown, " } else { "stale, " })?;
+    put_reports(said, frame)?;
+    let raster = frame.screen.raster();
+    if raster.height() > 0 {
+        put_bytes(said, raster.row(0))?;
+    }
+    Ok(said.push_str("|\n")?)
+}
+
+/// A frame is settled, redrawn, settled again, which fails at the first span of the second pane, and settled where it is blank.
+fn frame_states(alloc: Global, app: &App, slots: &Slots) -> Result<String, Fail>
+    requires { IsPlaced app.now.frame }
+{
+    let program = program(alloc, app);
+    let mut said = String::new(alloc);
+    let mut steps = own_steps();
+    let mut device = MemDevice::new(alloc, [8].to_vec(alloc)?)?;
+    let mut frame = Frame::open(alloc, app)?;
+    let painted = frame.settle(&program, Which::All, slots, &mut device, &mut steps);
+    put_state(
+        &mut said,
+        painted == Painted::DeviceFault,
+        shows(&device, &frame.screen),
+        &frame,
+    )?;
+    let painted = frame.refresh(&mut device);
+    put_state(
+        &mut said,
+        painted == Painted::DeviceFault,
+        shows(&device, &frame.screen),
+        &frame,
+    )?;
+    let painted = frame.update(&program, Which::All, slots, &mut device, &mut steps);
+    put_state(
+        &mut said,
+        painted == Painted::DeviceFault,
+        shows(&device, &frame.screen),
+        &frame,
+    )?;
+    let painted = frame.update(&program, Which::Blank, slots, &mut device, &mut steps);
+    put_state(
+        &mut said,
+        painted == Painted::DeviceFault,
+        shows(&device, &frame.screen),
+        &frame,
+    )?;
+    Ok(said)
+}
+
+const FRAME_STATES: &str = "done, stale, drawn 2 erased 0|drawn 2 erased 0|3clq3  |
+done, shown, drawn 2 erased 0|drawn 2 erased 0|3clq3  |
+failed, stale, drawn 2 erased 2|drawn 2 erased 2|3clq3  |
+done, shown, quiet|quiet|3clq3  |
+";
+
+#[test]
+fn a_frame_is_settled_and_sent(rt: HostRuntime) -> Result<(), Fail> {
+    let loaded = load(rt.alloc(), TWO)?;
+    let said = frame_states(rt.alloc(), &loaded.app, &loaded.slots)?;
+    assert_eq!(rt; said.as_str(), FRAME_STATES);
+    Ok(())
+}
+
+/// A session is opened; its panes are shown anew, which fails at a span of the redraw; a command is typed, and runs.
+fn session_states(alloc: Global, app: &App, slots: &mut Slots) -> Result<String, Fail>
+    requires { IsPlaced app.now.frame }
+{
+    let program = program(alloc, app);
+    let mut said = String::new(alloc);
+    let mut steps = own_steps();
+    let mut device = MemDevice::new(alloc, [8].to_vec(alloc)?)?;
+    let typed = Gesture::Type(Text::from_slice(alloc, b"clear")?);
+    let mut session = Session::new(&program, slots, &mut device, &mut steps)?;
+    put_state(
+        &mut said,
+        false,
+        shows(&device, &session.frame.screen),
+        &session.frame,
+    )?;
+    let wire = session
+        .step(&program, &Gesture::Force, slots, &mut device, &mut steps)
+        .wire;
+    put_state(
+        &mut said,
+        wire,
+        shows(&device, &session.frame.screen),
+        &session.frame,
+    )?;
+    let wire = session
+        .step(&program, &typed, slots, &mut device, &mut steps)
+        .wire;
+    put_state(
+        &mut said,
+        wire,
+        shows(&device, &session.frame.screen),
+        &session.frame,
+    )?;
+    let wire = session
+        .step(&program, &Gesture::Return, slots, &mut device, &mut steps)
+        .wire;
+    put_state(
+        &mut said,
+        wire,
+        shows(&device, &session.frame.screen),
+        &session.frame,
+    )?;
+    Ok(said)
+}
+
+const SESSION_STATES: &str = "done, shown, drawn 2 erased 0|drawn 2 erased 0|3clq3  |
+failed, stale, drawn 2 erased 2|drawn 2 erased 2|3clq3  |
+done, shown, quiet|quiet|3clq3  |
+done, shown, drawn 2 erased 2|trap 3|0cltra |
+";
+
+#[test]
+fn a_session_redraws_behind_a_fault(rt: HostRuntime) -> Result<(), Fail> {
+    let loaded = load(rt.alloc(), TWO)?;
+    let mut slots = loaded.slots.copy(rt.alloc())?;
+    let said = session_states(rt.alloc(), &loaded.app, &mut slots)?;
+    assert_eq!(rt; said.as_str(), SESSION_STATES);
+    Ok(())
+}
