@@ -6,5 +6,6 @@ pub mod PlaceFrames
 pub mod PlaceSteps
 pub mod Spans
 pub mod Tables
+pub mod Untold
 pub mod Walks
 pub mod WritingLemmas

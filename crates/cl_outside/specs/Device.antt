@@ -39,11 +39,6 @@ pub record IsPainted (old new : Picture) (from_x from_y ink : ℕ) (glyphs : Lis
   pub ink_is : (x y : ℕ) → x < old.width → y < old.height
       → new.ink_at x y ≡ (if in_span from_x from_y (length glyphs) x y then ink else old.ink_at x y)
 
--- the same cells, where they are told
-abbrev pub StaysPicture : Option Picture → Option Picture → Type 0
-StaysPicture None new = ⊤
-StaysPicture (Some p) new = new ≡ Some p
-
 abbrev pub Blanks : ℕ → ℕ → Option Picture → Type 0
 Blanks width height None = ⊤
 Blanks width height (Some p) = IsBlank width height p
@@ -58,7 +53,7 @@ Paints (Some p) (Some q) x y ink glyphs = IsPainted p q x y ink glyphs
 -- a device that was not yet cleared shows no span
 abbrev pub PaintsWhereCleared : Bool → Option Picture → Option Picture → ℕ → ℕ → ℕ → List ℕ → Type 0
 PaintsWhereCleared true old new x y ink glyphs = Paints old new x y ink glyphs
-PaintsWhereCleared false old new x y ink glyphs = StaysPicture old new
+PaintsWhereCleared false old new x y ink glyphs = new ≡ old
 
 -- a device that failed is broken, and nothing is said of its picture
 abbrev pub ClearSent : ℕ → ℕ → Option Picture → Bool → Bool → Sent → Type 0

@@ -7,7 +7,11 @@ pub mod MemoryDevice
 pub mod MemoryPlace
 pub mod NameTables
 pub mod Named
+pub mod Operations
 pub mod Outside
 pub mod Place
+pub mod Play
+pub mod Sending
 pub mod Told
+pub mod Untied
 pub mod Writing

@@ -1,7 +1,9 @@
 //! What a caller may rest on of a device that shows spans of cells.
-ghost use Rattle.std.specs.Prelude.{◌≡◌, ℕ, ◌≤◌, Option, Bool, false};
+ghost use Rattle.std.specs.Prelude.{◌≡◌, ℕ, ◌≤◌, Option, Bool, false, List, None};
 ghost use Rattle.cl_outside.specs.Device.{Picture, IsSpan, ClearSent, SpanSent, SentRose};
 ghost use Rattle.cl_outside.specs.Lent.{Lent, nothing_lent};
+ghost use Rattle.cl_outside.specs.Operations.{clears, mended, op_bytes, shows};
+ghost use Rattle.cl_outside.specs.Sending.{IsTied, Sends};
 
 use crate::answers::Sent;
 
@@ -20,16 +22,27 @@ pub trait Device {
     // how often an operation failed; never falls, and stands still at 2^64 - 1
     ghost faults: { Self → ℕ };
 
-    // what a device over a lent place keeps of it; no call changes it
+    // what a device over a sink keeps of it; no call changes it
     ghost lent: { Self → Lent } = { λ _. nothing_lent };
 
-    /// Makes the picture a blank one of `width` columns and `height` rows, and mends the device.
+    // the bytes that were sent so far, where it sends its operations on a wire; None: not told
+    ghost wire: { Self → Option (List ℕ) } = { λ _. None };
+
+    // while it is whole, it shows what its wire shows, where that is told at all times
+    ghost tied: { (device : Self)
+        → IsTied (lent device).told (wire device) (broken device) (picture device) };
+
+    /// Makes the picture a blank one of `width` columns and `height` rows, and mends the device: what
+    /// a broken one sends begins with a line feed.
     fn clear(&mut self, width: u16, height: u16) -> Sent
         requires columns { (1 ≤ width) × (width ≤ 512) }
         requires rows { (1 ≤ height) × (height ≤ 256) }
         ensures lent { lent self.new ≡ lent self.old }
         ensures shows { ClearSent width height (picture self.new) (broken self.new)
             (cleared self.new) result }
+        ensures sends { Sends result (wire self.old) (wire self.new)
+            (mended (broken self.old) (op_bytes (clears width height))) (faults self.old)
+            (faults self.new) }
         ensures cause { SentRose (faults self.old) (faults self.new) result };
 
     /// Shows the glyphs from column `x` of row `y` on, with this ink; those that lie outside the
@@ -41,5 +54,7 @@ pub trait Device {
         ensures cleared { cleared self.new ≡ cleared self.old }
         ensures shows { SpanSent (cleared self.old) (picture self.old) (picture self.new) x y ink
             glyphs.now (broken self.new) result }
+        ensures sends { Sends result (wire self.old) (wire self.new)
+            (op_bytes (shows x y ink glyphs.now)) (faults self.old) (faults self.new) }
         ensures cause { SentRose (faults self.old) (faults self.new) result };
 }

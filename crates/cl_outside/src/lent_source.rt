@@ -1,5 +1,5 @@
 //! A source that is lent.
-ghost use Rattle.std.specs.Prelude.{◌≡◌};
+ghost use Rattle.std.specs.Prelude.{◌≡◌, ◌∷◌};
 
 use crate::answers::Took;
 use crate::sources::Source;
@@ -27,7 +27,7 @@ impl<'a, G: Source> Source for LentSource<'a, G> {
 
     ghost faults = { λ s. G.faults s.source.now };
 
-    ghost lent = { λ s. s.source.ghost_name };
+    ghost lent = { λ s. s.source.ghost_name ∷ G.lent s.source.now };
 
     fn read(&mut self, buf: &mut [u8]) -> Took {
         self.source.read(buf)

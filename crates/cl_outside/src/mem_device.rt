@@ -1,5 +1,5 @@
 //! A device in memory, which fails where it is told to.
-ghost use Rattle.std.specs.Prelude.{◌≡◌, ◌↔◌, ◌≤◌, ◌<◌, true, false, IfOk};
+ghost use Rattle.std.specs.Prelude.{◌≡◌, ◌↔◌, ◌≤◌, ◌<◌, true, false, None, IfOk};
 ghost use Rattle.cl_outside.specs.Device.{IsBlank, IsSpan, ClearSent, SpanSent, SentRose};
 ghost use Rattle.cl_outside.specs.Memory.{IsToFail, counted, new_plan};
 ghost use Rattle.cl_outside.specs.MemoryDevice.{picture_of, told_picture, CountsFailure};
@@ -91,6 +91,10 @@ impl MemDevice {
 }
 
 impl Device for MemDevice {
+    ghost use Rattle.cl_outside.specs.Operations.{clears, mended, op_bytes, shows};
+    ghost use Rattle.cl_outside.specs.Sending.{Sends};
+    ghost use Rattle.cl_outside.specs.Untied.{untied};
+
     ghost picture = { λ d. told_picture d.broken (picture_of d) };
 
     ghost broken = { λ d. d.broken };
@@ -99,11 +103,16 @@ impl Device for MemDevice {
 
     ghost faults = { λ d. d.faults };
 
+    ghost tied = { λ d. untied None d.broken (told_picture d.broken (picture_of d)) };
+
     fn clear(&mut self, width: u16, height: u16) -> Sent
         requires columns { (1 ≤ width) × (width ≤ 512) }
         requires rows { (1 ≤ height) × (height ≤ 256) }
         ensures shows { ClearSent width height (told_picture self.new.broken (picture_of self.new))
             self.new.broken self.new.cleared result }
+        ensures sends { Sends result None None
+            (mended self.old.broken (op_bytes (clears width height))) self.old.faults
+            self.new.faults }
         ensures cause { SentRose self.old.faults self.new.faults result }
         ensures fails { (result ≡ Sent.Failed) ↔ IsToFail self.old.plan }
         ensures plan { self.new.plan ≡ counted self.old.plan }
@@ -126,6 +135,8 @@ impl Device for MemDevice {
         ensures cleared { self.new.cleared ≡ self.old.cleared }
         ensures shows { SpanSent self.old.cleared (told_picture self.old.broken (picture_of self.old)) (told_picture self.new.broken (picture_of self.new)) x y ink glyphs.now
             self.new.broken result }
+        ensures sends { Sends result None None (op_bytes (shows x y ink glyphs.now))
+            self.old.faults self.new.faults }
         ensures cause { SentRose self.old.faults self.new.faults result }
         ensures fails { (result ≡ Sent.Failed) ↔ IsToFail self.old.plan }
         ensures plan { self.new.plan ≡ counted self.old.plan }

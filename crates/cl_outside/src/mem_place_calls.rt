@@ -1,5 +1,5 @@
 //! The calls of a place in memory.
-ghost use Rattle.std.specs.Prelude.{◌≡◌, ◌≢◌, ◌↔◌, ◌⊎◌, ℕ, ◌≤◌, ◌<◌, List, length, true, None, Some, Option, IsSome, is_some};
+ghost use Rattle.std.specs.Prelude.{◌≡◌, ◌≢◌, ◌↔◌, ◌⊎◌, ℕ, ◌≤◌, ◌<◌, List, [], length, true, None, Some, Option, IsSome, is_some};
 ghost use Rattle.cl_outside.specs.Outside.{ReadTook, WriteTook, FailedRose};
 ghost use Rattle.cl_outside.specs.Place.{HasBytes, IsEmptyFile, OnDone, OnMemory, OpenedRose};
 ghost use Rattle.cl_outside.specs.Memory.{IsToFail};
@@ -31,6 +31,10 @@ impl Place for MemPlace {
 
     ghost app_faults = { λ p. count_of p.faults };
 
+    ghost by_name = { λ _. true };
+
+    ghost tells = { λ _. true };
+
     ghost making_faults = { λ p. p.making_faults };
 
     ghost writing_faults = { λ p. p.writing_faults };
@@ -51,6 +55,8 @@ impl Place for MemPlace {
         ensures writing { self.new.writing_faults ≡ self.old.writing_faults }
         ensures opened { OnDone result (is_some self.new.source ≡ true) }
         ensures reads { OnDone result (Reads self.new.source name.now) }
+        ensures reads_alone { OnDone result ((other : List ℕ) → Reads self.new.source other
+            → other ≡ name.now) }
         ensures start { OnDone result (HasBytes (Some (found self.old.files name.now))
             (left_in self.new.files self.new.source)) }
         ensures memory { OnMemory result ((is_some self.new.source ≡ is_some self.old.source)
@@ -91,6 +97,8 @@ impl Place for MemPlace {
         ensures writing { self.new.writing_faults ≡ self.old.writing_faults }
         ensures opened { is_some self.new.source ≡ true }
         ensures reads { (name : List ℕ) → Reads self.old.source name → Reads self.new.source name }
+        ensures reads_alone { (name : List ℕ) → Reads self.new.source name
+            → Reads self.old.source name }
         ensures bytes { ReadTook (left_in self.old.files self.old.source)
             (left_in self.new.files self.new.source) buf.new result }
         ensures cause { (name : List ℕ) → Reads self.old.source name
@@ -125,6 +133,7 @@ impl Place for MemPlace {
         ensures empty { OnDone result (IsEmptyFile (Some (found self.new.files name.now))) }
         ensures taken { OnDone result (HasBytes (Some (found self.new.files name.now))
             (taken_in self.new.files self.new.sink)) }
+        ensures unused { OnDone result (taken_in self.new.files self.new.sink ≡ Some []) }
         ensures named { OnDone result (other_file self.new.files self.new.sink name.now ≡ None) }
         ensures others { OnDone result ((other : List ℕ) → other ≢ name.now
             → other_file self.new.files self.new.sink other

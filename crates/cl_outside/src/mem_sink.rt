@@ -1,5 +1,6 @@
 //! A sink in memory, which fails where it is told to.
 ghost use Rattle.std.specs.Prelude.{◌≡◌, ◌↔◌, ◌⊎◌, ◌-◌, ◌≤◌, ◌<◌, [], length, Some, IfOk};
+ghost use Rattle.cl_outside.specs.Lent.{told_only};
 ghost use Rattle.cl_outside.specs.Outside.{WriteTook, FailedRose};
 ghost use Rattle.cl_outside.specs.Memory.{AllPositive, IsToFail, counted, new_plan, CountsFault, WritesPiece};
 
@@ -76,6 +77,8 @@ impl Sink for MemSink {
     ghost taken = { λ s. Some s.taken };
 
     ghost faults = { λ s. s.faults };
+
+    ghost lent = { λ _. told_only };
 
     fn write(&mut self, bytes: &[u8]) -> Took
         requires { 0 < length bytes.now }

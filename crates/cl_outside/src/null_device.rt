@@ -18,6 +18,8 @@ impl NullDevice {
 }
 
 impl Device for NullDevice {
+    ghost use Rattle.cl_outside.specs.Untied.{untied};
+
     ghost picture = { λ _. None };
 
     ghost broken = { λ _. false };
@@ -25,6 +27,8 @@ impl Device for NullDevice {
     ghost cleared = { λ _. true };
 
     ghost faults = { λ _. 0 };
+
+    ghost tied = { λ _. untied None false None };
 
     fn clear(&mut self, _width: u16, _height: u16) -> Sent {
         Sent::Done

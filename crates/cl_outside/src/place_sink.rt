@@ -1,5 +1,5 @@
 //! The file that is open for writing in a place, as a sink.
-ghost use Rattle.std.specs.Prelude.{◌≡◌, true};
+ghost use Rattle.std.specs.Prelude.{◌≡◌, ◌∷◌, true};
 
 use crate::answers::Took;
 use crate::places::Place;
@@ -29,7 +29,8 @@ impl<'a, P: Place> Sink for PlaceSink<'a, P> {
     ghost faults = { λ s. P.writing_faults s.place.now };
 
     ghost lent = { λ s. record {
-      reference = s.place.ghost_name;
+      told = P.tells s.place.now;
+      references = s.place.ghost_name ∷ P.lent s.place.now;
       files = P.others s.place.now;
       opened = P.opened s.place.now;
       app_faults = P.app_faults s.place.now;

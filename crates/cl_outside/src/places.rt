@@ -1,5 +1,5 @@
 //! What a caller may rest on of a place, where files are opened by name.
-ghost use Rattle.std.specs.Prelude.{◌≡◌, ◌≢◌, ℕ, ◌≤◌, ◌<◌, List, Option, length, Bool, true, IsSome, None};
+ghost use Rattle.std.specs.Prelude.{◌≡◌, ◌≢◌, ℕ, ◌≤◌, ◌<◌, List, [], Option, length, Bool, true, false, IsSome, None, Some};
 ghost use Rattle.cl_outside.specs.Outside.{ReadTook, WriteTook, FailedRose};
 ghost use Rattle.cl_outside.specs.Place.{HasBytes, IsEmptyFile, IsTold, OnDone, OnMemory, OpenedRose};
 
@@ -32,17 +32,26 @@ pub trait Place {
     // faults of an application's name: by its opening, and by reads while it is the open source
     ghost app_faults: { Self → List ℕ → ℕ };
 
+    // whether each name has a count of its own; else they may rise together
+    ghost by_name: { Self → Bool } = { λ _. false };
+
+    // whether it tells the bytes of each sink at all times
+    ghost tells: { Self → Bool } = { λ _. false };
+
     // faults of `make_sink`, and of `write_sink`; no count falls, and each stands still at 2^64 - 1
     ghost making_faults: { Self → ℕ };
 
     ghost writing_faults: { Self → ℕ };
 
-    // the loan that a place which only lends another one holds; no call changes it
-    ghost lent: { Self → ℕ } = { λ _. 0 };
+    // the names of the references that it holds, where it only lends another one: its own first; no call
+    // changes them
+    ghost lent: { Self → List ℕ } = { λ _. [] };
 
     /// Opens the file of this name at its first byte. A missing file is Failed.
     fn open_source(&mut self, name: &str) -> Opened
         ensures lent { lent self.new ≡ lent self.old }
+        ensures tells { tells self.new ≡ tells self.old }
+        ensures by_name { by_name self.new ≡ by_name self.old }
         ensures files { (other : List ℕ) → file self.new other ≡ file self.old other }
         ensures made { made self.new ≡ made self.old }
         ensures taken { taken self.new ≡ taken self.old }
@@ -52,19 +61,25 @@ pub trait Place {
         ensures opened { OnDone result (opened self.new ≡ true) }
         ensures reads { OnDone result (reads self.new name.now) }
         ensures start { OnDone result (HasBytes (file self.old name.now) (left self.new)) }
+        ensures reads_alone { OnDone result (by_name self.old ≡ true
+            → (other : List ℕ) → reads self.new other → other ≡ name.now) }
         ensures memory { OnMemory result
             ((opened self.new ≡ opened self.old) × (left self.new ≡ left self.old)) }
         ensures memory_reads { OnMemory result
             ((other : List ℕ) → reads self.old other → reads self.new other) }
         ensures cause { OpenedRose (app_faults self.old name.now) (app_faults self.new name.now)
             result }
-        ensures later { (other : List ℕ) → app_faults self.old other ≤ app_faults self.new other };
+        ensures later { (other : List ℕ) → app_faults self.old other ≤ app_faults self.new other }
+        ensures other_faults { by_name self.old ≡ true → (other : List ℕ) → other ≢ name.now
+            → app_faults self.new other ≡ app_faults self.old other };
 
     /// Hands over the next bytes of the open source.
     fn read_source(&mut self, buf: &mut [u8]) -> Took
         requires open { opened self.old ≡ true }
         requires room { 0 < length buf.old }
         ensures lent { lent self.new ≡ lent self.old }
+        ensures tells { tells self.new ≡ tells self.old }
+        ensures by_name { by_name self.new ≡ by_name self.old }
         ensures files { (other : List ℕ) → file self.new other ≡ file self.old other }
         ensures made { made self.new ≡ made self.old }
         ensures taken { taken self.new ≡ taken self.old }
@@ -73,15 +88,20 @@ pub trait Place {
         ensures writing { writing_faults self.new ≡ writing_faults self.old }
         ensures opened { opened self.new ≡ true }
         ensures reads { (name : List ℕ) → reads self.old name → reads self.new name }
+        ensures reads_alone { (name : List ℕ) → reads self.new name → reads self.old name }
         ensures bytes { ReadTook (left self.old) (left self.new) buf.new result }
         ensures cause { (name : List ℕ) → reads self.old name
             → FailedRose (app_faults self.old name) (app_faults self.new name) result }
-        ensures later { (other : List ℕ) → app_faults self.old other ≤ app_faults self.new other };
+        ensures later { (other : List ℕ) → app_faults self.old other ≤ app_faults self.new other }
+        ensures other_faults { by_name self.old ≡ true → (other : List ℕ)
+            → (reads self.old other → ⊥) → app_faults self.new other ≡ app_faults self.old other };
 
     /// Makes the file of this name, empty. Where it fails, no sink may be made any more, and nothing
     /// is said of that file.
     fn make_sink(&mut self, name: &str) -> Opened
         ensures lent { lent self.new ≡ lent self.old }
+        ensures tells { tells self.new ≡ tells self.old }
+        ensures by_name { by_name self.new ≡ by_name self.old }
         ensures files { (other : List ℕ) → other ≢ name.now
             → file self.new other ≡ file self.old other }
         ensures opened { opened self.new ≡ opened self.old }
@@ -93,6 +113,7 @@ pub trait Place {
         ensures made { OnDone result (made self.new ≡ true) }
         ensures empty { OnDone result (IsEmptyFile (file self.new name.now)) }
         ensures taken { OnDone result (HasBytes (file self.new name.now) (taken self.new)) }
+        ensures unused { OnDone result (tells self.old ≡ true → taken self.new ≡ Some []) }
         ensures named { OnDone result (others self.new name.now ≡ None) }
         ensures others { OnDone result
             ((other : List ℕ) → other ≢ name.now → others self.new other ≡ file self.new other) }
@@ -109,6 +130,8 @@ pub trait Place {
         requires made { made self.old ≡ true }
         requires some { 0 < length bytes.now }
         ensures lent { lent self.new ≡ lent self.old }
+        ensures tells { tells self.new ≡ tells self.old }
+        ensures by_name { by_name self.new ≡ by_name self.old }
         ensures opened { opened self.new ≡ opened self.old }
         ensures reads { (other : List ℕ) → reads self.old other → reads self.new other }
         ensures left { ((name : List ℕ) → reads self.old name → IsSome (others self.old name))

@@ -13,7 +13,8 @@ pub trait Sink {
     // how often a write failed; never falls, and stands still at 2^64 - 1
     ghost faults: { Self → ℕ };
 
-    // what a sink that lends a place keeps of it; no call changes it
+    // whether it tells its bytes at all times, and what one that lends a place keeps of that; no call
+    // changes it
     ghost lent: { Self → Lent } = { λ _. nothing_lent };
 
     /// Takes bytes from the front of `bytes`, at least one.

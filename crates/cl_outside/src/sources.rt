@@ -1,5 +1,5 @@
 //! What a caller may rest on of a source.
-ghost use Rattle.std.specs.Prelude.{◌≡◌, ℕ, ◌+◌, ◌<◌, List, Option, length};
+ghost use Rattle.std.specs.Prelude.{◌≡◌, ℕ, ◌+◌, ◌<◌, List, [], Option, length};
 ghost use Rattle.cl_outside.specs.Outside.{ReadTook, FailedRose};
 
 use crate::answers::Took;
@@ -15,8 +15,9 @@ pub trait Source {
     // how often a read failed; never falls, and stands still at 2^64 - 1
     ghost faults: { Self → ℕ };
 
-    // the loan that a source which only lends another one holds; no call changes it
-    ghost lent: { Self → ℕ } = { λ _. 0 };
+    // the names of the references that it holds, where it only lends another one: its own first; no call
+    // changes them
+    ghost lent: { Self → List ℕ } = { λ _. [] };
 
     /// Hands over the next bytes at the front of `buf`; what stands behind them in `buf` is not said.
     fn read(&mut self, buf: &mut [u8]) -> Took

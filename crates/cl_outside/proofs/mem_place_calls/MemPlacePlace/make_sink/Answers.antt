@@ -14,3 +14,6 @@ returns-in-Done-clause-empty c = rw (c.in-Done.ensures.step, found-updated_same 
 
 pub returns-in-Done-clause-taken : goal.returns-in-Done-clause-taken
 returns-in-Done-clause-taken c = rw (c.in-Done.ensures.step, found-updated_same c.args.self.now.files c.args.name.now []) refl
+
+pub returns-in-Done-clause-unused : goal.returns-in-Done-clause-unused
+returns-in-Done-clause-unused c = rw (c.in-Done.ensures.step, found-updated_same c.args.self.now.files c.args.name.now []) refl

@@ -1,0 +1,8 @@
+-- A device whose wire is not told at all times owes nothing of it.
+use Rattle.std.specs.Prelude.{ℕ, Bool, false, List, Option}
+use Rattle.std.proofs.Common.{arith}
+use Rattle.cl_outside.specs.Device.{Picture}
+use Rattle.cl_outside.specs.Sending.{IsTied}
+
+pub untied : (wire : Option (List ℕ)) (broken : Bool) (picture : Option Picture) → IsTied false wire broken picture
+untied wire broken picture = λ told whole bytes is_wire. absurd (grind (arith, told))
