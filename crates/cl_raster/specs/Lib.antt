@@ -1,1 +1,5 @@
+pub mod Laws
+pub mod Playback
 pub mod Raster
+pub mod Tied
+pub mod Wires
