@@ -1,10 +1,16 @@
 -- Screens that become stale.
-use Rattle.std.proofs.Common.{◌≡◌, ℕ, Bool, true, false, refl, arith}
+use Rattle.std.proofs.Common.{◌≡◌, ◌∙◌, ℕ, Bool, true, false, Option, ap, refl, sym, subst, arith}
+use Rattle.cl_application.specs.declared.applications.App.{App}
+use Rattle.cl_outside.specs.Device as device
+use Rattle.cl_raster.specs.Raster.{Picture}
+use Rattle.cl_frame.specs.declared.frames.Frame.{Frame}
+use Rattle.cl_frame.specs.declared.settling.Which.{Which}
+use Rattle.cl_frame.specs.declared.settling.Which.TheVariants as which
 use Rattle.cl_outside.specs.Causes.{Rose}
-use Rattle.cl_redisplay.specs.Screens.{PaintedRose, StaleAfter}
+use Rattle.cl_redisplay.specs.Screens.{Agree, BreaksAt, PaintedRose, Screen, StaleAfter, is_fault}
 use Rattle.cl_redisplay.specs.declared.screens.Painted.{Painted}
 use Rattle.cl_redisplay.specs.declared.screens.Painted.TheVariants as painted
-use Rattle.cl_frame.specs.Frames.{GoesStale, fault_between}
+use Rattle.cl_frame.specs.Frames.{AreShown, GoesStale, IsFrameOf, fault_between, is_stale_under}
 
 pub stale-same : (stale : Bool) (faults : ℕ) → GoesStale stale stale faults faults
 stale-same true faults = record { later = omega arith; stays = λ e. refl; rose = λ e f. let no : true ≡ false = e in cc }
@@ -39,3 +45,39 @@ stale-between false false x y g = (refl, g.later)
 pub fresh-between : (old new : Bool) → old ≡ true → fault_between old new ≡ painted.Done
 fresh-between true new e = refl
 fresh-between false new e = let no : false ≡ true = e in cc
+
+-- a device is broken where its screen has become stale
+pub breaks-between : (old new broken : Bool) → (old ≡ false → new ≡ true → broken ≡ true) → BreaksAt (fault_between old new) broken
+breaks-between true new broken h = tt
+breaks-between false true broken h = h refl refl
+breaks-between false false broken h = tt
+
+pub fault-between : (old new : Bool) → old ≡ false → is_fault (fault_between old new) ≡ new
+fault-between true new e = cc
+fault-between false true e = refl
+fault-between false false e = refl
+
+-- what holds of a stale screen and of one that is not
+pub by-stale : {P : Type 0} (stale : Bool) → (stale ≡ true → P) → (stale ≡ false → P) → P
+by-stale true f g = f refl
+by-stale false f g = g refl
+
+-- a frame whose settling begins
+pub frame-started : (app : App) (f : Frame) (screen : Screen) → screen.raster ≡ f.screen.raster → IsFrameOf app f
+    → IsFrameOf app (record { screen = screen; panes = f.panes })
+frame-started app f screen e h = record {
+  width = ap (λ (p : Picture). p.width) e ∙ h.width;
+  height = ap (λ (p : Picture). p.height) e ∙ h.height;
+  areas = h.areas;
+  shown = subst (AreShown f.panes.items) (sym e) h.shown;
+}
+
+agree-under : (w : Which) (stale : Bool) (p : Picture) (broken cleared : Bool) (shown : Option device.Picture) → Agree stale p broken cleared shown
+    → Agree (is_stale_under w stale) p broken cleared shown
+agree-under which.All stale p broken cleared shown h = h
+agree-under which.Blank stale p broken cleared shown h = h
+agree-under which.Force stale p broken cleared shown h = tt
+
+pub agree-started : (w : Which) (old new : Screen) (broken cleared : Bool) (shown : Option device.Picture) → new.raster ≡ old.raster
+    → new.stale ≡ is_stale_under w old.stale → Agree old.stale old.raster broken cleared shown → Agree new.stale new.raster broken cleared shown
+agree-started w old new broken cleared shown e f h = rw (e, f) (agree-under w old.stale old.raster broken cleared shown h)

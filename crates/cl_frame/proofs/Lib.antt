@@ -4,3 +4,6 @@ pub mod GoingStale
 pub mod DeclaredPanes
 pub mod PaneSettling
 pub mod OpenedPanes
+pub mod SentPanes
+pub mod ShownFrames
+pub mod UpdatedFrames

@@ -1,11 +1,15 @@
 //! The panes of a frame on one screen.
-ghost use Rattle.std.specs.Prelude.{◌≡◌, ◌<◌, true, All, IfOk, map};
+ghost use Rattle.std.specs.Prelude.{◌≡◌, ◌<◌, true, false, not, All, IfOk, map};
 ghost use Rattle.cl_application.specs.Panes.{IsPlaced, panes_of};
 ghost use Rattle.cl_application.specs.declared.applications.App.{App};
 ghost use Rattle.cl_frame.specs.Frames.{AreShown, IsFrameOf, is_blank_pane, pane_met};
 ghost use Rattle.cl_frame.specs.Panes.{area_of, area_of_pane, shown_of_pane};
 ghost use Rattle.std.specs.List.{list_any};
-ghost use Rattle.cl_redisplay.specs.Screens.{Agree, PaintedRose, is_fault};
+ghost use Rattle.cl_frame.specs.Sending.{SendsOn, wire_of};
+ghost use Rattle.cl_outside.specs.Operations.{mended, ops_bytes};
+ghost use Rattle.cl_redisplay.specs.Operations.{redraw_ops};
+ghost use Rattle.cl_redisplay.specs.Paint.{cell_at};
+ghost use Rattle.cl_redisplay.specs.Screens.{Agree, BreaksAt, PaintedRose, is_fault};
 ghost use Rattle.cl_redisplay.specs.Shown.{ink_digit, shown_ink_row, shown_row};
 ghost use Rattle.cl_raster.specs.Raster.{IsInk};
 
@@ -42,6 +46,11 @@ impl Frame {
         ensures panes { self.new.panes ≡ self.old.panes }
         ensures raster { self.new.screen.raster ≡ self.old.screen.raster }
         ensures stale { self.new.screen.stale ≡ is_fault result }
+        ensures breaks { BreaksAt result (D.broken device.new) }
+        ensures idle { self.old.screen.stale ≡ false → device.new ≡ device.old }
+        ensures bytes { self.old.screen.stale ≡ true → SendsOn (not (is_fault result)) (wire_of (D.wire device.old) (D.faults device.old) (D.lent device.old).told) (wire_of (D.wire device.new) (D.faults device.new) (D.lent device.new).told)
+            (mended (D.broken device.old) (ops_bytes (redraw_ops (cell_at self.old.screen.raster)
+            self.old.screen.raster.width self.old.screen.raster.height))) }
         ensures agree { Agree self.new.screen.stale self.new.screen.raster (D.broken device.new)
             (D.cleared device.new) (D.picture device.new) }
         ensures lent { D.lent device.new ≡ D.lent device.old }

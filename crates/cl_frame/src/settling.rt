@@ -1,5 +1,5 @@
 //! Panes that are settled, one after another.
-ghost use Rattle.std.specs.Prelude.{◌≡◌, ◌≤◌, ◌<◌, true, length, map, slice_set};
+ghost use Rattle.std.specs.Prelude.{◌≡◌, ◌≤◌, ◌<◌, true, false, not, length, map, slice_set};
 ghost use Rattle.cl_application.specs.Panes.{panes_of};
 ghost use Rattle.cl_raster.specs.Raster.{SameSize};
 ghost use Rattle.cl_redisplay.specs.Paint.{LiesIn, Repaints};
@@ -7,7 +7,10 @@ ghost use Rattle.cl_frame.specs.Frames.{AreShown, GoesStale, IsFrameOf, Replaces
 ghost use Rattle.cl_frame.specs.Ground.{ground};
 ghost use Rattle.cl_frame.specs.Panes.{marks_in, marks_of_pane};
 ghost use Rattle.cl_frame.specs.Settling.{SpendsPanes, is_due, met_memory, settle_panes};
-ghost use Rattle.cl_redisplay.specs.Screens.{Agree, PaintedRose, StaleAfter, is_fault};
+ghost use Rattle.cl_frame.specs.Sending.{SendsAt, SendsOn, SendsPane, ShowsPanes, settled_ops, update_bytes, wire_of};
+ghost use Rattle.cl_outside.specs.Operations.{ops_bytes};
+ghost use Rattle.cl_redisplay.specs.Operations.{pane_ops};
+ghost use Rattle.cl_redisplay.specs.Screens.{Agree, BreaksAt, PaintedRose, StaleAfter, is_fault};
 
 use crate::frames::Frame;
 use crate::panes::Pane;
@@ -35,6 +38,17 @@ impl Which {
         match self {
             Which::All => true,
             Which::Blank => pane.history.is_none(),
+            Which::Force => true,
+        }
+    }
+
+    // Whether a screen is redrawn in full once its panes were settled.
+    fn redraws(self, is_stale: bool) -> bool
+        ensures { result ≡ is_stale_under self is_stale }
+    {
+        match self {
+            Which::All => is_stale,
+            Which::Blank => is_stale,
             Which::Force => true,
         }
     }
@@ -81,6 +95,11 @@ impl Frame {
         ensures stale { StaleAfter (is_stale_under which self.old.screen.stale)
             self.new.screen.stale result }
         ensures fresh { is_stale_under which self.old.screen.stale ≡ true → result ≡ Painted.Done }
+        ensures idle { is_stale_under which self.old.screen.stale ≡ true → device.new ≡ device.old }
+        ensures breaks { BreaksAt result (D.broken device.new) }
+        ensures bytes { is_stale_under which self.old.screen.stale ≡ false
+            → SendsOn (not (is_fault result)) (wire_of (D.wire device.old) (D.faults device.old) (D.lent device.old).told) (wire_of (D.wire device.new) (D.faults device.new) (D.lent device.new).told) (ops_bytes (settled_ops which
+            (panes_of program.now.app.now) (marks_of_frame self.old) (marks_of_frame self.new))) }
         ensures lent { D.lent device.new ≡ D.lent device.old }
         ensures cause { PaintedRose (D.faults device.old) (D.faults device.new) result }
         ensures later { steps.old ≤ steps.new }
@@ -116,13 +135,19 @@ impl Frame {
         ensures agree { Agree self.new.screen.stale self.new.screen.raster (D.broken device.new)
             (D.cleared device.new) (D.picture device.new) }
         ensures stale { self.new.screen.stale ≡ is_fault result }
+        ensures breaks { BreaksAt result (D.broken device.new) }
+        ensures bytes { SendsOn (not (is_fault result)) (wire_of (D.wire device.old) (D.faults device.old) (D.lent device.old).told) (wire_of (D.wire device.new) (D.faults device.new) (D.lent device.new).told)
+            (update_bytes which self.old.screen.stale (D.broken device.old) program.now.app.now
+            (marks_of_frame self.old) (marks_of_frame self.new)) }
+        ensures shows { is_fault result ≡ false
+            → ShowsPanes program.now.app.now (marks_of_frame self.new) (wire_of (D.wire device.new) (D.faults device.new) (D.lent device.new).told) }
         ensures lent { D.lent device.new ≡ D.lent device.old }
         ensures cause { PaintedRose (D.faults device.old) (D.faults device.new) result }
         ensures later { steps.old ≤ steps.new }
     {
-        let is_stale = which == Which::Force || self.screen.stale();
+        let redraws = which.redraws(self.screen.stale());
         let painted = self.settle(program, which, slots, device, steps);
-        if is_stale {
+        if redraws {
             self.refresh(device)
         } else {
             painted
@@ -146,6 +171,11 @@ impl Frame {
             (D.cleared device.old) (D.picture device.old) }
         ensures settles { SettlesAt (ground program.now.app.now program.now.limits) which slots.now
             place self.old.panes.items self.new.panes.items steps.old steps.new }
+        ensures idle { self.old.screen.stale ≡ true → device.new ≡ device.old }
+        ensures breaks { self.old.screen.stale ≡ false → self.new.screen.stale ≡ true
+            → D.broken device.new ≡ true }
+        ensures bytes { SendsAt which program.now.app.now place self.old.panes.items
+            self.new.panes.items self.old.screen.stale self.new.screen.stale (wire_of (D.wire device.old) (D.faults device.old) (D.lent device.old).told) (wire_of (D.wire device.new) (D.faults device.new) (D.lent device.new).told) }
         ensures frame { IsFrameOf program.now.app.now self.new }
         ensures agree { Agree self.new.screen.stale self.new.screen.raster (D.broken device.new)
             (D.cleared device.new) (D.picture device.new) }
@@ -173,6 +203,11 @@ impl Frame {
         requires agree { Agree self.old.screen.stale self.old.screen.raster (D.broken device.old)
             (D.cleared device.old) (D.picture device.old) }
         ensures panes { self.new.panes.items ≡ slice_set self.old.panes.items place pane }
+        ensures idle { self.old.screen.stale ≡ true → device.new ≡ device.old }
+        ensures breaks { self.old.screen.stale ≡ false → self.new.screen.stale ≡ true
+            → D.broken device.new ≡ true }
+        ensures bytes { SendsPane self.old.screen.stale self.new.screen.stale (wire_of (D.wire device.old) (D.faults device.old) (D.lent device.old).told) (wire_of (D.wire device.new) (D.faults device.new) (D.lent device.new).told)
+            (ops_bytes (pane_ops pane.area (marks_in (marks_of_pane pane)))) }
         ensures size { SameSize self.old.screen.raster self.new.screen.raster }
         ensures shown { AreShown self.new.panes.items self.new.screen.raster }
         ensures agree { Agree self.new.screen.stale self.new.screen.raster (D.broken device.new)
@@ -191,6 +226,11 @@ impl Frame {
         requires agree { Agree self.old.screen.stale self.old.screen.raster (D.broken device.old)
             (D.cleared device.old) (D.picture device.old) }
         ensures panes { self.new.panes ≡ self.old.panes }
+        ensures idle { self.old.screen.stale ≡ true → device.new ≡ device.old }
+        ensures breaks { self.old.screen.stale ≡ false → self.new.screen.stale ≡ true
+            → D.broken device.new ≡ true }
+        ensures bytes { SendsPane self.old.screen.stale self.new.screen.stale (wire_of (D.wire device.old) (D.faults device.old) (D.lent device.old).told) (wire_of (D.wire device.new) (D.faults device.new) (D.lent device.new).told)
+            (ops_bytes (pane_ops pane.now.area (marks_in (marks_of_pane pane.now)))) }
         ensures repaints { Repaints self.old.screen.raster self.new.screen.raster pane.now.area
             (marks_in (marks_of_pane pane.now)) }
         ensures agree { Agree self.new.screen.stale self.new.screen.raster (D.broken device.new)

@@ -4,11 +4,12 @@ use Rattle.std.proofs.lemmas.Bool.Decides.{nat_tests}
 use Rattle.cl_medium.specs.Items.{Painted}
 use Rattle.cl_outside.specs.Device as device
 use Rattle.cl_outside.specs.Device.{Blanks, IsPainted, Paints, PaintsWhereCleared, in_span}
+use Rattle.cl_outside.specs.Operations.{Op, shows}
 use Rattle.cl_outside.specs.declared.answers.Sent.{Sent}
 use Rattle.cl_outside.specs.declared.answers.Sent.TheVariants.{Done, Failed}
 use Rattle.cl_raster.specs.Raster.{Picture, row_of}
 use Rattle.cl_region.proofs.Corners.{wrong}
-use Rattle.cl_redisplay.specs.Operations.{Op, area_ops, cell_after_all, rows_ops, shows, whole_area}
+use Rattle.cl_redisplay.specs.Operations.{area_ops, cell_after_all, rows_ops, whole_area}
 use Rattle.cl_redisplay.specs.Paint.{KeepsOthers, cell_at, covers}
 use Rattle.cl_redisplay.specs.Screens.{Agree, Mirrors, device_cell}
 use Rattle.cl_redisplay.specs.Sending.{AllSent, IsRunEnd, OpsSent, Plays, list_ops}
@@ -78,20 +79,20 @@ row_step cleared a b c all glyphs inks y x end right begun most run before shown
 -- the first of some rows was shown
 pub area_step : (p : Picture) (a b c : Option device.Picture) (all : List Op) (glyphs inks : List ℕ) (x width right y end : ℕ) → right ≡ x + width
     → right ≤ p.width → y < end → glyphs ≡ row_of p.glyphs p.width y → inks ≡ row_of p.inks p.width y
-    → Plays a b all (rows_ops p x width y (end - y)) → Plays b c (list_ops glyphs inks y x (right - x)) []
-    → Plays a c all (rows_ops p x width (y + 1) (end - (y + 1)))
+    → Plays a b all (rows_ops (cell_at p) x width y (end - y)) → Plays b c (list_ops glyphs inks y x (right - x)) []
+    → Plays a c all (rows_ops (cell_at p) x width (y + 1) (end - (y + 1)))
 area_step p a b c all glyphs inks x width right y end is_right most less is_glyphs is_inks before row =
     let count : right - x ≡ width = omega (arith, is_right) in
     let ops : list_ops glyphs inks y x (right - x) ≡ list_ops (row_of p.glyphs p.width y) (row_of p.inks p.width y) y x width = rw (is_glyphs, is_inks, count) refl in
     let shown = subst (λ (ops : List Op). Plays b c ops []) (ops ∙ list_ops-row p y x width (omega (arith, is_right, most))) row in
-    Plays-more a b c all _ (rows_ops p x width (y + 1) (end - (y + 1)))
-    (subst (λ (ops : List Op). Plays a b all ops) (rows_ops-next p x width y end less) before) shown
+    Plays-more a b c all _ (rows_ops (cell_at p) x width (y + 1) (end - (y + 1)))
+    (subst (λ (ops : List Op). Plays a b all ops) (rows_ops-next (cell_at p) x width y end less) before) shown
 
 -- ---- screen and device
 
 -- an area of the screen was painted anew, and sent
 Mirrors-repainted : (p q : Picture) (area : Area) (a b : Option device.Picture) → KeepsOthers p q area → Mirrors p a
-    → Plays a b (area_ops q area) [] → Mirrors q b
+    → Plays a b (area_ops (cell_at q) area) [] → Mirrors q b
 Mirrors-repainted p q area None None keeps same sent = tt
 Mirrors-repainted p q area None (Some e) keeps same sent = absurd sent
 Mirrors-repainted p q area (Some d) None keeps same sent = absurd sent
@@ -102,14 +103,14 @@ Mirrors-repainted p q area (Some d) (Some e) keeps same sent = record {
       let wide : x < p.width = omega (arith, keeps.size.width, hx) in
       let high : y < p.height = omega (arith, keeps.size.height, hy) in
       sent.cells x y (omega (arith, same.width, wide)) (omega (arith, same.height, high))
-      ∙ (area_after q area x y (device_cell d x y)
+      ∙ (area_after (cell_at q) area x y (device_cell d x y)
       ∙ choice_is (covers area x y) (cell_at q x y) (device_cell d x y) (cell_at q x y) (λ here. refl)
       (λ apart. same.cells x y wide high ∙ sym (keeps.cells x y wide high apart)));
 }
 
 -- a screen that is not stale agrees with its device once the area was sent
 pub sent_agrees : (stale : Bool) (p q : Picture) (area : Area) (a b : Option device.Picture) (broken cleared broken_now cleared_now : Bool) → stale ≡ false
-    → KeepsOthers p q area → Agree stale p broken cleared a → Plays a b (area_ops q area) [] → broken_now ≡ false → cleared_now ≡ true
+    → KeepsOthers p q area → Agree stale p broken cleared a → Plays a b (area_ops (cell_at q) area) [] → broken_now ≡ false → cleared_now ≡ true
     → Agree stale q broken_now cleared_now b
 sent_agrees true p q area a b broken cleared broken_now cleared_now fresh keeps before sent whole begun = absurd (wrong (sym fresh))
 sent_agrees false p q area a b broken cleared broken_now cleared_now fresh keeps before sent whole begun =
@@ -119,7 +120,7 @@ all_covered : (width height x y : ℕ) → x < width → y < height → covers (
 all_covered width height x y h k = grind (arith, nat_tests)
 
 -- a device that was cleared was sent the whole screen
-Mirrors-redrawn : (p : Picture) (a b : Option device.Picture) → Blanks p.width p.height a → Plays a b (area_ops p (whole_area p)) [] → Mirrors p b
+Mirrors-redrawn : (p : Picture) (a b : Option device.Picture) → Blanks p.width p.height a → Plays a b (area_ops (cell_at p) (whole_area p.width p.height)) [] → Mirrors p b
 Mirrors-redrawn p None None blank sent = tt
 Mirrors-redrawn p None (Some e) blank sent = absurd sent
 Mirrors-redrawn p (Some d) None blank sent = absurd sent
@@ -128,13 +129,13 @@ Mirrors-redrawn p (Some d) (Some e) blank sent = record {
   height = sent.height ∙ blank.height_is;
   cells = λ x y hx hy.
       sent.cells x y (omega (arith, blank.width_is, hx)) (omega (arith, blank.height_is, hy))
-      ∙ (area_after p (whole_area p) x y (device_cell d x y)
-      ∙ choice_is (covers (whole_area p) x y) (cell_at p x y) (device_cell d x y) (cell_at p x y) (λ here. refl)
+      ∙ (area_after (cell_at p) (whole_area p.width p.height) x y (device_cell d x y)
+      ∙ choice_is (covers (whole_area p.width p.height) x y) (cell_at p x y) (device_cell d x y) (cell_at p x y) (λ here. refl)
       (λ apart. absurd (wrong (sym apart ∙ all_covered p.width p.height x y hx hy))));
 }
 
 pub all_sent : (p : Picture) (width height : ℕ) (a b : Option device.Picture) (broken cleared : Bool) (sent : Sent) → width ≡ p.width → height ≡ p.height
-    → Blanks width height a → cleared ≡ true → OpsSent a b (area_ops p (record { x = 0; y = 0; width = width; height = height })) broken sent
+    → Blanks width height a → cleared ≡ true → OpsSent a b (area_ops (cell_at p) (record { x = 0; y = 0; width = width; height = height })) broken sent
     → AllSent p broken cleared b sent
 all_sent p width height a b broken cleared Done w h blank begun sent = record {
   whole = sent.1;

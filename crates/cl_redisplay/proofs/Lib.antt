@@ -1,5 +1,6 @@
 pub mod Agreements
 pub mod Choices
+pub mod EvenRows
 pub mod OperationLemmas
 pub mod PartLemmas
 pub mod RowLemmas
@@ -7,3 +8,4 @@ pub mod Runs
 pub mod ShownLemmas
 pub mod ShownRows
 pub mod WindowLemmas
+pub mod WireLemmas

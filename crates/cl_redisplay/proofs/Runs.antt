@@ -5,8 +5,10 @@ use Rattle.std.proofs.lemmas.Bool.Decides.{nat_tests}
 use Rattle.std.proofs.lemmas.List.{get_or-drop}
 use Rattle.cl_medium.specs.Items.{Painted}
 use Rattle.cl_outside.specs.Device.{in_span}
+use Rattle.cl_outside.specs.Operations.{shows}
 use Rattle.cl_raster.specs.Raster.{Picture, row_of}
-use Rattle.cl_redisplay.specs.Operations.{Run, before, cell_after, cell_after_all, one_cell, row_cells, row_ops, run_op, runs_from, shows}
+use Rattle.cl_redisplay.specs.Operations.{Run, before, cell_after, cell_after_all, one_cell, row_cells, row_ops, run_op, runs_from}
+use Rattle.cl_redisplay.specs.Paint.{cell_at}
 use Rattle.cl_redisplay.specs.Sending.{IsRunEnd, list_cell, list_ops}
 use Rattle.cl_redisplay.proofs.Choices.{chosen, choice_is}
 use Rattle.cl_redisplay.proofs.PartLemmas.{by_cases}
@@ -168,7 +170,7 @@ list_ops-first glyphs inks y x end right most run =
 
 -- ---- the row of a picture
 
-runs-same : (c d : ℕ → Painted) (x n : ℕ) → ((u : ℕ) → x ≤ u → u < x + n → c u ≡ d u) → runs_from c x n ≡ runs_from d x n
+pub runs-same : (c d : ℕ → Painted) (x n : ℕ) → ((u : ℕ) → x ≤ u → u < x + n → c u ≡ d u) → runs_from c x n ≡ runs_from d x n
 runs-same c d x zero same = refl
 runs-same c d x (suc n) same =
     let rest = runs-same c d (x + 1) n (λ u h k. same u (omega arith) (omega arith)) in
@@ -182,8 +184,8 @@ in_row cells width y u h =
 
 -- the glyphs and the inks of a row give the operations of the picture
 pub list_ops-row : (p : Picture) (y x n : ℕ) → x + n ≤ p.width
-    → list_ops (row_of p.glyphs p.width y) (row_of p.inks p.width y) y x n ≡ row_ops p y x n
+    → list_ops (row_of p.glyphs p.width y) (row_of p.inks p.width y) y x n ≡ row_ops (cell_at p) y x n
 list_ops-row p y x n h =
-    ap (map (run_op y)) (runs-same (list_cell (row_of p.glyphs p.width y) (row_of p.inks p.width y)) (row_cells p y) x n
+    ap (map (run_op y)) (runs-same (list_cell (row_of p.glyphs p.width y) (row_of p.inks p.width y)) (row_cells (cell_at p) y) x n
     (λ u low high. let within : u < p.width = omega (arith, high, h) in
     λ k. record { glyph = in_row p.glyphs p.width y u within k; ink = in_row p.inks p.width y u within k }))

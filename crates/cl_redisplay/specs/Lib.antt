@@ -5,3 +5,4 @@ pub mod Screens
 pub mod Sending
 pub mod Shown
 pub mod Windows
+pub mod Wires

@@ -1,17 +1,13 @@
 -- What is sent to a device that shows a screen: its rows from the top, each as spans of cells of one ink that are as long as can be.
 use Rattle.std.specs.Prelude.{ℕ, zero, suc, ◌+◌, ◌-◌, ◌==◌, if◌then◌else◌, List, [], ◌∷◌, ◌++◌, map, length, slice_index}
-use Rattle.cl_medium.specs.Items.{Painted}
+use Rattle.cl_medium.specs.Items.{Painted, Item}
 use Rattle.cl_outside.specs.Device.{in_span}
-use Rattle.cl_raster.specs.Raster.{Picture}
-use Rattle.cl_redisplay.specs.Paint.{blank_cell, cell_at}
+use Rattle.cl_outside.specs.Operations.{Op, clears, shows}
+use Rattle.cl_record.specs.Marks.{Mark}
+use Rattle.cl_redisplay.specs.Paint.{blank_cell, pane_cell}
 use Rattle.cl_redisplay.specs.declared.areas.Area.{Area}
 
--- an operation of a device: a blank picture of a width and a height; glyphs of one ink, from column x of row y on
-pub data Op : Type 0 where
-  clears : (width height : ℕ) → Op
-  shows : (x y ink : ℕ) → List ℕ → Op
-
--- ---- the operations that send a picture
+-- ---- the operations that send the cells of a screen
 
 -- cells of one ink that stand side by side, from column x of a row on
 pub record Run : Type 0 where
@@ -38,30 +34,34 @@ runs_from cell x (suc more) = before x (cell x) (runs_from cell (x + 1) more)
 abbrev pub run_op : ℕ → Run → Op
 run_op y r = shows r.x y r.ink r.glyphs
 
--- the cells of row y of a picture
-abbrev pub row_cells : Picture → (y x : ℕ) → Painted
-row_cells p y x = cell_at p x y
+-- the cells of row y
+abbrev pub row_cells : (cell : (x y : ℕ) → Painted) → (y x : ℕ) → Painted
+row_cells cell y x = cell x y
 
 -- the operations that show so many cells of row y, from column x on
-abbrev pub row_ops : Picture → (y x count : ℕ) → List Op
-row_ops p y x count = map (run_op y) (runs_from (row_cells p y) x count)
+abbrev pub row_ops : (cell : (x y : ℕ) → Painted) → (y x count : ℕ) → List Op
+row_ops cell y x count = map (run_op y) (runs_from (row_cells cell y) x count)
 
 -- the operations that show so many rows, from row y on
-abbrev pub rows_ops : Picture → (x width y count : ℕ) → List Op
-rows_ops p x width y zero = []
-rows_ops p x width y (suc more) = row_ops p y x width ++ rows_ops p x width (y + 1) more
+abbrev pub rows_ops : (cell : (x y : ℕ) → Painted) → (x width y count : ℕ) → List Op
+rows_ops cell x width y zero = []
+rows_ops cell x width y (suc more) = row_ops cell y x width ++ rows_ops cell x width (y + 1) more
 
--- the operations that show an area of a picture
-abbrev pub area_ops : Picture → Area → List Op
-area_ops p area = rows_ops p area.x area.width area.y area.height
+-- the operations that show an area of the screen
+abbrev pub area_ops : (cell : (x y : ℕ) → Painted) → Area → List Op
+area_ops cell area = rows_ops cell area.x area.width area.y area.height
 
--- all places of a picture
-abbrev pub whole_area : Picture → Area
-whole_area p = record { x = 0; y = 0; width = p.width; height = p.height }
+-- all places of a screen
+abbrev pub whole_area : (width height : ℕ) → Area
+whole_area width height = record { x = 0; y = 0; width = width; height = height }
 
--- the operations that show the whole picture, whatever was shown before
-abbrev pub redraw_ops : Picture → List Op
-redraw_ops p = clears p.width p.height ∷ area_ops p (whole_area p)
+-- the operations that show the whole screen, whatever was shown before
+abbrev pub redraw_ops : (cell : (x y : ℕ) → Painted) → (width height : ℕ) → List Op
+redraw_ops cell width height = clears width height ∷ area_ops cell (whole_area width height)
+
+-- the operations that show a pane with these marks in its area
+abbrev pub pane_ops : Area → List (Mark Item) → List Op
+pane_ops area marks = area_ops (pane_cell area marks) area
 
 -- ---- what operations make of one cell
 

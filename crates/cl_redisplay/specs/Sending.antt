@@ -1,11 +1,12 @@
 -- Sending of the cells of a screen: where a run ends in a row, and what operations leave of a device's picture.
-use Rattle.std.specs.Prelude.{◌≡◌, ◌≢◌, ℕ, ◌<◌, ◌≤◌, Bool, true, false, List, [], map, slice_index, Option, Some, None, ⊤}
+use Rattle.std.specs.Prelude.{◌≡◌, ◌≢◌, ℕ, length, ◌+◌, ◌<◌, ◌≤◌, Bool, true, false, List, [], map, slice_index, Option, Some, None, ⊤}
 use Rattle.cl_medium.specs.Items.{Painted}
 use Rattle.cl_outside.specs.Device as device
+use Rattle.cl_outside.specs.Operations.{Op}
 use Rattle.cl_outside.specs.declared.answers.Sent.{Sent}
 use Rattle.cl_outside.specs.declared.answers.Sent.TheVariants.{Done, Failed}
 use Rattle.cl_raster.specs.Raster.{Picture}
-use Rattle.cl_redisplay.specs.Operations.{Op, cell_after_all, run_op, runs_from}
+use Rattle.cl_redisplay.specs.Operations.{cell_after_all, run_op, runs_from}
 use Rattle.cl_redisplay.specs.Screens.{Follows, device_cell}
 
 -- the cell in a column of a row with these glyphs and inks
@@ -15,6 +16,10 @@ list_cell glyphs inks x = record { glyph = slice_index glyphs x; ink = slice_ind
 -- the operations that show so many cells of such a row, from column x on
 abbrev pub list_ops : (glyphs inks : List ℕ) → (y x count : ℕ) → List Op
 list_ops glyphs inks y x count = map (run_op y) (runs_from (list_cell glyphs inks) x count)
+
+-- each of these inks is that of its neighbour
+abbrev pub IsEven : List ℕ → Type 0
+IsEven inks = (k : ℕ) → k + 1 < length inks → slice_index inks (k + 1) ≡ slice_index inks k
 
 -- of the columns before `right`, those from one on have its ink up to `end`, and no further
 pub record IsRunEnd (inks : List ℕ) (from right end : ℕ) : Type 0 where

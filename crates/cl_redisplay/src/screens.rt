@@ -1,8 +1,11 @@
 //! A screen of cells, and the device that shows it.
 ghost use Rattle.std.specs.Prelude.{◌≡◌, ◌≤◌, IfOk, option_copied, true};
 ghost use Rattle.cl_raster.specs.Raster.{blank_picture};
-ghost use Rattle.cl_redisplay.specs.Paint.{LiesIn, Repaints};
+ghost use Rattle.cl_outside.specs.Operations.{mended, ops_bytes};
+ghost use Rattle.cl_redisplay.specs.Operations.{pane_ops, redraw_ops};
+ghost use Rattle.cl_redisplay.specs.Paint.{LiesIn, Repaints, cell_at};
 ghost use Rattle.cl_redisplay.specs.Screens.{Agree, BreaksAt, PaintedRose, StaleAfter, is_fault, pane_marks};
+ghost use Rattle.cl_redisplay.specs.Wires.{PaintSends, SendsUnless};
 
 use crate::areas::Area;
 use crate::painting::paint_pane;
@@ -92,6 +95,9 @@ pub fn repaint<D: Device>(
     ensures agree { Agree screen.new.stale screen.new.raster (D.broken device.new)
         (D.cleared device.new) (D.picture device.new) }
     ensures stale { StaleAfter screen.old.stale screen.new.stale result }
+    ensures bytes { SendsUnless screen.old.stale result (D.wire device.old) (D.wire device.new)
+        (ops_bytes (pane_ops area (pane_marks (option_copied history.entry))))
+        (D.faults device.old) (D.faults device.new) }
     ensures idle { screen.old.stale ≡ true → device.new ≡ device.old }
     ensures lent { D.lent device.new ≡ D.lent device.old }
     ensures cause { PaintedRose (D.faults device.old) (D.faults device.new) result }
@@ -118,6 +124,11 @@ pub fn redraw_all<D: Device>(screen: &mut Screen, device: &mut D) -> Painted
     ensures agree { Agree screen.new.stale screen.new.raster (D.broken device.new)
         (D.cleared device.new) (D.picture device.new) }
     ensures stale { screen.new.stale ≡ is_fault result }
+    ensures bytes { PaintSends result (D.wire device.old) (D.wire device.new)
+        (mended (D.broken device.old)
+        (ops_bytes (redraw_ops (cell_at screen.old.raster) screen.old.raster.width
+        screen.old.raster.height)))
+        (D.faults device.old) (D.faults device.new) }
     ensures lent { D.lent device.new ≡ D.lent device.old }
     ensures cause { PaintedRose (D.faults device.old) (D.faults device.new) result }
     ensures breaks { BreaksAt result (D.broken device.new) }

@@ -1,10 +1,12 @@
 //! Sending of the cells of a screen to its device.
 ghost use Rattle.std.specs.Prelude.{◌≡◌, ◌-◌, ◌<◌, ◌≤◌, All, false, true, length};
 ghost use Rattle.cl_outside.specs.Device.{IsGlyph, SentRose};
+ghost use Rattle.cl_outside.specs.Operations.{mended, ops_bytes};
+ghost use Rattle.cl_outside.specs.Sending.{Sends};
 ghost use Rattle.cl_raster.specs.Raster.{IsInk};
-ghost use Rattle.cl_redisplay.specs.Operations.{area_ops};
-ghost use Rattle.cl_redisplay.specs.Paint.{LiesIn};
-ghost use Rattle.cl_redisplay.specs.Sending.{AllSent, IsRunEnd, OpsSent, list_ops};
+ghost use Rattle.cl_redisplay.specs.Operations.{area_ops, redraw_ops};
+ghost use Rattle.cl_redisplay.specs.Paint.{LiesIn, cell_at};
+ghost use Rattle.cl_redisplay.specs.Sending.{AllSent, IsEven, IsRunEnd, OpsSent, list_ops};
 
 use crate::areas::Area;
 use cl_outside::{Device, Sent};
@@ -14,6 +16,10 @@ use cl_raster::Raster;
 pub(crate) fn send_all<D: Device>(raster: &Raster, device: &mut D) -> Sent
     ensures sends { AllSent raster.now (D.broken device.new) (D.cleared device.new)
         (D.picture device.new) result }
+    ensures bytes { Sends result (D.wire device.old) (D.wire device.new)
+        (mended (D.broken device.old)
+        (ops_bytes (redraw_ops (cell_at raster.now) raster.now.width raster.now.height)))
+        (D.faults device.old) (D.faults device.new) }
     ensures lent { D.lent device.new ≡ D.lent device.old }
     ensures cause { SentRose (D.faults device.old) (D.faults device.new) result }
 {
@@ -40,7 +46,9 @@ pub(crate) fn send_area<D: Device>(raster: &Raster, area: Area, device: &mut D) 
     requires whole { D.broken device.old ≡ false }
     requires begun { D.cleared device.old ≡ true }
     ensures sends { OpsSent (D.picture device.old) (D.picture device.new)
-        (area_ops raster.now area) (D.broken device.new) result }
+        (area_ops (cell_at raster.now) area) (D.broken device.new) result }
+    ensures bytes { Sends result (D.wire device.old) (D.wire device.new)
+        (ops_bytes (area_ops (cell_at raster.now) area)) (D.faults device.old) (D.faults device.new) }
     ensures begun { D.cleared device.new ≡ true }
     ensures lent { D.lent device.new ≡ D.lent device.old }
     ensures cause { SentRose (D.faults device.old) (D.faults device.new) result }
@@ -72,6 +80,9 @@ fn send_row<D: Device>(
     requires begun { D.cleared device.old ≡ true }
     ensures sends { OpsSent (D.picture device.old) (D.picture device.new)
         (list_ops glyphs.now inks.now y left (right - left)) (D.broken device.new) result }
+    ensures bytes { Sends result (D.wire device.old) (D.wire device.new)
+        (ops_bytes (list_ops glyphs.now inks.now y left (right - left))) (D.faults device.old)
+        (D.faults device.new) }
     ensures begun { D.cleared device.new ≡ true }
     ensures lent { D.lent device.new ≡ D.lent device.old }
     ensures cause { SentRose (D.faults device.old) (D.faults device.new) result }
@@ -94,6 +105,9 @@ fn run_end(inks: &[u8], from: u16, right: u16) -> u16
     requires columns { right ≤ length inks.now }
     ensures { IsRunEnd inks.now from right result }
 {
+    if is_even(&inks[from as usize..right as usize]) {
+        return right;
+    }
     let ink = inks[from as usize];
     for end in from + 1..right {
         if inks[end as usize] != ink {
@@ -101,4 +115,15 @@ fn run_end(inks: &[u8], from: u16, right: u16) -> u16
         }
     }
     right
+}
+
+// Whether all inks are those of their neighbours. It compares the row with itself, one column later, which takes less
+// than a step for each.
+fn is_even(inks: &[u8]) -> bool
+    ensures { result ≡ true → IsEven inks.now }
+{
+    match inks {
+        [] => true,
+        [_, behind @ ..] => &inks[..behind.len()] == behind,
+    }
 }

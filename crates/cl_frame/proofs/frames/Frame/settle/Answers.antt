@@ -1,10 +1,26 @@
-use Rattle.std.proofs.Common.{◌∙◌, refl, arith}
+use Rattle.std.proofs.Common.{◌≡◌, ◌∙◌, refl, sym, ap, arith, true, false}
 use Rattle.cl_application.specs.Panes.{panes_of}
+use Rattle.cl_redisplay.specs.Screens.{is_fault}
 use Rattle.cl_frame.specs.Ground.{ground}
-use Rattle.cl_frame.proofs.GoingStale.{stale-then}
+use Rattle.cl_frame.proofs.GoingStale.{agree-started, by-stale, fault-between, frame-started, stale-same, stale-then}
 use Rattle.cl_frame.proofs.OpenedPanes.{frame_length}
+use Rattle.cl_frame.proofs.SentPanes.{sent_all, sent_next, sent_none}
 use Rattle.cl_frame.proofs.SettledPanes.{rest_next, settled_all, settled_frame, settled_next, settled_spends}
 use Rattle.cl_frame.proofs.frames.Frame.settle.Goals as goal
+
+pub panes-init : goal.panes-init
+panes-init g c = record {
+  frame = frame-started c.args.program.now.app.now c.args.self.now c.start.new.screen c.start.ensures.raster c.requires.frame;
+  agree = agree-started c.args.which c.args.self.now.screen c.start.new.screen _ _ _ c.start.ensures.raster c.start.ensures.stale c.requires.agree;
+  rest = refl;
+  goes_on = λ ns last h. h;
+  goes_stale = stale-same c.start.new.screen.stale (g.D.Device.faults c.args.device.now);
+  idle = λ stale. refl;
+  breaks = λ fresh after. let no : false ≡ true = sym fresh ∙ after in cc;
+  sent = λ fresh. sent_none c.args.which (panes_of c.args.program.now.app.now) c.args.self.now.panes.items c.start.new.screen.stale _ fresh;
+  lent = refl;
+  later = omega arith;
+}
 
 pub panes-preserved : goal.panes-preserved
 panes-preserved g c =
@@ -19,6 +35,14 @@ panes-preserved g c =
           refl c.panes.invariant.rest settled c.panes.invariant.goes_on;
       goes_stale = stale-then c.start.new.screen.stale c.panes.self.screen.stale c.settle_at.new.self.screen.stale
           (g.D.Device.faults c.args.device.now) (g.D.Device.faults c.panes.device) (g.D.Device.faults c.settle_at.new.device) c.panes.invariant.goes_stale c.settle_at.ensures.goes_stale;
+      idle = λ stale. c.settle_at.ensures.idle (c.panes.invariant.goes_stale.stays stale) ∙ c.panes.invariant.idle stale;
+      breaks = λ fresh then. by-stale c.panes.self.screen.stale
+          (λ stale. ap g.D.Device.broken (c.settle_at.ensures.idle stale) ∙ c.panes.invariant.breaks fresh stale)
+          (λ still. c.settle_at.ensures.breaks still then);
+      sent = λ fresh. sent_next (ground c.args.program.now.app.now c.args.program.now.limits) c.args.which c.args.slots.now c.args.self.now.panes.items
+          c.panes.self.panes.items c.settle_at.new.self.panes.items place c.panes.steps c.settle_at.new.steps c.panes.self.screen.stale c.settle_at.new.self.screen.stale
+          _ _ _ c.panes.invariant.rest settled c.settle_at.ensures.bytes c.settle_at.ensures.goes_stale.stays
+          c.panes.invariant.goes_stale.later c.settle_at.ensures.goes_stale.later (c.panes.invariant.sent fresh);
       lent = c.settle_at.ensures.lent ∙ c.panes.invariant.lent;
       later = omega (arith, c.panes.invariant.later, c.settle_at.ensures.later);
     }
@@ -42,3 +66,16 @@ returns-clause-ledger g c =
     c.args.self.now.panes.items c.panes.self.panes.items c.panes.place c.args.steps.now c.panes.steps
     (omega (arith, olds, c.panes-test.false, c.len-place-end.ensures)) (omega (arith, c.panes-test.false, c.len-place-end.ensures))
     (omega (arith, nows, olds, c.panes-test.false, c.len-place-end.ensures)) c.panes.invariant.goes_on)
+
+pub returns-clause-bytes : goal.returns-clause-bytes
+returns-clause-bytes g c = λ fresh.
+    let olds = frame_length c.args.program.now.app.now c.args.self.now c.requires.frame in
+    let nows = frame_length c.args.program.now.app.now c.panes.self c.panes.invariant.frame in
+    let started : c.start.new.screen.stale ≡ false = c.start.ensures.stale ∙ fresh in
+    let fault : is_fault c.fault_between.result ≡ c.panes.self.screen.stale =
+    ap is_fault c.fault_between.ensures
+    ∙ (fault-between c.stale-was_stale.result c.stale.result (c.stale-was_stale.ensures ∙ started) ∙ c.stale.ensures) in
+    rw fault
+    (sent_all c.args.which (panes_of c.args.program.now.app.now) c.args.self.now.panes.items c.panes.self.panes.items c.panes.place c.panes.self.screen.stale _ _
+    (omega (arith, olds, c.panes-test.false, c.len-place-end.ensures)) (omega (arith, c.panes-test.false, c.len-place-end.ensures))
+    (omega (arith, nows, olds, c.panes-test.false, c.len-place-end.ensures)) (c.panes.invariant.sent started))

@@ -1,7 +1,9 @@
-use Rattle.std.proofs.Common.{◌≡◌, ◌≤◌, ◌++◌, List, ℕ, drop, take}
+use Rattle.std.proofs.Common.{◌≡◌, ◌≤◌, ◌++◌, List, ℕ, drop, take, true, false}
 use Rattle.cl_application.specs.Panes.{panes_of}
 use Rattle.cl_frame.specs.Frames.{GoesStale, IsFrameOf, SettlesPanes}
 use Rattle.cl_frame.specs.Ground.{ground}
+use Rattle.cl_frame.specs.Sending.{wire_of}
+use Rattle.cl_frame.proofs.SentPanes.{SentSoFar}
 use Rattle.cl_frame.specs.declared.panes.Pane.{Pane}
 use Rattle.cl_redisplay.specs.Screens.{Agree}
 use Rattle.cl_frame.proofs.frames.Frame.settle.Given as goal
@@ -15,6 +17,12 @@ invariant-panes g l = record {
       → SettlesPanes (ground l.program.app.now l.program.limits) l.which l.slots (drop l.place (panes_of l.program.app.now)) (drop l.place l.initial.self.panes.items) ns l.steps last
       → SettlesPanes (ground l.program.app.now l.program.limits) l.which l.slots (panes_of l.program.app.now) l.initial.self.panes.items (take l.place l.self.panes.items ++ ns) l.initial.steps last;
   goes_stale : GoesStale l.initial.self.screen.stale l.self.screen.stale (g.D.Device.faults l.initial.device) (g.D.Device.faults l.device);
+  idle : l.initial.self.screen.stale ≡ true → l.device ≡ l.initial.device;
+  breaks : l.initial.self.screen.stale ≡ false → l.self.screen.stale ≡ true → g.D.Device.broken l.device ≡ true;
+  sent : l.initial.self.screen.stale ≡ false
+      → SentSoFar l.which (panes_of l.program.app.now) l.initial.self.panes.items l.self.panes.items l.place l.self.screen.stale
+      (wire_of (g.D.Device.wire l.initial.device) (g.D.Device.faults l.initial.device) (g.D.Device.lent l.initial.device).told)
+      (wire_of (g.D.Device.wire l.device) (g.D.Device.faults l.device) (g.D.Device.lent l.device).told);
   lent : g.D.Device.lent l.device ≡ g.D.Device.lent l.initial.device;
   later : l.initial.steps ≤ l.steps;
 }

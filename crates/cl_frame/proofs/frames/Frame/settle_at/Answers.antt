@@ -2,6 +2,7 @@ use Rattle.std.proofs.Common.{◌∙◌, refl, sym, true, false}
 use Rattle.cl_frame.specs.Ground.{ground}
 use Rattle.cl_frame.proofs.DeclaredPanes.{declared_pane, stands_at}
 use Rattle.cl_frame.proofs.PaneSettling.{due_same, frame_kept, frame_put, settles_due, settles_quiet}
+use Rattle.cl_frame.proofs.SentPanes.{sent_due, sent_quiet}
 use Rattle.cl_frame.proofs.frames.Frame.settle_at.Goals as goal
 
 pub returns-then-not-is_due-clause-settles : goal.returns-then-not-is_due-clause-settles
@@ -17,6 +18,13 @@ pub returns-then-not-is_due-clause-frame : goal.returns-then-not-is_due-clause-f
 returns-then-not-is_due-clause-frame g c =
     frame_kept c.args.program.now.app.now c.args.self.now _ c.args.place c.index_mut.result.now
     (stands_at c.args.self.now.panes.items c.args.place c.index_mut.result.now c.requires.place c.index_mut.ensures.value) refl refl c.requires.frame
+
+pub returns-then-not-is_due-clause-bytes : goal.returns-then-not-is_due-clause-bytes
+returns-then-not-is_due-clause-bytes g c =
+    sent_quiet c.args.which c.args.program.now.app.now c.args.place c.args.self.now.panes.items _ c.index_mut.result.now c.args.self.now.screen.stale _
+    (stands_at c.args.self.now.panes.items c.args.place c.index_mut.result.now c.requires.place c.index_mut.ensures.value)
+    (due_same c.args.which c.args.self.now.panes.items c.args.place c.index.result.now c.index_mut.result.now c.requires.place c.index.ensures c.index_mut.ensures.value false
+    (sym c.is_due.ensures ∙ c.if-not-is_due.true))
 
 pub put-requires-clause-replaces : goal.put-requires-clause-replaces
 put-requires-clause-replaces g c = record {
@@ -42,3 +50,14 @@ returns-clause-frame g c =
     frame_put c.args.program.now.app.now c.args.self.now c.put.new.self c.args.place c.index-2.result.now c.evaluated-pane.result
     (stands_at c.args.self.now.panes.items c.args.place c.index-2.result.now c.requires.place c.index-2.ensures)
     c.evaluated-pane.ensures.evaluates.area c.put.ensures.panes c.put.ensures.size c.put.ensures.shown c.requires.frame
+
+pub returns-clause-bytes : goal.returns-clause-bytes
+returns-clause-bytes g c =
+    sent_due c.args.which c.args.program.now.app.now c.args.self.now c.args.place c.put.new.self.panes.items c.in-Some.declared.now c.index-2.result.now
+    c.evaluated-pane.result c.args.self.now.screen.stale c.put.new.self.screen.stale _ _ c.requires.frame
+    (declared_pane c.args.program.now.app.now.frame.panes c.args.place c.in-Some.declared.now c.in-Some.ensures)
+    (stands_at c.args.self.now.panes.items c.args.place c.index-2.result.now c.requires.place c.index-2.ensures)
+    c.evaluated-pane.ensures.evaluates.area c.put.ensures.panes
+    (due_same c.args.which c.args.self.now.panes.items c.args.place c.index.result.now c.index-2.result.now c.requires.place c.index.ensures c.index-2.ensures true
+    (sym c.is_due.ensures ∙ c.if-not-is_due.false))
+    c.put.ensures.bytes
