@@ -1,0 +1,9 @@
+pub mod Behind
+pub mod Claims
+pub mod Numbers
+pub mod Parses
+pub mod Rows
+pub mod Rules
+pub mod Seen
+pub mod Steps
+pub mod Totals
