@@ -53,7 +53,7 @@ CutOf-fault a b u v before now r f rose = (Reads-whole a b u v r, (ended-plain v
 -- ---- the search goes on
 
 -- nothing was read yet, and the first `seen` bytes ahead hold no line feed
-pub record Looking (old new : Option (List ℕ)) (ahead_old ahead_new : List ℕ) (before now lent_before lent_now seen : ℕ) : Type 0 where
+pub record Looking (old new : Option (List ℕ)) (ahead_old ahead_new : List ℕ) (before now : ℕ) (lent_before lent_now : List ℕ) (seen : ℕ) : Type 0 where
   pub reads : Reads old new ahead_old ahead_new []
   pub later : before ≤ now
   pub lent : lent_now ≡ lent_before
@@ -64,7 +64,7 @@ pub record Looking (old new : Option (List ℕ)) (ahead_old ahead_new : List ℕ
 pub Reads-none : (a : Option (List ℕ)) (u : List ℕ) → Reads a a u u []
 Reads-none a u = record { handed = []; consumed = Consumes-nil a; same = append-nil u }
 
-pub Looking-start : (a : Option (List ℕ)) (u : List ℕ) (before lent : ℕ) → Looking a a u u before before lent lent 0
+pub Looking-start : (a : Option (List ℕ)) (u : List ℕ) (before : ℕ) (lent : List ℕ) → Looking a a u u before before lent lent 0
 Looking-start a u before lent = record {
   reads = Reads-none a u;
   later = omega arith;
@@ -80,7 +80,7 @@ Reads-filled a b c u v w n r f = Reads-trans a b c u v w [] [] r (record { hande
 Reads-kept : (a b c : Option (List ℕ)) (u v w : List ℕ) → Reads a b u v [] → FillTook b c v w Failed → Reads a c u w []
 Reads-kept a b c u v w r f = record { handed = r.handed; consumed = Consumes-kept a b c r.handed r.consumed f.0; same = r.same ∙ sym f.1 }
 
-pub Looking-more : (a b c : Option (List ℕ)) (u v w : List ℕ) (before mid now lent l1 l2 seen after n : ℕ) → Looking a b u v before mid lent l1 seen
+pub Looking-more : (a b c : Option (List ℕ)) (u v w : List ℕ) (before mid now : ℕ) (lent l1 l2 : List ℕ) (seen after n : ℕ) → Looking a b u v before mid lent l1 seen
     → FoundIn v found.Unended → FillTook b c v w (Bytes n) → mid ≤ now → l2 ≡ l1 → after ≡ length v → Looking a c u w before now lent l2 after
 Looking-more a b c u v w before mid now lent l1 l2 seen after n k none f rose same all =
     let P : List ℕ → Type 0 = λ xs. All IsNoFeed xs in

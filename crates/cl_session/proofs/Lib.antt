@@ -10,3 +10,4 @@ pub mod OpeningLemmas
 pub mod ToldLemmas
 pub mod TellingLemmas
 pub mod HistoryLemmas
+pub mod CountedLemmas

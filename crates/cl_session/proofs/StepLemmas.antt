@@ -1,5 +1,5 @@
 -- A step, by its handling and by what became of the panes.
-use Rattle.std.proofs.Common.{◌≡◌, ℕ, Bool, true, false, List, [], ◌∷◌, ◌++◌, map, refl, sym, ◌∙◌, ap, subst}
+use Rattle.std.proofs.Common.{◌≡◌, ℕ, Bool, true, false, not, Option, List, [], ◌∷◌, ◌++◌, map, refl, sym, ◌∙◌, ap, subst}
 use Rattle.std.specs.Prelude.{codes}
 use Rattle.cl_application.specs.Panes.{panes_of}
 use Rattle.cl_eval.specs.Outcome.{RisesBy}
@@ -7,17 +7,20 @@ use Rattle.cl_eval.specs.Slots.{Slots}
 use Rattle.cl_frame.specs.Frames.{Settles, marks_of_frame, reports_of_frame}
 use Rattle.cl_frame.specs.Ground.{Ground}
 use Rattle.cl_frame.specs.Panes.{PaneMarks}
+use Rattle.cl_frame.specs.Sending.{SendsOn, Wire, update_bytes}
 use Rattle.cl_frame.specs.Settling.{PaneStep, SpendsPanes, marks_after, met_memory, report_after, settle_panes}
 use Rattle.cl_frame.specs.declared.frames.Frame.{Frame}
 use Rattle.cl_frame.specs.declared.reports.PaneReport.{PaneReport}
 use Rattle.cl_gesture.specs.declared.answers.Gesture.{Gesture}
-use Rattle.cl_redisplay.specs.Screens.{PaintedRose, is_fault}
+use Rattle.cl_outside.specs.Device as device
+use Rattle.cl_raster.specs.Raster.{Picture}
+use Rattle.cl_redisplay.specs.Screens.{Agree, BreaksAt, PaintedRose, is_fault}
 use Rattle.cl_redisplay.specs.declared.screens.Painted.{Painted}
 use Rattle.cl_redisplay.specs.declared.screens.Painted.TheVariants as painted
 use Rattle.cl_session.specs.Handling.{AreRepliesOf, HandlesTo, after_of, handling_met, world_at}
 use Rattle.cl_session.specs.Replies.{lines_of, met_of, own_lines}
 use Rattle.cl_session.specs.Session.{StepsTo, world_of}
-use Rattle.cl_session.specs.Step.{Handled, Spends, handled, handled_or_not, next, next_behind, pane_lines, settled_behind, wire_lines, which_after}
+use Rattle.cl_session.specs.Step.{Handled, Spends, gesture_bytes, handled, handled_or_not, next, next_behind, pane_lines, sent_behind, settled_behind, wire_lines, which_after}
 use Rattle.cl_session.specs.Transcript.{RoseIf}
 use Rattle.cl_session.specs.World.{World}
 use Rattle.cl_session.specs.declared.answers.Replies.{Replies}
@@ -81,9 +84,9 @@ memory_of : (h : Handling) (p : Painted) (r : Replies) → AreRepliesOf h p r �
 memory_of (handling.Replied replies follows) p r a = a.1
 memory_of handling.Memory p r a = a.1
 
-wire_of : (h : Handling) (p : Painted) (r : Replies) → AreRepliesOf h p r → r.wire ≡ is_fault p
-wire_of (handling.Replied replies follows) p r a = a.2
-wire_of handling.Memory p r a = a.2
+pub fault_of : (h : Handling) (p : Painted) (r : Replies) → AreRepliesOf h p r → r.wire ≡ is_fault p
+fault_of (handling.Replied replies follows) p r a = a.2
+fault_of handling.Memory p r a = a.2
 
 own_of : (h : Handling) (p : Painted) (r : Replies) → AreRepliesOf h p r → own_lines (handling_met h) r.own ≡ lines_by h
 own_of (handling.Replied replies follows) p r a = a.0
@@ -113,7 +116,7 @@ module _ (g : Ground) (old new : Session) (slots_old slots_new : Slots) (act : G
       let hd = handled_or_not g w act (handling_met h) in
       record {
         world = subst (λ (b : Bool). world_of new slots_new ≡ (next_behind g (handled_or_not g w act b) (settled_behind g (handled_or_not g w act b) (mets_of new.frame)) r.wire).world)
-            (sym memory) (world-same g hd slots_new new.desk old.frame new.frame (after_of h) (lines_by h) r.wire left settles (stale ∙ sym (wire_of h p r are)));
+            (sym memory) (world-same g hd slots_new new.desk old.frame new.frame (after_of h) (lines_by h) r.wire left settles (stale ∙ sym (fault_of h p r are)));
         own = subst (λ (b : Bool). own_lines b r.own ≡ (handled_or_not g w act b).replies) (sym memory) (own_of h p r are ∙ sym left.replies);
         none_of_own = none_of h p r are;
         reports = subst (λ (b : Bool). reports_of_frame new.frame ≡ map report_after (settled_behind g (handled_or_not g w act b) (mets_of new.frame)))
@@ -134,7 +137,37 @@ module _ (g : Ground) (old new : Session) (slots_old slots_new : Slots) (act : G
       }
 
   pub wire-to : (x y : ℕ) → PaintedRose x y p → RoseIf r.wire x y
-  wire-to x y rose = subst (λ (b : Bool). RoseIf b x y) (sym (wire_of h p r are)) (rose_if p x y rose)
+  wire-to x y rose = subst (λ (b : Bool). RoseIf b x y) (sym (fault_of h p r are)) (rose_if p x y rose)
+
+  -- what was sent, and what the wire shows
+  pub sent-to : (a b : Wire) (broken : Bool) → broken ≡ old.frame.screen.stale
+      → SendsOn (not (is_fault p)) a b (update_bytes (which_after (after_of h)) old.frame.screen.stale broken g.app (marks_of_frame old.frame) (marks_of_frame new.frame))
+      → SendsOn (not r.wire) a b (gesture_bytes g (world_of old slots_old) act (met_of new.frame r))
+  sent-to a b broken e sends =
+      let w = world_of old slots_old in
+      let hd = handled_or_not g w act (handling_met h) in
+      let steps = steps-same g hd slots_new new.desk old.frame (after_of h) (lines_by h) (mets_of new.frame) left in
+      let marks : map marks_after (settled_behind g hd (mets_of new.frame)) ≡ marks_of_frame new.frame =
+      ap (λ (ss : List PaneStep). map marks_after ss) steps ∙ sym settles.marks in
+      let bytes : sent_behind g hd (settled_behind g hd (mets_of new.frame))
+      ≡ update_bytes (which_after (after_of h)) old.frame.screen.stale broken g.app (marks_of_frame old.frame) (marks_of_frame new.frame) =
+      ap (λ (ms : List PaneMarks). update_bytes (which_after hd.after) hd.world.stale hd.world.stale g.app hd.world.panes ms) marks
+      ∙ (ap (λ (x : After). update_bytes (which_after x) hd.world.stale hd.world.stale g.app hd.world.panes (marks_of_frame new.frame)) left.after
+      ∙ (ap (λ (x : World). update_bytes (which_after (after_of h)) x.stale x.stale g.app x.panes (marks_of_frame new.frame)) left.world
+      ∙ ap (λ (b : Bool). update_bytes (which_after (after_of h)) old.frame.screen.stale b g.app (marks_of_frame old.frame) (marks_of_frame new.frame)) (sym e))) in
+      subst (λ (m : Bool). SendsOn (not r.wire) a b (sent_behind g (handled_or_not g w act m) (settled_behind g (handled_or_not g w act m) (mets_of new.frame)))) (sym memory)
+      (subst (λ (f : Bool). SendsOn (not f) a b (sent_behind g hd (settled_behind g hd (mets_of new.frame)))) (sym (fault_of h p r are))
+      (subst (λ (bs : List ℕ). SendsOn (not (is_fault p)) a b bs) (sym bytes) sends))
+
+-- a device is broken exactly where the screen is stale
+pub broken_is : (stale broken cleared : Bool) (raster : Picture) (shown : Option device.Picture) → Agree stale raster broken cleared shown
+    → (stale ≡ true → broken ≡ true) → broken ≡ stale
+broken_is true broken cleared raster shown agree breaks = breaks refl
+broken_is false broken cleared raster shown agree breaks = agree.whole
+
+pub broken_after : (p : Painted) (broken : Bool) → is_fault p ≡ true → BreaksAt p broken → broken ≡ true
+broken_after painted.Done broken e breaks = cc
+broken_after painted.DeviceFault broken e breaks = breaks
 
 -- the replies are the lines of the step
 pub lines-said : (g : Ground) (old new : Session) (slots_old slots_new : Slots) (act : Gesture) (r : Replies) → StepsTo g old new slots_old slots_new act r

@@ -6,6 +6,7 @@ use Rattle.cl_gesture.specs.declared.answers.Next.TheVariants as next
 use Rattle.cl_gesture.specs.declared.answers.Stop.{Stop}
 use Rattle.cl_gesture.specs.declared.answers.Stop.TheVariants as stop
 use Rattle.cl_session.specs.Serving.{stand}
+use Rattle.cl_frame.specs.Sending.{Wire}
 use Rattle.cl_session.specs.Transcript.{meters}
 use Rattle.cl_session.specs.Turns.{IsSame, StaysAt}
 use Rattle.cl_session.specs.World.{World}
@@ -63,7 +64,7 @@ pub same-twice : {A B C D : Type 0} (a b c : A) (x y z : B) (d e f : C) (i j k :
 same-twice a b c x y z d e f i j k u v w p q = (q.0 ∙ p.0, q.1 ∙ p.1, q.2 ∙ p.2, q.3 ∙ p.3, q.4 ∙ p.4)
 
 -- nothing changed, so serving stands where it stood
-pub same-stand : {A B C : Type 0} (progress : A → Progress) (taken : B → Option (List ℕ)) (out_faults : B → ℕ) (device_faults : C → ℕ)
+pub same-stand : {A B C : Type 0} (progress : A → Progress) (taken : B → Option (List ℕ)) (out_faults : B → ℕ) (device_of : C → Wire)
     (a b : A) (x y : B) (d e : C) (i j : ℕ) (u v : World) → IsSame a b x y d e i j u v
-    → stand v (meters j (device_faults e)) (progress b) (taken y) (out_faults y) ≡ stand u (meters i (device_faults d)) (progress a) (taken x) (out_faults x)
-same-stand progress taken out_faults device_faults a b x y d e i j u v h = rw (h.0, h.1, h.2, h.3, h.4) refl
+    → stand v (meters j (device_of e)) (progress b) (taken y) (out_faults y) ≡ stand u (meters i (device_of d)) (progress a) (taken x) (out_faults x)
+same-stand progress taken out_faults device_of a b x y d e i j u v h = rw (h.0, h.1, h.2, h.3, h.4) refl

@@ -19,35 +19,13 @@ use Rattle.cl_frame.specs.declared.frames.Frame.{Frame}
 use Rattle.cl_frame.specs.declared.panes.Pane.{Pane}
 use Rattle.cl_frame.specs.declared.reports.PaneReport.{PaneReport}
 use Rattle.cl_frame.proofs.SettledPanes.{drop_at}
+use Rattle.cl_frame.proofs.ShownFrames.{frame_shown}
 use Rattle.cl_redisplay.specs.Shown.{Shown, shown_ink_row, shown_row}
 use Rattle.cl_redisplay.specs.declared.areas.Area.{Area}
 use Rattle.cl_session.specs.Step.{pane_lines, report_lines}
 use Rattle.cl_session.specs.Telling.{is_pane_named}
 use Rattle.cl_session.specs.Transcript.{line_bytes}
 use Rattle.cl_session.proofs.WritingLemmas.{line_bytes-append}
-
-first_area : (a b : Area) (xs ys : List Area) → ◌≡◌ {A = List Area} (a ∷ xs) (b ∷ ys) → a ≡ b
-first_area a b xs ys e = cc
-
-later_areas : (a b : Area) (xs ys : List Area) → ◌≡◌ {A = List Area} (a ∷ xs) (b ∷ ys) → xs ≡ ys
-later_areas a b xs ys e = cc
-
-no_area : (b : Area) (ys : List Area) → ◌≡◌ {A = List Area} [] (b ∷ ys) → ⊥
-no_area b ys e = cc
-
--- panes that lie where they are declared are shown there
-shown_same : (ds : List PaneDecl) (ps : List Pane) → map area_of_pane ps ≡ map area_of ds → shown_panes ds (map marks_of_pane ps) ≡ map shown_of_pane ps
-shown_same [] [] e = refl
-shown_same [] (p ∷ ps) e = absurd (no_area p.area (map area_of_pane ps) (sym e))
-shown_same (d ∷ ds) [] e = absurd (no_area (area_of d) (map area_of ds) e)
-shown_same (d ∷ ds) (p ∷ ps) e =
-    let here : area_of d ≡ p.area = sym (first_area p.area (area_of d) (map area_of_pane ps) (map area_of ds) e) in
-    let of : Area → Shown = λ a. record { area = a; marks = marks_in (marks_of_pane p) } in
-    ap (λ (a : Area). of a ∷ shown_panes ds (map marks_of_pane ps)) here
-    ∙ ap (λ (ss : List Shown). shown_of_pane p ∷ ss) (shown_same ds ps (later_areas p.area (area_of d) (map area_of_pane ps) (map area_of ds) e))
-
-pub frame_shown : (app : App) (f : Frame) → IsFrameOf app f → shown_panes (panes_of app) (marks_of_frame f) ≡ map shown_of_pane f.panes.items
-frame_shown app f h = shown_same (panes_of app) f.panes.items h.areas
 
 -- a row of the screen, told of the panes that are declared
 pub row_told : (app : App) (f : Frame) (y : ℕ) (row : List ℕ) → IsFrameOf app f → row ≡ shown_row (map shown_of_pane f.panes.items) f.screen.raster.width y

@@ -1,5 +1,6 @@
 -- What holds above the step, in every transcript.
-use Rattle.std.specs.Prelude.{◌≡◌, ◌⊎◌, ℕ, Bool, true, false, All, List, [], ◌∷◌}
+use Rattle.std.specs.Prelude.{◌≡◌, ◌⊎◌, ℕ, ◌+◌, ◌-◌, ◌^◌, ◌≤◌, min, Bool, true, false, if◌then◌else◌, All, List, [], ◌∷◌}
+use Rattle.cl_gesture.specs.Gesture.{LineKind, idle, bad, does, kind_of}
 use Rattle.cl_eval.specs.Slots.{Slots}
 use Rattle.cl_frame.specs.Ground.{Ground}
 use Rattle.cl_gesture.specs.Lines.{Piece}
@@ -68,3 +69,23 @@ Fails g w act met = (met.handling ≡ true) ⊎ ((kind : ℕ) × ((handled g w a
 abbrev pub IsUnchangedByFailure : Type 0
 IsUnchangedByFailure = (g : Ground) (w : World) (act : Gesture) (met : Met) → Fails g w act met
     → ((next g w act met).world.slots ≡ w.slots) × ((next g w act met).world.line ≡ w.line)
+
+-- ---- faults of the wire are told
+
+-- how many gestures say `! wire`
+abbrev pub wires_in : LineKind → Went → ℕ
+wires_in idle went = 0
+wires_in bad went = 0
+wires_in (does act) lost = 0
+wires_in (does act) (stepped met) = if met.wire then 1 else 0
+
+abbrev pub wires_told : List Piece → List Went → ℕ
+wires_told [] wents = 0
+wires_told (p ∷ ps) [] = 0
+wires_told (p ∷ ps) (c ∷ wents) = wires_in (kind_of p) c + wires_told ps wents
+
+-- they are at most as many as the device's count of faults rose by, unless that stands at 2^64 - 1
+abbrev pub AreCountedByFaults : Type 0
+AreCountedByFaults = (g : Ground) (w : World) (ps : List Piece) (wents : List Went) (old new : Meters)
+    → SpendsAll (said_of_piece g) (world_after_piece g) (SpentOfPiece g) w ps wents old new
+    → min (old.device.faults + wires_told ps wents) (2 ^ 64 - 1) ≤ new.device.faults

@@ -19,6 +19,7 @@ use Rattle.cl_command.specs.Line.{finish_of}
 use Rattle.cl_command.specs.Naming.{line_names}
 use Rattle.cl_frame.specs.Ground.{Ground}
 use Rattle.cl_frame.specs.Panes.{PaneMarks, marks_in, shown_panes}
+use Rattle.cl_frame.specs.Sending.{update_bytes}
 use Rattle.cl_frame.specs.Settling.{PaneStep, SpendsPanes, costs, marks_after, report_after, settle_panes}
 use Rattle.cl_frame.specs.declared.reports.PaneReport.{PaneReport}
 use Rattle.cl_frame.specs.declared.reports.PaneReport.TheVariants as report
@@ -202,6 +203,15 @@ next_behind g h steps failed = record {
 abbrev pub next : Ground → World → Gesture → Met → Next
 next g w act met =
     next_behind g (handled_or_not g w act met.handling) (settled_behind g (handled_or_not g w act met.handling) met.panes) met.wire
+
+-- what is sent to the device behind a handling: the panes that were settled, or the whole screen behind a line feed where it was stale, since
+-- its device is broken then
+abbrev pub sent_behind : Ground → Handled → List PaneStep → List ℕ
+sent_behind g h steps = update_bytes (which_after h.after) h.world.stale h.world.stale g.app h.world.panes (map marks_after steps)
+
+-- what is sent in a gesture
+abbrev pub gesture_bytes : Ground → World → Gesture → Met → List ℕ
+gesture_bytes g w act met = sent_behind g (handled_or_not g w act met.handling) (settled_behind g (handled_or_not g w act met.handling) met.panes)
 
 -- the ledger rises by the cost of what the handling ran, and then by the costs of the displays of the panes that were settled; by no
 -- more, where one of these met want of memory

@@ -1,5 +1,5 @@
 -- The transcript of a session: what is said of the pieces of a stream, one after another.
-use Rattle.std.specs.Prelude.{◌≡◌, ◌≤◌, ℕ, ◌+◌, Bool, true, false, List, [], ◌∷◌, ◌++◌, codes, map}
+use Rattle.std.specs.Prelude.{◌≡◌, ◌≤◌, ℕ, ◌+◌, Bool, true, false, not, List, [], ◌∷◌, ◌++◌, codes, map}
 use Rattle.std.specs.Fmt.{decimal}
 use Rattle.cl_outside.specs.Causes.{Rose}
 use Rattle.cl_outside.specs.Writing.{joined}
@@ -7,8 +7,9 @@ use Rattle.cl_gesture.specs.Lines.{Piece}
 use Rattle.cl_gesture.specs.Gesture.{LineKind, idle, bad, does, kind_of}
 use Rattle.cl_gesture.specs.declared.answers.Gesture.{Gesture}
 use Rattle.cl_frame.specs.Ground.{Ground}
+use Rattle.cl_frame.specs.Sending.{SendsOn, ShowsPanes, Wire}
 use Rattle.cl_session.specs.World.{World}
-use Rattle.cl_session.specs.Step.{Met, Spends, next}
+use Rattle.cl_session.specs.Step.{Met, Spends, gesture_bytes, next}
 use Rattle.cl_session.specs.Streams as streams
 
 -- a line with the line feed that ends it
@@ -40,23 +41,27 @@ world_after g w bad went = w
 world_after g w (does act) lost = w
 world_after g w (does act) (stepped met) = (next g w act met).world
 
--- what the ledger stands at, and how many faults the device had
+-- what the ledger stands at, and what is told of the device
 pub record Meters : Type 0 where
   pub spent : ℕ
-  pub faults : ℕ
+  pub device : Wire
 
-abbrev pub meters : (spent faults : ℕ) → Meters
-meters spent faults = record { spent = spent; faults = faults }
+abbrev pub meters : (spent : ℕ) → (device : Wire) → Meters
+meters spent device = record { spent = spent; device = device }
 
 -- no count falls, and one rose where this holds
 abbrev pub RoseIf : Bool → (old new : ℕ) → Type 0
 RoseIf true old new = (old ≤ new) × Rose old new
 RoseIf false old new = old ≤ new
 
--- what a gesture spends: the ledger rises by what it ran, and the device's faults rise where it says `! wire`
+-- What a gesture spends and sends. The ledger rises by what it ran. All its bytes were sent, and playback of the wire is what the panes show
+-- then; where it says `! wire`, the device failed behind the first bytes.
 pub record SpendsStep (g : Ground) (w : World) (act : Gesture) (met : Met) (old new : Meters) : Type 0 where
   pub ran : Spends g w act met old.spent new.spent
-  pub failed : RoseIf met.wire old.faults new.faults
+  pub failed : RoseIf met.wire old.device.faults new.device.faults
+  pub sent : SendsOn (not met.wire) old.device new.device (gesture_bytes g w act met)
+  pub shows : met.wire ≡ false → ShowsPanes g.app (next g w act met).world.panes new.device
+  pub told : new.device.told ≡ old.device.told
 
 -- what a line spends
 abbrev pub Spent : Ground → World → LineKind → Went → (old new : Meters) → Type 0

@@ -1,6 +1,7 @@
 //! The serving of a stream of gestures.
-ghost use Rattle.std.specs.Prelude.{◌≡◌, ◌≤◌, Some};
+ghost use Rattle.std.specs.Prelude.{◌≡◌, ◌≤◌, Some, true};
 ghost use Rattle.cl_frame.specs.Ground.{ground};
+ghost use Rattle.cl_frame.specs.Sending.{wire_of};
 ghost use Rattle.cl_gesture.specs.declared.answers.Stop.TheVariants as stop;
 ghost use Rattle.cl_gesture.specs.Reader.{progress_of, source_of, stop_of};
 ghost use Rattle.cl_redisplay.specs.Screens.{Agree};
@@ -49,11 +50,14 @@ impl Session {
         requires fits { Fits (ground program.now.app.now program.now.limits) slots.old self.old }
         requires agree { Agree self.old.frame.screen.stale self.old.frame.screen.raster
             (D.broken device.old) (D.cleared device.old) (D.picture device.old) }
+        requires breaks { self.old.frame.screen.stale ≡ true → D.broken device.old ≡ true }
         ensures serves { stop_of gestures.old ≡ stop.Going
             → ServesTo (ground program.now.app.now program.now.limits)
-            (stand (world_of self.old slots.old) (meters steps.old (D.faults device.old))
+            (stand (world_of self.old slots.old) (meters steps.old (wire_of (D.wire device.old)
+            (D.faults device.old) (D.lent device.old).told))
             (progress_of G.left G.faults gestures.old) (O.taken out.old) (O.faults out.old))
-            (stand (world_of self.new slots.new) (meters steps.new (D.faults device.new))
+            (stand (world_of self.new slots.new) (meters steps.new (wire_of (D.wire device.new)
+            (D.faults device.new) (D.lent device.new).told))
             (progress_of G.left G.faults gestures.new) (O.taken out.new) (O.faults out.new)) result }
         ensures stays { StaysAt (stop_of gestures.old) (Some result)
             (IsSame gestures.old gestures.new out.old out.new device.old device.new steps.old
@@ -68,6 +72,7 @@ impl Session {
         ensures fits { Fits (ground program.now.app.now program.now.limits) slots.new self.new }
         ensures agree { Agree self.new.frame.screen.stale self.new.frame.screen.raster
             (D.broken device.new) (D.cleared device.new) (D.picture device.new) }
+        ensures breaks { self.new.frame.screen.stale ≡ true → D.broken device.new ≡ true }
     {
         'turns: for _turn in 0..MOST_TURNS {
             match self.turn(program, slots, gestures, out, device, steps) {
@@ -92,11 +97,14 @@ impl Session {
         requires fits { Fits (ground program.now.app.now program.now.limits) slots.old self.old }
         requires agree { Agree self.old.frame.screen.stale self.old.frame.screen.raster
             (D.broken device.old) (D.cleared device.old) (D.picture device.old) }
+        requires breaks { self.old.frame.screen.stale ≡ true → D.broken device.old ≡ true }
         ensures turns { stop_of gestures.old ≡ stop.Going
             → Turns (ground program.now.app.now program.now.limits)
-            (stand (world_of self.old slots.old) (meters steps.old (D.faults device.old))
+            (stand (world_of self.old slots.old) (meters steps.old (wire_of (D.wire device.old)
+            (D.faults device.old) (D.lent device.old).told))
             (progress_of G.left G.faults gestures.old) (O.taken out.old) (O.faults out.old))
-            (stand (world_of self.new slots.new) (meters steps.new (D.faults device.new))
+            (stand (world_of self.new slots.new) (meters steps.new (wire_of (D.wire device.new)
+            (D.faults device.new) (D.lent device.new).told))
             (progress_of G.left G.faults gestures.new) (O.taken out.new) (O.faults out.new)) result }
         ensures stays { StaysAt (stop_of gestures.old) result
             (IsSame gestures.old gestures.new out.old out.new device.old device.new steps.old
@@ -111,6 +119,7 @@ impl Session {
         ensures fits { Fits (ground program.now.app.now program.now.limits) slots.new self.new }
         ensures agree { Agree self.new.frame.screen.stale self.new.frame.screen.raster
             (D.broken device.new) (D.cleared device.new) (D.picture device.new) }
+        ensures breaks { self.new.frame.screen.stale ≡ true → D.broken device.new ≡ true }
     {
         match gestures.next() {
             Next::Gesture(gesture) => {

@@ -1,12 +1,14 @@
 //! A session: an application with its slots, its command line and its panes.
-ghost use Rattle.std.specs.Prelude.{◌≡◌, ◌≤◌, ◌+◌, IfOk};
+ghost use Rattle.std.specs.Prelude.{◌≡◌, ◌≤◌, ◌+◌, IfOk, true, false, not};
 ghost use Rattle.cl_application.specs.Panes.{IsPlaced};
 ghost use Rattle.cl_frame.specs.Ground.{ground};
+ghost use Rattle.cl_frame.specs.Sending.{SendsOn, ShowsPanes, frame_ops, wire_of};
+ghost use Rattle.cl_outside.specs.Operations.{mended, ops_bytes};
 ghost use Rattle.cl_redisplay.specs.Screens.{Agree};
 ghost use Rattle.cl_session.specs.Replies.{met_of};
 ghost use Rattle.cl_session.specs.Handling.{AreRepliesOf};
 ghost use Rattle.cl_session.specs.Session.{Fits, StepsTo, cost_of_panes, world_of};
-ghost use Rattle.cl_session.specs.Step.{Spends};
+ghost use Rattle.cl_session.specs.Step.{Spends, gesture_bytes};
 ghost use Rattle.cl_session.specs.Transcript.{RoseIf};
 ghost use Rattle.cl_session.specs.World.{opening};
 
@@ -47,6 +49,11 @@ impl Session {
             ≡ opening (ground program.now.app.now program.now.limits) slots.now s.frame.screen.stale) }
         ensures failed { IfOk result
             (λ s. RoseIf s.frame.screen.stale (D.faults device.old) (D.faults device.new)) }
+        ensures sent { IfOk result (λ s. SendsOn (not s.frame.screen.stale) (wire_of (D.wire device.old) (D.faults device.old) (D.lent device.old).told) (wire_of (D.wire device.new) (D.faults device.new) (D.lent device.new).told)
+            (mended (D.broken device.old) (ops_bytes (frame_ops program.now.app.now
+            (world_of s slots.now).panes)))) }
+        ensures shows { IfOk result (λ s. s.frame.screen.stale ≡ false
+            → ShowsPanes program.now.app.now (world_of s slots.now).panes (wire_of (D.wire device.new) (D.faults device.new) (D.lent device.new).told)) }
         ensures ledger { IfOk result (λ _. steps.new
             ≡ steps.old + cost_of_panes (ground program.now.app.now program.now.limits) slots.now) }
         ensures later { steps.old ≤ steps.new }
@@ -56,6 +63,8 @@ impl Session {
             (Fits (ground program.now.app.now program.now.limits) slots.now) }
         ensures agree { IfOk result (λ s. Agree s.frame.screen.stale s.frame.screen.raster
             (D.broken device.new) (D.cleared device.new) (D.picture device.new)) }
+        ensures breaks { IfOk result
+            (λ s. s.frame.screen.stale ≡ true → D.broken device.new ≡ true) }
         ensures lent { D.lent device.new ≡ D.lent device.old }
         ensures device_later { D.faults device.old ≤ D.faults device.new }
     {
@@ -85,16 +94,23 @@ impl Session {
         requires fits { Fits (ground program.now.app.now program.now.limits) slots.old self.old }
         requires agree { Agree self.old.frame.screen.stale self.old.frame.screen.raster
             (D.broken device.old) (D.cleared device.old) (D.picture device.old) }
+        requires breaks { self.old.frame.screen.stale ≡ true → D.broken device.old ≡ true }
         ensures steps { StepsTo (ground program.now.app.now program.now.limits) self.old self.new
             slots.old slots.new gesture.now result }
         ensures ledger { Spends (ground program.now.app.now program.now.limits)
             (world_of self.old slots.old) gesture.now (met_of self.new.frame result) steps.old
             steps.new }
         ensures failed { RoseIf result.wire (D.faults device.old) (D.faults device.new) }
+        ensures sent { SendsOn (not result.wire) (wire_of (D.wire device.old) (D.faults device.old) (D.lent device.old).told) (wire_of (D.wire device.new) (D.faults device.new) (D.lent device.new).told)
+            (gesture_bytes (ground program.now.app.now program.now.limits)
+            (world_of self.old slots.old) gesture.now (met_of self.new.frame result)) }
+        ensures shows { result.wire ≡ false → ShowsPanes program.now.app.now
+            (world_of self.new slots.new).panes (wire_of (D.wire device.new) (D.faults device.new) (D.lent device.new).told) }
         ensures later { steps.old ≤ steps.new }
         ensures fits { Fits (ground program.now.app.now program.now.limits) slots.new self.new }
         ensures agree { Agree self.new.frame.screen.stale self.new.frame.screen.raster
             (D.broken device.new) (D.cleared device.new) (D.picture device.new) }
+        ensures breaks { self.new.frame.screen.stale ≡ true → D.broken device.new ≡ true }
         ensures lent { D.lent device.new ≡ D.lent device.old }
     {
         let handling = handle(program, gesture, &self.frame, slots, &mut self.desk, steps);

@@ -1,6 +1,7 @@
 use Rattle.std.proofs.Common.{◌≡◌, sym, ◌∙◌}
 use Rattle.cl_frame.specs.Ground.{ground}
 use Rattle.cl_session.proofs.OpeningLemmas.{frame_as_many, none_told, opening_fits, opening_most, opening_paid, opening_world}
+use Rattle.cl_session.proofs.StepLemmas.{broken_after}
 use Rattle.cl_session.proofs.sessions.Session.new.Goals as goal
 
 pub returns-then-met_memory-clause-at_most : goal.returns-then-met_memory-clause-at_most
@@ -39,3 +40,13 @@ returns-clause-fits g c =
           (frame_as_many own c.in_ok-frame.frame c.in_ok-frame.ensures.frame) c.update.ensures.settles
           (none_told c.update.new.self.panes.items (sym c.met_memory.ensures ∙ c.if-met_memory.false)));
     }
+
+pub returns-clause-sent : goal.returns-clause-sent
+returns-clause-sent g c = rw c.update.ensures.stale (rw c.in_ok-frame.ensures.stale at c.update.ensures.bytes)
+
+pub returns-clause-shows : goal.returns-clause-shows
+returns-clause-shows g c = λ fresh. c.update.ensures.shows (sym c.update.ensures.stale ∙ fresh)
+
+pub returns-clause-breaks : goal.returns-clause-breaks
+returns-clause-breaks g c = λ stale.
+    broken_after c.update.result (g.D.Device.broken c.update.new.device) (sym c.update.ensures.stale ∙ stale) c.update.ensures.breaks

@@ -1,5 +1,6 @@
 use Rattle.std.proofs.Common.{◌≡◌, ◌∙◌, ap, arith, refl, Some}
 use Rattle.cl_frame.specs.Ground.{ground}
+use Rattle.cl_frame.specs.Sending.{wire_of}
 use Rattle.cl_gesture.specs.declared.reader.Gestures.{Gestures}
 use Rattle.cl_gesture.specs.declared.answers.Stop.TheVariants as stop
 use Rattle.cl_gesture.specs.Reader.{progress_of, stop_of}
@@ -17,7 +18,7 @@ turns-init g c = record {
   going = λ start. Going-nothing (said_of_piece (ground c.args.program.now.app.now c.args.program.now.limits))
       (world_after_piece (ground c.args.program.now.app.now c.args.program.now.limits))
       (SpentOfPiece (ground c.args.program.now.app.now c.args.program.now.limits))
-      (stand (world_of c.args.self.now c.args.slots.now) (meters c.args.steps.now (g.D.Device.faults c.args.device.now))
+      (stand (world_of c.args.self.now c.args.slots.now) (meters c.args.steps.now (wire_of (g.D.Device.wire c.args.device.now) (g.D.Device.faults c.args.device.now) (g.D.Device.lent c.args.device.now).told))
       (progress_of g.G.Source.left g.G.Source.faults c.args.gestures.now) (g.O.Sink.taken c.args.out.now) (g.O.Sink.faults c.args.out.now)) start;
   untouched = untouched-start (stop_of c.args.gestures.now) _ (refl, refl, refl, refl, refl);
   counts = omega arith;
@@ -30,6 +31,7 @@ turns-init g c = record {
   steps_later = omega arith;
   fits = c.requires.fits;
   agree = c.requires.agree;
+  breaks = c.requires.breaks;
 }
 
 pub turns-preserved : goal.turns-preserved
@@ -52,6 +54,7 @@ turns-preserved g c =
       steps_later = omega (arith, c.turns.invariant.steps_later, c.in-None.ensures.steps_later);
       fits = c.in-None.ensures.fits;
       agree = c.in-None.ensures.agree;
+      breaks = c.in-None.ensures.breaks;
     }
 
 pub returns-in-Some-clause-serves : goal.returns-in-Some-clause-serves
@@ -60,7 +63,7 @@ returns-in-Some-clause-serves g c = λ start.
     (c.turns.invariant.going start) c.turns.invariant.later c.turns.invariant.out_later c.in-Some.end c.in-Some.ensures.turns
     (λ e. let done = stays-done (stop_of c.turns.gestures) _ _ e c.in-Some.ensures.stays in (
       some-end _ _ done.0,
-      same-stand (λ (s : Gestures g.row.G.Denot). progress_of g.G.Source.left g.G.Source.faults s) g.O.Sink.taken g.O.Sink.faults g.D.Device.faults
+      same-stand (λ (s : Gestures g.row.G.Denot). progress_of g.G.Source.left g.G.Source.faults s) g.O.Sink.taken g.O.Sink.faults (λ (d : g.row.D.Denot). wire_of (g.D.Device.wire d) (g.D.Device.faults d) (g.D.Device.lent d).told)
           c.turns.gestures c.turn.new.gestures c.turns.out c.turn.new.out c.turns.device c.turn.new.device c.turns.steps c.turn.new.steps
           (world_of c.turns.self c.turns.slots) (world_of c.turn.new.self c.turn.new.slots) done.1,
     ))

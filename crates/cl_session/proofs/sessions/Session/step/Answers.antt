@@ -1,10 +1,11 @@
-use Rattle.std.proofs.Common.{◌≡◌, subst, sym}
+use Rattle.std.proofs.Common.{◌≡◌, ◌∙◌, subst, sym}
 use Rattle.cl_frame.specs.Ground.{ground}
+use Rattle.cl_frame.specs.Sending.{wire_of}
 use Rattle.cl_session.specs.Current.{IsCurrent}
 use Rattle.cl_session.specs.Replies.{met_of}
 use Rattle.cl_session.specs.Session.{world_of}
 use Rattle.cl_session.proofs.CurrentLemmas.{next_current}
-use Rattle.cl_session.proofs.StepLemmas.{spends-to, steps-to, wire-to}
+use Rattle.cl_session.proofs.StepLemmas.{broken_after, broken_is, fault_of, sent-to, spends-to, steps-to, wire-to}
 use Rattle.cl_session.proofs.sessions.Session.step.Goals as goal
 
 pub returns-clause-steps : goal.returns-clause-steps
@@ -26,6 +27,25 @@ returns-clause-failed g c =
     c.args.slots.now c.handle-handling.new.slots c.args.gesture.now c.handle-handling.result c.update-painted.result c.replies_of.result
     c.handle-handling.ensures.handles (rw c.which-which.ensures at c.update-painted.ensures.settles) c.update-painted.ensures.stale c.replies_of.ensures
     (g.D.Device.faults c.args.device.now) (g.D.Device.faults c.update-painted.new.device) c.update-painted.ensures.cause
+
+pub returns-clause-sent : goal.returns-clause-sent
+returns-clause-sent g c =
+    sent-to (ground c.args.program.now.app.now c.args.program.now.limits) c.args.self.now record { desk = c.handle-handling.new.desk; frame = c.update-painted.new.self }
+    c.args.slots.now c.handle-handling.new.slots c.args.gesture.now c.handle-handling.result c.update-painted.result c.replies_of.result
+    c.handle-handling.ensures.handles (rw c.which-which.ensures at c.update-painted.ensures.settles) c.update-painted.ensures.stale c.replies_of.ensures
+    (wire_of (g.D.Device.wire c.args.device.now) (g.D.Device.faults c.args.device.now) (g.D.Device.lent c.args.device.now).told)
+    (wire_of (g.D.Device.wire c.update-painted.new.device) (g.D.Device.faults c.update-painted.new.device) (g.D.Device.lent c.update-painted.new.device).told)
+    (g.D.Device.broken c.args.device.now)
+    (broken_is c.args.self.now.frame.screen.stale (g.D.Device.broken c.args.device.now) _ _ _ c.requires.agree c.requires.breaks)
+    (rw c.which-which.ensures at c.update-painted.ensures.bytes)
+
+pub returns-clause-shows : goal.returns-clause-shows
+returns-clause-shows g c = λ whole.
+    c.update-painted.ensures.shows (sym (fault_of c.handle-handling.result c.update-painted.result c.replies_of.result c.replies_of.ensures) ∙ whole)
+
+pub returns-clause-breaks : goal.returns-clause-breaks
+returns-clause-breaks g c = λ stale.
+    broken_after c.update-painted.result (g.D.Device.broken c.update-painted.new.device) (sym c.update-painted.ensures.stale ∙ stale) c.update-painted.ensures.breaks
 
 pub returns-clause-fits : goal.returns-clause-fits
 returns-clause-fits g c =

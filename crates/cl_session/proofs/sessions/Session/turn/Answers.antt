@@ -1,10 +1,13 @@
-use Rattle.std.proofs.Common.{◌≡◌, ◌+◌, [], ◌∷◌, codes, length, length-append, ap, refl, arith}
+use Rattle.std.proofs.Common.{◌≡◌, ◌+◌, [], ◌∷◌, codes, length, length-append, ap, refl, sym, arith}
 use Rattle.cl_frame.specs.Ground.{ground}
+use Rattle.cl_frame.specs.Sending.{wire_of}
 use Rattle.cl_gesture.specs.Gesture.{bad, does}
 use Rattle.cl_gesture.specs.Reader.{count_of, progress_of}
+use Rattle.cl_outside.specs.Lent.{Lent}
 use Rattle.cl_session.specs.Session.{world_of}
 use Rattle.cl_session.specs.Step.{next}
 use Rattle.cl_session.specs.Replies.{lines_of, met_of}
+use Rattle.cl_session.specs.World.{World}
 use Rattle.cl_session.specs.Transcript.{bad_line, line_bytes, lost, meters, stepped}
 use Rattle.cl_session.proofs.ServingLemmas.{turn-said, Served-end, Served-limit, Faulted-fault}
 use Rattle.cl_session.proofs.StepLemmas.{lines-said}
@@ -20,7 +23,13 @@ returns-in-Gesture-clause-turns g c = λ going.
     (c.in-Gesture.ensures.next going)
     (line_bytes (lines_of c.args.program.now.app.now c.step-replies.new.self.frame c.step-replies.result))
     (ap line_bytes lines) c.step-replies.ensures.steps.world
-    (record { ran = c.step-replies.ensures.ledger; failed = c.step-replies.ensures.failed }) c.say_replies.ensures.says)
+    (record {
+      ran = c.step-replies.ensures.ledger;
+      failed = c.step-replies.ensures.failed;
+      sent = c.step-replies.ensures.sent;
+      shows = λ whole. rw (sym (ap (λ (w : World). w.panes) c.step-replies.ensures.steps.world)) (c.step-replies.ensures.shows whole);
+      told = ap (λ (l : Lent). l.told) c.step-replies.ensures.lent;
+    }) c.say_replies.ensures.says)
 
 pub returns-in-Bad-clause-turns : goal.returns-in-Bad-clause-turns
 returns-in-Bad-clause-turns g c = λ going.
@@ -41,20 +50,20 @@ returns-in-Memory-clause-turns g c = λ going.
 
 pub returns-in-End-clause-turns : goal.returns-in-End-clause-turns
 returns-in-End-clause-turns g c = λ going.
-    Served-end (ground c.args.program.now.app.now c.args.program.now.limits) (world_of c.args.self.now c.args.slots.now) (meters c.args.steps.now (g.D.Device.faults c.args.device.now))
+    Served-end (ground c.args.program.now.app.now c.args.program.now.limits) (world_of c.args.self.now c.args.slots.now) (meters c.args.steps.now (wire_of (g.D.Device.wire c.args.device.now) (g.D.Device.faults c.args.device.now) (g.D.Device.lent c.args.device.now).told))
     (progress_of g.G.Source.left g.G.Source.faults c.args.gestures.now) (progress_of g.G.Source.left g.G.Source.faults c.next.new.self)
     (g.O.Sink.taken c.args.out.now) _ _ (c.in-End.ensures.next going)
 
 pub returns-in-ReadFault-clause-turns : goal.returns-in-ReadFault-clause-turns
 returns-in-ReadFault-clause-turns g c = λ going.
-    Faulted-fault (ground c.args.program.now.app.now c.args.program.now.limits) (world_of c.args.self.now c.args.slots.now) (meters c.args.steps.now (g.D.Device.faults c.args.device.now))
+    Faulted-fault (ground c.args.program.now.app.now c.args.program.now.limits) (world_of c.args.self.now c.args.slots.now) (meters c.args.steps.now (wire_of (g.D.Device.wire c.args.device.now) (g.D.Device.faults c.args.device.now) (g.D.Device.lent c.args.device.now).told))
     (progress_of g.G.Source.left g.G.Source.faults c.args.gestures.now) (progress_of g.G.Source.left g.G.Source.faults c.next.new.self)
     (g.O.Sink.taken c.args.out.now) _ _ (c.in-ReadFault.ensures.next going)
 
 pub returns-in-TooMany-clause-turns : goal.returns-in-TooMany-clause-turns
 returns-in-TooMany-clause-turns g c = λ going.
     let r = c.in-TooMany.ensures.next going in (
-      Served-limit (ground c.args.program.now.app.now c.args.program.now.limits) (world_of c.args.self.now c.args.slots.now) (meters c.args.steps.now (g.D.Device.faults c.args.device.now))
+      Served-limit (ground c.args.program.now.app.now c.args.program.now.limits) (world_of c.args.self.now c.args.slots.now) (meters c.args.steps.now (wire_of (g.D.Device.wire c.args.device.now) (g.D.Device.faults c.args.device.now) (g.D.Device.lent c.args.device.now).told))
           (progress_of g.G.Source.left g.G.Source.faults c.args.gestures.now) (progress_of g.G.Source.left g.G.Source.faults c.next.new.self)
           (g.O.Sink.taken c.args.out.now) _ _ r,
       r.full,
