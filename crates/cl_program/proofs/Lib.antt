@@ -1,4 +1,5 @@
 pub mod TextLemmas
-pub mod WordLemmas
 pub mod RunLemmas
 pub mod StatusLemmas
+pub mod CommandLemmas
+pub mod OpeningLemmas

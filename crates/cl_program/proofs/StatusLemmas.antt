@@ -1,22 +1,59 @@
 -- When a status is due.
 use Rattle.std.proofs.Common.{◌≡◌, refl, ◌<◌, ◌≤◌, ℕ, List, [], ◌∷◌, ◌++◌, length, sym, ◌∙◌, ap, arith, append_assoc, append-nil, Some, None, Option, subst}
-use Rattle.std.specs.Prelude.{codes, Result, Ok, Err}
+use Rattle.std.specs.Prelude.{Result, Ok, Err, option_map}
 use Rattle.std.specs.Io.KnownBytes.{Consumes, IsAtEnd}
 use Rattle.cl_application.specs.declared.applications.App.{App}
+use Rattle.cl_frame.specs.Ground.{Ground}
 use Rattle.cl_gesture.specs.Lines.{ended, pieces, held_from}
 use Rattle.cl_gesture.proofs.Cutting.{pieces-further}
+use Rattle.cl_invocation.specs.Words.{Invocation, run, check, invocation_of}
 use Rattle.cl_load.specs.Application.{IsApplication, IsRefusal}
 use Rattle.cl_load.proofs.OneOutcome.{one_outcome}
+use Rattle.cl_outside.specs.Causes.{Rose}
 use Rattle.cl_session.specs.declared.serving.End.{End}
 use Rattle.cl_session.specs.declared.serving.End.TheVariants as end
-use Rattle.cl_program.specs.Command.{IsRun}
-use Rattle.cl_program.specs.Texts.{IsTextOf, first_bytes}
-use Rattle.cl_program.specs.Run.{ReadToEnd, Refuses, ReadToLimit, Serves, Streams}
+use Rattle.cl_program.specs.Command.{IsCheck, IsNoCommand, IsRun, Names, application_of}
+use Rattle.cl_program.specs.Run.{AppFaultRose, IsLoaded, Opens, ReadToEnd, ReadToLimit, Refuses, Serves}
 use Rattle.cl_program.specs.Statuses.{DeclaresApplication, HasFewLines, HasManyLines, HasRefusal}
+use Rattle.cl_program.specs.Surroundings.{Placed, Streams}
+use Rattle.cl_program.specs.Texts.{IsTextOf, first_bytes}
+
+-- ---- the words
 
 -- words name one file at most
-pub one_name : (words : List (List ℕ)) (a b : List ℕ) → IsRun words a → IsRun words b → a ≡ b
-one_name words a b p q = let both : codes "run" ∷ a ∷ [] ≡ codes "run" ∷ b ∷ [] = sym p.words_are ∙ q.words_are in cc
+pub one_name : (words : List (List ℕ)) (a b : List ℕ) → Names words a → Names words b → a ≡ b
+one_name words a b p q = let both : Some a ≡ Some b = sym p ∙ q in cc
+
+named : (words : List (List ℕ)) (i : Invocation) → invocation_of words ≡ Some i → Names words (application_of i)
+named words i e = ap (option_map application_of) e
+
+pub run_named : (words : List (List ℕ)) (name : List ℕ) (wire : Option (List ℕ)) (budget : Option ℕ) → IsRun words name wire budget → Names words name
+run_named words name wire budget is = named words (run name wire budget) is
+
+pub check_named : (words : List (List ℕ)) (name : List ℕ) → IsCheck words name → Names words name
+check_named words name is = named words (check name) is
+
+-- words that are a command are not none
+pub none_named : (words : List (List ℕ)) (name : List ℕ) → IsNoCommand words → Names words name → ⊥
+none_named words name none is = let both : option_map application_of None ≡ Some name = ap (option_map application_of) (sym none) ∙ is in cc
+
+abbrev is_run : Invocation → ℕ
+is_run (run name wire budget) = 0
+is_run (check name) = 1
+
+-- words that run an application do not check one
+pub not_checked : (words : List (List ℕ)) (name other : List ℕ) (wire : Option (List ℕ)) (budget : Option ℕ) → IsRun words name wire budget → IsCheck words other → ⊥
+not_checked words name other wire budget r c =
+    let same : Some (run name wire budget) ≡ Some (check other) = sym r ∙ c in
+    let both : Some 0 ≡ Some 1 = ap (option_map is_run) same in
+    cc
+
+-- the fault of the application's name rose
+pub fault_named : (words : List (List ℕ)) (old new : Placed) (name : List ℕ) → AppFaultRose words old new → Names words name → Rose (old.app_faults name) (new.app_faults name)
+fault_named words old new name r is =
+    subst (λ (n : List ℕ). Rose (old.app_faults n) (new.app_faults n)) (one_name words r.name name r.command is) r.rose
+
+-- ---- the text
 
 apart : (app : App) (refusal : ℕ × ℕ) (a b : Result App (ℕ × ℕ)) → a ≡ Ok app → b ≡ Err refusal → a ≡ b → ⊥
 apart app refusal a b x y same = cc
@@ -41,22 +78,35 @@ some_declared (Some (Some bytes)) text app number at of is d =
     let P : List ℕ → Type 0 = λ xs. IsApplication xs app in not_both (first_bytes bytes) app number at (subst P of is) d
 
 -- a text that is refused declares no application
-pub refused_declares : (words : List (List ℕ)) (file : List ℕ → Option (Option (List ℕ))) (old new : Streams) (name : List ℕ)
-    → Refuses words file old new → IsRun words name → DeclaresApplication (file name) → ⊥
-refused_declares words file old new name said run d =
+pub refused_declares : (words : List (List ℕ)) (place : Placed) (old new : Streams) (name : List ℕ)
+    → Refuses words place old new → Names words name → DeclaresApplication (place.file name) → ⊥
+refused_declares words place old new name said is d =
     let r = said.refused in
-    let same : name ≡ r.name = one_name words name r.name run r.command in
-    let P : List ℕ → Type 0 = λ n. DeclaresApplication (file n) in
-    none_declared (file r.name) r.text said.number said.at r.of_file r.refusal (subst P same d)
+    let same : name ≡ r.name = one_name words name r.name is r.command in
+    let P : List ℕ → Type 0 = λ n. DeclaresApplication (place.file n) in
+    none_declared (place.file r.name) r.text said.number said.at r.of_file r.refusal (subst P same d)
 
--- a text that was opened declares one
-pub served_declares : (words : List (List ℕ)) (file : List ℕ → Option (Option (List ℕ))) (old new : Streams) (how : End) (name : List ℕ)
-    (number at : ℕ) → Serves words file old new how → IsRun words name → HasRefusal (file name) number at → ⊥
-served_declares words file old new how name number at s run d =
-    let o = s.opened in
-    let same : name ≡ o.name = one_name words name o.name run o.command in
-    let P : List ℕ → Type 0 = λ n. HasRefusal (file n) number at in
-    some_declared (file o.name) o.text s.app number at o.of_file o.declared (subst P same d)
+-- a text that was opened is not refused
+pub opened_declares : (words : List (List ℕ)) (place : Placed) (wire : Option (List ℕ)) (g : Ground) (name : List ℕ) (number at : ℕ)
+    → Opens words place wire g → Names words name → HasRefusal (place.file name) number at → ⊥
+opened_declares words place wire g name number at o is d =
+    let same : name ≡ o.name = one_name words name o.name is (run_named words o.name wire o.budget o.command) in
+    let P : List ℕ → Type 0 = λ n. HasRefusal (place.file n) number at in
+    some_declared (place.file o.name) o.text g.app number at o.of_file o.declared (subst P same d)
+
+-- nor is one that was loaded
+pub loaded_declares : (words : List (List ℕ)) (place : Placed) (name : List ℕ) (number at : ℕ)
+    → IsLoaded words place → Names words name → HasRefusal (place.file name) number at → ⊥
+loaded_declares words place name number at o is d =
+    let same : name ≡ o.name = one_name words name o.name is (check_named words o.name o.command) in
+    let P : List ℕ → Type 0 = λ n. HasRefusal (place.file n) number at in
+    some_declared (place.file o.name) o.text o.app number at o.of_file o.declared (subst P same d)
+
+-- an application that is checked is not opened
+pub opened_checked : (words : List (List ℕ)) (place : Placed) (wire : Option (List ℕ)) (g : Ground) (name : List ℕ) → Opens words place wire g → IsCheck words name → ⊥
+opened_checked words place wire g name o is = not_checked words o.name name wire o.budget o.command is
+
+-- ---- the gestures
 
 more_lines : (left_old left_new : Option (List ℕ)) (read further : List ℕ) → Consumes left_old left_new (read ++ further) → held_from [] read ≡ []
     → length (ended read) ≡ 1000000 → 0 < length further → HasFewLines left_old → ⊥
@@ -70,13 +120,14 @@ more_lines (Some bytes) (Some rest) read (byte ∷ further) c whole lines more f
     omega (arith, pieces-further read byte (further ++ rest) whole, lines, small)
 
 -- a further byte behind a million lines is a line more
-pub limit_passed : (words : List (List ℕ)) (file : List ℕ → Option (Option (List ℕ))) (old new : Streams) (how : End) → how ≡ end.TooMany
-    → Serves words file old new how → HasFewLines old.left → ⊥
-limit_passed words file old new end.TooMany e s few =
-    let r : ReadToLimit s.app old new = s.ended in more_lines old.left new.left r.read r.further r.consumed r.whole r.lines r.more few
-limit_passed words file old new end.Done e s few = cc
-limit_passed words file old new end.ReadFault e s few = cc
-limit_passed words file old new end.OutputFault e s few = cc
+pub limit_passed : (words : List (List ℕ)) (p q : Placed) (old new : Streams) (how : End) → how ≡ end.TooMany
+    → Serves words p q old new how → HasFewLines old.left → ⊥
+limit_passed words p q old new end.TooMany e s few =
+    let r : ReadToLimit s.g old new s.device_old s.device_new = s.went in
+    more_lines old.left new.left r.read r.further r.consumed r.whole r.lines r.more few
+limit_passed words p q old new end.Done e s few = cc
+limit_passed words p q old new end.ReadFault e s few = cc
+limit_passed words p q old new end.OutputFault e s few = cc
 
 few_lines : (left_old left_new : Option (List ℕ)) (read : List ℕ) → Consumes left_old left_new read → IsAtEnd left_new
     → length (pieces read) ≤ 1000000 → HasManyLines left_old → ⊥
@@ -89,10 +140,10 @@ few_lines (Some bytes) (Some rest) read c at_end few many =
     omega (arith, few, long)
 
 -- gestures that were read to their end are at most a million lines
-pub end_reached : (words : List (List ℕ)) (file : List ℕ → Option (Option (List ℕ))) (old new : Streams) (how : End) → how ≡ end.Done
-    → Serves words file old new how → HasManyLines old.left → ⊥
-end_reached words file old new end.Done e s many =
-    let r : ReadToEnd s.app old new = s.ended in few_lines old.left new.left r.read r.consumed r.at_end r.few many
-end_reached words file old new end.TooMany e s many = cc
-end_reached words file old new end.ReadFault e s many = cc
-end_reached words file old new end.OutputFault e s many = cc
+pub end_reached : (words : List (List ℕ)) (p q : Placed) (old new : Streams) (how : End) → how ≡ end.Done
+    → Serves words p q old new how → HasManyLines old.left → ⊥
+end_reached words p q old new end.Done e s many =
+    let r : ReadToEnd s.g old new s.device_old s.device_new = s.went in few_lines old.left new.left r.read r.consumed r.at_end r.few many
+end_reached words p q old new end.TooMany e s many = cc
+end_reached words p q old new end.ReadFault e s many = cc
+end_reached words p q old new end.OutputFault e s many = cc

@@ -1,22 +1,37 @@
 -- The words of the command line, and the lines that are said of a command.
-use Rattle.std.specs.Prelude.{◌≡◌, ◌==◌, ℕ, Bool, false, not, IsTrue, List, [], ◌∷◌, ◌++◌, codes}
+use Rattle.std.specs.Prelude.{◌≡◌, ℕ, List, [], ◌∷◌, ◌++◌, codes, Option, None, Some, option_map}
 use Rattle.std.specs.Fmt.{decimal}
+use Rattle.cl_invocation.specs.Words.{Invocation, run, check, invocation_of}
 
--- a word that names a file: it is not empty and does not begin with `-`
-abbrev pub is_file_name : List ℕ → Bool
-is_file_name [] = false
-is_file_name (byte ∷ bytes) = not (byte == 45)
+-- the words run this application, with this wire and this budget where they give one
+abbrev pub IsRun : (words : List (List ℕ)) → (name : List ℕ) → (wire : Option (List ℕ)) → (budget : Option ℕ) → Type 0
+IsRun words name wire budget = invocation_of words ≡ Some (run name wire budget)
 
--- the words `run APP`
-pub record IsRun (words : List (List ℕ)) (name : List ℕ) : Type 0 where
-  pub words_are : words ≡ codes "run" ∷ name ∷ []
-  pub named : IsTrue (is_file_name name)
+-- the words check this application
+abbrev pub IsCheck : (words : List (List ℕ)) → (name : List ℕ) → Type 0
+IsCheck words name = invocation_of words ≡ Some (check name)
 
 abbrev pub IsNoCommand : List (List ℕ) → Type 0
-IsNoCommand words = (name : List ℕ) → IsRun words name → ⊥
+IsNoCommand words = invocation_of words ≡ None
+
+-- the file of the application
+abbrev pub application_of : Invocation → List ℕ
+application_of (run name wire budget) = name
+application_of (check name) = name
+
+-- the words name this file as an application's
+abbrev pub Names : (words : List (List ℕ)) → (name : List ℕ) → Type 0
+Names words name = option_map application_of (invocation_of words) ≡ Some name
+
+-- the words name this file as a wire's
+abbrev pub NamesWire : (words : List (List ℕ)) → (name : List ℕ) → Type 0
+NamesWire words name = (application : List ℕ) × (budget : Option ℕ) × IsRun words application (Some name) budget
 
 abbrev pub usage_line : List ℕ
 usage_line = codes "usage: clim_run run APP [--wire NAME] [--budget N] | check APP | bench N" ++ 10 ∷ []
+
+abbrev pub loads_line : List ℕ
+loads_line = codes "loads" ++ 10 ∷ []
 
 abbrev pub refusal_line : ℕ → ℕ → List ℕ
 refusal_line number offset = codes "refused " ++ decimal number ++ codes " at " ++ decimal offset ++ 10 ∷ []

@@ -1,4 +1,6 @@
 pub mod Command
+pub mod Surroundings
 pub mod Texts
 pub mod Run
+pub mod Commands
 pub mod Statuses

@@ -1,111 +1,130 @@
 -- What a run of the program comes to.
-use Rattle.std.specs.Prelude.{◌≡◌, ◌<◌, ◌≤◌, ◌⊎◌, ◌+◌, ℕ, List, [], ◌∷◌, ◌++◌, length, Option, true, false}
+use Rattle.std.specs.Prelude.{◌≡◌, ◌<◌, ◌≤◌, ◌⊎◌, ◌+◌, ℕ, Bool, not, List, [], ◌∷◌, ◌++◌, length, Option, Some, true, false, unwrap_or}
 use Rattle.std.specs.Io.KnownBytes.{Appends, Consumes, IsAtEnd}
 use Rattle.cl_outside.specs.Causes.{Rose}
+use Rattle.cl_outside.specs.Operations.{ops_bytes}
 use Rattle.cl_application.specs.declared.applications.App.{App}
 use Rattle.cl_eval.specs.declared.metering.Limits.{Limits}
 use Rattle.cl_frame.specs.Ground.{Ground, ground}
+use Rattle.cl_frame.specs.Sending.{SendsOn, ShowsPanes, Wire, frame_ops}
 use Rattle.cl_gesture.specs.Lines.{Piece, pieces, ended, held_from}
 use Rattle.cl_gesture.specs.Next.{most_lines}
 use Rattle.cl_load.specs.Application.{IsApplication, IsRefusal}
 use Rattle.cl_load.specs.Opening.{opening_slots}
 use Rattle.cl_outside.specs.Writing.{Says}
 use Rattle.cl_session.specs.Session.{Fits, cost_of_panes, world_of}
-use Rattle.cl_session.specs.Transcript.{IsTranscript, Meters, meters}
+use Rattle.cl_session.specs.Transcript.{IsTranscript, Meters, RoseIf, meters}
 use Rattle.cl_session.specs.World.{World, opening}
 use Rattle.cl_session.specs.declared.serving.End.{End}
 use Rattle.cl_session.specs.declared.serving.End.TheVariants as end
-use Rattle.cl_program.specs.Command.{IsRun, IsNoCommand, usage_line, refusal_line}
+use Rattle.cl_program.specs.Command.{IsCheck, IsNoCommand, IsRun, Names, loads_line, refusal_line, usage_line}
+use Rattle.cl_program.specs.Surroundings.{Placed, Streams, UsesDevice}
 use Rattle.cl_program.specs.Texts.{IsTextOf}
 use Rattle.cl_program.specs.declared.running.Opening.{Opening}
 use Rattle.cl_program.specs.declared.running.How.{How}
 use Rattle.cl_program.specs.declared.running.How.TheVariants as how
 
 -- the limits of a display and of a command
-abbrev pub run_limits : Limits
-run_limits = record { budget = 1000000; depth = 512 }
+abbrev pub limits_of : (budget : Option ℕ) → Limits
+limits_of budget = record { budget = unwrap_or budget 1000000; depth = 512 }
 
 -- what an application is run on
-abbrev pub run_ground : App → Ground
-run_ground app = ground app run_limits
+abbrev pub run_ground : App → (budget : Option ℕ) → Ground
+run_ground app budget = ground app (limits_of budget)
 
--- the world at its opening: nobody looks at its screen, so no device fails
-abbrev pub opening_world : App → World
-opening_world app = opening (run_ground app) (opening_slots app) false
+-- ---- the opening
+
+-- the world at the opening of an application
+abbrev pub opening_world : Ground → (failed : Bool) → World
+opening_world g failed = opening g (opening_slots g.app) failed
 
 -- what the displays of all panes cost at the opening
-abbrev pub opening_cost : App → ℕ
-opening_cost app = cost_of_panes (run_ground app) (opening_slots app)
+abbrev pub opening_cost : Ground → ℕ
+opening_cost g = cost_of_panes g (opening_slots g.app)
 
--- These bytes are a transcript of the pieces, from the opening of the application on, and the ledger rose by what the opening costs and
--- then by what the commands and displays of the transcript cost. The faults of the device stay at 0, so no line tells of one.
-abbrev pub IsTranscriptOf : App → List Piece → List ℕ → (spent_old spent_new : ℕ) → Type 0
-IsTranscriptOf app ps bytes spent_old spent_new =
-    (to : World) × IsTranscript (run_ground app) (opening_world app) to 0 ps bytes (meters (spent_old + opening_cost app) 0) (meters spent_new 0)
+-- The opening sends the whole screen to a device. Where all was sent, playback of the wire is what the panes show; else the device failed
+-- behind the first bytes.
+pub record OpensOn (g : Ground) (failed : Bool) (old new : Wire) : Type 0 where
+  pub rose : RoseIf failed old.faults new.faults
+  pub sent : SendsOn (not failed) old new (ops_bytes (frame_ops g.app (opening_world g failed).panes))
+  pub shows : failed ≡ false → ShowsPanes g.app (opening_world g failed).panes new
+  pub told : new.told ≡ old.told
 
--- what is told of the gestures and of the output, with their counts of faults, and what the ledger stands at
-pub record Streams : Type 0 where
-  pub left : Option (List ℕ)
-  pub gesture_faults : ℕ
-  pub taken : Option (List ℕ)
-  pub output_faults : ℕ
-  pub spent : ℕ
+-- These bytes are a transcript of the pieces up to a world, from the opening of the application on: the ledger rose by what the opening costs
+-- and then by what the commands and displays of the transcript cost, and the device was sent the opening and then what each gesture sends.
+pub record IsTranscriptTo (g : Ground) (to : World) (ps : List Piece) (bytes : List ℕ) (spent : ℕ) (device : Wire) (last : Meters) : Type 0 where
+  pub failed : Bool
+  pub opened : Wire
+  pub opens : OpensOn g failed device opened
+  pub transcript : IsTranscript g (opening_world g failed) to 0 ps bytes (meters (spent + opening_cost g) opened) last
 
-abbrev pub streams : Option (List ℕ) → ℕ → Option (List ℕ) → ℕ → ℕ → Streams
-streams left gesture_faults taken output_faults spent =
-    record { left = left; gesture_faults = gesture_faults; taken = taken; output_faults = output_faults; spent = spent }
+-- the same, to any world
+pub record IsTranscriptOf (g : Ground) (ps : List Piece) (bytes : List ℕ) (spent_old spent_new : ℕ) (device_old device_new : Wire) : Type 0 where
+  pub to : World
+  pub transcript : IsTranscriptTo g to ps bytes spent_old device_old (meters spent_new device_new)
 
 -- ---- the application
 
--- the words name a file, and its text declares this application
-pub record Opens (words : List (List ℕ)) (file : List ℕ → Option (Option (List ℕ))) (app : App) : Type 0 where
+-- the words run an application of this text, which declares it, on this ground
+pub record Opens (words : List (List ℕ)) (place : Placed) (wire : Option (List ℕ)) (g : Ground) : Type 0 where
   pub name : List ℕ
-  pub command : IsRun words name
+  pub budget : Option ℕ
+  pub command : IsRun words name wire budget
+  pub limits : g.limits ≡ limits_of budget
   pub text : List ℕ
-  pub of_file : IsTextOf (file name) text
-  pub declared : IsApplication text app
+  pub of_file : IsTextOf (place.file name) text
+  pub declared : IsApplication text g.app
 
 abbrev pub IsCommand : List (List ℕ) → Type 0
-IsCommand words = (name : List ℕ) × IsRun words name
+IsCommand words = (name : List ℕ) × Names words name
 
 -- the words name a file, and its text has this refusal at this offset
-pub record IsRefused (words : List (List ℕ)) (file : List ℕ → Option (Option (List ℕ))) (number at : ℕ) : Type 0 where
+pub record IsRefused (words : List (List ℕ)) (place : Placed) (number at : ℕ) : Type 0 where
   pub name : List ℕ
-  pub command : IsRun words name
+  pub command : Names words name
   pub text : List ℕ
-  pub of_file : IsTextOf (file name) text
+  pub of_file : IsTextOf (place.file name) text
   pub refusal : IsRefusal text number at
 
--- the words name a file, with which the place failed
-pub record AppFaultRose (words : List (List ℕ)) (faults_old faults_new : List ℕ → ℕ) : Type 0 where
+-- the words check a file, and its text declares an application
+pub record IsLoaded (words : List (List ℕ)) (place : Placed) : Type 0 where
   pub name : List ℕ
-  pub command : IsRun words name
-  pub rose : Rose (faults_old name) (faults_new name)
+  pub command : IsCheck words name
+  pub text : List ℕ
+  pub of_file : IsTextOf (place.file name) text
+  pub app : App
+  pub declared : IsApplication text app
+
+-- the words name a file, with which the place failed
+pub record AppFaultRose (words : List (List ℕ)) (old new : Placed) : Type 0 where
+  pub name : List ℕ
+  pub command : Names words name
+  pub rose : Rose (old.app_faults name) (new.app_faults name)
 
 -- ---- how the gestures went
 
 -- all gestures were read up to the source's end, at most a million lines, and the output took their transcript
-pub record ReadToEnd (app : App) (old new : Streams) : Type 0 where
+pub record ReadToEnd (g : Ground) (old new : Streams) (device_old device_new : Wire) : Type 0 where
   pub read : List ℕ
   pub consumed : Consumes old.left new.left read
   pub at_end : IsAtEnd new.left
   pub few : length (pieces read) ≤ most_lines
   pub written : List ℕ
   pub appended : Appends old.taken new.taken written
-  pub transcript : IsTranscriptOf app (pieces read) written old.spent new.spent
+  pub transcript : IsTranscriptOf g (pieces read) written old.spent new.spent device_old device_new
 
 -- the source failed: the output took the transcript of the pieces that had ended in what was read, at most a million
-pub record ReadToFault (app : App) (old new : Streams) : Type 0 where
+pub record ReadToFault (g : Ground) (old new : Streams) (device_old device_new : Wire) : Type 0 where
   pub read : List ℕ
   pub consumed : Consumes old.left new.left read
   pub few : length (ended read) ≤ most_lines
   pub rose : Rose old.gesture_faults new.gesture_faults
   pub written : List ℕ
   pub appended : Appends old.taken new.taken written
-  pub transcript : IsTranscriptOf app (ended read) written old.spent new.spent
+  pub transcript : IsTranscriptOf g (ended read) written old.spent new.spent device_old device_new
 
 -- a million lines were read, and then a further byte; the output took the transcript of these lines
-pub record ReadToLimit (app : App) (old new : Streams) : Type 0 where
+pub record ReadToLimit (g : Ground) (old new : Streams) (device_old device_new : Wire) : Type 0 where
   pub read : List ℕ
   pub further : List ℕ
   pub consumed : Consumes old.left new.left (read ++ further)
@@ -114,7 +133,7 @@ pub record ReadToLimit (app : App) (old new : Streams) : Type 0 where
   pub more : 0 < length further
   pub written : List ℕ
   pub appended : Appends old.taken new.taken written
-  pub transcript : IsTranscriptOf app (ended read) written old.spent new.spent
+  pub transcript : IsTranscriptOf g (ended read) written old.spent new.spent device_old device_new
 
 -- these are the first pieces of a stream of bytes that were read: those that ended in some of its first bytes, or all of them,
 -- where the source's end came
@@ -123,7 +142,7 @@ AreFirst left read further ps = ((ps ≡ ended read) × (held_from [] read ≡ [
 
 -- The output failed in the answer to the last of the first pieces that were read: it took the transcript of those before it, and the
 -- first bytes of this answer.
-pub record WrittenToFault (app : App) (old new : Streams) : Type 0 where
+pub record WrittenToFault (g : Ground) (old new : Streams) (device_old device_new : Wire) : Type 0 where
   pub read : List ℕ
   pub further : List ℕ
   pub consumed : Consumes old.left new.left (read ++ further)
@@ -135,25 +154,29 @@ pub record WrittenToFault (app : App) (old new : Streams) : Type 0 where
   pub between : World
   pub stood : Meters
   pub whole : List ℕ
-  pub transcript : IsTranscript (run_ground app) (opening_world app) between 0 earlier whole (meters (old.spent + opening_cost app) 0) stood
+  pub transcript : IsTranscriptTo g between earlier whole old.spent device_old stood
   pub to : World
   pub begun : List ℕ
   pub lost : List ℕ
   pub some : 0 < length lost
-  pub answer : IsTranscript (run_ground app) between to (length earlier) (last ∷ []) (begun ++ lost) stood (meters new.spent 0)
+  pub answer : IsTranscript g between to (length earlier) (last ∷ []) (begun ++ lost) stood (meters new.spent device_new)
   pub appended : Appends old.taken new.taken (whole ++ begun)
 
-abbrev pub EndsAs : App → Streams → Streams → End → Type 0
-EndsAs app old new end.Done = ReadToEnd app old new
-EndsAs app old new end.ReadFault = ReadToFault app old new
-EndsAs app old new end.TooMany = ReadToLimit app old new
-EndsAs app old new end.OutputFault = WrittenToFault app old new
+abbrev pub EndsAs : Ground → (old new : Streams) → (device_old device_new : Wire) → End → Type 0
+EndsAs g old new device_old device_new end.Done = ReadToEnd g old new device_old device_new
+EndsAs g old new device_old device_new end.ReadFault = ReadToFault g old new device_old device_new
+EndsAs g old new device_old device_new end.TooMany = ReadToLimit g old new device_old device_new
+EndsAs g old new device_old device_new end.OutputFault = WrittenToFault g old new device_old device_new
 
 -- an application was opened, and its gestures went so
-pub record Serves (words : List (List ℕ)) (file : List ℕ → Option (Option (List ℕ))) (old new : Streams) (how : End) : Type 0 where
-  pub app : App
-  pub opened : Opens words file app
-  pub ended : EndsAs app old new how
+pub record Serves (words : List (List ℕ)) (place_old place_new : Placed) (old new : Streams) (how : End) : Type 0 where
+  pub g : Ground
+  pub wire : Option (List ℕ)
+  pub opened : Opens words place_old wire g
+  pub device_old : Wire
+  pub device_new : Wire
+  pub uses : UsesDevice wire place_old place_new device_old device_new
+  pub went : EndsAs g old new device_old device_new how
 
 -- ---- how a run ended
 
@@ -163,22 +186,17 @@ IsUnread old new = (new.left ≡ old.left) × (new.gesture_faults ≡ old.gestur
 
 -- want of memory before the first gesture of an application: nothing was read or written, and the ledger rose by no more than the
 -- opening costs
-pub record RanOut (app : App) (old new : Streams) : Type 0 where
+pub record RanOut (g : Ground) (old new : Streams) : Type 0 where
   pub same : new ≡ record old { spent = new.spent }
   pub later : old.spent ≤ new.spent
-  pub at_most : new.spent ≤ old.spent + opening_cost app
-
--- the same, of the application that a text declares
-pub record RanOutOpening (text : List ℕ) (old new : Streams) : Type 0 where
-  pub app : App
-  pub declared : IsApplication text app
-  pub ran_out : RanOut app old new
+  pub at_most : new.spent ≤ old.spent + opening_cost g
 
 -- the same, of the application that the words open
-pub record RanOutServing (words : List (List ℕ)) (file : List ℕ → Option (Option (List ℕ))) (old new : Streams) : Type 0 where
-  pub app : App
-  pub opened : Opens words file app
-  pub ran_out : RanOut app old new
+pub record RanOutServing (words : List (List ℕ)) (place : Placed) (old new : Streams) : Type 0 where
+  pub g : Ground
+  pub wire : Option (List ℕ)
+  pub opened : Opens words place wire g
+  pub ran_out : RanOut g old new
 
 -- the line was written whole; or the output failed behind its first bytes
 abbrev pub SaysWhole : Streams → Streams → List ℕ → Type 0
@@ -188,58 +206,66 @@ abbrev pub SaysCut : Streams → Streams → List ℕ → Type 0
 SaysCut old new line = IsUnread old new × Says false old.taken new.taken line old.output_faults new.output_faults
 
 -- the text that the words name is refused, and the line of its refusal was written whole
-pub record Refuses (words : List (List ℕ)) (file : List ℕ → Option (Option (List ℕ))) (old new : Streams) : Type 0 where
+pub record Refuses (words : List (List ℕ)) (place : Placed) (old new : Streams) : Type 0 where
   pub number : ℕ
   pub at : ℕ
-  pub refused : IsRefused words file number at
+  pub refused : IsRefused words place number at
   pub said : SaysWhole old new (refusal_line number at)
 
 -- the text that the words name is refused, and the output failed in the line of its refusal
-pub record RefusesCut (words : List (List ℕ)) (file : List ℕ → Option (Option (List ℕ))) (old new : Streams) : Type 0 where
+pub record RefusesCut (words : List (List ℕ)) (place : Placed) (old new : Streams) : Type 0 where
   pub number : ℕ
   pub at : ℕ
-  pub refused : IsRefused words file number at
+  pub refused : IsRefused words place number at
   pub said : SaysCut old new (refusal_line number at)
 
+-- the wire that the words name could not be made: the application loads, and nothing was read or written
+pub record MakesNoWire (words : List (List ℕ)) (old_place new_place : Placed) (old new : Streams) : Type 0 where
+  pub g : Ground
+  pub wire : List ℕ
+  pub opened : Opens words old_place (Some wire) g
+  pub rose : Rose old_place.making_faults new_place.making_faults
+  pub same : new ≡ old
+
 -- want of memory before the first gesture: the ledger stays, or the opening of an application met it
-abbrev pub RanOutOfMemory : List (List ℕ) → (List ℕ → Option (Option (List ℕ))) → Streams → Streams → Type 0
-RanOutOfMemory words file old new = IsCommand words × ((new ≡ old) ⊎ RanOutServing words file old new)
+abbrev pub RanOutOfMemory : List (List ℕ) → Placed → Streams → Streams → Type 0
+RanOutOfMemory words place old new = (new ≡ old) ⊎ RanOutServing words place old new
 
 -- a run of these words
-abbrev pub Ran : List (List ℕ) → (List ℕ → Option (Option (List ℕ))) → (List ℕ → ℕ) → (List ℕ → ℕ) → Streams → Streams → How → Type 0
-Ran words file faults_old faults_new old new how.Usage = IsNoCommand words × SaysWhole old new usage_line
-Ran words file faults_old faults_new old new how.UsageCut = IsNoCommand words × SaysCut old new usage_line
-Ran words file faults_old faults_new old new how.AppFault = AppFaultRose words faults_old faults_new × (new ≡ old)
-Ran words file faults_old faults_new old new how.Refused = Refuses words file old new
-Ran words file faults_old faults_new old new how.RefusalCut = RefusesCut words file old new
-Ran words file faults_old faults_new old new how.Memory = RanOutOfMemory words file old new
-Ran words file faults_old faults_new old new (how.Ended end) = Serves words file old new end
+abbrev pub Ran : List (List ℕ) → (place_old place_new : Placed) → (old new : Streams) → How → Type 0
+Ran words place_old place_new old new how.Usage = IsNoCommand words × SaysWhole old new usage_line
+Ran words place_old place_new old new how.UsageCut = IsNoCommand words × SaysCut old new usage_line
+Ran words place_old place_new old new how.AppFault = AppFaultRose words place_old place_new × (new ≡ old)
+Ran words place_old place_new old new how.Refused = Refuses words place_old old new
+Ran words place_old place_new old new how.RefusalCut = RefusesCut words place_old old new
+Ran words place_old place_new old new how.Loads = IsLoaded words place_old × SaysWhole old new loads_line
+Ran words place_old place_new old new how.LoadsCut = IsLoaded words place_old × SaysCut old new loads_line
+Ran words place_old place_new old new how.WireFault = MakesNoWire words place_old place_new old new
+Ran words place_old place_new old new how.Memory = RanOutOfMemory words place_old old new
+Ran words place_old place_new old new (how.Ended end) = Serves words place_old place_new old new end
 
--- a run of the application that a text declares
-abbrev pub RanText : List ℕ → Streams → Streams → How → Type 0
-RanText text old new how.Usage = ⊥
-RanText text old new how.UsageCut = ⊥
-RanText text old new how.AppFault = ⊥
-RanText text old new how.Refused = (number : ℕ) × (at : ℕ) × IsRefusal text number at × SaysWhole old new (refusal_line number at)
-RanText text old new how.RefusalCut = (number : ℕ) × (at : ℕ) × IsRefusal text number at × SaysCut old new (refusal_line number at)
-RanText text old new how.Memory = (new ≡ old) ⊎ RanOutOpening text old new
-RanText text old new (how.Ended end) = (app : App) × IsApplication text app × EndsAs app old new end
+-- a run of an application on a device
+abbrev pub RanLoaded : Ground → (old new : Streams) → (device_old device_new : Wire) → How → Type 0
+RanLoaded g old new device_old device_new how.Usage = ⊥
+RanLoaded g old new device_old device_new how.UsageCut = ⊥
+RanLoaded g old new device_old device_new how.AppFault = ⊥
+RanLoaded g old new device_old device_new how.Refused = ⊥
+RanLoaded g old new device_old device_new how.RefusalCut = ⊥
+RanLoaded g old new device_old device_new how.Loads = ⊥
+RanLoaded g old new device_old device_new how.LoadsCut = ⊥
+RanLoaded g old new device_old device_new how.WireFault = ⊥
+RanLoaded g old new device_old device_new how.Memory = RanOut g old new
+RanLoaded g old new device_old device_new (how.Ended end) = EndsAs g old new device_old device_new end
 
--- a run of an application
-abbrev pub RanLoaded : App → Streams → Streams → How → Type 0
-RanLoaded app old new how.Usage = ⊥
-RanLoaded app old new how.UsageCut = ⊥
-RanLoaded app old new how.AppFault = ⊥
-RanLoaded app old new how.Refused = ⊥
-RanLoaded app old new how.RefusalCut = ⊥
-RanLoaded app old new how.Memory = RanOut app old new
-RanLoaded app old new (how.Ended end) = EndsAs app old new end
+-- ---- a frame that was just opened
 
--- ---- the opening
+-- what it was opened on
+abbrev pub ground_of : Opening → Ground
+ground_of o = ground o.loaded.app o.limits
 
--- a frame that was just opened for an application
-pub record IsOpening (app : App) (o : Opening) : Type 0 where
-  pub same : o.loaded.app ≡ app
-  pub world : world_of o.session o.slots ≡ opening_world app
-  pub fits : Fits (run_ground app) o.slots o.session
-  pub fresh : o.session.frame.screen.stale ≡ false
+-- it is the opening of its application, and its device is broken where the screen is stale
+pub record IsOpening (o : Opening) (broken : Bool) : Type 0 where
+  pub depth : o.limits.depth ≤ 512
+  pub world : world_of o.session o.slots ≡ opening_world (ground_of o) o.session.frame.screen.stale
+  pub fits : Fits (ground_of o) o.slots o.session
+  pub breaks : o.session.frame.screen.stale ≡ true → broken ≡ true

@@ -6,7 +6,8 @@ use Rattle.cl_gesture.specs.Next.{most_lines}
 use Rattle.cl_load.specs.Application.{IsApplication, IsRefusal}
 use Rattle.cl_session.specs.declared.serving.End.TheVariants as end
 use Rattle.cl_program.specs.Texts.{first_bytes}
-use Rattle.cl_program.specs.Run.{Ran, Streams}
+use Rattle.cl_program.specs.Run.{Ran}
+use Rattle.cl_program.specs.Surroundings.{Placed, Streams}
 use Rattle.cl_program.specs.declared.running.How.{How}
 use Rattle.cl_program.specs.declared.running.How.TheVariants as how
 
@@ -17,6 +18,9 @@ status_of how.UsageCut = 5
 status_of how.AppFault = 3
 status_of how.Refused = 1
 status_of how.RefusalCut = 5
+status_of how.Loads = 0
+status_of how.LoadsCut = 5
+status_of how.WireFault = 6
 status_of how.Memory = 7
 status_of (how.Ended end.Done) = 0
 status_of (how.Ended end.ReadFault) = 4
@@ -24,10 +28,10 @@ status_of (how.Ended end.TooMany) = 8
 status_of (how.Ended end.OutputFault) = 5
 
 -- a run ended with this status: in one of the ways that have it, and what that says holds
-pub record EndsWith (words : List (List ℕ)) (file : List ℕ → Option (Option (List ℕ))) (faults_old faults_new : List ℕ → ℕ) (old new : Streams) (status : ℕ) : Type 0 where
+pub record EndsWith (words : List (List ℕ)) (place_old place_new : Placed) (old new : Streams) (status : ℕ) : Type 0 where
   pub how : How
   pub status_is : status ≡ status_of how
-  pub ran : Ran words file faults_old faults_new old new how
+  pub ran : Ran words place_old place_new old new how
 
 -- a file that is told, whose text declares an application
 abbrev pub DeclaresApplication : Option (Option (List ℕ)) → Type 0

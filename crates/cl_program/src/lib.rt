@@ -1,10 +1,10 @@
 //! The program as one call, over a place, a source of gestures and an output that its caller names.
 #![tactic(auto)]
 
+mod commands;
 mod running;
 mod saying;
 mod statuses;
 mod texts;
-mod words;
 
 pub use statuses::{Status, clim_main};

@@ -1,20 +1,21 @@
-//! The run of an application: its text is read and loaded, it is opened, and gestures are served.
-ghost use Rattle.std.specs.Prelude.{◌≡◌, ◌≤◌, ◌+◌, ℕ, List, [], IfOk, map};
-ghost use Rattle.cl_program.specs.Run.{EndsAs, IsOpening, Ran, RanLoaded, RanText, opening_cost, run_limits, streams};
+//! The run of an application: its frame is opened on a device, and gestures are served.
+ghost use Rattle.std.specs.Prelude.{◌≡◌, ◌≤◌, ◌+◌, ℕ, [], IfOk, false};
+ghost use Rattle.cl_frame.specs.Ground.{ground};
+ghost use Rattle.cl_frame.specs.Sending.{Wire, wire_of};
+ghost use Rattle.cl_redisplay.specs.Screens.{Agree};
+ghost use Rattle.cl_program.specs.Run.{EndsAs, IsOpening, OpensOn, RanLoaded, ground_of, limits_of, opening_cost};
+ghost use Rattle.cl_program.specs.Surroundings.{streams};
 
-use crate::saying::{say_refusal, say_usage};
-use crate::texts::{TextRead, read_text};
-use crate::words::application_name;
 use cl_application::App;
 use cl_eval::{Limits, Program, Slots};
 use cl_gesture::{Ahead, Gestures};
-use cl_load::{LoadRefusal, Loaded, SlotTypes, load};
-use cl_outside::{Ledger, LentSource, NullDevice, Place, Sink, Source, Steps};
+use cl_load::{Loaded, SlotTypes};
+use cl_outside::{Device, Ledger, LentSource, Sink, Source, Steps};
 use cl_session::{DEPTH, End, Session};
 use std::alloc::{AllocError, Global};
 
-/// How many forms a display or a command may enter.
-const BUDGET: u64 = 1_000_000;
+/// How many forms a display or a command may enter, where the words give no budget.
+const BUDGET: u32 = 1_000_000;
 
 /// How a run ended.
 #[derive(Clone, Copy)]
@@ -29,6 +30,12 @@ pub enum How {
     Refused,
     /// The text is refused, and the output failed in the refusal line.
     RefusalCut,
+    /// The text that was to be checked declares an application, and the line of that was written.
+    Loads,
+    /// The same, and the output failed in that line.
+    LoadsCut,
+    /// The place failed to make the wire's file.
+    WireFault,
     /// Want of memory before the first gesture.
     Memory,
     /// The gestures were served.
@@ -38,174 +45,153 @@ pub enum How {
 // An application whose frame is open, before the first gesture.
 #[derive(Drop)]
 struct Opening {
+    alloc: Global,
     loaded: Loaded,
+    limits: Limits,
     session: Session,
     slots: Slots,
-    device: NullDevice,
+}
+
+/// The limits of a run with this budget.
+pub fn limits_of(budget: Option<u32>) -> Limits
+    ensures { result ≡ limits_of budget }
+{
+    let budget = match budget {
+        Some(forms) => forms,
+        None => BUDGET,
+    };
+    Limits {
+        budget: u64::from(budget),
+        depth: DEPTH,
+    }
 }
 
 // What an application is run on.
-fn program(alloc: Global, app: &App) -> Program<'_, SlotTypes>
+fn program(alloc: Global, app: &App, limits: Limits) -> Program<'_, SlotTypes>
     ensures app { result.app.now ≡ app.now }
-    ensures limits { result.limits ≡ run_limits }
+    ensures limits { result.limits ≡ limits }
 {
     Program {
         alloc,
         app,
         types: &SlotTypes,
-        limits: Limits {
-            budget: BUDGET,
-            depth: DEPTH,
-        },
+        limits,
     }
 }
 
-/// Runs the program on these words.
-pub fn run_words<P: Place, G: Source, O: Sink, L: Ledger>(
-    alloc: Global,
-    words: &[&str],
-    place: &mut P,
-    gestures: &mut G,
-    out: &mut O,
-    steps: &mut Steps<L>,
-) -> How
-    ensures ran { Ran (map (λ w. w.now) words.now) (P.file place.old) (P.app_faults place.old)
-        (P.app_faults place.new) (streams (G.left gestures.old) (G.faults gestures.old)
-        (O.taken out.old) (O.faults out.old) steps.old)
-        (streams (G.left gestures.new) (G.faults gestures.new) (O.taken out.new) (O.faults out.new)
-        steps.new) result }
-    ensures files { (name : List ℕ) → P.file place.new name ≡ P.file place.old name }
-    ensures making { P.making_faults place.new ≡ P.making_faults place.old }
-    ensures writing { P.writing_faults place.new ≡ P.writing_faults place.old }
-    ensures place_lent { P.lent place.new ≡ P.lent place.old }
-    ensures place_later { (name : List ℕ)
-        → P.app_faults place.old name ≤ P.app_faults place.new name }
-    ensures later { G.faults gestures.old ≤ G.faults gestures.new }
-    ensures out_lent { O.lent out.new ≡ O.lent out.old }
-    ensures out_later { O.faults out.old ≤ O.faults out.new }
-    ensures steps_later { steps.old ≤ steps.new }
-{
-    let Some(name) = application_name(words) else {
-        if say_usage(out) {
-            return How::Usage;
-        }
-        return How::UsageCut;
-    };
-    match read_text(alloc, place, name) {
-        TextRead::Text(text) => run_text(alloc, text.as_slice(), gestures, out, steps),
-        TextRead::Failed => How::AppFault,
-        TextRead::Memory => How::Memory,
-    }
-}
-
-// Runs the application of a text.
-fn run_text<G: Source, O: Sink, L: Ledger>(
-    alloc: Global,
-    text: &[u8],
-    gestures: &mut G,
-    out: &mut O,
-    steps: &mut Steps<L>,
-) -> How
-    ensures ran { RanText text.now (streams (G.left gestures.old) (G.faults gestures.old)
-        (O.taken out.old) (O.faults out.old) steps.old)
-        (streams (G.left gestures.new) (G.faults gestures.new) (O.taken out.new) (O.faults out.new)
-        steps.new) result }
-    ensures later { G.faults gestures.old ≤ G.faults gestures.new }
-    ensures out_lent { O.lent out.new ≡ O.lent out.old }
-    ensures out_later { O.faults out.old ≤ O.faults out.new }
-    ensures steps_later { steps.old ≤ steps.new }
-{
-    match load(alloc, text) {
-        Ok(loaded) => run_loaded(alloc, loaded, gestures, out, steps),
-        Err(LoadRefusal::Refused(number, offset)) => {
-            if say_refusal(out, number, offset) {
-                return How::Refused;
-            }
-            How::RefusalCut
-        }
-        Err(LoadRefusal::Memory) => How::Memory,
-    }
-}
-
-// Runs an application.
-fn run_loaded<G: Source, O: Sink, L: Ledger>(
+/// Runs an application within limits, on a device that is whole.
+pub fn run_loaded<D: Device, G: Source, O: Sink, L: Ledger>(
     alloc: Global,
     loaded: Loaded,
+    limits: Limits,
+    device: &mut D,
     gestures: &mut G,
     out: &mut O,
     steps: &mut Steps<L>,
 ) -> How
-    ensures ran { RanLoaded loaded.app (streams (G.left gestures.old) (G.faults gestures.old)
-        (O.taken out.old) (O.faults out.old) steps.old)
+    requires depth { limits.depth ≤ 512 }
+    requires whole { D.broken device.old ≡ false }
+    ensures ran { RanLoaded (ground loaded.app limits) (streams (G.left gestures.old)
+        (G.faults gestures.old) (O.taken out.old) (O.faults out.old) steps.old)
         (streams (G.left gestures.new) (G.faults gestures.new) (O.taken out.new) (O.faults out.new)
-        steps.new) result }
+        steps.new) (wire_of (D.wire device.old) (D.faults device.old) (D.lent device.old).told)
+        (wire_of (D.wire device.new) (D.faults device.new) (D.lent device.new).told) result }
+    ensures lent { G.lent gestures.new ≡ G.lent gestures.old }
     ensures later { G.faults gestures.old ≤ G.faults gestures.new }
     ensures out_lent { O.lent out.new ≡ O.lent out.old }
     ensures out_later { O.faults out.old ≤ O.faults out.new }
+    ensures device_lent { D.lent device.new ≡ D.lent device.old }
+    ensures device_later { D.faults device.old ≤ D.faults device.new }
     ensures steps_later { steps.old ≤ steps.new }
 {
     let Ok(room) = Ahead::new(alloc) else {
         return How::Memory;
     };
-    match open(alloc, loaded, steps) {
-        Ok(mut opening) => How::Ended(serve(alloc, &mut opening, room, gestures, out, steps)),
+    match open(alloc, loaded, limits, device, steps) {
+        Ok(mut opening) => How::Ended(opening.serve(room, device, gestures, out, steps)),
         Err(AllocError) => How::Memory,
     }
 }
 
 // Opens the frame of an application.
-fn open<L: Ledger>(
+fn open<D: Device, L: Ledger>(
     alloc: Global,
     loaded: Loaded,
+    limits: Limits,
+    device: &mut D,
     steps: &mut Steps<L>,
 ) -> Result<Opening, AllocError>
-    ensures opening { IfOk result (IsOpening loaded.app) }
-    ensures ledger { IfOk result (λ _. steps.new ≡ steps.old + opening_cost loaded.app) }
+    requires depth { limits.depth ≤ 512 }
+    requires whole { D.broken device.old ≡ false }
+    ensures same { IfOk result (λ o. ground_of o ≡ ground loaded.app limits) }
+    ensures opening { IfOk result (λ o. IsOpening o (D.broken device.new)) }
+    ensures opens { IfOk result (λ o. OpensOn (ground loaded.app limits) o.session.frame.screen.stale
+        (wire_of (D.wire device.old) (D.faults device.old) (D.lent device.old).told)
+        (wire_of (D.wire device.new) (D.faults device.new) (D.lent device.new).told)) }
+    ensures agree { IfOk result (λ o. Agree o.session.frame.screen.stale
+        o.session.frame.screen.raster (D.broken device.new) (D.cleared device.new)
+        (D.picture device.new)) }
+    ensures ledger { IfOk result
+        (λ _. steps.new ≡ steps.old + opening_cost (ground loaded.app limits)) }
     ensures later { steps.old ≤ steps.new }
-    ensures at_most { steps.new ≤ steps.old + opening_cost loaded.app }
+    ensures at_most { steps.new ≤ steps.old + opening_cost (ground loaded.app limits) }
+    ensures lent { D.lent device.new ≡ D.lent device.old }
+    ensures device_later { D.faults device.old ≤ D.faults device.new }
 {
     let slots = loaded.slots.copy(alloc)?;
-    let mut device = NullDevice::new();
-    let session = Session::new(&program(alloc, &loaded.app), &slots, &mut device, steps)?;
+    let session = Session::new(&program(alloc, &loaded.app, limits), &slots, device, steps)?;
     Ok(Opening {
+        alloc,
         loaded,
+        limits,
         session,
         slots,
-        device,
     })
 }
 
-// Serves the gestures.
-fn serve<G: Source, O: Sink, L: Ledger>(
-    alloc: Global,
-    opening: &mut Opening,
-    room: Ahead,
-    gestures: &mut G,
-    out: &mut O,
-    steps: &mut Steps<L>,
-) -> End
-    requires opening { IsOpening opening.old.loaded.app opening.old }
-    requires none_ahead { room ≡ [] }
-    ensures ended { (spent : ℕ) → steps.old ≡ spent + opening_cost opening.old.loaded.app
-        → EndsAs opening.old.loaded.app (streams (G.left gestures.old) (G.faults gestures.old)
-        (O.taken out.old) (O.faults out.old) spent)
-        (streams (G.left gestures.new) (G.faults gestures.new) (O.taken out.new)
-        (O.faults out.new) steps.new) result }
-    ensures later { G.faults gestures.old ≤ G.faults gestures.new }
-    ensures out_lent { O.lent out.new ≡ O.lent out.old }
-    ensures out_later { O.faults out.old ≤ O.faults out.new }
-    ensures steps_later { steps.old ≤ steps.new }
-{
-    let mut reader = Gestures::with_room(alloc, room, LentSource::new(gestures));
-    let end = opening.session.serve(
-        &program(alloc, &opening.loaded.app),
-        &mut opening.slots,
-        &mut reader,
-        out,
-        &mut opening.device,
-        steps,
-    );
-    let lent = reader.into_source();
-    let _source = lent.source;
-    end
+impl Opening {
+    // Serves the gestures.
+    fn serve<D: Device, G: Source, O: Sink, L: Ledger>(
+        &mut self,
+        room: Ahead,
+        device: &mut D,
+        gestures: &mut G,
+        out: &mut O,
+        steps: &mut Steps<L>,
+    ) -> End
+        requires opening { IsOpening self.old (D.broken device.old) }
+        requires agree { Agree self.old.session.frame.screen.stale
+            self.old.session.frame.screen.raster (D.broken device.old) (D.cleared device.old)
+            (D.picture device.old) }
+        requires none_ahead { room ≡ [] }
+        ensures ended { (spent : ℕ) (begun : Wire)
+            → steps.old ≡ spent + opening_cost (ground_of self.old)
+            → OpensOn (ground_of self.old) self.old.session.frame.screen.stale begun
+            (wire_of (D.wire device.old) (D.faults device.old) (D.lent device.old).told)
+            → EndsAs (ground_of self.old) (streams (G.left gestures.old) (G.faults gestures.old)
+            (O.taken out.old) (O.faults out.old) spent)
+            (streams (G.left gestures.new) (G.faults gestures.new) (O.taken out.new)
+            (O.faults out.new) steps.new) begun
+            (wire_of (D.wire device.new) (D.faults device.new) (D.lent device.new).told) result }
+        ensures lent { G.lent gestures.new ≡ G.lent gestures.old }
+        ensures later { G.faults gestures.old ≤ G.faults gestures.new }
+        ensures out_lent { O.lent out.new ≡ O.lent out.old }
+        ensures out_later { O.faults out.old ≤ O.faults out.new }
+        ensures device_lent { D.lent device.new ≡ D.lent device.old }
+        ensures device_later { D.faults device.old ≤ D.faults device.new }
+        ensures steps_later { steps.old ≤ steps.new }
+    {
+        let mut reader = Gestures::with_room(self.alloc, room, LentSource::new(gestures));
+        let end = self.session.serve(
+            &program(self.alloc, &self.loaded.app, self.limits),
+            &mut self.slots,
+            &mut reader,
+            out,
+            device,
+            steps,
+        );
+        let lent = reader.into_source();
+        let _source = lent.source;
+        end
+    }
 }

@@ -1,7 +1,7 @@
 //! The usage line and the line of a refusal.
 ghost use Rattle.std.specs.Prelude.{◌≡◌, ◌≤◌};
 ghost use Rattle.cl_outside.specs.Writing.{Says};
-ghost use Rattle.cl_program.specs.Command.{refusal_line, usage_line};
+ghost use Rattle.cl_program.specs.Command.{loads_line, refusal_line, usage_line};
 
 use cl_outside::{Sink, write_all, write_pieces};
 use itoa::Buffer;
@@ -17,6 +17,16 @@ pub fn say_usage<O: Sink>(out: &mut O) -> bool
     ensures later { O.faults out.old ≤ O.faults out.new }
 {
     write_all(out, USAGE.as_bytes())
+}
+
+/// Writes the line that says that a text loads; false where the sink failed.
+pub fn say_loads<O: Sink>(out: &mut O) -> bool
+    ensures lent { O.lent out.new ≡ O.lent out.old }
+    ensures says { Says result (O.taken out.old) (O.taken out.new) loads_line (O.faults out.old)
+        (O.faults out.new) }
+    ensures later { O.faults out.old ≤ O.faults out.new }
+{
+    write_all(out, b"loads\n")
 }
 
 /// Writes the line of a refusal with this number, at this offset in bytes; false where the sink

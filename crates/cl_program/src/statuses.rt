@@ -1,11 +1,15 @@
 //! The top call and its exit status.
-ghost use Rattle.std.specs.Prelude.{◌≡◌, ◌≤◌, ◌⊎◌, ℕ, List, map};
+ghost use Rattle.std.specs.Prelude.{◌≡◌, ◌≤◌, ◌⊎◌, ℕ, List, Option, map};
+ghost use Rattle.cl_frame.specs.Sending.{wire_of};
+ghost use Rattle.cl_invocation.specs.Words.{invocation_of};
 ghost use Rattle.cl_outside.specs.Causes.{Rose};
-ghost use Rattle.cl_program.specs.Command.{IsNoCommand, IsRun};
-ghost use Rattle.cl_program.specs.Run.{streams};
+ghost use Rattle.cl_program.specs.Command.{IsCheck, IsNoCommand, IsRun, Names};
+ghost use Rattle.cl_program.specs.Commands.{KeptBy};
 ghost use Rattle.cl_program.specs.Statuses.{DeclaresApplication, EndsWith, HasFewLines, HasManyLines, HasRefusal};
+ghost use Rattle.cl_program.specs.Surroundings.{placed, streams};
 
-use crate::running::{How, run_words};
+use crate::commands::run_words;
+use crate::running::How;
 use cl_outside::{Ledger, Place, Sink, Source, Steps};
 use cl_session::End;
 use std::alloc::Global;
@@ -16,12 +20,14 @@ pub struct Status(pub u8);
 
 /// Runs the program on the words that stand behind its name.
 ///
-/// The words `run APP` read the application from the place's file APP, to its end or to 1,048,577
-/// bytes, load it, open its frame with a budget of 1,000,000 forms a display or command, and serve
-/// the gestures. The run stops at the first of these: words that are no command (status 2), a fault
-/// of the place (3), a text that is refused (1), want of memory (7), a fault of the gestures (4) or
-/// of the output (5), a byte behind 1,000,000 lines (8), the end of the gestures (0). Want of memory
-/// comes only before the first gesture.
+/// The words `run APP [--wire NAME] [--budget N]` read the application from the place's file APP, to
+/// its end or to 1,048,577 bytes, load it, make the file NAME, open the frame with a budget of N forms
+/// a display or command (1,000,000 where none is given), and serve the gestures; the operations of
+/// the screen go to the wire. The words `check APP` read and load it, and say `loads`. The run stops at
+/// the first of these: words that are no command (status 2), a fault of the place with APP (3), a text
+/// that is refused (1), a wire that cannot be made (6), want of memory (7), a fault of the gestures (4)
+/// or of the output (5), a byte behind 1,000,000 lines (8), the end of the gestures (0). Want of memory
+/// comes only before the first gesture. A fault of the wire changes no status.
 pub fn clim_main<P: Place, G: Source, O: Sink, L: Ledger>(
     alloc: Global,
     words: &[&str],
@@ -30,30 +36,50 @@ pub fn clim_main<P: Place, G: Source, O: Sink, L: Ledger>(
     out: &mut O,
     steps: &mut Steps<L>,
 ) -> Status
-    ensures ends { EndsWith (map (λ w. w.now) words.now) (P.file place.old) (P.app_faults place.old)
-        (P.app_faults place.new) (streams (G.left gestures.old) (G.faults gestures.old)
-        (O.taken out.old) (O.faults out.old) steps.old)
-        (streams (G.left gestures.new) (G.faults gestures.new) (O.taken out.new) (O.faults out.new)
-        steps.new) result.0 }
+    ensures ends { EndsWith (map (λ w. w.now) words.now) (placed (P.file place.old)
+        (P.app_faults place.old) (P.making_faults place.old)
+        (wire_of (P.taken place.old) (P.writing_faults place.old) (P.tells place.old)))
+        (placed (P.file place.new) (P.app_faults place.new) (P.making_faults place.new)
+        (wire_of (P.taken place.new) (P.writing_faults place.new) (P.tells place.new)))
+        (streams (G.left gestures.old) (G.faults gestures.old) (O.taken out.old) (O.faults out.old)
+        steps.old) (streams (G.left gestures.new) (G.faults gestures.new) (O.taken out.new)
+        (O.faults out.new) steps.new) result.0 }
+    ensures keeps { KeptBy (invocation_of (map (λ w. w.now) words.now)) (P.by_name place.old)
+        (placed (P.file place.old) (P.app_faults place.old) (P.making_faults place.old)
+        (wire_of (P.taken place.old) (P.writing_faults place.old) (P.tells place.old)))
+        (placed (P.file place.new) (P.app_faults place.new) (P.making_faults place.new)
+        (wire_of (P.taken place.new) (P.writing_faults place.new) (P.tells place.new))) }
 
     // When they are due.
-    ensures usage_due { IsNoCommand (map (λ w. w.now) words.now) → (result.0 ≡ 2) ⊎ (result.0 ≡ 5) }
-    ensures refusal_due { (name : List ℕ) (number at : ℕ) → IsRun (map (λ w. w.now) words.now) name → (Rose (P.app_faults place.old name) (P.app_faults place.new name) → ⊥)
-        → HasRefusal (P.file place.old name) number at → (result.0 ≡ 1) ⊎ (result.0 ≡ 5) ⊎ (result.0 ≡ 7) }
-    ensures complete { (name : List ℕ) → IsRun (map (λ w. w.now) words.now) name → (Rose (P.app_faults place.old name) (P.app_faults place.new name) → ⊥)
-        → (Rose (G.faults gestures.old) (G.faults gestures.new) → ⊥) → (Rose (O.faults out.old) (O.faults out.new) → ⊥)
-        → DeclaresApplication (P.file place.old name) → HasFewLines (G.left gestures.old) → (result.0 ≡ 0) ⊎ (result.0 ≡ 7) }
+    ensures usage_due { IsNoCommand (map (λ w. w.now) words.now)
+        → (result.0 ≡ 2) ⊎ (result.0 ≡ 5) ⊎ (result.0 ≡ 7) }
+    ensures refusal_due { (name : List ℕ) (number at : ℕ) → Names (map (λ w. w.now) words.now) name
+        → (Rose (P.app_faults place.old name) (P.app_faults place.new name) → ⊥)
+        → HasRefusal (P.file place.old name) number at
+        → (result.0 ≡ 1) ⊎ (result.0 ≡ 5) ⊎ (result.0 ≡ 7) }
+    ensures check_due { (name : List ℕ) → IsCheck (map (λ w. w.now) words.now) name
+        → (Rose (P.app_faults place.old name) (P.app_faults place.new name) → ⊥)
+        → DeclaresApplication (P.file place.old name)
+        → (result.0 ≡ 0) ⊎ (result.0 ≡ 5) ⊎ (result.0 ≡ 7) }
+    ensures complete { (name : List ℕ) (wire : Option (List ℕ)) (budget : Option ℕ)
+        → IsRun (map (λ w. w.now) words.now) name wire budget
+        → (Rose (P.app_faults place.old name) (P.app_faults place.new name) → ⊥)
+        → (Rose (P.making_faults place.old) (P.making_faults place.new) → ⊥)
+        → (Rose (G.faults gestures.old) (G.faults gestures.new) → ⊥)
+        → (Rose (O.faults out.old) (O.faults out.new) → ⊥)
+        → DeclaresApplication (P.file place.old name) → HasFewLines (G.left gestures.old)
+        → (result.0 ≡ 0) ⊎ (result.0 ≡ 7) }
+    ensures limit_due { (name : List ℕ) (wire : Option (List ℕ)) (budget : Option ℕ)
+        → IsRun (map (λ w. w.now) words.now) name wire budget
+        → (Rose (P.app_faults place.old name) (P.app_faults place.new name) → ⊥)
+        → (Rose (P.making_faults place.old) (P.making_faults place.new) → ⊥)
+        → (Rose (G.faults gestures.old) (G.faults gestures.new) → ⊥)
+        → (Rose (O.faults out.old) (O.faults out.new) → ⊥)
+        → DeclaresApplication (P.file place.old name) → HasManyLines (G.left gestures.old)
+        → (result.0 ≡ 8) ⊎ (result.0 ≡ 7) }
 
-    ensures limit_due { (name : List ℕ) → IsRun (map (λ w. w.now) words.now) name → (Rose (P.app_faults place.old name) (P.app_faults place.new name) → ⊥)
-        → (Rose (G.faults gestures.old) (G.faults gestures.new) → ⊥) → (Rose (O.faults out.old) (O.faults out.new) → ⊥)
-        → DeclaresApplication (P.file place.old name) → HasManyLines (G.left gestures.old) → (result.0 ≡ 8) ⊎ (result.0 ≡ 7) }
-
-    ensures files { (name : List ℕ) → P.file place.new name ≡ P.file place.old name }
-    ensures making { P.making_faults place.new ≡ P.making_faults place.old }
-    ensures writing { P.writing_faults place.new ≡ P.writing_faults place.old }
     ensures place_lent { P.lent place.new ≡ P.lent place.old }
-    ensures place_later { (name : List ℕ)
-        → P.app_faults place.old name ≤ P.app_faults place.new name }
+    ensures lent { G.lent gestures.new ≡ G.lent gestures.old }
     ensures later { G.faults gestures.old ≤ G.faults gestures.new }
     ensures out_lent { O.lent out.new ≡ O.lent out.old }
     ensures out_later { O.faults out.old ≤ O.faults out.new }
@@ -65,6 +91,9 @@ pub fn clim_main<P: Place, G: Source, O: Sink, L: Ledger>(
         How::AppFault => Status(3),
         How::Refused => Status(1),
         How::RefusalCut => Status(5),
+        How::Loads => Status(0),
+        How::LoadsCut => Status(5),
+        How::WireFault => Status(6),
         How::Memory => Status(7),
         How::Ended(End::Done) => Status(0),
         How::Ended(End::ReadFault) => Status(4),

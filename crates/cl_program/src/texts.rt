@@ -1,5 +1,5 @@
 //! The text of an application, read from a place.
-ghost use Rattle.std.specs.Prelude.{◌≡◌, ◌≤◌, ◌<◌, ℕ, List, true, vec_len};
+ghost use Rattle.std.specs.Prelude.{◌≡◌, ◌≢◌, ◌≤◌, ◌<◌, ℕ, List, true, vec_len};
 ghost use Rattle.cl_program.specs.Texts.{PieceOf, PieceRose, ReadsOpened, ReadsText, TextRose};
 
 use cl_outside::{Opened, Place, Took};
@@ -36,6 +36,8 @@ enum PieceRead {
 /// Reads the file of this name to its end, or up to 1,048,577 bytes.
 pub fn read_text<P: Place>(alloc: Global, place: &mut P, name: &str) -> TextRead
     ensures text { ReadsText (P.file place.old name.now) result }
+    ensures other_faults { P.by_name place.old ≡ true → (other : List ℕ) → other ≢ name.now
+        → P.app_faults place.new other ≡ P.app_faults place.old other }
     ensures cause { TextRose (P.app_faults place.old name.now) (P.app_faults place.new name.now)
         result }
     ensures files { (other : List ℕ) → P.file place.new other ≡ P.file place.old other }
@@ -43,6 +45,9 @@ pub fn read_text<P: Place>(alloc: Global, place: &mut P, name: &str) -> TextRead
     ensures lent { P.lent place.new ≡ P.lent place.old }
     ensures making { P.making_faults place.new ≡ P.making_faults place.old }
     ensures writing { P.writing_faults place.new ≡ P.writing_faults place.old }
+    ensures taken { P.taken place.new ≡ P.taken place.old }
+    ensures tells { P.tells place.new ≡ P.tells place.old }
+    ensures by_name { P.by_name place.new ≡ P.by_name place.old }
 {
     match place.open_source(name) {
         Opened::Done => read_opened(alloc, place),
@@ -55,6 +60,8 @@ pub fn read_text<P: Place>(alloc: Global, place: &mut P, name: &str) -> TextRead
 fn read_opened<P: Place>(alloc: Global, place: &mut P) -> TextRead
     requires { P.opened place.old ≡ true }
     ensures text { ReadsOpened (P.left place.old) (P.left place.new) result }
+    ensures other_faults { P.by_name place.old ≡ true → (other : List ℕ)
+        → (P.reads place.old other → ⊥) → P.app_faults place.new other ≡ P.app_faults place.old other }
     ensures cause { (name : List ℕ) → P.reads place.old name
         → TextRose (P.app_faults place.old name) (P.app_faults place.new name) result }
     ensures files { (other : List ℕ) → P.file place.new other ≡ P.file place.old other }
@@ -62,6 +69,9 @@ fn read_opened<P: Place>(alloc: Global, place: &mut P) -> TextRead
     ensures lent { P.lent place.new ≡ P.lent place.old }
     ensures making { P.making_faults place.new ≡ P.making_faults place.old }
     ensures writing { P.writing_faults place.new ≡ P.writing_faults place.old }
+    ensures taken { P.taken place.new ≡ P.taken place.old }
+    ensures tells { P.tells place.new ≡ P.tells place.old }
+    ensures by_name { P.by_name place.new ≡ P.by_name place.old }
 {
     let mut text = Vec::new(alloc);
     'pieces: while text.len() < MOST_BYTES {
@@ -88,8 +98,14 @@ fn read_piece<P: Place>(place: &mut P, text: &mut Vec<u8>) -> PieceRead
     ensures lent { P.lent place.new ≡ P.lent place.old }
     ensures making { P.making_faults place.new ≡ P.making_faults place.old }
     ensures writing { P.writing_faults place.new ≡ P.writing_faults place.old }
+    ensures taken { P.taken place.new ≡ P.taken place.old }
+    ensures tells { P.tells place.new ≡ P.tells place.old }
+    ensures by_name { P.by_name place.new ≡ P.by_name place.old }
     ensures opened { P.opened place.new ≡ true }
     ensures reads { (name : List ℕ) → P.reads place.old name → P.reads place.new name }
+    ensures reads_alone { (name : List ℕ) → P.reads place.new name → P.reads place.old name }
+    ensures other_faults { P.by_name place.old ≡ true → (other : List ℕ)
+        → (P.reads place.old other → ⊥) → P.app_faults place.new other ≡ P.app_faults place.old other }
 {
     let mut buf = [0; PIECE];
     let room = (MOST_BYTES - text.len()).min(PIECE);

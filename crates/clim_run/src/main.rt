@@ -2,12 +2,15 @@
 //! replies to standard output.
 #![tactic(auto)]
 
-ghost use Rattle.std.specs.Prelude.{◌≡◌, ◌≤◌, ◌⊎◌, ℕ, IfOk, List, map, string_bytes};
+ghost use Rattle.std.specs.Prelude.{◌≡◌, ◌⊎◌, ℕ, IfOk, List, Option, map, string_bytes};
 ghost use Rattle.std.specs.Process.{exit_status};
+ghost use Rattle.cl_frame.specs.Sending.{wire_of};
+ghost use Rattle.cl_invocation.specs.Words.{invocation_of};
 ghost use Rattle.cl_outside.specs.Causes.{Rose};
-ghost use Rattle.cl_program.specs.Command.{IsNoCommand, IsRun};
-ghost use Rattle.cl_program.specs.Run.{streams};
+ghost use Rattle.cl_program.specs.Command.{IsCheck, IsNoCommand, IsRun, Names};
+ghost use Rattle.cl_program.specs.Commands.{KeptBy};
 ghost use Rattle.cl_program.specs.Statuses.{DeclaresApplication, EndsWith, HasFewLines, HasManyLines, HasRefusal};
+ghost use Rattle.cl_program.specs.Surroundings.{placed, streams};
 
 use cl_outside::{FilePlace, Place, ReaderSource, Sink, Source, WriterSink, own_steps};
 use cl_program::{Status, clim_main};
@@ -51,32 +54,51 @@ fn run<P: Place, G: Source, O: Sink>(
     gestures: &mut G,
     out: &mut O,
 ) -> ExitCode
-    ensures ends { (spent : ℕ) × EndsWith (map (λ w. w.now) words.now) (P.file place.old)
-        (P.app_faults place.old) (P.app_faults place.new) (streams (G.left gestures.old)
-        (G.faults gestures.old) (O.taken out.old) (O.faults out.old) 0)
-        (streams (G.left gestures.new) (G.faults gestures.new) (O.taken out.new) (O.faults out.new)
-        spent) (exit_status result) }
+    ensures ends { (spent : ℕ) × EndsWith (map (λ w. w.now) words.now) (placed (P.file place.old)
+        (P.app_faults place.old) (P.making_faults place.old)
+        (wire_of (P.taken place.old) (P.writing_faults place.old) (P.tells place.old)))
+        (placed (P.file place.new) (P.app_faults place.new) (P.making_faults place.new)
+        (wire_of (P.taken place.new) (P.writing_faults place.new) (P.tells place.new)))
+        (streams (G.left gestures.old) (G.faults gestures.old) (O.taken out.old) (O.faults out.old)
+        0) (streams (G.left gestures.new) (G.faults gestures.new) (O.taken out.new)
+        (O.faults out.new) spent) (exit_status result) }
+    ensures keeps { KeptBy (invocation_of (map (λ w. w.now) words.now)) (P.by_name place.old)
+        (placed (P.file place.old) (P.app_faults place.old) (P.making_faults place.old)
+        (wire_of (P.taken place.old) (P.writing_faults place.old) (P.tells place.old)))
+        (placed (P.file place.new) (P.app_faults place.new) (P.making_faults place.new)
+        (wire_of (P.taken place.new) (P.writing_faults place.new) (P.tells place.new))) }
+
+    // When they are due.
     ensures usage_due { IsNoCommand (map (λ w. w.now) words.now)
-        → (exit_status result ≡ 2) ⊎ (exit_status result ≡ 5) }
-    ensures refusal_due { (name : List ℕ) (number at : ℕ) → IsRun (map (λ w. w.now) words.now) name
+        → (exit_status result ≡ 2) ⊎ (exit_status result ≡ 5) ⊎ (exit_status result ≡ 7) }
+    ensures refusal_due { (name : List ℕ) (number at : ℕ) → Names (map (λ w. w.now) words.now) name
         → (Rose (P.app_faults place.old name) (P.app_faults place.new name) → ⊥)
         → HasRefusal (P.file place.old name) number at
         → (exit_status result ≡ 1) ⊎ (exit_status result ≡ 5) ⊎ (exit_status result ≡ 7) }
-    ensures complete { (name : List ℕ) → IsRun (map (λ w. w.now) words.now) name
+    ensures check_due { (name : List ℕ) → IsCheck (map (λ w. w.now) words.now) name
         → (Rose (P.app_faults place.old name) (P.app_faults place.new name) → ⊥)
+        → DeclaresApplication (P.file place.old name)
+        → (exit_status result ≡ 0) ⊎ (exit_status result ≡ 5) ⊎ (exit_status result ≡ 7) }
+    ensures complete { (name : List ℕ) (wire : Option (List ℕ)) (budget : Option ℕ)
+        → IsRun (map (λ w. w.now) words.now) name wire budget
+        → (Rose (P.app_faults place.old name) (P.app_faults place.new name) → ⊥)
+        → (Rose (P.making_faults place.old) (P.making_faults place.new) → ⊥)
         → (Rose (G.faults gestures.old) (G.faults gestures.new) → ⊥)
         → (Rose (O.faults out.old) (O.faults out.new) → ⊥)
         → DeclaresApplication (P.file place.old name) → HasFewLines (G.left gestures.old)
         → (exit_status result ≡ 0) ⊎ (exit_status result ≡ 7) }
-    ensures limit_due { (name : List ℕ) → IsRun (map (λ w. w.now) words.now) name
+    ensures limit_due { (name : List ℕ) (wire : Option (List ℕ)) (budget : Option ℕ)
+        → IsRun (map (λ w. w.now) words.now) name wire budget
         → (Rose (P.app_faults place.old name) (P.app_faults place.new name) → ⊥)
+        → (Rose (P.making_faults place.old) (P.making_faults place.new) → ⊥)
         → (Rose (G.faults gestures.old) (G.faults gestures.new) → ⊥)
         → (Rose (O.faults out.old) (O.faults out.new) → ⊥)
         → DeclaresApplication (P.file place.old name) → HasManyLines (G.left gestures.old)
         → (exit_status result ≡ 8) ⊎ (exit_status result ≡ 7) }
-    ensures files { (name : List ℕ) → P.file place.new name ≡ P.file place.old name }
-    ensures making { P.making_faults place.new ≡ P.making_faults place.old }
-    ensures writing { P.writing_faults place.new ≡ P.writing_faults place.old }
+
+    ensures place_lent { P.lent place.new ≡ P.lent place.old }
+    ensures lent { G.lent gestures.new ≡ G.lent gestures.old }
+    ensures out_lent { O.lent out.new ≡ O.lent out.old }
 {
     let mut steps = own_steps();
     exit_code(clim_main(alloc, words, place, gestures, out, &mut steps))

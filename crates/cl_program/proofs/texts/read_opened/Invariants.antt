@@ -14,6 +14,12 @@ invariant-pieces g l = record {
   lent : g.P.Place.lent l.place ≡ g.P.Place.lent l.initial.place;
   making : g.P.Place.making_faults l.place ≡ g.P.Place.making_faults l.initial.place;
   writing : g.P.Place.writing_faults l.place ≡ g.P.Place.writing_faults l.initial.place;
+  taken : g.P.Place.taken l.place ≡ g.P.Place.taken l.initial.place;
+  tells : g.P.Place.tells l.place ≡ g.P.Place.tells l.initial.place;
+  by_name : g.P.Place.by_name l.place ≡ g.P.Place.by_name l.initial.place;
+  reads_alone : (name : List ℕ) → g.P.Place.reads l.place name → g.P.Place.reads l.initial.place name;
+  other_faults : g.P.Place.by_name l.initial.place ≡ true → (other : List ℕ) → (g.P.Place.reads l.initial.place other → ⊥)
+      → g.P.Place.app_faults l.place other ≡ g.P.Place.app_faults l.initial.place other;
 }
 
 abbrev pub decreases-pieces : goal.decreases-pieces

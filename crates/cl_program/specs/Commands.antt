@@ -1,0 +1,102 @@
+-- What the parts of a run come to: of a text that was read, and of an application that was loaded.
+use Rattle.std.specs.Prelude.{◌≡◌, ◌≢◌, ◌≤◌, ◌⊎◌, ℕ, Bool, true, List, Option, None, Some}
+use Rattle.cl_application.specs.declared.applications.App.{App}
+use Rattle.cl_eval.specs.declared.metering.Limits.{Limits}
+use Rattle.cl_frame.specs.Ground.{Ground, ground}
+use Rattle.cl_frame.specs.Sending.{Wire}
+use Rattle.cl_forms.specs.declared.refusals.LoadRefusal.{LoadRefusal}
+use Rattle.cl_forms.specs.declared.refusals.LoadRefusal.TheVariants as refusal
+use Rattle.cl_load.specs.Application.{IsApplication, IsRefusal}
+use Rattle.cl_outside.specs.Causes.{Rose}
+use Rattle.cl_invocation.specs.Words.{Invocation, run, check}
+use Rattle.cl_session.specs.declared.serving.End.{End}
+use Rattle.cl_program.specs.Command.{loads_line, refusal_line}
+use Rattle.cl_program.specs.Run.{EndsAs, RanOut, SaysCut, SaysWhole}
+use Rattle.cl_program.specs.Surroundings.{Placed, Streams, UsesDevice}
+use Rattle.cl_program.specs.declared.running.How.{How}
+use Rattle.cl_program.specs.declared.running.How.TheVariants as how
+
+-- ---- what stays of a place
+
+-- All but the file of a wire and its counts, where there is one, and the faults of the application's name: each file that is told, and every
+-- one where there is no wire; where each name has a count of its own, those of other names.
+pub record KeepsFiles (application : List ℕ) (wire : Option (List ℕ)) (by_name : Bool) (old new : Placed) : Type 0 where
+  pub told_files : (name : List ℕ) (file : Option (List ℕ)) → wire ≢ Some name → old.file name ≡ Some file → new.file name ≡ Some file
+  pub files : wire ≡ None → (name : List ℕ) → new.file name ≡ old.file name
+  pub making : wire ≡ None → new.making_faults ≡ old.making_faults
+  pub making_later : old.making_faults ≤ new.making_faults
+  pub sink : wire ≡ None → new.sink ≡ old.sink
+  pub sink_later : old.sink.faults ≤ new.sink.faults
+  pub told : new.sink.told ≡ old.sink.told
+  pub faults_later : (name : List ℕ) → old.app_faults name ≤ new.app_faults name
+  pub other_faults : by_name ≡ true → (name : List ℕ) → name ≢ application → new.app_faults name ≡ old.app_faults name
+
+-- what stays of it in a run of these words; all, where they are no command
+abbrev pub KeptBy : Option Invocation → (by_name : Bool) → (old new : Placed) → Type 0
+KeptBy None by_name old new = new ≡ old
+KeptBy (Some (run application wire budget)) by_name old new = KeepsFiles application wire by_name old new
+KeptBy (Some (check application)) by_name old new = KeepsFiles application None by_name old new
+
+-- ---- an application that was loaded
+
+-- the gestures were served on the device of the run
+pub record Went (wire : Option (List ℕ)) (g : Ground) (place_old place_new : Placed) (old new : Streams) (how : End) : Type 0 where
+  pub device_old : Wire
+  pub device_new : Wire
+  pub uses : UsesDevice wire place_old place_new device_old device_new
+  pub went : EndsAs g old new device_old device_new how
+
+abbrev pub RanOn : (wire : Option (List ℕ)) → Ground → (place_old place_new : Placed) → (old new : Streams) → How → Type 0
+RanOn wire g place_old place_new old new how.Usage = ⊥
+RanOn wire g place_old place_new old new how.UsageCut = ⊥
+RanOn wire g place_old place_new old new how.AppFault = ⊥
+RanOn wire g place_old place_new old new how.Refused = ⊥
+RanOn wire g place_old place_new old new how.RefusalCut = ⊥
+RanOn wire g place_old place_new old new how.Loads = ⊥
+RanOn wire g place_old place_new old new how.LoadsCut = ⊥
+RanOn wire g place_old place_new old new how.WireFault =
+    (name : List ℕ) × (wire ≡ Some name) × Rose place_old.making_faults place_new.making_faults × (new ≡ old)
+RanOn wire g place_old place_new old new how.Memory = (new ≡ old) ⊎ RanOut g old new
+RanOn wire g place_old place_new old new (how.Ended end) = Went wire g place_old place_new old new end
+
+-- ---- a text that was read
+
+-- this number and this offset are those of its refusal, and its line was said so
+abbrev pub RefusesText : (text : List ℕ) → (said : List ℕ → Type 0) → Type 0
+RefusesText text said = (number : ℕ) × (at : ℕ) × IsRefusal text number at × said (refusal_line number at)
+
+-- it declares an application, of which this holds on its ground
+abbrev pub OfApplication : (text : List ℕ) → (limits : Limits) → (Ground → Type 0) → Type 0
+OfApplication text limits P = (app : App) × IsApplication text app × P (ground app limits)
+
+-- a run of a text
+abbrev pub RanText : (text : List ℕ) → (wire : Option (List ℕ)) → Limits → (place_old place_new : Placed) → (old new : Streams) → How → Type 0
+RanText text wire limits place_old place_new old new how.Usage = ⊥
+RanText text wire limits place_old place_new old new how.UsageCut = ⊥
+RanText text wire limits place_old place_new old new how.AppFault = ⊥
+RanText text wire limits place_old place_new old new how.Refused = RefusesText text (SaysWhole old new)
+RanText text wire limits place_old place_new old new how.RefusalCut = RefusesText text (SaysCut old new)
+RanText text wire limits place_old place_new old new how.Loads = ⊥
+RanText text wire limits place_old place_new old new how.LoadsCut = ⊥
+RanText text wire limits place_old place_new old new how.WireFault = OfApplication text limits (λ g. RanOn wire g place_old place_new old new how.WireFault)
+RanText text wire limits place_old place_new old new how.Memory = (new ≡ old) ⊎ OfApplication text limits (λ g. RanOut g old new)
+RanText text wire limits place_old place_new old new (how.Ended end) = OfApplication text limits (λ g. Went wire g place_old place_new old new end)
+
+-- a text that declares an application, or has a refusal; nothing is said where memory was wanting
+abbrev pub Judges : (text : List ℕ) → Option LoadRefusal → Type 0
+Judges text None = (app : App) × IsApplication text app
+Judges text (Some (refusal.Refused number at)) = IsRefusal text number at
+Judges text (Some refusal.Memory) = Unit {0}
+
+-- a check of a text
+abbrev pub Checked : (text : List ℕ) → (old new : Streams) → How → Type 0
+Checked text old new how.Usage = ⊥
+Checked text old new how.UsageCut = ⊥
+Checked text old new how.AppFault = ⊥
+Checked text old new how.Refused = RefusesText text (SaysWhole old new)
+Checked text old new how.RefusalCut = RefusesText text (SaysCut old new)
+Checked text old new how.Loads = (app : App) × IsApplication text app × SaysWhole old new loads_line
+Checked text old new how.LoadsCut = (app : App) × IsApplication text app × SaysCut old new loads_line
+Checked text old new how.WireFault = ⊥
+Checked text old new how.Memory = new ≡ old
+Checked text old new (how.Ended end) = ⊥

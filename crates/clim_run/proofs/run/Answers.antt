@@ -1,0 +1,4 @@
+use Rattle.clim_run.proofs.run.Goals as goal
+
+pub returns-clause-complete : goal.returns-clause-complete
+returns-clause-complete g c = rw c.exit_code.ensures c.clim_main.ensures.complete
