@@ -8,6 +8,7 @@ mod gesture;
 mod medium;
 mod outside;
 mod phases;
+mod playing;
 mod raster;
 mod reading;
 mod records;
