@@ -2,7 +2,6 @@
 use Rattle.std.proofs.Common.{refl, ◌≡◌, ◌≢◌, ◌≤◌, ℕ, List, sym, ◌∙◌, ap, Option, Some, None, Bool, true, inl, inr, subst, arith}
 use Rattle.std.specs.Prelude.{option_map}
 use Rattle.cl_application.specs.declared.applications.App.{App}
-use Rattle.cl_eval.specs.declared.metering.Limits.{Limits}
 use Rattle.cl_frame.specs.Ground.{Ground, ground}
 use Rattle.cl_frame.specs.Sending.{Wire, wire_of}
 use Rattle.cl_invocation.specs.Words.{Invocation, run, check, invocation_of}
@@ -10,8 +9,8 @@ use Rattle.cl_load.specs.Application.{IsApplication}
 use Rattle.cl_outside.specs.Causes.{Rose}
 use Rattle.cl_outside.specs.Place.{IsTold}
 use Rattle.cl_program.specs.Command.{IsCheck, IsRun, Names, application_of}
-use Rattle.cl_program.specs.Commands.{Checked, KeepsFiles, RanOn, RanText, Went}
-use Rattle.cl_program.specs.Run.{IsRefused, Opens, Ran, RanLoaded, RanOutServing, limits_of}
+use Rattle.cl_program.specs.Commands.{Checked, KeepsFiles, RanOn, RanText}
+use Rattle.cl_program.specs.Run.{Opens, Ran, RanLoaded, RanOutServing, limits_of}
 use Rattle.cl_program.specs.Surroundings.{IsMade, Placed, Streams, UsesDevice, no_device}
 use Rattle.cl_program.specs.Texts.{IsTextOf}
 use Rattle.cl_program.specs.declared.running.How.{How}

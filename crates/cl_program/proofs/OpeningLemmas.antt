@@ -1,5 +1,5 @@
 -- The opening of an application, and what stays of a place.
-use Rattle.std.proofs.Common.{◌≡◌, ◌≢◌, ◌≤◌, ℕ, List, Option, Some, None, Bool, true, false, not, refl, sym, ◌∙◌, ap, subst, arith}
+use Rattle.std.proofs.Common.{◌≡◌, List, Bool, false, not, ◌∙◌, ap, subst}
 use Rattle.cl_application.specs.declared.applications.App.{App}
 use Rattle.cl_eval.specs.Slots.{Slots}
 use Rattle.cl_eval.specs.declared.metering.Limits.{Limits}
@@ -10,7 +10,7 @@ use Rattle.cl_load.specs.Opening.{opening_slots}
 use Rattle.cl_outside.specs.Operations.{mended, ops_bytes}
 use Rattle.cl_session.specs.Session.{cost_of_panes, world_of}
 use Rattle.cl_session.specs.Transcript.{RoseIf}
-use Rattle.cl_session.specs.World.{World, opening}
+use Rattle.cl_session.specs.World.{opening}
 use Rattle.cl_session.specs.declared.sessions.Session.{Session}
 use Rattle.cl_program.specs.Run.{OpensOn, opening_cost, opening_world}
 

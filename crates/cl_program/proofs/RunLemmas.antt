@@ -1,5 +1,5 @@
 -- How serving ended, as what a run comes to.
-use Rattle.std.proofs.Common.{refl, ◌≡◌, ◌≢◌, ◌<◌, ◌≤◌, ℕ, ◌+◌, List, [], ◌++◌, length, sym, ◌∙◌, ap, arith, append-nil, Option, Some, None, Bool, true, false, inl, inr, subst, ◌∷◌}
+use Rattle.std.proofs.Common.{◌≡◌, ◌<◌, ◌≤◌, ℕ, ◌+◌, List, [], ◌++◌, length, sym, ◌∙◌, ap, arith, append-nil, Option, Bool, true, false, inl, inr, subst, ◌∷◌}
 use Rattle.std.specs.Io.KnownBytes.{Consumes}
 use Rattle.cl_outside.specs.Causes.{Rose}
 use Rattle.cl_gesture.specs.Lines.{Piece, Reads, AreCut, ended, pieces}

@@ -23,10 +23,6 @@ application_of (check name) = name
 abbrev pub Names : (words : List (List ℕ)) → (name : List ℕ) → Type 0
 Names words name = option_map application_of (invocation_of words) ≡ Some name
 
--- the words name this file as a wire's
-abbrev pub NamesWire : (words : List (List ℕ)) → (name : List ℕ) → Type 0
-NamesWire words name = (application : List ℕ) × (budget : Option ℕ) × IsRun words application (Some name) budget
-
 abbrev pub usage_line : List ℕ
 usage_line = codes "usage: clim_run run APP [--wire NAME] [--budget N] | check APP | bench N" ++ 10 ∷ []
 

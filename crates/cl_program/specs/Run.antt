@@ -28,10 +28,6 @@ use Rattle.cl_program.specs.declared.running.How.TheVariants as how
 abbrev pub limits_of : (budget : Option ℕ) → Limits
 limits_of budget = record { budget = unwrap_or budget 1000000; depth = 512 }
 
--- what an application is run on
-abbrev pub run_ground : App → (budget : Option ℕ) → Ground
-run_ground app budget = ground app (limits_of budget)
-
 -- ---- the opening
 
 -- the world at the opening of an application
@@ -74,9 +70,6 @@ pub record Opens (words : List (List ℕ)) (place : Placed) (wire : Option (List
   pub text : List ℕ
   pub of_file : IsTextOf (place.file name) text
   pub declared : IsApplication text g.app
-
-abbrev pub IsCommand : List (List ℕ) → Type 0
-IsCommand words = (name : List ℕ) × Names words name
 
 -- the words name a file, and its text has this refusal at this offset
 pub record IsRefused (words : List (List ℕ)) (place : Placed) (number at : ℕ) : Type 0 where

@@ -1,5 +1,5 @@
 -- What surrounds a run of the program: a place with its files, a source of gestures, an output, a ledger, and the device of its screen.
-use Rattle.std.specs.Prelude.{◌≡◌, ℕ, Bool, true, false, List, [], Option, None, Some}
+use Rattle.std.specs.Prelude.{◌≡◌, ℕ, true, false, List, [], Option, None, Some}
 use Rattle.cl_frame.specs.Sending.{Wire, wire_of}
 use Rattle.cl_outside.specs.Place.{IsTold}
 

@@ -1,4 +1,4 @@
-use Rattle.std.proofs.Common.{◌≡◌, ◌∙◌, ap, arith, refl, subst, sym, option_map, Option, None, Some, List, ℕ, rules}
+use Rattle.std.proofs.Common.{◌∙◌, ap, arith, refl, subst, sym, option_map, Option, List, ℕ}
 use Rattle.cl_outside.specs.Place.{IsTold}
 use denote.Bor.{Bor}
 use Rattle.cl_frame.specs.Ground.{ground}

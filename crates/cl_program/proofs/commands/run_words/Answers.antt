@@ -1,4 +1,4 @@
-use Rattle.std.proofs.Common.{◌≡◌, ◌∙◌, ap, map, option_map, refl, subst, sym, Option, Some, List, ℕ, rules}
+use Rattle.std.proofs.Common.{◌≡◌, ◌∙◌, ap, map, option_map, subst, sym, Option, Some, List, ℕ, rules}
 use denote.Bor.{Bor}
 use Rattle.cl_invocation.specs.Shown.{invocation}
 use Rattle.cl_invocation.specs.declared.invocation.Invocation.TheVariants as variant

@@ -1,4 +1,4 @@
-use Rattle.std.proofs.Common.{◌≡◌, ◌+◌, ◌∙◌, refl, ap}
+use Rattle.std.proofs.Common.{◌≡◌, ◌+◌, ◌∙◌, ap}
 use Rattle.cl_frame.specs.Ground.{ground}
 use Rattle.cl_load.specs.Opening.{opening_slots}
 use Rattle.cl_outside.specs.Lent.{Lent}
