@@ -3,13 +3,13 @@ use Rattle.std.specs.Prelude.{ℕ, List, [], Option, Some, None}
 use Rattle.cl_syntax.specs.ShapeTree.{ShapeTree}
 use Rattle.cl_table.specs.Names.{named}
 use Rattle.cl_application.specs.declared.applications.App.{App}
-use Rattle.cl_application.specs.declared.declarations.RecordDecl.{RecordDecl}
+use Rattle.cl_syntax.specs.declared.type_decls.RecordDecl.{RecordDecl}
 use Rattle.cl_application.specs.declared.declarations.FunctionDecl.{FunctionDecl}
 use Rattle.cl_application.specs.declared.declarations.DisplayDecl.{DisplayDecl}
 use Rattle.cl_application.specs.declared.declarations.CommandDecl.{CommandDecl}
 use Rattle.cl_application.specs.declared.declarations.SlotDecl.{SlotDecl}
 use Rattle.cl_application.specs.declared.declarations.PaneDecl.{PaneDecl}
-use Rattle.cl_syntax.specs.declared.type_specs.TypeSpec.{TypeSpec}
+use Rattle.cl_syntax.specs.TypeSpecTree.{TypeSpecTree}
 
 abbrev pub record_named : List ℕ → App → Option RecordDecl
 record_named x app = named x app.records
@@ -23,12 +23,12 @@ display_named x app = named x app.displays
 abbrev pub command_named : List ℕ → App → Option CommandDecl
 command_named x app = named x app.commands
 
-abbrev pub type_of_slot : Option SlotDecl → Option TypeSpec
+abbrev pub type_of_slot : Option SlotDecl → Option TypeSpecTree
 type_of_slot None = None
 type_of_slot (Some d) = Some d.spec
 
 -- the type of the slot of that name; None where there is no such slot
-abbrev pub slot_type : List ℕ → App → Option TypeSpec
+abbrev pub slot_type : List ℕ → App → Option TypeSpecTree
 slot_type x app = type_of_slot (named x app.frame.slots)
 
 abbrev pub body_of : Option DisplayDecl → List ShapeTree

@@ -4,9 +4,8 @@ ghost use Rattle.cl_application.specs.App.{record_named, function_named, display
 
 use crate::declarations::{
     CommandDecl, Commands, DisplayDecl, Displays, FrameDecl, FunctionDecl, Functions, PaneDecl,
-    RecordDecl, Records,
 };
-use cl_syntax::{Shape, TypeSpec};
+use cl_syntax::{RecordDecl, Records, Shape, TypeSpec};
 use cl_value::Text;
 
 /// An application: what its text declares.

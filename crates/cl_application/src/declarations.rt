@@ -3,14 +3,6 @@ use cl_syntax::{Acts, Expr, Shapes, TypeSpec};
 use cl_table::{Declared, Names, Table};
 use cl_value::Text;
 
-/// `(define-record NAME FIELD ...)`
-#[derive(Drop)]
-pub struct RecordDecl {
-    pub name: Text,
-    pub fields: Names,
-    pub at: u32,
-}
-
 /// `(define-function NAME (PARAMETER ...) BODY)`
 #[derive(Drop)]
 pub struct FunctionDecl {
@@ -29,9 +21,6 @@ pub struct DisplayDecl {
     pub at: u32,
 }
 
-/// The records of an application by name.
-pub type Records = Table<RecordDecl>;
-
 /// The functions of an application by name.
 pub type Functions = Table<FunctionDecl>;
 
@@ -46,14 +35,6 @@ pub type SlotDecls = Table<SlotDecl>;
 
 /// The panes of a frame by name.
 pub type PaneDecls = Table<PaneDecl>;
-
-impl Declared for RecordDecl {
-    ghost own_name = { λ d. d.name };
-
-    fn name(&self) -> &Text {
-        &self.name
-    }
-}
 
 impl Declared for FunctionDecl {
     ghost own_name = { λ d. d.name };

@@ -7,5 +7,5 @@ mod declarations;
 pub use applications::App;
 pub use declarations::{
     CommandDecl, Commands, DisplayDecl, Displays, FrameDecl, FunctionDecl, Functions, PaneDecl,
-    PaneDecls, RecordDecl, Records, SlotDecl, SlotDecls,
+    PaneDecls, SlotDecl, SlotDecls,
 };

@@ -27,10 +27,7 @@ pub fn parse_type(
         (parse_type reader.now.signatures.now (datum_of datum.now) notes.old) }
 {
     let spec = parse_specifier(reader, datum, notes)?;
-    let noted = TypeSpec {
-        name: spec.name.copy()?,
-    };
-    notes.place(noted, Names::new(reader.alloc), datum.offset())?;
+    notes.place(spec.copy()?, Names::new(reader.alloc), datum.offset())?;
     Ok(spec)
 }
 
@@ -165,7 +162,7 @@ fn parse_plain_type(name: &Text, at: u32, arguments: &[Datum]) -> Result<TypeSpe
         → Gives itself result notes (parse_plain_type name.now at (map datum_of arguments.now) notes) }
 {
     match arguments {
-        [] => Ok(TypeSpec { name: name.copy()? }),
+        [] => Ok(TypeSpec::plain(name.copy()?)),
         [_, ..] => Err(LoadRefusal::Refused(6, at)),
     }
 }
@@ -179,7 +176,7 @@ fn parse_ranged_type(
         → Gives itself result notes (parse_ranged_type name.now name_at (map datum_of arguments.now) notes) }
 {
     match arguments {
-        [] => Ok(TypeSpec { name: name.copy()? }),
+        [] => Ok(TypeSpec::plain(name.copy()?)),
         [_, ..] => Err(LoadRefusal::Refused(0, name_at)),
     }
 }
@@ -202,7 +199,7 @@ fn parse_record_type(
         None => {
             let name = name.copy()?;
             notes.note(false, name_at);
-            Ok(TypeSpec { name })
+            Ok(TypeSpec::plain(name))
         }
     }
 }

@@ -2,7 +2,7 @@
 use Rattle.std.proofs.Common.{◌≡◌, ℕ, Bool, true, false, if◌then◌else◌, List, [], ◌∷◌, ◌++◌, refl}
 use Rattle.std.specs.Prelude.{Option, Some, None}
 use Rattle.std.proofs.Math.Path.{subst}
-use Rattle.cl_syntax.specs.declared.type_specs.TypeSpec.{TypeSpec}
+use Rattle.cl_syntax.specs.TypeSpecTree.{TypeSpecTree, plain_type}
 use Rattle.cl_forms.specs.Datum.{Datum, number, literal, word, quoted, stray, list, in_order, offset}
 use Rattle.cl_forms.specs.Keys.{Keyed, keyed_pairs}
 use Rattle.cl_forms.specs.Naming.{name_in}
@@ -11,7 +11,7 @@ use Rattle.cl_words.specs.TypeNames.{is_plain_type, is_ranged_type, is_later_typ
 use Rattle.cl_words.specs.declared.signatures.Signatures.{Signatures}
 use Rattle.cl_expressions.specs.Load.{Load, refuse, placed}
 use Rattle.cl_bodies.specs.PlannedKeys.{no_keys}
-use Rattle.cl_bodies.specs.SlotTypes.{type_named, parse_plain_type, parse_record_type, parse_ranged_type, parse_type_named, parse_type_head}
+use Rattle.cl_bodies.specs.SlotTypes.{parse_plain_type, parse_record_type, parse_ranged_type, parse_type_named, parse_type_head}
 use Rattle.cl_bodies.specs.SlotTypes.{parse_type_parts, option_keys, parse_type_options, parse_type_first, parse_type_list, parse_specifier}
 use Rattle.cl_bodies.specs.SlotTypes.{parse_type}
 use Rattle.cl_grammar.proofs.Judging.{Any, noted_none}
@@ -45,7 +45,7 @@ module _ (w : Signatures) where
 
   own_judged : (o : Option (Option ℕ)) (x : List ℕ) (name_at at : ℕ) (ds : List Datum) → record_in w x ≡ o
       → Judges w (own_type_seen o x name_at at ds) Any (parse_record_type o x name_at at ds)
-  own_judged None x name_at at ds e = then_given w (λ u. type_named x) (type_name_judged w x name_at e)
+  own_judged None x name_at at ds e = then_given w (λ u. plain_type x) (type_name_judged w x name_at e)
   own_judged (Some fields) x name_at at ds e = plain_judged x at ds
 
   named_judged : (x : List ℕ) (name_at at : ℕ) (ds : List Datum) → Judges w (named_type_seen w x name_at at ds) Any (parse_type_named w x name_at at ds)
@@ -55,7 +55,7 @@ module _ (w : Signatures) where
       (chosen (is_later_type x) (refused_first w 0 name_at []) (own_judged (record_in w x) x name_at at ds refl)))
 
   found_judged : (o : Option (List ℕ)) (name_at at : ℕ) (ds : List Datum)
-      → Judges w {A = TypeSpec} (elim o [ None ↦ wrong at | Some x ↦ named_type_seen w x name_at at ds ]) Any
+      → Judges w {A = TypeSpecTree} (elim o [ None ↦ wrong at | Some x ↦ named_type_seen w x name_at at ds ]) Any
       (elim o [ None ↦ refuse 6 at | Some x ↦ parse_type_named w x name_at at ds ])
   found_judged None name_at at ds = is_wrong at
   found_judged (Some x) name_at at ds = named_judged x name_at at ds
@@ -92,7 +92,7 @@ module _ (w : Signatures) where
   specifier_judged (quoted x at name_at) = is_wrong at
   specifier_judged (stray at) = is_wrong at
 
-  placed_judged : (t : TypeSpec) (parameters : List (List ℕ)) (at : ℕ) → Judges w [] Any (placed t parameters at)
+  placed_judged : (t : TypeSpecTree) (parameters : List (List ℕ)) (at : ℕ) → Judges w [] Any (placed t parameters at)
   placed_judged t parameters at = record {
     judged = λ from to lie u. (tt, λ n o b. b, noted_none (Missing w []) u.unknown (λ o b. b));
   }

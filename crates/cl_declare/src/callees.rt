@@ -5,10 +5,11 @@ ghost use Rattle.cl_expressions.specs.Load.{Gives, Notes as Noted, itself};
 ghost use Rattle.cl_declare.specs.Callees.{parse_record, parse_function, parse_display};
 
 use crate::names::{is_name_list, names_in};
-use cl_application::{DisplayDecl, FunctionDecl, RecordDecl};
+use cl_application::{DisplayDecl, FunctionDecl};
 use cl_bodies::parse_shapes;
 use cl_expressions::{Notes, Reader, Scope, parse_expression};
 use cl_forms::{Datum, LoadRefusal, are_names, name_in, symbol_text};
+use cl_syntax::RecordDecl;
 use std::alloc::Global;
 
 /// `(define-record NAME FIELD FIELD ...)`

@@ -10,9 +10,10 @@ use crate::callees::{parse_display, parse_function, parse_record};
 use crate::commands::parse_command;
 use crate::in_order::FrameForms;
 use crate::sections::parse_frame;
-use cl_application::{Commands, Displays, Functions, Records};
+use cl_application::{Commands, Displays, Functions};
 use cl_expressions::{Notes, Reader};
 use cl_forms::{Datum, DeclarationKind, LoadRefusal, Outer, OuterKind};
+use cl_syntax::Records;
 
 /// What a text declares: tables by name, of two of one name the first, and all frames in their order.
 #[derive(Drop)]

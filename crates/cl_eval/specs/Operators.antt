@@ -12,7 +12,7 @@ use Rattle.cl_value.specs.Data.{Data, int, bool, text, symbol, null, list, rec, 
 use Rattle.cl_table.specs.Names.{place_of}
 use Rattle.cl_application.specs.App.{record_named}
 use Rattle.cl_application.specs.declared.applications.App.{App}
-use Rattle.cl_application.specs.declared.declarations.RecordDecl.{RecordDecl}
+use Rattle.cl_syntax.specs.declared.type_decls.RecordDecl.{RecordDecl}
 use Rattle.cl_syntax.specs.declared.operators.Arithmetic.{Arithmetic}
 use Rattle.cl_syntax.specs.declared.operators.Arithmetic.TheVariants as arithmetic
 use Rattle.cl_syntax.specs.declared.operators.Comparison.{Comparison}

@@ -8,7 +8,7 @@ use Rattle.cl_syntax.specs.ActTree.{ActTree, ActTrees, none, statement}
 use Rattle.cl_syntax.specs.ExprTree.{Bindings}
 use Rattle.cl_application.specs.App.{slot_type}
 use Rattle.cl_application.specs.declared.applications.App.{App}
-use Rattle.cl_syntax.specs.declared.type_specs.TypeSpec.{TypeSpec}
+use Rattle.cl_syntax.specs.TypeSpecTree.{TypeSpecTree}
 use Rattle.cl_eval.specs.declared.effects.Effects.{Effects}
 use Rattle.cl_eval.specs.Outcome.{Run, give, trap, lift, ◌>>=◌}
 use Rattle.cl_eval.specs.Slots.{Slots, Env, put}
@@ -16,14 +16,14 @@ use Rattle.cl_eval.specs.Meaning.{Go, bind_each, entering, truth_of, parts_of_li
 
 -- whether a value is a member of a type
 abbrev pub Member : Type 0
-Member = Data → TypeSpec → Bool
+Member = Data → TypeSpecTree → Bool
 
 -- the meaning of the statements inside, at a level
 abbrev pub Does : Type 0
 Does = ℕ → Env → ActTree → Effects → Run Effects
 
 -- a slot takes members of its type alone
-abbrev pub assigned : Member → List ℕ → Option TypeSpec → Effects → Data → Result Effects ℕ
+abbrev pub assigned : Member → List ℕ → Option TypeSpecTree → Effects → Data → Result Effects ℕ
 assigned member x None s d = Err 1
 assigned member x (Some spec) s d = if member d spec then Ok (record s { slots = put x d s.slots }) else Err 1
 

@@ -4,7 +4,7 @@ ghost use Rattle.cl_value.specs.Data.{Data};
 ghost use Rattle.cl_value.specs.Value.{data_of};
 ghost use Rattle.cl_syntax.specs.ActTree.{act_trees_of};
 ghost use Rattle.cl_syntax.specs.Expr.{bindings_of};
-ghost use Rattle.cl_syntax.specs.declared.type_specs.TypeSpec.{TypeSpec};
+ghost use Rattle.cl_syntax.specs.TypeSpecTree.{TypeSpecTree};
 ghost use Rattle.cl_eval.specs.Outcome.{RisesBy, cost_of};
 ghost use Rattle.cl_eval.specs.Scope.{variables_of};
 ghost use Rattle.cl_eval.specs.Statements.{act_parts, acts_in, for_each, in_turn};
@@ -24,7 +24,7 @@ use cl_value::{Held, Text, Value};
 /// The types of an application.
 pub trait Types {
     // whether a value is a member of a type
-    ghost holds: { Self → Data → TypeSpec → Bool };
+    ghost holds: { Self → Data → TypeSpecTree → Bool };
 
     /// Whether a value is a member of a type, as far as there is memory to find it.
     fn member(&self, value: &Value, spec: &TypeSpec) -> Held

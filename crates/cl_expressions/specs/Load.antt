@@ -1,7 +1,7 @@
 -- The reading of a form: what it is, and what is noted of it; or its first fault.
 use Rattle.std.specs.Prelude.{◌≡◌, ℕ, Bool, true, false, List, [], ◌∷◌, ◌++◌, Option, Some, None, Result, Ok, Err}
-use Rattle.cl_syntax.specs.declared.type_specs.TypeSpec.{TypeSpec}
-use Rattle.cl_expressions.specs.declared.notes.PlacedSpec.{PlacedSpec}
+use Rattle.cl_syntax.specs.TypeSpecTree.{TypeSpecTree}
+use Rattle.cl_syntax.specs.declared.type_decls.PlacedSpec.{PlacedSpec}
 use Rattle.cl_forms.specs.declared.refusals.LoadRefusal.{LoadRefusal}
 use Rattle.cl_forms.specs.declared.refusals.LoadRefusal.TheVariants.{Refused, Memory}
 
@@ -55,12 +55,12 @@ abbrev pub noted : Bool → ℕ → Load (Unit {0})
 noted known at notes = Ok (tt, unless known at notes)
 
 -- a type specifier behind the others
-abbrev pub with_specifier : TypeSpec → List (List ℕ) → ℕ → Notes → Notes
+abbrev pub with_specifier : TypeSpecTree → List (List ℕ) → ℕ → Notes → Notes
 with_specifier spec parameters at notes =
     record notes { specifiers = notes.specifiers ++ record { spec = spec; parameters = parameters; at = at } ∷ [] }
 
 -- a type specifier that was read, the parameters around it, and its offset
-abbrev pub placed : TypeSpec → List (List ℕ) → ℕ → Load (Unit {0})
+abbrev pub placed : TypeSpecTree → List (List ℕ) → ℕ → Load (Unit {0})
 placed spec parameters at notes = Ok (tt, with_specifier spec parameters at notes)
 
 -- what the program answers

@@ -10,6 +10,6 @@ mod scopes;
 
 pub use bindings::{Bindings, is_binding_list, parse_binding, parse_bindings};
 pub use expressions::{parse_each, parse_expression};
-pub use notes::{Notes, PlacedSpec};
+pub use notes::Notes;
 pub use readers::Reader;
 pub use scopes::Scope;

@@ -2,18 +2,10 @@
 ghost use Rattle.std.specs.Prelude.{◌≡◌, ◌++◌, ◌∷◌, [], OnOk};
 ghost use Rattle.cl_expressions.specs.Load.{nothing_noted, unless, with_specifier};
 
-use cl_syntax::TypeSpec;
+use cl_syntax::{PlacedSpec, TypeSpec};
 use cl_table::Names;
 use std::alloc::{AllocError, Global};
 use std::marker::Model;
-
-/// A type specifier that was read, the parameters of the declaration around it, and its offset.
-#[derive(Drop)]
-pub struct PlacedSpec {
-    pub spec: TypeSpec,
-    pub parameters: Names,
-    pub at: u32,
-}
 
 /// What is noted: where the first name stands that is not declared, and the type specifiers in the order
 /// of the text.
@@ -24,9 +16,13 @@ pub struct Notes {
 }
 
 impl Model for Notes {
+    ghost use Rattle.std.specs.Coded.{codes};
+    ghost use Rattle.cl_syntax.specs.TypeSpecTreeCode.{coded_type_spec_tree};
     ghost use Rattle.cl_expressions.specs.Load.{Notes as Noted};
 
     ghost Value = { Noted };
+
+    ghost coded = { Prim.hlevel (codes, coded_type_spec_tree) };
 
     ghost view = { λ n. record { unknown = n.unknown; specifiers = n.specifiers.items } };
 }

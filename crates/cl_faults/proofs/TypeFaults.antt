@@ -2,7 +2,7 @@
 use Rattle.std.proofs.Common.{inl, inr, ℕ, false, List, [], ◌∷◌, refl}
 use Rattle.std.specs.Prelude.{Option, Some, None}
 use Rattle.std.specs.Option.{IfSome}
-use Rattle.cl_syntax.specs.declared.type_specs.TypeSpec.{TypeSpec}
+use Rattle.cl_syntax.specs.TypeSpecTree.{TypeSpecTree, plain_type}
 use Rattle.cl_forms.specs.Datum.{Datum, number, literal, word, quoted, stray, list, in_order, offset}
 use Rattle.cl_expressions.specs.Load.{refuse}
 use Rattle.cl_words.specs.TypeNames.{is_plain_type, is_ranged_type, is_later_type}
@@ -10,7 +10,7 @@ use Rattle.cl_forms.specs.Keys.{Keyed, keyed_pairs}
 use Rattle.cl_forms.specs.Naming.{name_in}
 use Rattle.cl_words.specs.Signatures.{record_in}
 use Rattle.cl_words.specs.declared.signatures.Signatures.{Signatures}
-use Rattle.cl_bodies.specs.SlotTypes.{type_named, parse_plain_type, parse_record_type, parse_ranged_type, parse_type_named, parse_type_head}
+use Rattle.cl_bodies.specs.SlotTypes.{parse_plain_type, parse_record_type, parse_ranged_type, parse_type_named, parse_type_head}
 use Rattle.cl_bodies.specs.SlotTypes.{parse_type_parts, option_keys, parse_type_options, parse_type_first, parse_type_list, parse_specifier}
 use Rattle.cl_bodies.specs.SlotTypes.{parse_type}
 use Rattle.cl_faults.proofs.FaultLemmas.{FaultsAt, gives, refuses, notes_then, places_then, binds, chooses}
@@ -25,7 +25,7 @@ module _ {P : ℕ → Type 0} where
 
   record_faults : (fields : Option (Option ℕ)) (x : List ℕ) (name_at at : ℕ) (ds : List Datum) → P at
       → FaultsAt P (parse_record_type fields x name_at at ds)
-  record_faults None x name_at at ds h = notes_then false name_at (type_named x)
+  record_faults None x name_at at ds h = notes_then false name_at (plain_type x)
   record_faults (Some fields) x name_at at ds h = plain_faults x at ds h
 
   ranged_faults : (x : List ℕ) (name_at : ℕ) (ds : List Datum) → P name_at → FaultsAt P (parse_ranged_type x name_at ds)
@@ -39,7 +39,7 @@ module _ {P : ℕ → Type 0} where
       (chooses (is_later_type x) (refuses g) (record_faults (record_in w x) x name_at at ds h)))
 
   named_faults : (name : Option (List ℕ)) (w : Signatures) (name_at at : ℕ) (ds : List Datum) → P name_at → P at
-      → FaultsAt {A = TypeSpec} P (elim name [ None ↦ refuse 6 at | Some x ↦ parse_type_named w x name_at at ds ])
+      → FaultsAt {A = TypeSpecTree} P (elim name [ None ↦ refuse 6 at | Some x ↦ parse_type_named w x name_at at ds ])
   named_faults None w name_at at ds g h = refuses h
   named_faults (Some x) w name_at at ds g h = row_faults w x name_at at ds g h
 

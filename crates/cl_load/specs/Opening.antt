@@ -5,7 +5,7 @@ use Rattle.cl_value.specs.Value.{data_of}
 use Rattle.cl_value.specs.declared.Value.{Value}
 use Rattle.cl_application.specs.declared.applications.App.{App}
 use Rattle.cl_application.specs.declared.declarations.SlotDecl.{SlotDecl}
-use Rattle.cl_syntax.specs.declared.type_specs.TypeSpec.{TypeSpec}
+use Rattle.cl_syntax.specs.TypeSpecTree.{TypeSpecTree}
 use Rattle.cl_eval.specs.declared.metering.Limits.{Limits}
 use Rattle.cl_eval.specs.Evaluated.{outcome_of_eval}
 use Rattle.cl_eval.specs.Outcome.{Outcome, Gives, Traps}
@@ -28,7 +28,7 @@ value_in (Gives d cost deepest) = d
 value_in (Traps kind cost deepest) = null
 
 -- a value that is a member of the type
-abbrev pub is_fit : Outcome Data → TypeSpec → Bool
+abbrev pub is_fit : Outcome Data → TypeSpecTree → Bool
 is_fit (Gives d cost deepest) spec = is_member d spec
 is_fit (Traps kind cost deepest) spec = false
 

@@ -2,7 +2,7 @@
 use Rattle.std.specs.Prelude.{ℕ, Bool, false, not, ◌&&◌, ◌||◌, List, codes}
 use Rattle.std.specs.Str.{bytes_eq}
 use Rattle.cl_value.specs.Data.{Data, int, bool, text, symbol, null, list, rec}
-use Rattle.cl_syntax.specs.declared.type_specs.TypeSpec.{TypeSpec}
+use Rattle.cl_syntax.specs.TypeSpecTree.{TypeSpecTree, name_of}
 use Rattle.cl_words.specs.TypeNames.{is_standard_type}
 
 -- `integer` has the numbers, `boolean` true and false, `string` the texts, `symbol` the symbols, and a record's name the records of that name
@@ -16,5 +16,5 @@ is_of type (list ds) = false
 is_of type (rec name ds) = bytes_eq type name && not (is_standard_type type)
 
 -- `t` has all values
-abbrev pub is_member : Data → TypeSpec → Bool
-is_member d spec = bytes_eq spec.name (codes "t") || is_of spec.name d
+abbrev pub is_member : Data → TypeSpecTree → Bool
+is_member d spec = bytes_eq (name_of spec) (codes "t") || is_of (name_of spec) d

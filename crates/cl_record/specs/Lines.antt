@@ -7,6 +7,7 @@ use Rattle.cl_medium.specs.declared.shapes.Direction.TheVariants.{Horizontal, Ve
 use Rattle.cl_medium.specs.declared.shapes.LeafShape.{LeafShape}
 use Rattle.cl_medium.specs.declared.shapes.LeafShape.TheVariants.{Fill, Line, Outline, Point, Text}
 use Rattle.cl_region.specs.declared.rects.Shift.{Shift}
+use Rattle.cl_syntax.specs.TypeSpecTree.{name_of}
 use Rattle.cl_record.specs.Heads.{HeadAt}
 use Rattle.cl_record.specs.Labels.{LabelAt}
 use Rattle.cl_record.specs.Marks.{Mark, open_update, close, draw, history_marks, open_presentation}
@@ -33,7 +34,7 @@ item_line i = shape_line i.shape i.area
 
 -- the type's name and what is presented
 abbrev pub label_line : LabelAt → List ℕ
-label_line l = codes "presentation " ++ l.spec.name ++ 32 ∷ print_value l.object
+label_line l = codes "presentation " ++ name_of l.spec ++ 32 ∷ print_value l.object
 
 -- the form with its query and the id
 abbrev pub head_line : HeadAt → List ℕ

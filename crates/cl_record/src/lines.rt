@@ -64,7 +64,7 @@ pub(crate) fn put_label(line: &mut Vec<u8>, label: &Label) -> Result<(), AllocEr
     ensures { OnOk result (line.new.items ≡ line.old.items ++ label_line label.now) }
 {
     line.extend_from_slice(b"presentation ")?;
-    line.extend_from_slice(label.spec().name.as_slice())?;
+    line.extend_from_slice(label.spec().name().as_slice())?;
     line.push(b' ')?;
     put_value(line, label.object())?;
     Ok(())

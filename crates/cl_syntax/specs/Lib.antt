@@ -11,3 +11,8 @@ pub mod ActTree
 pub mod ActTreeCode
 pub mod Act
 pub mod ActFalls
+pub mod StandardTypes
+pub mod TypeSpecTree
+pub mod TypeSpecTreeCode
+pub mod TypeSpec
+pub mod TypeSpecFalls

@@ -7,6 +7,8 @@ mod figures;
 mod operators;
 mod sites;
 mod statements;
+mod type_decls;
+mod type_names;
 mod type_specs;
 
 pub use display_forms::{Shape, ShapeChoice, ShapeKind, Shapes};
@@ -15,4 +17,9 @@ pub use figures::Figure;
 pub use operators::{Arithmetic, Comparison, ListOperator, Operator, RecordOperator, TextOperator};
 pub use sites::Site;
 pub use statements::{Act, ActChoice, ActKind, Acts};
-pub use type_specs::TypeSpec;
+pub use type_decls::{
+    CommandType, CommandTypes, HostBound, HostBounds, PlacedSpec, RecordDecl, Records, TypeDecl,
+    TypeDecls, UserTypes,
+};
+pub use type_names::{StandardType, TypeName, standard_named};
+pub use type_specs::{TypeArg, TypeArgs, TypeOptions, TypeSpec};

@@ -2,7 +2,7 @@
 use Rattle.std.proofs.Common.{◌≡◌, ℕ, Bool, true, false, if◌then◌else◌, List, [], ◌∷◌, ◌++◌, refl}
 use Rattle.std.specs.Prelude.{Option, Some, None, option_and_then}
 use Rattle.std.proofs.Math.Path.{subst}
-use Rattle.cl_syntax.specs.declared.type_specs.TypeSpec.{TypeSpec}
+use Rattle.cl_syntax.specs.TypeSpecTree.{TypeSpecTree, plain_type}
 use Rattle.cl_forms.specs.Datum.{Datum, Datums, number, literal, word, quoted, stray, list, none, item, in_order, offset}
 use Rattle.cl_forms.specs.Keys.{Keyed, has_key, pair_in, with_keyed, keyed_pairs}
 use Rattle.cl_forms.specs.declared.keys.Key.{Key}
@@ -56,14 +56,14 @@ pair_there may_have ks k v ds e =
 
 module _ (w : Signatures) where
   -- what is read writes the name with what stands behind it
-  abbrev NamedEnds : Datum → List Datum → Load TypeSpec → Type 0
+  abbrev NamedEnds : Datum → List Datum → Load TypeSpecTree → Type 0
   NamedEnds n ds m = Ends (λ t. WritesNamed w t (n ∷ ds)) m
 
-  plain_ends : (x : List ℕ) (n : Datum) (at : ℕ) (ds : List Datum) → WritesNamed w (record { name = x }) (n ∷ []) → NamedEnds n ds (parse_plain_type x at ds)
+  plain_ends : (x : List ℕ) (n : Datum) (at : ℕ) (ds : List Datum) → WritesNamed w (plain_type x) (n ∷ []) → NamedEnds n ds (parse_plain_type x at ds)
   plain_ends x n at [] h = gives h
   plain_ends x n at (a ∷ more) h = refuses
 
-  ranged_ends : (x : List ℕ) (n : Datum) (at : ℕ) (ds : List Datum) → WritesNamed w (record { name = x }) (n ∷ []) → NamedEnds n ds (parse_ranged_type x at ds)
+  ranged_ends : (x : List ℕ) (n : Datum) (at : ℕ) (ds : List Datum) → WritesNamed w (plain_type x) (n ∷ []) → NamedEnds n ds (parse_ranged_type x at ds)
   ranged_ends x n at [] h = gives h
   ranged_ends x n at (a ∷ more) h = refuses
 
@@ -121,7 +121,7 @@ module _ (w : Signatures) where
   specifier_ends (quoted x at name_at) = refuses
   specifier_ends (stray at) = refuses
 
-  placed_ends : (t : TypeSpec) (at : ℕ) → Ends (λ u. Unit {0}) (placed t [] at)
+  placed_ends : (t : TypeSpecTree) (at : ℕ) → Ends (λ u. Unit {0}) (placed t [] at)
   placed_ends t at = record { ends = λ u. tt }
 
   pub type_ends : (d : Datum) → Ends (λ t. WritesType w t d) (parse_type w d)

@@ -9,7 +9,7 @@ use Rattle.cl_forms.specs.LineNames.{line_name_of}
 use Rattle.cl_forms.specs.Naming.{name_in}
 use Rattle.cl_words.specs.declared.signatures.Signatures.{Signatures}
 use Rattle.cl_expressions.specs.Scopes.{Names}
-use Rattle.cl_application.specs.declared.declarations.RecordDecl.{RecordDecl}
+use Rattle.cl_syntax.specs.declared.type_decls.RecordDecl.{RecordDecl}
 use Rattle.cl_application.specs.declared.declarations.FunctionDecl.{FunctionDecl}
 use Rattle.cl_application.specs.declared.declarations.DisplayDecl.{DisplayDecl}
 use Rattle.cl_application.specs.declared.declarations.CommandDecl.{CommandDecl}

@@ -2,7 +2,7 @@
 use Rattle.std.specs.Prelude.{◌≡◌, ℕ, ℤ, true, List, [], ◌∷◌, Option, Some, None, codes}
 use Rattle.cl_table.specs.Names.{with_first}
 use Rattle.cl_syntax.specs.ExprTree.{ExprTree}
-use Rattle.cl_syntax.specs.declared.type_specs.TypeSpec.{TypeSpec}
+use Rattle.cl_syntax.specs.TypeSpecTree.{TypeSpecTree}
 use Rattle.cl_forms.specs.Datum.{Datum, Datums, word, list, none, item, in_order, offset}
 use Rattle.cl_forms.specs.Naming.{name_in}
 use Rattle.cl_words.specs.Signatures.{display_in}
@@ -19,7 +19,7 @@ use Rattle.cl_text_grammar.specs.WritesTypes.{WritesType}
 pub data WritesSlots (w : Signatures) : List SlotDecl → List Datum → Type 0 where
   no_slot : WritesSlots w [] []
   -- (NAME TYPE E)
-  one_slot : {x : List ℕ} {s : TypeSpec} {v : ExprTree} {others : List SlotDecl} {n t e : Datum} {at : ℕ} {ds : List Datum} → name_in n ≡ Some x
+  one_slot : {x : List ℕ} {s : TypeSpecTree} {v : ExprTree} {others : List SlotDecl} {n t e : Datum} {at : ℕ} {ds : List Datum} → name_in n ≡ Some x
       → WritesType w s t → Writes v e → WritesSlots w others ds
       → WritesSlots w (record { name = x; spec = s; opening = v; opening_at = offset e; at = at } ∷ others) (list (item n (item t (item e none))) at ∷ ds)
 

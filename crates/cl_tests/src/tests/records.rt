@@ -112,7 +112,7 @@ fn shifted(node: Node<AnyLeaf>, by: Shift) -> Result<Node<AnyLeaf>, Fail> {
 
 fn label(alloc: Global, object: Value) -> Result<Label, AllocError> {
     let name = Text::from_slice(alloc, b"entry")?;
-    Ok(Label::new(object, Rc::new(alloc, TypeSpec { name })?, true))
+    Ok(Label::new(object, Rc::new(alloc, TypeSpec::plain(name))?, true))
 }
 
 fn measures() -> Measures {

@@ -51,7 +51,7 @@ fn types_have_their_members(rt: HostRuntime) -> Result<(), Fail> {
     let values = values(rt.alloc())?;
     for (name, wanted) in MEMBERS {
         let name = Text::from_slice(rt.alloc(), name.as_bytes())?;
-        let spec = TypeSpec { name };
+        let spec = TypeSpec::plain(name);
         let said = members(rt.alloc(), &values, &spec)?;
         assert_eq!(rt; said.as_str(), wanted);
     }
