@@ -1,0 +1,10 @@
+pub mod World
+pub mod Arguments
+pub mod Expanded
+pub mod Expansion
+pub mod Members
+pub mod Subtypes
+pub mod Precedence
+pub mod Rings
+pub mod Sizes
+pub mod Laws

@@ -1,0 +1,11 @@
+//! Presentation types: members, subtypes and precedence, after the CLIM II specification's chapter on presentation types.
+#![tactic(auto)]
+
+mod arguments;
+mod declared_types;
+mod lattices;
+mod predicates;
+
+pub use declared_types::{DeclaredType, DeclaredTypes, TypeKind, UserType};
+pub use lattices::Lattice;
+pub use predicates::Predicates;
