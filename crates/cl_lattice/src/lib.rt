@@ -3,9 +3,11 @@
 
 mod arguments;
 mod declared_types;
+mod inheritance;
 mod lattices;
 mod predicates;
 
 pub use declared_types::{DeclaredType, DeclaredTypes, TypeKind, UserType};
+pub use inheritance::user_types_inherit;
 pub use lattices::Lattice;
 pub use predicates::Predicates;
