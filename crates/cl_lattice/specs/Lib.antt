@@ -7,4 +7,5 @@ pub mod Subtypes
 pub mod Precedence
 pub mod Rings
 pub mod Sizes
+pub mod Weights
 pub mod Laws

@@ -2,7 +2,7 @@
 ghost use Rattle.std.specs.Prelude.{◌≡◌, map, option_map};
 ghost use Rattle.cl_value.specs.Value.{data_of};
 ghost use Rattle.cl_syntax.specs.TypeSpec.{arg_tree_of};
-ghost use Rattle.cl_lattice.specs.Arguments.{arg_given, constants, first_number, given_by, number_in, second_number, trees_of, value_of, values_of};
+ghost use Rattle.cl_lattice.specs.Arguments.{arg_given, constants, first_number, given_by, number_in, second_number, tokens_in, trees_of, value_of, values_of};
 ghost use Rattle.cl_lattice.specs.Members.{is_among, is_given, is_same};
 
 use cl_syntax::TypeArg;
@@ -122,4 +122,20 @@ pub(crate) fn is_among<'a>(value: &Value, args: &'a [TypeArg], bound: &Bound<'a>
         }
     }
     false
+}
+
+/// The tokens of the first argument that has any.
+pub(crate) fn tokens_in(args: &[TypeArg]) -> &[Text]
+    ensures { result.now ≡ tokens_in (trees_of args.now) }
+{
+    match args.split_first() {
+        Some((arg, more)) => match arg {
+            TypeArg::Names(tokens) => tokens.as_slice(),
+            TypeArg::Constant(_) => tokens_in(more),
+            TypeArg::Any => tokens_in(more),
+            TypeArg::Param(_) => tokens_in(more),
+            TypeArg::Spec(_) => tokens_in(more),
+        },
+        None => &[],
+    }
 }

@@ -2,9 +2,11 @@
 #![tactic(auto)]
 
 mod arguments;
+mod atoms;
 mod declared_types;
 mod inheritance;
 mod lattices;
+mod members;
 mod predicates;
 
 pub use declared_types::{DeclaredType, DeclaredTypes, TypeKind, UserType};
