@@ -8,7 +8,7 @@ use Rattle.cl_syntax.specs.declared.type_names.StandardType.{StandardType}
 use Rattle.cl_lattice.specs.Arguments.{Given, given, tokens_in, values_of}
 use Rattle.cl_lattice.specs.Expanded.{Expanded, ExpandedTypes}
 use Rattle.cl_lattice.specs.Expanded as type
-use Rattle.cl_lattice.specs.Expansion.{Own, named_type, expand, expand_parts, own_within, own_type, expansion}
+use Rattle.cl_lattice.specs.Expansion.{Own, named_type, expand, expand_parts, own_within, own_type, expansion, next_spec, next_parts}
 use Rattle.cl_lattice.specs.Laws.{AllFit}
 use Rattle.cl_lattice.specs.Rings.{IsUserType}
 use Rattle.cl_lattice.specs.Sizes.{both, sized_arg, sized_args, inherited_by, inherited_size, nodes_within, fits, is_small, most_depth}
@@ -76,3 +76,12 @@ pub own_is : (w : World) → AllFit w → (x : List ℕ) (u : UserType) → IsUs
 unfolding own_type
 own_is w f x u i vs =
     ap (λ t. type.user x vs u.satisfies t) (stable most_depth w u.inherit_from (fits_some w u.inherit_from (f.fits_each x u i)) most_depth (omega arith) (given u.parameters vs))
+
+-- the parts of a specifier are the first one and those behind it
+pub parts_next : (w : World) (own : Own) (g : Given) (ts : TypeArgTrees) → expand_parts w own g ts ≡ next_parts w own g (next_spec ts)
+parts_next w own g none = refl
+parts_next w own g (argument (Constant d) ts) = parts_next w own g ts
+parts_next w own g (argument Any ts) = parts_next w own g ts
+parts_next w own g (argument (Param x) ts) = parts_next w own g ts
+parts_next w own g (argument (Spec s) ts) = refl
+parts_next w own g (argument (Names xs) ts) = parts_next w own g ts

@@ -1,10 +1,11 @@
 //! Members of types, after the CLIM II specification's `presentation-typep`.
-ghost use Rattle.std.specs.Prelude.{◌≡◌, [], ◌||◌, false, map};
+ghost use Rattle.std.specs.Prelude.{◌≡◌, [], ◌||◌, ◌++◌, IfOk, false, map};
 ghost use Rattle.cl_value.specs.Value.{data_of, parts_of};
 ghost use Rattle.cl_table.specs.Names.{named};
-ghost use Rattle.cl_lattice.specs.Arguments.{constants, given_by, tokens_in, trees_of, values_of};
+ghost use Rattle.cl_syntax.specs.TypeSpec.{arg_tree_of};
+ghost use Rattle.cl_lattice.specs.Arguments.{constants, given_by, tokens_in, trees_of, value_of, values_of};
 ghost use Rattle.cl_lattice.specs.Expansion.{declared_type, expand_parts, expansion, own_type, standard_type};
-ghost use Rattle.cl_lattice.specs.Members.{any_asks, are_among, arguments_given, commands_ask, every, fit, fit_command, inside, is_command, is_in, is_in_each, is_in_some, is_member, is_satisfied, is_subset, may_ask, memberships, Settles};
+ghost use Rattle.cl_lattice.specs.Members.{any_asks, are_among, argument_given, arguments_given, commands_ask, every, fit, fit_command, inside, is_command, is_in, is_in_each, is_in_some, is_member, is_satisfied, is_subset, may_ask, memberships, Settles};
 ghost use Rattle.cl_lattice.specs.World.{kind_named};
 
 use crate::arguments::{Bound, first_number, is_among, second_number, value_of};
@@ -49,4 +50,29 @@ fn are_among<'a>(values: &[Value], args: &'a [TypeArg], bound: &Bound<'a>) -> bo
         }
     }
     true
+}
+
+// What is given for one argument of a predicate: `*` as null.
+fn argument_given<'a>(arg: &'a TypeArg, bound: &Bound<'a>) -> Result<Value, AllocError>
+    ensures { IfOk result (λ v. data_of v ≡ argument_given (value_of (given_by bound.now) (arg_tree_of arg.now))) }
+{
+    match value_of(arg, bound) {
+        Some(value) => value.copy(),
+        None => Ok(Value::Null),
+    }
+}
+
+// What is given for the arguments of a predicate.
+fn arguments_given<'a>(
+    alloc: Global,
+    args: &'a [TypeArg],
+    bound: &Bound<'a>,
+) -> Result<Values, AllocError>
+    ensures { IfOk result (λ vs. vs ≡ arguments_given (values_of (given_by bound.now) (trees_of args.now))) }
+{
+    let mut values = Vec::with_capacity(alloc, args.len())?;
+    for arg in args {
+        values.push(argument_given(arg, bound)?)?;
+    }
+    Values::from_vec(alloc, values)
 }
