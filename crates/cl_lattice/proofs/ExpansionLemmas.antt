@@ -54,13 +54,13 @@ stable (suc k) w (specifier x ts o) h (suc n) l g =
     let inherited = inherited_size (nodes_within k w) (inherited_by (standard_named x) (kind_named x w)) in
     let sized = both_some (sized_args (nodes_within k w) ts) inherited (both_some (Some 1) (both (sized_args (nodes_within k w) ts) inherited) h).1 in
     let parts : expand_parts w (own_within (suc n) w) g ts ≡ expand_parts w (own_within (suc (suc n)) w) g ts =
-        same_parts w (own_within (suc n) w) (own_within (suc (suc n)) w) g (nodes_within k w) (λ s e. stable k w s e (suc n) (omega (arith, l)) g) ts sized.0 in
+    same_parts w (own_within (suc n) w) (own_within (suc (suc n)) w) g (nodes_within k w) (λ s e. stable k w s e (suc n) (omega (arith, l)) g) ts sized.0 in
     let vs : List (Option Data) = values_of g ts in
     ap (λ ps. named_type (own_within (suc n) w) (standard_named x) (kind_named x w) x vs (tokens_in ts) ps) parts
     ∙ same_named (own_within (suc n) w) (own_within (suc (suc n)) w) (standard_named x) (kind_named x w) x vs (tokens_in ts)
-      (expand_parts w (own_within (suc (suc n)) w) g ts)
-      (λ u e. ap (λ t. type.user x vs u.satisfies t)
-        (stable k w u.inherit_from (subst (λ i. is_some (inherited_size (nodes_within k w) i) ≡ true) e sized.1) n (omega (arith, l)) (given u.parameters vs)))
+    (expand_parts w (own_within (suc (suc n)) w) g ts)
+    (λ u e. ap (λ t. type.user x vs u.satisfies t)
+    (stable k w u.inherit_from (subst (λ i. is_some (inherited_size (nodes_within k w) i) ≡ true) e sized.1) n (omega (arith, l)) (given u.parameters vs)))
 
 small_some : (o : Option ℕ) → is_small o ≡ true → is_some o ≡ true
 small_some None h = h

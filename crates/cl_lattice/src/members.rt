@@ -1,35 +1,26 @@
-//! Members of types, after the CLIM II specification's `presentation-typep`.
-ghost use Rattle.std.specs.Prelude.{◌≡◌, [], ◌||◌, ◌++◌, IfOk, false, map};
+//! Parts of membership that stand by themselves: answers, lists of constants, predicates.
+ghost use Rattle.std.specs.Prelude.{◌≡◌, IfOk, false, is_some, map};
 ghost use Rattle.cl_value.specs.Value.{data_of, parts_of};
-ghost use Rattle.cl_table.specs.Names.{named};
 ghost use Rattle.cl_syntax.specs.TypeSpec.{arg_tree_of};
-ghost use Rattle.cl_lattice.specs.Arguments.{constants, given_by, tokens_in, trees_of, value_of, values_of};
-ghost use Rattle.cl_lattice.specs.Expansion.{declared_type, expand_parts, expansion, own_type, standard_type};
-ghost use Rattle.cl_lattice.specs.Members.{any_asks, are_among, argument_given, arguments_given, commands_ask, every, fit, fit_command, inside, is_command, is_in, is_in_each, is_in_some, is_member, is_satisfied, is_subset, may_ask, memberships, Settles};
-ghost use Rattle.cl_lattice.specs.World.{kind_named};
+ghost use Rattle.cl_lattice.specs.Arguments.{constants, given_by, trees_of, value_of, values_of};
+ghost use Rattle.cl_lattice.specs.Members.{are_among, argument_given, arguments_given, is_satisfied, is_subset, Settles};
 
-use crate::arguments::{Bound, first_number, is_among, second_number, value_of};
-use crate::atoms::{
-    differ, is_blank_area, is_boolean, is_null, is_of_record, is_one_of, is_symbol, is_text,
-    is_within,
-};
-use crate::declared_types::{TypeKind, UserType};
-use crate::lattices::Lattice;
+use crate::arguments::{Bound, is_among, value_of};
+use crate::atoms::differ;
 use crate::predicates::Predicates;
-use cl_syntax::{CommandType, StandardType, TypeArg, TypeSpec};
-use cl_table::Names;
+use cl_syntax::TypeArg;
 use cl_value::{Held, Text, Value, Values};
 use std::alloc::{AllocError, Global};
 
 // A truth value as an answer.
-fn answer(holds: bool) -> Held
+pub(crate) fn answer(holds: bool) -> Held
     ensures { Settles result holds false }
 {
     if holds { Held::Yes } else { Held::No }
 }
 
 // Whether a value is a list of constants among arguments, each at most once.
-fn is_subset<'a>(value: &Value, args: &'a [TypeArg], bound: &Bound<'a>) -> bool
+pub(crate) fn is_subset<'a>(value: &Value, args: &'a [TypeArg], bound: &Bound<'a>) -> bool
     ensures { result ≡ is_subset (constants (values_of (given_by bound.now) (trees_of args.now))) (data_of value.now) }
 {
     match value {
@@ -75,4 +66,25 @@ fn arguments_given<'a>(
         values.push(argument_given(arg, bound)?)?;
     }
     Values::from_vec(alloc, values)
+}
+
+// Whether a value that is a member of what a type inherits from satisfies its predicate.
+pub(crate) fn satisfies<'a, P: Predicates>(
+    alloc: Global,
+    value: &Value,
+    function: &Option<Text>,
+    args: &'a [TypeArg],
+    bound: &Bound<'a>,
+    preds: &P,
+) -> Held
+    ensures { Settles result (is_satisfied (P.answers preds.now) function.now (data_of value.now)
+        (values_of (given_by bound.now) (trees_of args.now))) (is_some function.now) }
+{
+    let Some(function) = function else {
+        return Held::Yes;
+    };
+    match arguments_given(alloc, args, bound) {
+        Ok(params) => preds.holds(function.as_slice(), value, &params),
+        Err(_) => Held::Memory,
+    }
 }
