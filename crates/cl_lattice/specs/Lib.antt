@@ -3,6 +3,7 @@ pub mod Arguments
 pub mod Expanded
 pub mod Expansion
 pub mod Members
+pub mod SubtypeHeads
 pub mod Subtypes
 pub mod Precedence
 pub mod Rings

@@ -3,6 +3,7 @@
 
 mod arguments;
 mod declared_types;
+mod heads;
 mod inheritance;
 mod lattices;
 mod predicates;
