@@ -2,6 +2,7 @@
 #![tactic(auto)]
 
 mod arguments;
+mod comparing;
 mod declared_types;
 mod heads;
 mod inheritance;
