@@ -4,3 +4,4 @@ pub mod SubtypeHeadLemmas
 pub mod SubtypeConstantLemmas
 pub mod SubtypeWayLemmas
 pub mod SubtypeSplitLemmas
+pub mod SubtypeMeasures

@@ -203,3 +203,7 @@ mutual
   way_of_some : (a : Expanded) (qs : ExpandedTypes) (b : Expanded) → ((x : Expanded) → IsSubtypeOfSome x qs → IsSubtype x b) → IsSubtypeOfSome a qs → BySomeSecond a qs ⊎ ByFirst a b
   way_of_some _ _ b on (rule.of_some_here a q qs h) = way_here a q qs b (λ x d. on x (rule.of_some_here x q qs d)) (way a q h)
   way_of_some _ _ b on (rule.of_some_later a q qs h) = way_later a q qs b (way_of_some a qs b (λ x d. on x (rule.of_some_later x q qs d)) h)
+
+-- one type is a subtype of another exactly by the second or by the first
+pub either : (a b : Expanded) → (BySecond a b ⊎ ByFirst a b) ↔ IsSubtype a b
+either a b = (λ h. elim h [ inl s ↦ by_second_derived a b s | inr f ↦ by_first_derived a b f ], λ d. way a b d)

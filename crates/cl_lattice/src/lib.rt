@@ -7,7 +7,9 @@ mod declared_types;
 mod heads;
 mod inheritance;
 mod lattices;
+mod plain_types;
 mod predicates;
+mod subtypes;
 
 pub use declared_types::{DeclaredType, DeclaredTypes, TypeKind, UserType};
 pub use inheritance::user_types_inherit;
