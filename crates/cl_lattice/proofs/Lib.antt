@@ -5,3 +5,6 @@ pub mod SubtypeConstantLemmas
 pub mod SubtypeWayLemmas
 pub mod SubtypeSplitLemmas
 pub mod SubtypeMeasures
+pub mod SubtypeTests
+pub mod SubtypeReflexive
+pub mod SubtypeSoundness
