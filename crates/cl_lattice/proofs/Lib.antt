@@ -8,3 +8,5 @@ pub mod SubtypeMeasures
 pub mod SubtypeTests
 pub mod SubtypeReflexive
 pub mod SubtypeSoundness
+pub mod MemberLemmas
+pub mod WeightLemmas

@@ -38,11 +38,12 @@ own_head w f x u s k vs = own_is w f x u (record { own = s; declared = k }) vs
 -- two user types of the world are the same where their names and their arguments are
 pub same_user : (w : World) (x y : List ℕ) (u v : UserType) → kind_named x w ≡ Some (kind.User u) → kind_named y w ≡ Some (kind.User v) → (vs ws : List (Option Data))
     → ((x ≡ y) × (vs ≡ ws)) ↔ (user_type w x vs u ≡ user_type w y ws v)
-same_user w x y u v k l vs ws =
-    (λ h.
+same_user w x y u v k l vs ws = (
+  λ h.
       let names : x ≡ y = h.0 in
       let values : vs ≡ ws = h.1 in
       let kinds : kind_named x w ≡ kind_named y w = ap (λ z. kind_named z w) names in
       let same : u ≡ v = cc in
       λ i. user_type w (names i) (values i) (same i),
-    λ h. (cc, cc))
+  λ h. (cc, cc),
+)

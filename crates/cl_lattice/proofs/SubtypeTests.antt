@@ -90,8 +90,8 @@ pub among_lets : (d : Data) (cs ds : List Data) → all_among cs ds ≡ true →
 among_lets d [] ds h k = absurd cc
 among_lets d (c ∷ cs) ds h k =
     elim (one_is (is_same d c) (is_among d cs) k) [
-      inl same ↦ ap (λ x. is_among x ds) (same_is d c same) ∙ first_of_both (is_among c ds) (all_among cs ds) h
-    | inr later ↦ among_lets d cs ds (second_of_both (is_among c ds) (all_among cs ds) h) later
+      | inl same ↦ ap (λ x. is_among x ds) (same_is d c same) ∙ first_of_both (is_among c ds) (all_among cs ds) h
+      | inr later ↦ among_lets d cs ds (second_of_both (is_among c ds) (all_among cs ds) h) later
     ]
 
 pub all_among_lets : (es : Items) (cs ds : List Data) → all_among cs ds ≡ true → are_among es cs ≡ true → are_among es ds ≡ true
@@ -116,6 +116,6 @@ pub tokens_let : (s : List ℕ) (xs ys : List (List ℕ)) → all_tokens xs ys �
 tokens_let s [] ys h k = absurd cc
 tokens_let s (x ∷ xs) ys h k =
     elim (one_is (bytes_eq x s) (is_token xs s) k) [
-      inl same ↦ ap (λ z. is_token ys z) (sym ((bytes_eq-Decides x s).0 same)) ∙ first_of_both (is_token ys x) (all_tokens xs ys) h
-    | inr later ↦ tokens_let s xs ys (second_of_both (is_token ys x) (all_tokens xs ys) h) later
+      | inl same ↦ ap (λ z. is_token ys z) (sym ((bytes_eq-Decides x s).0 same)) ∙ first_of_both (is_token ys x) (all_tokens xs ys) h
+      | inr later ↦ tokens_let s xs ys (second_of_both (is_token ys x) (all_tokens xs ys) h) later
     ]

@@ -10,4 +10,6 @@ pub mod SubtypeWays
 pub mod Precedence
 pub mod Rings
 pub mod Sizes
+pub mod MemberRows
+pub mod Weights
 pub mod Laws

@@ -2,12 +2,12 @@
 ghost use Rattle.std.specs.Prelude.{◌≡◌, ◌↔◌, [], IsTrue};
 ghost use Rattle.cl_syntax.specs.TypeSpec.{arg_tree_of};
 ghost use Rattle.cl_lattice.specs.Arguments.{constants, given_by, tokens_in, trees_of, value_of, values_of};
-ghost use Rattle.cl_lattice.specs.Members.{is_token};
 ghost use Rattle.cl_lattice.specs.Subtypes.{all_among, all_tokens, is_high_within, is_low_within};
 ghost use Rattle.cl_lattice.specs.SubtypeConstants.{is_placed};
 ghost use Rattle.cl_lattice.specs.SubtypeWays.{IsLengthWithin};
 
-use crate::arguments::{is_among, is_same, value_of, Bound};
+use crate::arguments::{Bound, is_among, is_same, tokens_in, value_of};
+use crate::atoms::is_token;
 use cl_syntax::TypeArg;
 use cl_value::Text;
 
@@ -67,29 +67,6 @@ pub(crate) fn all_among<'a>(args: &'a [TypeArg], bound: &Bound<'a>, others: &[Ty
     true
 }
 
-// The tokens among arguments.
-fn tokens_in(args: &[TypeArg]) -> &[Text]
-    ensures { result.now ≡ tokens_in (trees_of args.now) }
-{
-    match args {
-        [] => &[],
-        [TypeArg::Names(names), ..] => names.as_slice(),
-        [_, more @ ..] => tokens_in(more),
-    }
-}
-
-// Whether a name is one of the tokens.
-fn is_token(tokens: &[Text], name: &[u8]) -> bool
-    ensures { result ≡ is_token tokens.now name.now }
-{
-    for token in tokens {
-        if token.as_slice() == name {
-            return true;
-        }
-    }
-    false
-}
-
 // Whether each of the first tokens is one of the second.
 fn each_is_token(tokens: &[Text], others: &[Text]) -> bool
     ensures { result ≡ all_tokens tokens.now others.now }
@@ -135,7 +112,8 @@ pub(crate) fn same_values<'a>(args: &'a [TypeArg], bound: &Bound<'a>, others: &[
         },
         Some((arg, args)) => match others.split_first() {
             None => false,
-            Some((other, others)) => same_value(arg, bound, other) && same_values(args, bound, others),
+            Some((other, others)) => same_value(arg, bound, other)
+                && same_values(args, bound, others),
         },
     }
 }

@@ -8,7 +8,7 @@ ghost use Rattle.cl_lattice.specs.Expanded.{sequence, null_or, token_or};
 ghost use Rattle.cl_lattice.specs.SubtypeHeads.{IsDeclared, first_part, head_type};
 ghost use Rattle.cl_lattice.specs.World.{kind_named};
 
-use crate::arguments::{first_number, second_number, Bound};
+use crate::arguments::{Bound, first_number, second_number};
 use crate::declared_types::{TypeKind, UserType};
 use crate::lattices::Lattice;
 use cl_syntax::{StandardType, TypeArg, TypeSpec};
@@ -71,7 +71,13 @@ impl Lattice {
     }
 
     // The head of a standard type.
-    fn standard_head<'a>(&self, standard: StandardType, name: &'a [u8], args: &'a [TypeArg], bound: &Bound<'a>) -> Head<'a>
+    fn standard_head<'a>(
+        &self,
+        standard: StandardType,
+        name: &'a [u8],
+        args: &'a [TypeArg],
+        bound: &Bound<'a>,
+    ) -> Head<'a>
         ensures same { head_type self.now (given_by bound.now) result
             ≡ standard_type standard name.now (values_of (given_by bound.now) (trees_of args.now)) (tokens_in (trees_of args.now))
             (expand_parts self.now (own_type self.now) (given_by bound.now) (trees_of args.now)) }
@@ -81,7 +87,10 @@ impl Lattice {
             StandardType::T => Head::Everything,
             StandardType::Nil => Head::Nothing,
             StandardType::Boolean => Head::Boolean,
-            StandardType::Integer => Head::Integer(first_number(args, bound), second_number(args, bound)),
+            StandardType::Integer => Head::Integer(
+                first_number(args, bound),
+                second_number(args, bound),
+            ),
             StandardType::String => Head::Text(first_number(args, bound)),
             StandardType::Symbol => Head::Symbols,
             StandardType::Member => Head::Member(args),
@@ -139,7 +148,12 @@ impl Lattice {
     }
 
     // The head of a type by a name that is none of a standard type.
-    fn declared_head<'a>(&'a self, name: &'a [u8], args: &'a [TypeArg], bound: &Bound<'a>) -> Head<'a>
+    fn declared_head<'a>(
+        &'a self,
+        name: &'a [u8],
+        args: &'a [TypeArg],
+        bound: &Bound<'a>,
+    ) -> Head<'a>
         requires { standard_named name.now ≡ None }
         ensures same { head_type self.now (given_by bound.now) result
             ≡ declared_type (own_type self.now) (kind_named name.now self.now) name.now (values_of (given_by bound.now) (trees_of args.now)) }
@@ -154,7 +168,13 @@ impl Lattice {
 
     // The head of a declared type by its kind.
     #[tactic(auto, using(crate::proofs::SubtypeHeadLemmas::own_head))]
-    fn kind_head<'a>(&self, kind: &'a TypeKind, name: &'a [u8], args: &'a [TypeArg], bound: &Bound<'a>) -> Head<'a>
+    fn kind_head<'a>(
+        &self,
+        kind: &'a TypeKind,
+        name: &'a [u8],
+        args: &'a [TypeArg],
+        bound: &Bound<'a>,
+    ) -> Head<'a>
         requires standard { standard_named name.now ≡ None }
         requires named { kind_named name.now self.now ≡ Some kind.now }
         requires fit { AllFit self.now }

@@ -2,12 +2,16 @@
 #![tactic(auto)]
 
 mod arguments;
+mod atoms;
 mod comparing;
+mod declared_members;
 mod declared_types;
 mod heads;
 mod inheritance;
 mod lattices;
 mod laws;
+mod members;
+mod membership;
 mod plain_types;
 mod predicates;
 mod subtypes;

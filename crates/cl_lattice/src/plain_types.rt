@@ -66,7 +66,12 @@ impl Lattice {
     }
 
     /// Two types of constants.
-    pub(crate) fn by_members<'a>(&self, args: &'a [TypeArg], bound: &Bound<'a>, second: &Head<'_>) -> bool
+    pub(crate) fn by_members<'a>(
+        &self,
+        args: &'a [TypeArg],
+        bound: &Bound<'a>,
+        second: &Head<'_>,
+    ) -> bool
         ensures { IsTrue result ↔ ByHeads (member (constants (values_of (given_by bound.now) (trees_of args.now)))) (head_type self.now [] second.now) }
     {
         match second {
@@ -76,7 +81,12 @@ impl Lattice {
     }
 
     /// Two types of lists of constants.
-    pub(crate) fn by_subsets<'a>(&self, args: &'a [TypeArg], bound: &Bound<'a>, second: &Head<'_>) -> bool
+    pub(crate) fn by_subsets<'a>(
+        &self,
+        args: &'a [TypeArg],
+        bound: &Bound<'a>,
+        second: &Head<'_>,
+    ) -> bool
         ensures { IsTrue result ↔ ByHeads (subset (constants (values_of (given_by bound.now) (trees_of args.now)))) (head_type self.now [] second.now) }
     {
         match second {
@@ -109,7 +119,14 @@ impl Lattice {
 
     /// Two user types. Those of one name and the same arguments are the same.
     #[tactic(auto, using(crate::proofs::SubtypeHeadLemmas::same_user))]
-    pub(crate) fn by_users<'a>(&self, name: &[u8], args: &'a [TypeArg], user: &UserType, bound: &Bound<'a>, second: &Head<'_>) -> bool
+    pub(crate) fn by_users<'a>(
+        &self,
+        name: &[u8],
+        args: &'a [TypeArg],
+        user: &UserType,
+        bound: &Bound<'a>,
+        second: &Head<'_>,
+    ) -> bool
         requires first { kind_named name.now self.now ≡ Some (kind.User user.now) }
         requires second { IsDeclared self.now second.now }
         ensures { IsTrue result ↔ ByHeads (user_type self.now name.now (values_of (given_by bound.now) (trees_of args.now)) user.now) (head_type self.now [] second.now) }
@@ -121,7 +138,13 @@ impl Lattice {
     }
 
     /// Two types without members.
-    pub(crate) fn by_unknown<'a>(&self, name: &[u8], args: &'a [TypeArg], bound: &Bound<'a>, second: &Head<'_>) -> bool
+    pub(crate) fn by_unknown<'a>(
+        &self,
+        name: &[u8],
+        args: &'a [TypeArg],
+        bound: &Bound<'a>,
+        second: &Head<'_>,
+    ) -> bool
         ensures { IsTrue result ↔ ByHeads (unknown name.now (values_of (given_by bound.now) (trees_of args.now))) (head_type self.now [] second.now) }
     {
         match second {

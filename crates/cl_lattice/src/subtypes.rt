@@ -23,15 +23,29 @@ impl Lattice {
 
     // Whether a type is a subtype of another; the first may hold parameters of the declaration around it.
     #[cycle(subtypes)]
-    fn is_subtype<'a>(&'a self, first: &'a TypeSpec, bound: &Bound<'a>, second: &'a TypeSpec) -> bool
+    fn is_subtype<'a>(
+        &'a self,
+        first: &'a TypeSpec,
+        bound: &Bound<'a>,
+        second: &'a TypeSpec,
+    ) -> bool
         ensures { IsTrue result ↔ IsSubtype (expansion self.now (given_by bound.now) first.now) (expansion self.now [] second.now) }
     {
-        self.is_below(&self.head_of(first, bound), bound, &self.head_of(second, &Bound::Nothing))
+        self.is_below(
+            &self.head_of(first, bound),
+            bound,
+            &self.head_of(second, &Bound::Nothing),
+        )
     }
 
     // The same for the first as a specifier and the second by its head.
     #[cycle(subtypes)]
-    fn spec_is_below<'a>(&'a self, first: &'a TypeSpec, bound: &Bound<'a>, second: &Head<'a>) -> bool
+    fn spec_is_below<'a>(
+        &'a self,
+        first: &'a TypeSpec,
+        bound: &Bound<'a>,
+        second: &Head<'a>,
+    ) -> bool
         requires { IsDeclared self.now second.now }
         ensures { IsTrue result ↔ IsSubtype (expansion self.now (given_by bound.now) first.now) (head_type self.now [] second.now) }
     {
@@ -40,7 +54,12 @@ impl Lattice {
 
     // The same for the first by its head and the second as a specifier.
     #[cycle(subtypes)]
-    fn is_below_spec<'a>(&'a self, first: &Head<'a>, bound: &Bound<'a>, second: &'a TypeSpec) -> bool
+    fn is_below_spec<'a>(
+        &'a self,
+        first: &Head<'a>,
+        bound: &Bound<'a>,
+        second: &'a TypeSpec,
+    ) -> bool
         requires { IsDeclared self.now first.now }
         ensures { IsTrue result ↔ IsSubtype (head_type self.now (given_by bound.now) first.now) (expansion self.now [] second.now) }
     {
@@ -91,7 +110,12 @@ impl Lattice {
 
     // Whether each part of the first is a subtype.
     #[cycle(subtypes)]
-    fn each_is_below<'a>(&'a self, parts: &'a [TypeArg], bound: &Bound<'a>, second: &Head<'a>) -> bool
+    fn each_is_below<'a>(
+        &'a self,
+        parts: &'a [TypeArg],
+        bound: &Bound<'a>,
+        second: &Head<'a>,
+    ) -> bool
         requires { IsDeclared self.now second.now }
         ensures { IsTrue result ↔ EachBelow (expand_parts self.now (own_type self.now) (given_by bound.now) (trees_of parts.now)) (head_type self.now [] second.now) }
     {
@@ -106,7 +130,12 @@ impl Lattice {
 
     // Whether some part of the first is a subtype.
     #[cycle(subtypes)]
-    fn some_is_below<'a>(&'a self, parts: &'a [TypeArg], bound: &Bound<'a>, second: &Head<'a>) -> bool
+    fn some_is_below<'a>(
+        &'a self,
+        parts: &'a [TypeArg],
+        bound: &Bound<'a>,
+        second: &Head<'a>,
+    ) -> bool
         requires { IsDeclared self.now second.now }
         ensures { IsTrue result ↔ SomeBelow (expand_parts self.now (own_type self.now) (given_by bound.now) (trees_of parts.now)) (head_type self.now [] second.now) }
     {
@@ -121,7 +150,12 @@ impl Lattice {
 
     // Whether the first is a subtype of each part of the second.
     #[cycle(subtypes)]
-    fn is_below_each<'a>(&'a self, first: &Head<'a>, bound: &Bound<'a>, parts: &'a [TypeArg]) -> bool
+    fn is_below_each<'a>(
+        &'a self,
+        first: &Head<'a>,
+        bound: &Bound<'a>,
+        parts: &'a [TypeArg],
+    ) -> bool
         requires { IsDeclared self.now first.now }
         ensures { IsTrue result ↔ BelowEach (head_type self.now (given_by bound.now) first.now) (expand_parts self.now (own_type self.now) [] (trees_of parts.now)) }
     {
@@ -180,7 +214,12 @@ impl Lattice {
 
     // The same for the second as a specifier.
     #[cycle(subtypes)]
-    fn by_second_spec<'a>(&'a self, first: &Head<'a>, bound: &Bound<'a>, second: &'a TypeSpec) -> bool
+    fn by_second_spec<'a>(
+        &'a self,
+        first: &Head<'a>,
+        bound: &Bound<'a>,
+        second: &'a TypeSpec,
+    ) -> bool
         requires { IsDeclared self.now first.now }
         ensures { IsTrue result ↔ BySecond (head_type self.now (given_by bound.now) first.now) (expansion self.now [] second.now) }
     {
@@ -189,7 +228,12 @@ impl Lattice {
 
     // By some part of an `or`.
     #[cycle(subtypes)]
-    fn by_some_second<'a>(&'a self, first: &Head<'a>, bound: &Bound<'a>, parts: &'a [TypeArg]) -> bool
+    fn by_some_second<'a>(
+        &'a self,
+        first: &Head<'a>,
+        bound: &Bound<'a>,
+        parts: &'a [TypeArg],
+    ) -> bool
         requires { IsDeclared self.now first.now }
         ensures { IsTrue result ↔ BySomeSecond (head_type self.now (given_by bound.now) first.now) (expand_parts self.now (own_type self.now) [] (trees_of parts.now)) }
     {
@@ -256,7 +300,13 @@ impl Lattice {
 
     // Two token-or-types.
     #[cycle(subtypes)]
-    fn by_token_ors<'a>(&'a self, args: &'a [TypeArg], first: &'a TypeSpec, bound: &Bound<'a>, second: &Head<'a>) -> bool
+    fn by_token_ors<'a>(
+        &'a self,
+        args: &'a [TypeArg],
+        first: &'a TypeSpec,
+        bound: &Bound<'a>,
+        second: &Head<'a>,
+    ) -> bool
         ensures { IsTrue result
             ↔ ByHeads (token_or (tokens_in (trees_of args.now)) (expansion self.now (given_by bound.now) first.now)) (head_type self.now [] second.now) }
     {
