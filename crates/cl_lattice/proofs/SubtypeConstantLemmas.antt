@@ -1,5 +1,5 @@
 -- Constants of two types.
-use Rattle.std.proofs.Common.{◌≡◌, ◌↔◌, Bool, true, false, List, [], ◌∷◌, refl, ap, sym, ◌∙◌}
+use Rattle.std.proofs.Common.{◌≡◌, ◌↔◌, true, List, ◌∷◌, refl, ap, sym, ◌∙◌}
 use Rattle.std.specs.Prelude.{Option, Some, None, ◌&&◌, IsTrue}
 use Rattle.std.specs.declared.cmp.Ordering.{Ordering}
 use Rattle.std.specs.declared.cmp.Ordering.TheVariants.{Less, Equal, Greater}
@@ -7,7 +7,7 @@ use Rattle.std.specs.Ordering.{ordering_reverse}
 use Rattle.cl_value.specs.Data.{Data, order_of}
 use Rattle.cl_value.specs.OrderLaws.{order_total, same_data}
 use Rattle.cl_lattice.specs.Arguments.{constant_before}
-use Rattle.cl_lattice.specs.Members.{is_among, is_equal, is_same}
+use Rattle.cl_lattice.specs.Members.{is_equal, is_same}
 use Rattle.cl_lattice.specs.Subtypes.{all_among}
 use Rattle.cl_lattice.specs.SubtypeConstants.{is_placed}
 

@@ -1,15 +1,14 @@
 -- Heads of types stand for what the specifiers expand to.
-use Rattle.std.proofs.Common.{◌≡◌, ℕ, List, [], ◌∷◌, ◌↔◌, refl, ap}
+use Rattle.std.proofs.Common.{◌≡◌, ℕ, List, ◌↔◌, refl, ap}
 use Rattle.std.specs.Prelude.{Option, Some, None}
 use Rattle.cl_value.specs.Data.{Data}
 use Rattle.cl_syntax.specs.StandardTypes.{standard_named}
-use Rattle.cl_syntax.specs.TypeSpecTree.{TypeSpecTree, TypeArgTree, Constant, Any, Param, Spec, Names, TypeArgTrees, none, argument}
+use Rattle.cl_syntax.specs.TypeSpecTree.{TypeSpecTree, Constant, Any, Param, Spec, Names, TypeArgTrees, none, argument}
 use Rattle.cl_lattice.specs.Arguments.{Given, given}
 use Rattle.cl_lattice.specs.Expanded.{Expanded}
 use Rattle.cl_lattice.specs.Expanded as type
 use Rattle.cl_lattice.specs.Expansion.{Own, expand, expand_parts, expansion, of_first, own_type}
 use Rattle.cl_lattice.specs.Laws.{AllFit}
-use Rattle.cl_lattice.specs.Rings.{IsUserType}
 use Rattle.cl_lattice.specs.World.{World, kind_named}
 use Rattle.cl_lattice.specs.declared.declared_types.TypeKind.TheVariants as kind
 use Rattle.cl_lattice.specs.declared.declared_types.UserType.{UserType}

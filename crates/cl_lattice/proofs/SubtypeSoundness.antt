@@ -1,10 +1,10 @@
 -- Each member of a subtype is a member of the other type.
-use Rattle.std.proofs.Common.{◌≡◌, ℕ, ℤ, Bool, true, false, List, [], ◌∷◌, refl}
-use Rattle.std.specs.Prelude.{Option, Some, None, ◌&&◌, ◌||◌}
+use Rattle.std.proofs.Common.{◌≡◌, ℕ, ℤ, true, List, [], ◌∷◌, refl}
+use Rattle.std.specs.Prelude.{Option, Some, None}
 use Rattle.cl_value.specs.Data.{Data, int, bool, text, symbol, null, list, rec, Items, item}
 use Rattle.cl_value.specs.Data as value
-use Rattle.cl_lattice.specs.Expanded.{Expanded, everything, nothing, boolean, symbols, blank_area, command, integer, string, member, subset, sequence, some_of, each_of, null_or, token_or, record_type, host, user, unknown, ExpandedTypes, none, part}
-use Rattle.cl_lattice.specs.Members.{Answers, Membership, is_in, is_in_some, is_in_each, is_member, memberships, is_within, is_at_least, is_at_most, is_text, is_among, is_subset, are_among, differ, is_one_of, is_null, is_list, every, is_satisfied}
+use Rattle.cl_lattice.specs.Expanded.{Expanded, integer, ExpandedTypes}
+use Rattle.cl_lattice.specs.Members.{Answers, Membership, is_in, is_in_some, is_in_each, is_member, memberships, is_within, is_at_least, is_at_most, is_text, is_subset, are_among, differ, is_one_of, is_null, is_list, every, is_satisfied}
 use Rattle.cl_lattice.specs.Subtypes.{IsSubtype, EachIsSubtype, SomeIsSubtype, IsSubtypeOfEach, IsSubtypeOfSome, is_low_within, is_high_within, all_among, all_tokens}
 use Rattle.cl_lattice.specs.Subtypes as rule
 use Rattle.cl_lattice.specs.World.{World}

@@ -1,8 +1,7 @@
 -- An `or` is a subtype exactly where each of its parts is, and a type is a subtype of an `and` exactly where it is one of each part.
-use Rattle.std.proofs.Common.{◌≡◌, ◌↔◌, ℕ, ℤ, Bool, true, false, refl}
-use Rattle.std.specs.Prelude.{◌⊎◌, List, Option, Some, None}
-use Rattle.cl_value.specs.Data.{Data}
-use Rattle.cl_lattice.specs.Expanded.{Expanded, everything, nothing, boolean, symbols, blank_area, command, integer, string, member, subset, sequence, some_of, each_of, null_or, token_or, record_type, host, user, unknown, ExpandedTypes, none, part}
+use Rattle.std.proofs.Common.{◌≡◌, ◌↔◌, true}
+use Rattle.std.specs.Prelude.{Some}
+use Rattle.cl_lattice.specs.Expanded.{Expanded, everything, nothing, integer, some_of, each_of, null_or, token_or, host, user, ExpandedTypes, none, part}
 use Rattle.cl_lattice.specs.Subtypes.{IsSubtype, EachIsSubtype, SomeIsSubtype, IsSubtypeOfEach, IsSubtypeOfSome, is_whole}
 use Rattle.cl_lattice.specs.Subtypes as rule
 use Rattle.cl_lattice.specs.SubtypeWays.{EachBelow, BelowEach}

@@ -1,7 +1,6 @@
 -- Heads of types, and the expanded types that they stand for.
 use Rattle.std.specs.Prelude.{◌≡◌, ℕ, List, Option, Some, None}
 use Rattle.cl_value.specs.Data.{Data}
-use Rattle.cl_syntax.specs.StandardTypes.{standard_named}
 use Rattle.cl_syntax.specs.TypeSpecTree.{TypeSpecTree, TypeArgTree, Constant, Any, Param, Spec, Names, TypeArgTrees, none, argument}
 use Rattle.cl_lattice.specs.Arguments.{Given, given, values_of, constants, tokens_in, trees_of}
 use Rattle.cl_lattice.specs.Expanded.{Expanded}

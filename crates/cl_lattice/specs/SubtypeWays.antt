@@ -1,6 +1,5 @@
 -- The ways in which one type is a subtype of another, by cases on their heads.
-use Rattle.std.specs.Prelude.{◌≡◌, ℕ, ℤ, true, ◌⊎◌, List, Option, Some, None}
-use Rattle.cl_value.specs.Data.{Data}
+use Rattle.std.specs.Prelude.{◌≡◌, ℤ, true, ◌⊎◌, Option, Some, None}
 use Rattle.cl_lattice.specs.Expanded.{Expanded, everything, nothing, boolean, symbols, blank_area, command, integer, string, member, subset, sequence, some_of, each_of, null_or, token_or, record_type, host, user, unknown, ExpandedTypes, none, part}
 use Rattle.cl_lattice.specs.Subtypes.{IsSubtype, is_low_within, is_high_within, all_among, all_tokens}
 

@@ -1,4 +1,4 @@
-use Rattle.std.proofs.Common.{ℕ, ◌+◌, [], length}
+use Rattle.std.proofs.Common.{◌+◌, [], length}
 use Rattle.cl_lattice.specs.Arguments.{given_by, trees_of}
 use Rattle.cl_lattice.specs.Expanded.{weight, weight_all}
 use Rattle.cl_lattice.specs.Expansion.{expand_parts, expansion, own_type}
