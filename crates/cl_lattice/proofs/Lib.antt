@@ -10,3 +10,4 @@ pub mod SubtypeReflexive
 pub mod SubtypeSoundness
 pub mod MemberLemmas
 pub mod WeightLemmas
+pub mod SubtypeTransitive

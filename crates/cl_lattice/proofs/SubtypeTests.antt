@@ -51,7 +51,7 @@ both_ways a b c d f g h = both_are c d (f (first_of_both a b h)) (g (second_of_b
 le_itself : (a : ℤ) → int_le a a ≡ true
 le_itself a = grind (arith, ints)
 
-le_along : (a b c : ℤ) → int_le a b ≡ true → int_le b c ≡ true → int_le a c ≡ true
+pub le_along : (a b c : ℤ) → int_le a b ≡ true → int_le b c ≡ true → int_le a c ≡ true
 le_along a b c h k = grind (arith, ints, h, k)
 
 pub low_itself : (low : Option ℤ) → is_low_within low low ≡ true

@@ -12,6 +12,12 @@ pub fn subtypes_are_reflexive()
     ensures { (t : Expanded) → IsSubtype t t }
 {}
 
+/// A subtype of a subtype is one.
+#[tactic(auto, using(crate::proofs::SubtypeTransitive::transitive))]
+pub fn subtypes_are_transitive()
+    ensures { (a b c : Expanded) → IsSubtype a b → IsSubtype b c → IsSubtype a c }
+{}
+
 /// Each member of a subtype is a member of the other type.
 #[tactic(auto, using(crate::proofs::SubtypeSoundness::sound))]
 pub fn subtypes_have_fewer_members()

@@ -19,5 +19,5 @@ mod subtypes;
 pub use declared_types::{DeclaredType, DeclaredTypes, TypeKind, UserType};
 pub use inheritance::user_types_inherit;
 pub use lattices::Lattice;
-pub use laws::{subtypes_are_reflexive, subtypes_have_fewer_members};
+pub use laws::{subtypes_are_reflexive, subtypes_are_transitive, subtypes_have_fewer_members};
 pub use predicates::Predicates;
