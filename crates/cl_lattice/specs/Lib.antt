@@ -8,3 +8,6 @@ pub mod Precedence
 pub mod Rings
 pub mod Sizes
 pub mod Laws
+pub mod Budgets
+pub mod Listing
+pub mod RingSearch

@@ -3,8 +3,12 @@
 
 mod arguments;
 mod declared_types;
+mod known_types;
 mod lattices;
+mod precedences;
 mod predicates;
+mod rings;
+mod sizes;
 
 pub use declared_types::{DeclaredType, DeclaredTypes, TypeKind, UserType};
 pub use lattices::Lattice;
