@@ -1,6 +1,8 @@
 -- Entries of a table one behind the other.
-use Rattle.std.proofs.Common.{◌≡◌, ℕ, zero, suc, ◌+◌, List, [], ◌∷◌, Option, Some, None, map, drop, refl, sym, ap, ◌∙◌, arith}
-use Rattle.cl_table.specs.Names.{declared_at, with_first}
+use Rattle.std.proofs.Common.{◌≡◌, ℕ, zero, suc, ◌+◌, ◌++◌, ◌==◌, Bool, true, false, List, [], ◌∷◌, Option, Some, None, map, drop, refl, sym, ap, ◌∙◌, arith}
+use Rattle.std.specs.Prelude.{if◌then◌else◌}
+use Rattle.std.specs.Cmp.Lexicographic.{pointwise}
+use Rattle.cl_table.specs.Names.{declared_at, named, with_first}
 use Rattle.cl_lattice.specs.World.{with_all}
 use Rattle.cl_lattice.specs.declared.declared_types.DeclaredType.{DeclaredType}
 
@@ -34,3 +36,19 @@ module _ {D : Type 0} where
       let one = next_entry t i d h in
       ap (λ (ts : List (List ℕ × DeclaredType)). with_all (map f (drop (i + 1) t)) ts) (is ∙ ap (λ (u : DeclaredType). with_first (λ t. t.name) old u) (sym (same one.0)))
       ∙ ap (λ (es : List (List ℕ × D)). with_all (map f es) old) (sym one.1) ∙ e
+
+-- the first of two
+abbrev pub either : {A : Type 0} → Option A → Option A → Option A
+either None o = o
+either (Some a) o = Some a
+
+module _ {D : Type 0} where
+  -- what stands under a name, where one is added behind the others
+  pub named_last : (x y : List ℕ) (d : D) (t : List (List ℕ × D)) → named x (t ++ (y, d) ∷ []) ≡ either (named x t) (if pointwise ◌==◌ x y then Some d else None)
+  named_last x y d [] = refl
+  named_last x y d (e ∷ t) = by_name (pointwise ◌==◌ x e.0) (named_last x y d t)
+    where
+      by_name : (b : Bool) → named x (t ++ (y, d) ∷ []) ≡ either (named x t) (if pointwise ◌==◌ x y then Some d else None)
+          → (if b then Some e.1 else named x (t ++ (y, d) ∷ [])) ≡ either (if b then Some e.1 else named x t) (if pointwise ◌==◌ x y then Some d else None)
+      by_name true h = refl
+      by_name false h = h

@@ -2,6 +2,9 @@ pub mod ArgumentLemmas
 pub mod BuildingEntries
 pub mod SizeLemmas
 pub mod PrecedenceLemmas
+pub mod BuildingFirsts
 pub mod RingParts
 pub mod RingEntries
 pub mod RingLemmas
+pub mod BuildingCommands
+pub mod BuildingLemmas

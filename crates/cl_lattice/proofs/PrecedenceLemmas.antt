@@ -1,5 +1,5 @@
 -- Precedence lists: their levels, and the tables that have them.
-use Rattle.std.proofs.Common.{◌≡◌, ◌<◌, ◌-◌, ◌+◌, ◌++◌, ◌==◌, ◌⊎◌, inl, inr, ℕ, zero, suc, Bool, true, false, cond, List, [], ◌∷◌, Option, Some, None, refl, sym, ap, ◌∙◌, subst, arith, map, drop}
+use Rattle.std.proofs.Common.{◌≡◌, ◌<◌, ◌-◌, ◌+◌, ◌++◌, ◌==◌, ◌⊎◌, inl, inr, ℕ, zero, suc, Bool, true, false, List, [], ◌∷◌, Option, Some, None, refl, sym, ap, ◌∙◌, subst, arith, map, drop}
 use Rattle.std.proofs.lemmas.List.Elements.{All-head, All-tail}
 use Rattle.std.specs.Prelude.{All, ◌||◌, if◌then◌else◌, is_some, codes}
 use Rattle.std.specs.Cmp.Lexicographic.{pointwise}
@@ -7,15 +7,14 @@ use Rattle.std.specs.Str.{bytes_eq}
 use Rattle.std.proofs.lemmas.Slice.Eq.{bytes_eq-Decides}
 use Rattle.cl_syntax.specs.StandardTypes.{standard_named, plain_named, built_named, first_of}
 use Rattle.cl_syntax.specs.declared.type_names.StandardType.{StandardType}
-use Rattle.cl_table.specs.Names.{named, declared_at, with_first}
-use Rattle.cl_lattice.proofs.BuildingEntries.{next_entry}
+use Rattle.cl_table.specs.Names.{named, declared_at}
+use Rattle.cl_lattice.proofs.BuildingEntries.{either, named_last, next_entry}
 use Rattle.cl_lattice.specs.Laws.{names_listed}
 use Rattle.cl_lattice.specs.Listing.{Lists, IsListed, with_names, with_list, with_lists, plain_names, built_names, or_names, declared_name}
 use Rattle.cl_lattice.specs.Members.{is_token}
-use Rattle.cl_lattice.specs.Precedence.{precedence, precedence_by, precedence_within, declared_precedence}
-use Rattle.cl_lattice.specs.World.{World, kind_in, kind_named}
+use Rattle.cl_lattice.specs.Precedence.{precedence, precedence_by, precedence_within}
+use Rattle.cl_lattice.specs.World.{World, kind_named}
 use Rattle.cl_lattice.specs.declared.declared_types.DeclaredType.{DeclaredType}
-use Rattle.cl_lattice.specs.declared.declared_types.TypeKind.{TypeKind}
 use Rattle.cl_lattice.specs.declared.lattices.Precedence.{Precedence}
 
 pub within_by : (w : World) (n : ℕ) (x : List ℕ) → 0 < n → precedence_within n w x ≡ precedence_by (precedence_within (n - 1) w) (standard_named x) (kind_named x w) x
@@ -31,21 +30,6 @@ same_name x y h = (bytes_eq-Decides x y).0 h
 
 own_name : (x : List ℕ) → pointwise ◌==◌ x x ≡ true
 own_name x = (bytes_eq-Decides x x).1 refl
-
--- the first of two
-abbrev pub either : {A : Type 0} → Option A → Option A → Option A
-either None o = o
-either (Some a) o = Some a
-
--- what stands under a name, where one is added behind the others
-named_last : (x y : List ℕ) (p : Precedence) (t : Lists) → named x (t ++ (y, p) ∷ []) ≡ either (named x t) (if pointwise ◌==◌ x y then Some p else None)
-named_last x y p [] = refl
-named_last x y p (e ∷ t) = by_name (pointwise ◌==◌ x e.0) (named_last x y p t)
-  where
-    by_name : (b : Bool) → named x (t ++ (y, p) ∷ []) ≡ either (named x t) (if pointwise ◌==◌ x y then Some p else None)
-        → (if b then Some e.1 else named x (t ++ (y, p) ∷ [])) ≡ either (if b then Some e.1 else named x t) (if pointwise ◌==◌ x y then Some p else None)
-    by_name true h = refl
-    by_name false h = h
 
 -- the list that stands under a name is its precedence list, or none stands there
 abbrev pub IsRight : World → List ℕ → Option Precedence → Type 0

@@ -1,5 +1,5 @@
 -- The search for a ring: what is found is reached, and once what is found was looked into, all that is reached is found.
-use Rattle.std.proofs.Common.{◌≡◌, ◌≤◌, ◌<◌, ◌+◌, ◌-◌, ◌++◌, ◌==◌, ◌⊎◌, inl, inr, ℕ, zero, suc, Bool, true, false, cond, length, take, get_or, List, [], ◌∷◌, Option, Some, None, refl, sym, ap, ◌∙◌, subst, arith}
+use Rattle.std.proofs.Common.{◌≡◌, ◌≤◌, ◌<◌, ◌+◌, ◌-◌, ◌++◌, ◌==◌, ℕ, Bool, true, false, cond, length, take, get_or, List, [], ◌∷◌, Option, Some, None, refl, sym, ap, ◌∙◌, subst, arith}
 use Rattle.std.specs.Prelude.{All, is_some, option_map, ◌||◌, if◌then◌else◌}
 use Rattle.std.specs.Cmp.Lexicographic.{pointwise}
 use Rattle.std.specs.Str.{bytes_eq}
@@ -10,16 +10,16 @@ use Rattle.std.proofs.lemmas.Slice.Eq.{bytes_eq-Decides}
 use Rattle.cl_syntax.specs.StandardTypes.{standard_named}
 use Rattle.cl_syntax.specs.TypeSpecTree.{TypeSpecTree}
 use Rattle.cl_syntax.specs.declared.type_names.StandardType.{StandardType}
-use Rattle.cl_table.specs.Names.{named, declared_at, declared_in}
+use Rattle.cl_table.specs.Names.{named, declared_in}
 use Rattle.cl_lattice.specs.Members.{is_token}
 use Rattle.cl_lattice.specs.RingSearch.{Found, inherited, with_mention, with_mentions, inherited_of, inherited_at, has}
-use Rattle.cl_lattice.specs.Rings.{names_in, IsUserType, Mentions, mentions, Reaches, directly, through}
+use Rattle.cl_lattice.specs.Rings.{names_in, Mentions, mentions, Reaches, directly, through}
 use Rattle.cl_lattice.specs.Sizes.{inherited_by}
-use Rattle.cl_lattice.specs.World.{World, kind_in, kind_named}
+use Rattle.cl_lattice.specs.World.{World, kind_in}
 use Rattle.cl_lattice.specs.declared.declared_types.DeclaredType.{DeclaredType}
 use Rattle.cl_lattice.specs.declared.rings.Mentioned.{Mentioned}
 use Rattle.cl_lattice.proofs.RingEntries.{same_name, has_more, has_last, missing, missing_less}
-use Rattle.cl_lattice.proofs.RingParts.{Inherits, inherits, inherited_is, mention}
+use Rattle.cl_lattice.proofs.RingParts.{inherited_is, mention}
 
 -- a user type that is found is reached from the one where the search began
 pub record IsReached (w : World) (x : List ℕ) (e : List ℕ × Mentioned) : Type 0 where

@@ -1,13 +1,13 @@
 -- What is left of a number of nodes after several sizes.
 use Rattle.std.proofs.Common.{List}
 use Rattle.cl_syntax.specs.declared.type_specs.TypeOptions.{TypeOptions}
-use Rattle.std.proofs.Common.{◌≡◌, ◌≤◌, ◌<◌, ℕ, zero, suc, ◌+◌, ◌-◌, Bool, true, false, Option, Some, None, refl, sym, ap, ◌∙◌, arith}
-use Rattle.std.specs.Prelude.{nat_le, if◌then◌else◌, is_some, option_and_then}
+use Rattle.std.proofs.Common.{◌≡◌, ◌<◌, ℕ, zero, suc, ◌+◌, ◌-◌, Bool, true, false, Option, Some, None, refl, sym, ap, ◌∙◌, arith}
+use Rattle.std.specs.Prelude.{nat_le, if◌then◌else◌, is_some}
 use Rattle.std.proofs.lemmas.Bool.Decides.{nat_tests}
 use Rattle.cl_syntax.specs.StandardTypes.{standard_named}
-use Rattle.cl_syntax.specs.TypeSpecTree.{TypeSpecTree, specifier, TypeArgTree, TypeArgTrees, none, argument}
+use Rattle.cl_syntax.specs.TypeSpecTree.{TypeSpecTree, specifier, TypeArgTrees}
 use Rattle.cl_lattice.specs.Budgets.{left}
-use Rattle.cl_lattice.specs.Sizes.{both, nodes_within, sized_arg, sized_args, inherited_by, inherited_size, is_small, fits, most_depth, most_nodes}
+use Rattle.cl_lattice.specs.Sizes.{both, nodes_within, sized_args, inherited_by, inherited_size, is_small, fits, most_depth, most_nodes}
 use Rattle.cl_lattice.specs.World.{World, kind_named}
 
 -- what is left after one size, and after another
@@ -43,7 +43,7 @@ after_both (Some b) m n = left_both m n b
 -- the parts of a specifier that nests at least itself
 pub within_more : (w : World) (n : ℕ) (x : List ℕ) (ts : TypeArgTrees) (o : TypeOptions) → 0 < n
     → nodes_within n w (specifier x ts o)
-      ≡ both (Some 1) (both (sized_args (nodes_within (n - 1) w) ts) (inherited_size (nodes_within (n - 1) w) (inherited_by (standard_named x) (kind_named x w))))
+    ≡ both (Some 1) (both (sized_args (nodes_within (n - 1) w) ts) (inherited_size (nodes_within (n - 1) w) (inherited_by (standard_named x) (kind_named x w))))
 within_more w zero x ts o h = absurd (omega arith)
 within_more w (suc k) x ts o h =
     let less : suc k - 1 ≡ k = omega arith in
@@ -51,7 +51,7 @@ within_more w (suc k) x ts o h =
 
 pub left_within : (w : World) (n b : ℕ) (x : List ℕ) (ts : TypeArgTrees) (o : TypeOptions) → 0 < n
     → left (nodes_within n w (specifier x ts o)) b
-      ≡ after (after (left (Some 1) b) (sized_args (nodes_within (n - 1) w) ts)) (inherited_size (nodes_within (n - 1) w) (inherited_by (standard_named x) (kind_named x w)))
+    ≡ after (after (left (Some 1) b) (sized_args (nodes_within (n - 1) w) ts)) (inherited_size (nodes_within (n - 1) w) (inherited_by (standard_named x) (kind_named x w)))
 left_within w n b x ts o h =
     ap (λ (m : Option ℕ). left m b) (within_more w n x ts o h)
     ∙ left_both (Some 1) (both (sized_args (nodes_within (n - 1) w) ts) (inherited_size (nodes_within (n - 1) w) (inherited_by (standard_named x) (kind_named x w)))) b

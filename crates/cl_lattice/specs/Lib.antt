@@ -11,3 +11,5 @@ pub mod Laws
 pub mod Budgets
 pub mod Listing
 pub mod RingSearch
+pub mod Firsts
+pub mod Building

@@ -1,10 +1,9 @@
 -- The precedence list of a type: its name, then the lists of its direct supertypes in their order, each name at its last occurrence.
-use Rattle.std.specs.Prelude.{ℕ, zero, suc, Bool, if◌then◌else◌, ◌||◌, List, [], ◌∷◌, ◌++◌, Option, Some, None, codes}
+use Rattle.std.specs.Prelude.{ℕ, zero, suc, if◌then◌else◌, List, [], ◌∷◌, ◌++◌, Option, Some, None, codes}
 use Rattle.std.specs.Str.{bytes_eq}
 use Rattle.cl_syntax.specs.StandardTypes.{standard_named}
 use Rattle.cl_syntax.specs.TypeSpecTree.{TypeSpecTree, specifier, TypeArgTree, Constant, Any, Param, Spec, Names, TypeArgTrees, none, argument, name_of}
 use Rattle.cl_syntax.specs.declared.type_names.StandardType.{StandardType}
-use Rattle.cl_syntax.specs.declared.type_names.StandardType.TheVariants as standard
 use Rattle.cl_lattice.specs.Expansion.{most_levels}
 use Rattle.cl_lattice.specs.World.{World, kind_named}
 use Rattle.cl_lattice.specs.declared.declared_types.TypeKind.{TypeKind}

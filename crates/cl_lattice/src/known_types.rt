@@ -1,11 +1,15 @@
 //! The types that an application declares, by name.
 ghost use Rattle.std.specs.Prelude.{◌≡◌, IfOk, OnOk, map, option_map};
+ghost use Rattle.cl_lattice.specs.RingSearch.{inherited};
 ghost use Rattle.cl_lattice.specs.Sizes.{inherited_by};
 ghost use Rattle.cl_lattice.specs.World.{host_entry, kind_named, record_entry, user_entry, with_all, world_of};
 ghost use Rattle.cl_syntax.specs.StandardTypes.{standard_named};
 
 use crate::declared_types::{DeclaredType, DeclaredTypes, TypeKind, UserType};
-use cl_syntax::{CommandTypes, HostBound, HostBounds, RecordDecl, Records, StandardType, TypeDecl, TypeDecls, TypeName, TypeSpec, UserTypes};
+use cl_syntax::{
+    CommandTypes, HostBound, HostBounds, RecordDecl, Records, StandardType, TypeDecl, TypeDecls,
+    TypeName, TypeSpec, UserTypes, standard_named,
+};
 use cl_table::{Names, Table};
 use cl_value::Text;
 use std::alloc::{AllocError, Global};
@@ -63,8 +67,19 @@ impl<'a> KnownTypes<'a> {
         self.inherited_under(name.standard(), name.as_slice())
     }
 
+    /// The same for the bytes of a name.
+    pub(crate) fn inherited(&self, name: &[u8]) -> Option<&TypeSpec>
+        ensures { option_map (λ s. s.now) result ≡ inherited self.now name.now }
+    {
+        self.inherited_under(standard_named(name), name)
+    }
+
     /// The same for a name whose standard type is known.
-    pub(crate) fn inherited_under(&self, standard: Option<StandardType>, name: &[u8]) -> Option<&TypeSpec>
+    pub(crate) fn inherited_under(
+        &self,
+        standard: Option<StandardType>,
+        name: &[u8],
+    ) -> Option<&TypeSpec>
         ensures { option_map (λ s. s.now) result ≡ inherited_by standard (kind_named name.now self.now) }
     {
         match standard {
@@ -126,7 +141,11 @@ fn host_type(decl: &HostBound) -> Result<DeclaredType, AllocError>
 }
 
 // Adds the user types behind the others.
-fn add_user_types(alloc: Global, decls: &UserTypes, types: &mut DeclaredTypes) -> Result<(), AllocError>
+fn add_user_types(
+    alloc: Global,
+    decls: &UserTypes,
+    types: &mut DeclaredTypes,
+) -> Result<(), AllocError>
     ensures { OnOk result (types.new ≡ with_all (map user_entry decls.now) types.old) }
 {
     for place in 0..decls.len() {

@@ -2,6 +2,8 @@
 #![tactic(auto)]
 
 mod arguments;
+mod building;
+mod commands;
 mod declared_types;
 mod known_types;
 mod lattices;
@@ -10,6 +12,7 @@ mod predicates;
 mod rings;
 mod sizes;
 
+pub use building::BuildRefusal;
 pub use declared_types::{DeclaredType, DeclaredTypes, TypeKind, UserType};
 pub use lattices::Lattice;
 pub use predicates::Predicates;

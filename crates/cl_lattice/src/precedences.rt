@@ -21,7 +21,11 @@ const MOST_LEVELS: u32 = 9;
 
 // The precedence list of a type; `None` where no such type is.
 #[tactic(auto, unfolding(crate::specs::Precedence::precedence))]
-fn precedence<'a>(alloc: Global, known: &KnownTypes<'a>, name: &Text) -> Result<Option<Names>, AllocError>
+fn precedence<'a>(
+    alloc: Global,
+    known: &KnownTypes<'a>,
+    name: &Text,
+) -> Result<Option<Names>, AllocError>
     ensures { IfOk result (λ p. p ≡ precedence known.now name.now) }
 {
     precedence_within(alloc, known, MOST_LEVELS, name)
@@ -189,7 +193,10 @@ fn add_part_name(arg: &TypeArg, names: &mut Names) -> Result<(), AllocError>
 }
 
 /// A table with the precedence list of each name.
-pub(crate) fn precedences<'a>(alloc: Global, known: &KnownTypes<'a>) -> Result<Precedences, AllocError>
+pub(crate) fn precedences<'a>(
+    alloc: Global,
+    known: &KnownTypes<'a>,
+) -> Result<Precedences, AllocError>
     ensures { IfOk result (IsListed known.now) }
 {
     let mut table = Table::new(alloc);
@@ -220,7 +227,11 @@ fn add_declared<'a>(
 }
 
 // Adds the lists of the standard types without parts or constants.
-fn add_plain<'a>(alloc: Global, known: &KnownTypes<'a>, table: &mut Precedences) -> Result<(), AllocError>
+fn add_plain<'a>(
+    alloc: Global,
+    known: &KnownTypes<'a>,
+    table: &mut Precedences,
+) -> Result<(), AllocError>
     ensures { OnOk result (table.new ≡ with_lists known.now plain_names table.old) }
 {
     add_standard(alloc, known, b"t".as_slice(), table)?;
@@ -234,7 +245,11 @@ fn add_plain<'a>(alloc: Global, known: &KnownTypes<'a>, table: &mut Precedences)
 }
 
 // Adds the lists of the standard types that are made of constants or of other types.
-fn add_built<'a>(alloc: Global, known: &KnownTypes<'a>, table: &mut Precedences) -> Result<(), AllocError>
+fn add_built<'a>(
+    alloc: Global,
+    known: &KnownTypes<'a>,
+    table: &mut Precedences,
+) -> Result<(), AllocError>
     ensures { OnOk result (table.new ≡ with_lists known.now built_names table.old) }
 {
     add_standard(alloc, known, b"member".as_slice(), table)?;
@@ -245,7 +260,11 @@ fn add_built<'a>(alloc: Global, known: &KnownTypes<'a>, table: &mut Precedences)
 }
 
 // Adds the lists of those that are made of a type with null or with tokens beside it.
-fn add_or_types<'a>(alloc: Global, known: &KnownTypes<'a>, table: &mut Precedences) -> Result<(), AllocError>
+fn add_or_types<'a>(
+    alloc: Global,
+    known: &KnownTypes<'a>,
+    table: &mut Precedences,
+) -> Result<(), AllocError>
     ensures { OnOk result (table.new ≡ with_lists known.now or_names table.old) }
 {
     add_standard(alloc, known, b"null-or-type".as_slice(), table)?;

@@ -1,13 +1,14 @@
 //! Rings of user types.
 ghost use Rattle.std.specs.Prelude.{◌≡◌, ◌↔◌, ◌++◌, IfOk, IsTrue, OnOk, Some, option_map};
 ghost use Rattle.cl_lattice.specs.Arguments.{trees_of};
+ghost use Rattle.cl_lattice.specs.Firsts.{IsFirst, StandsOnRing, offset_of};
 ghost use Rattle.cl_lattice.specs.RingSearch.{inherited, inherited_at, with_mention, with_mentions};
 ghost use Rattle.cl_lattice.specs.Rings.{IsOnRing, names_in, names_in_all, names_in_arg};
 ghost use Rattle.cl_syntax.specs.TypeSpec.{arg_tree_of};
 
 use crate::known_types::KnownTypes;
 use crate::sizes::fits;
-use cl_syntax::{TypeArg, TypeSpec, standard_named};
+use cl_syntax::{TypeArg, TypeSpec, UserTypes};
 use cl_table::{Declared, Names, Table};
 use cl_value::Text;
 use std::alloc::{AllocError, Global};
@@ -26,11 +27,30 @@ impl Declared for Mentioned {
     }
 }
 
-/// Whether a name is one of a user type that stands on a ring. A type that is within the limits is on none.
-pub(crate) fn is_on_ring<'a>(alloc: Global, known: &KnownTypes<'a>, name: &[u8]) -> Result<bool, AllocError>
+/// The offset of the first declaration of a user type on a ring.
+pub(crate) fn first_on_ring<'a>(
+    alloc: Global,
+    known: &KnownTypes<'a>,
+    types: &UserTypes,
+) -> Result<Option<u32>, AllocError>
+    ensures { IfOk result (IsFirst (StandsOnRing known.now) offset_of types.now) }
+{
+    for place in 0..types.len() {
+        let Some(decl) = types.at(place) else {
+            unreachable!()
+        };
+        if is_on_ring(alloc, known, decl.name.as_slice())? {
+            return Ok(Some(decl.at));
+        }
+    }
+    Ok(None)
+}
+
+// Whether a name is one of a user type that stands on a ring. A type that is within the limits is on none.
+fn is_on_ring<'a>(alloc: Global, known: &KnownTypes<'a>, name: &[u8]) -> Result<bool, AllocError>
     ensures { IfOk result (λ b. IsTrue b ↔ IsOnRing known.now name.now) }
 {
-    match inherited(known, name) {
+    match known.inherited(name) {
         Some(spec) => {
             if fits(known, spec) {
                 Ok(false)
@@ -42,15 +62,13 @@ pub(crate) fn is_on_ring<'a>(alloc: Global, known: &KnownTypes<'a>, name: &[u8])
     }
 }
 
-// What the user type of a name inherits from; `None` for every other name.
-fn inherited<'b, 'a>(known: &'b KnownTypes<'a>, name: &[u8]) -> Option<&'b TypeSpec>
-    ensures { option_map (λ s. s.now) result ≡ inherited known.now name.now }
-{
-    known.inherited_under(standard_named(name), name)
-}
-
 // Whether a user type reaches itself, by what it inherits from.
-fn reaches<'a>(alloc: Global, known: &KnownTypes<'a>, name: &[u8], spec: &TypeSpec) -> Result<bool, AllocError>
+fn reaches<'a>(
+    alloc: Global,
+    known: &KnownTypes<'a>,
+    name: &[u8],
+    spec: &TypeSpec,
+) -> Result<bool, AllocError>
     requires { inherited known.now name.now ≡ Some spec.now }
     ensures { IfOk result (λ b. IsTrue b ↔ IsOnRing known.now name.now) }
 {
@@ -68,11 +86,15 @@ fn reaches<'a>(alloc: Global, known: &KnownTypes<'a>, name: &[u8], spec: &TypeSp
 }
 
 // What the user type that was found at a place inherits from.
-fn inherited_at<'b, 'a>(known: &'b KnownTypes<'a>, found: &Table<Mentioned>, place: usize) -> Option<&'b TypeSpec>
+fn inherited_at<'b, 'a>(
+    known: &'b KnownTypes<'a>,
+    found: &Table<Mentioned>,
+    place: usize,
+) -> Option<&'b TypeSpec>
     ensures { option_map (λ s. s.now) result ≡ inherited_at known.now found.now place }
 {
     match found.at(place) {
-        Some(mentioned) => inherited(known, mentioned.name.as_slice()),
+        Some(mentioned) => known.inherited(mentioned.name.as_slice()),
         None => None,
     }
 }
@@ -94,10 +116,14 @@ fn add_mentions<'a>(
     Ok(())
 }
 
-fn add_mention<'a>(known: &KnownTypes<'a>, name: &Text, found: &mut Table<Mentioned>) -> Result<(), AllocError>
+fn add_mention<'a>(
+    known: &KnownTypes<'a>,
+    name: &Text,
+    found: &mut Table<Mentioned>,
+) -> Result<(), AllocError>
     ensures { OnOk result (found.new ≡ with_mention known.now name.now found.old) }
 {
-    if inherited(known, name.as_slice()).is_none() {
+    if known.inherited(name.as_slice()).is_none() {
         return Ok(());
     }
     found.add_first(Mentioned { name: name.copy()? })

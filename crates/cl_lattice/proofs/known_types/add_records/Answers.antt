@@ -1,4 +1,4 @@
-use Rattle.std.proofs.Common.{refl, sym}
+use Rattle.std.proofs.Common.{sym}
 use Rattle.cl_lattice.specs.World.{record_entry}
 use Rattle.cl_lattice.proofs.BuildingEntries.{next_all}
 use Rattle.cl_lattice.proofs.known_types.add_records.Goals as goal

@@ -1,4 +1,4 @@
-use Rattle.std.proofs.Common.{◌≡◌, sym, ap, ◌∙◌, arith, Option, option_map}
+use Rattle.std.proofs.Common.{◌≡◌, sym, ap, ◌∙◌, arith}
 use Rattle.std.specs.Prelude.{is_some}
 use Rattle.cl_lattice.specs.RingSearch.{has}
 use Rattle.cl_lattice.proofs.RingLemmas.{search_begins, search_goes_on, is_there, search_falls, found_reaches, reaches_found, some_map}
@@ -22,6 +22,7 @@ loop-place-preserved c =
 
 pub returns : goal.returns
 returns c =
-    let is : c.is_some.result ≡ has c.args.name.now c.loop-place.found = c.is_some.ensures ∙ sym (some_map _ c.get.result) ∙ ap is_some c.get.ensures in
-    (λ yes. found_reaches c.args.known.now c.args.name.now c.args.spec.now c.loop-place.found c.loop-place.place c.loop-place.invariant (sym is ∙ yes),
-     λ ring. is ∙ reaches_found c.args.known.now c.args.name.now c.args.spec.now c.loop-place.found c.loop-place.place c.requires c.loop-place.invariant (omega arith) ring)
+    let is : c.is_some.result ≡ has c.args.name.now c.loop-place.found = c.is_some.ensures ∙ sym (some_map _ c.get.result) ∙ ap is_some c.get.ensures in (
+      λ yes. found_reaches c.args.known.now c.args.name.now c.args.spec.now c.loop-place.found c.loop-place.place c.loop-place.invariant (sym is ∙ yes),
+      λ ring. is ∙ reaches_found c.args.known.now c.args.name.now c.args.spec.now c.loop-place.found c.loop-place.place c.requires c.loop-place.invariant (omega arith) ring,
+    )

@@ -1,10 +1,7 @@
-use Rattle.std.proofs.Common.{◌≡◌, ◌-◌, Option, Some, None, ℕ, rules, arith, sym, ap, ◌∙◌, option_map}
-use Rattle.cl_syntax.specs.StandardTypes.{standard_named}
+use Rattle.std.proofs.Common.{◌≡◌, ◌-◌, Option, Some, None, rules, arith, sym, ap, ◌∙◌}
 use Rattle.cl_syntax.specs.TypeSpecTree.{TypeSpecTree, TypeArgTrees, arg_trees_of, specifier}
-use Rattle.cl_lattice.specs.Arguments.{trees_of}
 use Rattle.cl_lattice.specs.Budgets.{left}
-use Rattle.cl_lattice.specs.Sizes.{nodes_within, sized_args, inherited_by, inherited_size}
-use Rattle.cl_lattice.specs.World.{kind_named}
+use Rattle.cl_lattice.specs.Sizes.{nodes_within, sized_args, inherited_size}
 use Rattle.cl_lattice.proofs.SizeLemmas.{left_within}
 use Rattle.cl_lattice.proofs.sizes.+left_after.Goals as goal
 

@@ -1,4 +1,3 @@
-use Rattle.std.proofs.Common.{sym, ap, ◌∙◌}
 use Rattle.cl_lattice.proofs.SizeLemmas.{fits_left}
 use Rattle.cl_lattice.proofs.sizes.fits.Goals as goal
 
