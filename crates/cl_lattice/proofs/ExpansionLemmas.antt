@@ -8,7 +8,7 @@ use Rattle.cl_syntax.specs.declared.type_names.StandardType.{StandardType}
 use Rattle.cl_lattice.specs.Arguments.{Given, given, tokens_in, values_of}
 use Rattle.cl_lattice.specs.Expanded.{Expanded, ExpandedTypes}
 use Rattle.cl_lattice.specs.Expanded as type
-use Rattle.cl_lattice.specs.Expansion.{Own, named_type, expand, expand_parts, own_within, own_type, expansion}
+use Rattle.cl_lattice.specs.Expansion.{Own, named_type, expand, expand_parts, own_within, own_type, expansion, next_spec, next_parts}
 use Rattle.cl_lattice.specs.Laws.{AllFit}
 use Rattle.cl_lattice.specs.Rings.{IsUserType}
 use Rattle.cl_lattice.specs.Sizes.{both, sized_arg, sized_args, inherited_by, inherited_size, nodes_within, fits, is_small, most_depth}
@@ -54,13 +54,13 @@ stable (suc k) w (specifier x ts o) h (suc n) l g =
     let inherited = inherited_size (nodes_within k w) (inherited_by (standard_named x) (kind_named x w)) in
     let sized = both_some (sized_args (nodes_within k w) ts) inherited (both_some (Some 1) (both (sized_args (nodes_within k w) ts) inherited) h).1 in
     let parts : expand_parts w (own_within (suc n) w) g ts ≡ expand_parts w (own_within (suc (suc n)) w) g ts =
-        same_parts w (own_within (suc n) w) (own_within (suc (suc n)) w) g (nodes_within k w) (λ s e. stable k w s e (suc n) (omega (arith, l)) g) ts sized.0 in
+    same_parts w (own_within (suc n) w) (own_within (suc (suc n)) w) g (nodes_within k w) (λ s e. stable k w s e (suc n) (omega (arith, l)) g) ts sized.0 in
     let vs : List (Option Data) = values_of g ts in
     ap (λ ps. named_type (own_within (suc n) w) (standard_named x) (kind_named x w) x vs (tokens_in ts) ps) parts
     ∙ same_named (own_within (suc n) w) (own_within (suc (suc n)) w) (standard_named x) (kind_named x w) x vs (tokens_in ts)
-      (expand_parts w (own_within (suc (suc n)) w) g ts)
-      (λ u e. ap (λ t. type.user x vs u.satisfies t)
-        (stable k w u.inherit_from (subst (λ i. is_some (inherited_size (nodes_within k w) i) ≡ true) e sized.1) n (omega (arith, l)) (given u.parameters vs)))
+    (expand_parts w (own_within (suc (suc n)) w) g ts)
+    (λ u e. ap (λ t. type.user x vs u.satisfies t)
+    (stable k w u.inherit_from (subst (λ i. is_some (inherited_size (nodes_within k w) i) ≡ true) e sized.1) n (omega (arith, l)) (given u.parameters vs)))
 
 small_some : (o : Option ℕ) → is_small o ≡ true → is_some o ≡ true
 small_some None h = h
@@ -76,3 +76,12 @@ pub own_is : (w : World) → AllFit w → (x : List ℕ) (u : UserType) → IsUs
 unfolding own_type
 own_is w f x u i vs =
     ap (λ t. type.user x vs u.satisfies t) (stable most_depth w u.inherit_from (fits_some w u.inherit_from (f.fits_each x u i)) most_depth (omega arith) (given u.parameters vs))
+
+-- the parts of a specifier are the first one and those behind it
+pub parts_next : (w : World) (own : Own) (g : Given) (ts : TypeArgTrees) → expand_parts w own g ts ≡ next_parts w own g (next_spec ts)
+parts_next w own g none = refl
+parts_next w own g (argument (Constant d) ts) = parts_next w own g ts
+parts_next w own g (argument Any ts) = parts_next w own g ts
+parts_next w own g (argument (Param x) ts) = parts_next w own g ts
+parts_next w own g (argument (Spec s) ts) = refl
+parts_next w own g (argument (Names xs) ts) = parts_next w own g ts

@@ -1,2 +1,4 @@
 pub mod ArgumentLemmas
 pub mod ExpansionLemmas
+pub mod MemberLemmas
+pub mod WeightLemmas

@@ -84,3 +84,19 @@ own_type w u x vs = own_within most_levels w u x vs
 -- the expansion of a specifier, with what is given for the parameters of the declaration around it
 abbrev pub expansion : World → Given → TypeSpecTree → Expanded
 expansion w g s = expand w (own_type w) g s
+
+-- ---- the parts of a specifier in turn
+
+-- the first specifier among arguments, and the arguments behind it
+abbrev pub next_spec : TypeArgTrees → Option (TypeSpecTree × TypeArgTrees)
+next_spec none = None
+next_spec (argument (Constant d) ts) = next_spec ts
+next_spec (argument Any ts) = next_spec ts
+next_spec (argument (Param x) ts) = next_spec ts
+next_spec (argument (Spec s) ts) = Some (s, ts)
+next_spec (argument (Names xs) ts) = next_spec ts
+
+-- the parts from there on
+abbrev pub next_parts : World → Own → Given → Option (TypeSpecTree × TypeArgTrees) → ExpandedTypes
+next_parts w own g None = type.none
+next_parts w own g (Some p) = type.part (expand w own g p.0) (expand_parts w own g p.1)

@@ -7,4 +7,6 @@ pub mod Subtypes
 pub mod Precedence
 pub mod Rings
 pub mod Sizes
+pub mod MemberRows
+pub mod Weights
 pub mod Laws

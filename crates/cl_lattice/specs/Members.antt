@@ -1,5 +1,5 @@
 -- Members of types.
-use Rattle.std.specs.Prelude.{◌≡◌, ℕ, ℤ, pos, int_le, Bool, true, false, not, ◌&&◌, ◌||◌, if◌then◌else◌, List, [], ◌∷◌, length, Option, Some, None}
+use Rattle.std.specs.Prelude.{◌≡◌, ℕ, ℤ, pos, int_le, Bool, true, false, not, ◌&&◌, ◌||◌, if◌then◌else◌, List, [], ◌∷◌, length, Option, Some, None, is_some}
 use Rattle.std.specs.Str.{bytes_eq}
 use Rattle.std.specs.declared.cmp.Ordering.{Ordering}
 use Rattle.std.specs.declared.cmp.Ordering.TheVariants.{Less, Equal, Greater}
@@ -143,10 +143,31 @@ is_of_record x null = false
 is_of_record x (list ds) = false
 is_of_record x (rec y ds) = bytes_eq x y
 
+abbrev pub is_number : Data → Bool
+is_number (int z) = true
+is_number (bool b) = false
+is_number (text s) = false
+is_number (symbol s) = false
+is_number null = false
+is_number (list ds) = false
+is_number (rec x ds) = false
+
+abbrev pub is_end : Items → Bool
+is_end none = true
+is_end (item d ds) = false
+
+abbrev pub is_one_number : Items → Bool
+is_one_number none = false
+is_one_number (item d ds) = is_number d && is_end ds
+
+abbrev pub are_two_numbers : Items → Bool
+are_two_numbers none = false
+are_two_numbers (item d ds) = is_number d && is_one_number ds
+
 -- a symbol and two numbers: a pane, and a place in it
 abbrev pub is_place : Items → Bool
-is_place (item (symbol s) (item (int x) (item (int y) none))) = true
-is_place ds = false
+is_place none = false
+is_place (item d ds) = is_symbol d && are_two_numbers ds
 
 abbrev pub is_blank_area : Data → Bool
 is_blank_area (int z) = false
@@ -264,3 +285,54 @@ abbrev pub Says : Held → Bool → Type 0
 Says Yes b = b ≡ true
 Says No b = b ≡ false
 Says Memory b = Unit {0}
+
+-- ---- where a predicate may be asked
+
+-- whether a predicate may be asked; in a `command`, where that is so of some command's arguments
+abbrev mutual
+  pub asks : Bool → Expanded → Bool
+  asks c type.everything = false
+  asks c type.nothing = false
+  asks c type.boolean = false
+  asks c type.symbols = false
+  asks c type.blank_area = false
+  asks c type.command = c
+  asks c (type.integer low high) = false
+  asks c (type.string n) = false
+  asks c (type.member cs) = false
+  asks c (type.subset cs) = false
+  asks c (type.sequence t) = asks c t
+  asks c (type.some_of ts) = any_asks c ts
+  asks c (type.each_of ts) = any_asks c ts
+  asks c (type.null_or t) = asks c t
+  asks c (type.token_or xs t) = asks c t
+  asks c (type.record_type x) = false
+  asks c (type.host x low high) = false
+  asks c (type.user x vs f t) = asks c t || is_some f
+  asks c (type.unknown x vs) = false
+
+  pub any_asks : Bool → ExpandedTypes → Bool
+  any_asks c type.none = false
+  any_asks c (type.part t ts) = asks c t || any_asks c ts
+
+abbrev pub args_ask : World → List TypeSpecTree → Bool
+args_ask w [] = false
+args_ask w (s ∷ ss) = asks false (expansion w [] s) || args_ask w ss
+
+abbrev pub any_command_asks : World → List (List ℕ × CommandType) → Bool
+any_command_asks w [] = false
+any_command_asks w (e ∷ es) = args_ask w e.1.args.items || any_command_asks w es
+
+-- whether a predicate may be asked for the arguments of some command
+unfoldable pub commands_ask : World → Bool
+commands_ask w = any_command_asks w w.commands
+
+-- whether a predicate may be asked for members of a type
+abbrev pub may_ask : World → Expanded → Bool
+may_ask w t = asks (commands_ask w) t
+
+-- an answer of the program; want of memory comes only where a predicate may be asked
+abbrev pub Settles : Held → Bool → Bool → Type 0
+Settles Yes b asked = b ≡ true
+Settles No b asked = b ≡ false
+Settles Memory b asked = asked ≡ true

@@ -43,5 +43,5 @@ with_all (d ∷ ds) table = with_all ds (with_first (λ t. t.name) table d)
 abbrev pub world_of : TypeDecls → World
 world_of ds = record {
   types = with_all (map host_entry ds.hosts.now) (with_all (map user_entry ds.types.now) (with_all (map record_entry ds.records.now) []));
-  commands = ds.commands.now
+  commands = ds.commands.now;
 }

@@ -2,10 +2,11 @@
 ghost use Rattle.std.specs.Prelude.{◌≡◌, map, option_map};
 ghost use Rattle.cl_value.specs.Value.{data_of};
 ghost use Rattle.cl_syntax.specs.TypeSpec.{arg_tree_of};
-ghost use Rattle.cl_lattice.specs.Arguments.{arg_given, constants, first_number, given_by, number_in, second_number, trees_of, value_of, values_of};
+ghost use Rattle.cl_lattice.specs.Arguments.{arg_given, constants, first_number, given_by, number_in, second_number, tokens_in, trees_of, value_of, values_of};
+ghost use Rattle.cl_lattice.specs.Expansion.{next_spec};
 ghost use Rattle.cl_lattice.specs.Members.{is_among, is_given, is_same};
 
-use cl_syntax::TypeArg;
+use cl_syntax::{TypeArg, TypeSpec};
 use cl_table::Names;
 use cl_value::{Text, Value};
 use std::cmp::Ordering;
@@ -122,4 +123,36 @@ pub(crate) fn is_among<'a>(value: &Value, args: &'a [TypeArg], bound: &Bound<'a>
         }
     }
     false
+}
+
+/// The tokens of the first argument that has any.
+pub(crate) fn tokens_in(args: &[TypeArg]) -> &[Text]
+    ensures { result.now ≡ tokens_in (trees_of args.now) }
+{
+    match args.split_first() {
+        Some((arg, more)) => match arg {
+            TypeArg::Names(tokens) => tokens.as_slice(),
+            TypeArg::Constant(_) => tokens_in(more),
+            TypeArg::Any => tokens_in(more),
+            TypeArg::Param(_) => tokens_in(more),
+            TypeArg::Spec(_) => tokens_in(more),
+        },
+        None => &[],
+    }
+}
+
+/// The first specifier among arguments, and the arguments behind it.
+pub(crate) fn next_spec(args: &[TypeArg]) -> Option<(&TypeSpec, &[TypeArg])>
+    ensures { option_map (λ p. (p.0.now, trees_of p.1.now)) result ≡ next_spec (trees_of args.now) }
+{
+    match args.split_first() {
+        Some((arg, more)) => match arg {
+            TypeArg::Spec(spec) => Some((spec, more)),
+            TypeArg::Constant(_) => next_spec(more),
+            TypeArg::Any => next_spec(more),
+            TypeArg::Param(_) => next_spec(more),
+            TypeArg::Names(_) => next_spec(more),
+        },
+        None => None,
+    }
 }

@@ -2,9 +2,13 @@
 #![tactic(auto)]
 
 mod arguments;
+mod atoms;
+mod declared_members;
 mod declared_types;
 mod inheritance;
 mod lattices;
+mod members;
+mod membership;
 mod predicates;
 
 pub use declared_types::{DeclaredType, DeclaredTypes, TypeKind, UserType};
