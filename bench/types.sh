@@ -6,7 +6,8 @@
 #   subtype: of two types of 255 or 256 names each, eight deep. The trees are binary, over 128 records: of `or`s, of `and`s, or of both by
 #     turns, with the outermost named first. `apart`: no record of the one stands in the other; `one`: there is one record alone; `equal`:
 #     the same tree twice; `last`: equal but for the last record. The chain is of `null-or-type`s and `or`s by turns, each `or` of about 83
-#     records.
+#     records. The guarded types have 199 names: the first is of `and`s whose parts are `(or nil NEXT)`, the second of `or`s whose parts are
+#     `(and t NEXT)`, so that no part is told before the next level is looked at.
 #   member: of a list of 65,000 numbers in `(sequence (or symbol (integer 0 9) string))`, and of one twice as long. All are members, so all
 #     are looked at, and the second takes twice as long as the first.
 # No bound is set.
@@ -42,6 +43,26 @@ chain() {
         }
         printf "(null-or-type r%d)))))))", last
     }'
+}
+
+# guarded FIRST OUTER INNER QUICK: levels of OUTER with three parts, each an INNER of QUICK, which is told at once, and the next level; the
+# last is over records from FIRST on
+guarded() {
+    awk -v first="$1" -v outer="$2" -v inner="$3" -v quick="$4" '
+        function put(level,    part) {
+            printf "(%s", outer
+            for (part = 0; part < 3; part++) {
+                if (level == 3) {
+                    printf " r%d", first++
+                } else {
+                    printf " (%s %s ", inner, quick
+                    put(level + 1)
+                    printf ")"
+                }
+            }
+            printf ")"
+        }
+        BEGIN { put(0) }'
 }
 
 awk 'BEGIN { for (i = 0; i < 600; i++) print "(define-record r" i " x)" }' >"$files/records"
@@ -129,5 +150,6 @@ done
 subtype 'chain, chain: apart' no "$(chain 0 248)" "$(chain 300 548)"
 subtype 'chain, chain: equal' yes "$(chain 0 248)" "$(chain 0 248)"
 subtype 'chain, chain: last' no "$(chain 0 248)" "$(chain 0 500)"
+subtype 'guarded, guarded: apart' no "$(guarded 0 and or nil)" "$(guarded 300 or and t)"
 member 65000
 member 130000
