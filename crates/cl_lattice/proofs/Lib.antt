@@ -1,4 +1,13 @@
 pub mod ArgumentLemmas
 pub mod ExpansionLemmas
+pub mod SubtypeHeadLemmas
+pub mod SubtypeConstantLemmas
+pub mod SubtypeWayLemmas
+pub mod SubtypeSplitLemmas
+pub mod SubtypeMeasures
+pub mod SubtypeTests
+pub mod SubtypeReflexive
+pub mod SubtypeSoundness
 pub mod MemberLemmas
 pub mod WeightLemmas
+pub mod SubtypeTransitive

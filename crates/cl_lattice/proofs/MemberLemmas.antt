@@ -10,7 +10,6 @@ use Rattle.cl_value.specs.Data.{Data, int, bool, text, symbol, null, list, rec}
 use Rattle.cl_lattice.specs.Expanded.{Expanded, ExpandedTypes, none, part, sequence, null_or, token_or, everything, nothing, boolean, symbols, blank_area, command, integer, string, member, subset, some_of, each_of, record_type, host, user, unknown}
 use Rattle.cl_lattice.specs.Expansion.{declared_type, of_first, expansion, own_type}
 use Rattle.cl_lattice.specs.Members.{Answers, Membership, asks, any_asks, args_ask, any_command_asks, commands_ask, may_ask, inside, is_in, is_member, is_null, is_one_of}
-use Rattle.cl_lattice.specs.MemberRows.{in_sequence, in_beside, first_asks}
 use Rattle.cl_lattice.specs.World.{World, kind_in, kind_named}
 use Rattle.cl_syntax.specs.StandardTypes.{standard_named}
 use Rattle.cl_lattice.proofs.ExpansionLemmas.{own_is}
@@ -29,33 +28,6 @@ member_in w p (symbol s) t = refl
 member_in w p null t = refl
 member_in w p (list ds) t = refl
 member_in w p (rec x ds) t = refl
-
-pub sequence_first : (w : World) (p : Answers) (d : Data) (ms : List Membership) (x : List ℕ) (vs : List (Option Data)) (ts : ExpandedTypes)
-    → is_in w p d ms (of_first sequence x vs ts) ≡ in_sequence w p d ms ts
-sequence_first w p d ms x vs none = refl
-sequence_first w p d ms x vs (part t ts) = refl
-
-pub null_first : (w : World) (p : Answers) (d : Data) (ms : List Membership) (x : List ℕ) (vs : List (Option Data)) (ts : ExpandedTypes)
-    → is_in w p d ms (of_first null_or x vs ts) ≡ in_beside w p d ms (is_null d) ts
-null_first w p d ms x vs none = refl
-null_first w p d ms x vs (part t ts) = refl
-
-pub token_first : (w : World) (p : Answers) (d : Data) (ms : List Membership) (x : List ℕ) (vs : List (Option Data)) (xs : List (List ℕ)) (ts : ExpandedTypes)
-    → is_in w p d ms (of_first (token_or xs) x vs ts) ≡ in_beside w p d ms (is_one_of xs d) ts
-token_first w p d ms x vs xs none = refl
-token_first w p d ms x vs xs (part t ts) = refl
-
-pub sequence_asks : (c : Bool) (x : List ℕ) (vs : List (Option Data)) (ts : ExpandedTypes) → asks c (of_first sequence x vs ts) ≡ first_asks c ts
-sequence_asks c x vs none = refl
-sequence_asks c x vs (part t ts) = refl
-
-pub null_asks : (c : Bool) (x : List ℕ) (vs : List (Option Data)) (ts : ExpandedTypes) → asks c (of_first null_or x vs ts) ≡ first_asks c ts
-null_asks c x vs none = refl
-null_asks c x vs (part t ts) = refl
-
-pub token_asks : (c : Bool) (x : List ℕ) (vs : List (Option Data)) (xs : List (List ℕ)) (ts : ExpandedTypes) → asks c (of_first (token_or xs) x vs ts) ≡ first_asks c ts
-token_asks c x vs xs none = refl
-token_asks c x vs xs (part t ts) = refl
 
 -- ---- where predicates may be asked
 

@@ -3,7 +3,10 @@ pub mod Arguments
 pub mod Expanded
 pub mod Expansion
 pub mod Members
+pub mod SubtypeHeads
+pub mod SubtypeConstants
 pub mod Subtypes
+pub mod SubtypeWays
 pub mod Precedence
 pub mod Rings
 pub mod Sizes

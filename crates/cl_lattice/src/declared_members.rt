@@ -8,6 +8,7 @@ ghost use Rattle.cl_lattice.specs.Arguments.{given, given_by, trees_of, values_o
 ghost use Rattle.cl_lattice.specs.Expanded.{user};
 ghost use Rattle.cl_lattice.specs.Expansion.{declared_type, expansion, own_type};
 ghost use Rattle.cl_lattice.specs.Members.{args_ask, commands_ask, fit, fit_command, inside, is_command, is_in, may_ask, memberships, Settles};
+ghost use Rattle.cl_lattice.specs.MemberRows.{in_command, in_type};
 ghost use Rattle.cl_lattice.specs.Rings.{IsUserType};
 ghost use Rattle.cl_lattice.specs.World.{kind_named};
 
@@ -36,8 +37,7 @@ impl Lattice {
     ) -> Held
         requires { standard_named name.now ≡ None }
         ensures { Settles result
-            (is_in self.now (P.answers preds.now) (data_of value.now) (inside self.now (P.answers preds.now) (data_of value.now))
-            (declared_type (own_type self.now) (kind_named name.now self.now) name.now (values_of (given_by bound.now) (trees_of args.now))))
+            (in_type self.now (P.answers preds.now) (data_of value.now) (declared_type (own_type self.now) (kind_named name.now self.now) name.now (values_of (given_by bound.now) (trees_of args.now))))
             (may_ask self.now (declared_type (own_type self.now) (kind_named name.now self.now) name.now (values_of (given_by bound.now) (trees_of args.now)))) }
     {
         self.all_fit();
@@ -64,8 +64,7 @@ impl Lattice {
         preds: &P,
     ) -> Held
         ensures { (x : List ℕ) → Settles result
-            (is_in self.now (P.answers preds.now) (data_of value.now) (inside self.now (P.answers preds.now) (data_of value.now))
-            (user x (values_of (given_by bound.now) (trees_of args.now)) own.now.satisfies
+            (in_type self.now (P.answers preds.now) (data_of value.now) (user x (values_of (given_by bound.now) (trees_of args.now)) own.now.satisfies
             (expansion self.now (given own.now.parameters (values_of (given_by bound.now) (trees_of args.now))) own.now.inherit_from)))
             (may_ask self.now
             (user x (values_of (given_by bound.now) (trees_of args.now)) own.now.satisfies
@@ -88,7 +87,7 @@ impl Lattice {
         preds: &P,
     ) -> Held
         ensures { Settles result
-            (is_command self.now (data_of value.now) (inside self.now (P.answers preds.now) (data_of value.now)))
+            (in_command self.now (P.answers preds.now) (data_of value.now))
             (commands_ask self.now) }
     {
         match value {

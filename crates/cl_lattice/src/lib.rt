@@ -3,15 +3,21 @@
 
 mod arguments;
 mod atoms;
+mod comparing;
 mod declared_members;
 mod declared_types;
+mod heads;
 mod inheritance;
 mod lattices;
+mod laws;
 mod members;
 mod membership;
+mod plain_types;
 mod predicates;
+mod subtypes;
 
 pub use declared_types::{DeclaredType, DeclaredTypes, TypeKind, UserType};
 pub use inheritance::user_types_inherit;
 pub use lattices::Lattice;
+pub use laws::{subtypes_are_reflexive, subtypes_are_transitive, subtypes_have_fewer_members};
 pub use predicates::Predicates;

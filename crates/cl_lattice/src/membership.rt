@@ -5,7 +5,7 @@ ghost use Rattle.cl_syntax.specs.StandardTypes.{standard_named};
 ghost use Rattle.cl_lattice.specs.Arguments.{given_by, tokens_in, trees_of, values_of};
 ghost use Rattle.cl_lattice.specs.Expansion.{declared_type, expand_parts, expansion, own_type, standard_type};
 ghost use Rattle.cl_lattice.specs.Members.{any_asks, args_ask, commands_ask, every, fit, inside, is_command, is_in, is_in_each, is_in_some, is_member, may_ask, memberships, Settles};
-ghost use Rattle.cl_lattice.specs.MemberRows.{first_asks, in_beside, in_sequence};
+ghost use Rattle.cl_lattice.specs.MemberRows.{first_asks, in_beside, in_command, in_each, in_sequence, in_some, in_type, parts_under};
 ghost use Rattle.cl_lattice.specs.Rings.{IsUserType};
 ghost use Rattle.cl_lattice.specs.World.{kind_named};
 
@@ -72,10 +72,9 @@ impl Lattice {
         preds: &P,
     ) -> Held
         ensures { (x : List ℕ) → Settles result
-            (is_in self.now (P.answers preds.now) (data_of value.now) (inside self.now (P.answers preds.now) (data_of value.now))
-            (standard_type standard x (values_of (given_by bound.now) (trees_of args.now)) (tokens_in (trees_of args.now)) (expand_parts self.now (own_type self.now) (given_by bound.now) (trees_of args.now))))
+            (in_type self.now (P.answers preds.now) (data_of value.now) (standard_type standard x (values_of (given_by bound.now) (trees_of args.now)) (tokens_in (trees_of args.now)) (parts_under self.now bound.now args.now)))
             (may_ask self.now
-            (standard_type standard x (values_of (given_by bound.now) (trees_of args.now)) (tokens_in (trees_of args.now)) (expand_parts self.now (own_type self.now) (given_by bound.now) (trees_of args.now)))) }
+            (standard_type standard x (values_of (given_by bound.now) (trees_of args.now)) (tokens_in (trees_of args.now)) (parts_under self.now bound.now args.now))) }
     {
         match standard {
             StandardType::T => Held::Yes,
@@ -115,8 +114,8 @@ impl Lattice {
         preds: &P,
     ) -> Held
         ensures { Settles result
-            (in_sequence self.now (P.answers preds.now) (data_of value.now) (inside self.now (P.answers preds.now) (data_of value.now)) (expand_parts self.now (own_type self.now) (given_by bound.now) (trees_of args.now)))
-            (first_asks (commands_ask self.now) (expand_parts self.now (own_type self.now) (given_by bound.now) (trees_of args.now))) }
+            (in_sequence self.now (P.answers preds.now) (data_of value.now) (parts_under self.now bound.now args.now))
+            (first_asks (commands_ask self.now) (parts_under self.now bound.now args.now)) }
     {
         match next_spec(args) {
             Some((spec, _)) => match value {
@@ -162,8 +161,8 @@ impl Lattice {
         preds: &P,
     ) -> Held
         ensures { Settles result
-            (is_in_some self.now (P.answers preds.now) (data_of value.now) (inside self.now (P.answers preds.now) (data_of value.now)) (expand_parts self.now (own_type self.now) (given_by bound.now) (trees_of args.now)))
-            (any_asks (commands_ask self.now) (expand_parts self.now (own_type self.now) (given_by bound.now) (trees_of args.now))) }
+            (in_some self.now (P.answers preds.now) (data_of value.now) (parts_under self.now bound.now args.now))
+            (any_asks (commands_ask self.now) (parts_under self.now bound.now args.now)) }
     {
         match next_spec(args) {
             Some((spec, more)) => match self.holds(alloc, value, spec, bound, preds) {
@@ -187,8 +186,8 @@ impl Lattice {
         preds: &P,
     ) -> Held
         ensures { Settles result
-            (is_in_each self.now (P.answers preds.now) (data_of value.now) (inside self.now (P.answers preds.now) (data_of value.now)) (expand_parts self.now (own_type self.now) (given_by bound.now) (trees_of args.now)))
-            (any_asks (commands_ask self.now) (expand_parts self.now (own_type self.now) (given_by bound.now) (trees_of args.now))) }
+            (in_each self.now (P.answers preds.now) (data_of value.now) (parts_under self.now bound.now args.now))
+            (any_asks (commands_ask self.now) (parts_under self.now bound.now args.now)) }
     {
         match next_spec(args) {
             Some((spec, more)) => match self.holds(alloc, value, spec, bound, preds) {
@@ -213,8 +212,8 @@ impl Lattice {
         preds: &P,
     ) -> Held
         ensures { Settles result
-            (in_beside self.now (P.answers preds.now) (data_of value.now) (inside self.now (P.answers preds.now) (data_of value.now)) beside (expand_parts self.now (own_type self.now) (given_by bound.now) (trees_of args.now)))
-            (first_asks (commands_ask self.now) (expand_parts self.now (own_type self.now) (given_by bound.now) (trees_of args.now))) }
+            (in_beside self.now (P.answers preds.now) (data_of value.now) beside (parts_under self.now bound.now args.now))
+            (first_asks (commands_ask self.now) (parts_under self.now bound.now args.now)) }
     {
         match next_spec(args) {
             Some((spec, _)) => {

@@ -42,10 +42,10 @@ sequence_holds-all_hold-requires g t c κs within =
     let given = given_by c.args.bound.now in
     let ps = expand_parts w (own_type w) given (trees_of c.args.args.now) in
     let first : ps ≡ next_parts w (own_type w) given (Some (c.in-Some.spec.now, trees_of c.in-Some.field-0-1.now)) =
-        parts_next w (own_type w) given (trees_of c.args.args.now) ∙ ap (next_parts w (own_type w) given) (sym c.in-Some.ensures) in
+    parts_next w (own_type w) given (trees_of c.args.args.now) ∙ ap (next_parts w (own_type w) given) (sym c.in-Some.ensures) in
     let heavy : first_weight ps ≡ weight (expansion w given c.in-Some.spec.now) = ap first_weight first in
     let values = size_of_items (parts_of c.as_slice.result.now) in
     let whole : size_of (data_of c.args.value.now) ≡ 1 + values = rw (c.in-List.is, c.as_slice.ensures) refl in
     let less = less_value w values (size_of (data_of c.args.value.now)) (4 * weight (expansion w given c.in-Some.spec.now) + 3) (4 * first_weight ps + 3)
-        (omega (arith, whole)) (omega (arith, heavy, span_some w)) in
+    (omega (arith, whole)) (omega (arith, heavy, span_some w)) in
     (search (rules, less), within)
