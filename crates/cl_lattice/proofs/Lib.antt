@@ -11,3 +11,12 @@ pub mod SubtypeSoundness
 pub mod MemberLemmas
 pub mod WeightLemmas
 pub mod SubtypeTransitive
+pub mod BuildingEntries
+pub mod SizeLemmas
+pub mod PrecedenceLemmas
+pub mod BuildingFirsts
+pub mod RingParts
+pub mod RingEntries
+pub mod RingLemmas
+pub mod BuildingCommands
+pub mod BuildingLemmas

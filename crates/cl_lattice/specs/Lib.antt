@@ -13,3 +13,8 @@ pub mod Sizes
 pub mod MemberRows
 pub mod Weights
 pub mod Laws
+pub mod Budgets
+pub mod Listing
+pub mod RingSearch
+pub mod Firsts
+pub mod Building

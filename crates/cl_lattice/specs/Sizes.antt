@@ -1,6 +1,6 @@
 -- The size of an expanded specifier: the type names in it, those of what its user types inherit from included, and the arguments that are no
 -- specifiers.
-use Rattle.std.specs.Prelude.{◌≡◌, ℕ, zero, suc, ◌+◌, nat_le, Bool, true, false, List, [], ◌∷◌, length, Option, Some, None}
+use Rattle.std.specs.Prelude.{ℕ, zero, suc, ◌+◌, nat_le, Bool, false, length, Option, Some, None}
 use Rattle.cl_syntax.specs.StandardTypes.{standard_named}
 use Rattle.cl_syntax.specs.TypeSpecTree.{TypeSpecTree, specifier, TypeArgTree, Constant, Any, Param, Spec, Names, TypeArgTrees, none, argument}
 use Rattle.cl_syntax.specs.declared.type_names.StandardType.{StandardType}

@@ -1,12 +1,12 @@
 //! Heads of types: the name in a specifier is found, and its parts stay as they are written.
 ghost use Rattle.std.specs.Prelude.{◌≡◌, option_map, None, Some};
 ghost use Rattle.cl_syntax.specs.StandardTypes.{standard_named};
-ghost use Rattle.cl_lattice.specs.Arguments.{given_by, tokens_in, trees_of, values_of};
+ghost use Rattle.cl_lattice.specs.Arguments.{Given, given_by, tokens_in, trees_of, values_of};
 ghost use Rattle.cl_lattice.specs.Expansion.{declared_type, expand_parts, expansion, of_first, own_type, standard_type};
 ghost use Rattle.cl_lattice.specs.Laws.{AllFit};
 ghost use Rattle.cl_lattice.specs.Expanded.{sequence, null_or, token_or};
 ghost use Rattle.cl_lattice.specs.SubtypeHeads.{IsDeclared, first_part, head_type};
-ghost use Rattle.cl_lattice.specs.World.{kind_named};
+ghost use Rattle.cl_lattice.specs.World.{World, kind_named};
 
 use crate::arguments::{Bound, first_number, second_number};
 use crate::declared_types::{TypeKind, UserType};
@@ -57,6 +57,82 @@ fn first_part(args: &[TypeArg]) -> Option<&TypeSpec>
     }
 }
 
+// The head of a standard type.
+fn standard_head<'a>(
+    standard: StandardType,
+    name: &'a [u8],
+    args: &'a [TypeArg],
+    bound: &Bound<'a>,
+) -> Head<'a>
+    ensures same { (w : World) → head_type w (given_by bound.now) result
+        ≡ standard_type standard name.now (values_of (given_by bound.now) (trees_of args.now)) (tokens_in (trees_of args.now))
+        (expand_parts w (own_type w) (given_by bound.now) (trees_of args.now)) }
+    ensures declared { (w : World) → IsDeclared w result }
+{
+    match standard {
+        StandardType::T => Head::Everything,
+        StandardType::Nil => Head::Nothing,
+        StandardType::Boolean => Head::Boolean,
+        StandardType::Integer => Head::Integer(
+            first_number(args, bound),
+            second_number(args, bound),
+        ),
+        StandardType::String => Head::Text(first_number(args, bound)),
+        StandardType::Symbol => Head::Symbols,
+        StandardType::Member => Head::Member(args),
+        StandardType::Subset => Head::Subset(args),
+        StandardType::Sequence => sequence_head(name, args),
+        StandardType::Or => Head::SomeOf(args),
+        StandardType::And => Head::EachOf(args),
+        StandardType::NullOrType => null_head(name, args),
+        StandardType::TokenOrType => token_head(name, args),
+        StandardType::BlankArea => Head::BlankArea,
+        StandardType::Command => Head::Command,
+    }
+}
+
+// The head of a sequence.
+#[tactic(auto, using(crate::proofs::SubtypeHeadLemmas::first_made))]
+fn sequence_head<'a>(name: &'a [u8], args: &'a [TypeArg]) -> Head<'a>
+    ensures same { (w : World) (g : Given) → head_type w g result
+        ≡ of_first sequence name.now (values_of g (trees_of args.now))
+        (expand_parts w (own_type w) g (trees_of args.now)) }
+    ensures declared { (w : World) → IsDeclared w result }
+{
+    match first_part(args) {
+        Some(part) => Head::Sequence(part),
+        None => Head::Unknown(name, args),
+    }
+}
+
+// The head of a null-or-type.
+#[tactic(auto, using(crate::proofs::SubtypeHeadLemmas::first_made))]
+fn null_head<'a>(name: &'a [u8], args: &'a [TypeArg]) -> Head<'a>
+    ensures same { (w : World) (g : Given) → head_type w g result
+        ≡ of_first null_or name.now (values_of g (trees_of args.now))
+        (expand_parts w (own_type w) g (trees_of args.now)) }
+    ensures declared { (w : World) → IsDeclared w result }
+{
+    match first_part(args) {
+        Some(part) => Head::NullOr(part),
+        None => Head::Unknown(name, args),
+    }
+}
+
+// The head of a token-or-type.
+#[tactic(auto, using(crate::proofs::SubtypeHeadLemmas::first_made))]
+fn token_head<'a>(name: &'a [u8], args: &'a [TypeArg]) -> Head<'a>
+    ensures same { (w : World) (g : Given) → head_type w g result
+        ≡ of_first (token_or (tokens_in (trees_of args.now))) name.now (values_of g (trees_of args.now))
+        (expand_parts w (own_type w) g (trees_of args.now)) }
+    ensures declared { (w : World) → IsDeclared w result }
+{
+    match first_part(args) {
+        Some(part) => Head::TokenOr(args, part),
+        None => Head::Unknown(name, args),
+    }
+}
+
 impl Lattice {
     /// The head of a specifier, with what is given for the parameters of the declaration around it.
     pub(crate) fn head_of<'a>(&'a self, spec: &'a TypeSpec, bound: &Bound<'a>) -> Head<'a>
@@ -65,121 +141,33 @@ impl Lattice {
     {
         let args = spec.args.as_slice();
         match spec.name.standard() {
-            Some(standard) => self.standard_head(standard, spec.name.as_slice(), args, bound),
-            None => self.declared_head(spec.name.as_slice(), args, bound),
-        }
-    }
-
-    // The head of a standard type.
-    fn standard_head<'a>(
-        &self,
-        standard: StandardType,
-        name: &'a [u8],
-        args: &'a [TypeArg],
-        bound: &Bound<'a>,
-    ) -> Head<'a>
-        ensures same { head_type self.now (given_by bound.now) result
-            ≡ standard_type standard name.now (values_of (given_by bound.now) (trees_of args.now)) (tokens_in (trees_of args.now))
-            (expand_parts self.now (own_type self.now) (given_by bound.now) (trees_of args.now)) }
-        ensures declared { IsDeclared self.now result }
-    {
-        match standard {
-            StandardType::T => Head::Everything,
-            StandardType::Nil => Head::Nothing,
-            StandardType::Boolean => Head::Boolean,
-            StandardType::Integer => Head::Integer(
-                first_number(args, bound),
-                second_number(args, bound),
-            ),
-            StandardType::String => Head::Text(first_number(args, bound)),
-            StandardType::Symbol => Head::Symbols,
-            StandardType::Member => Head::Member(args),
-            StandardType::Subset => Head::Subset(args),
-            StandardType::Sequence => self.sequence_head(name, args, bound),
-            StandardType::Or => Head::SomeOf(args),
-            StandardType::And => Head::EachOf(args),
-            StandardType::NullOrType => self.null_head(name, args, bound),
-            StandardType::TokenOrType => self.token_head(name, args, bound),
-            StandardType::BlankArea => Head::BlankArea,
-            StandardType::Command => Head::Command,
-        }
-    }
-
-    // The head of a sequence.
-    #[tactic(auto, using(crate::proofs::SubtypeHeadLemmas::first_made))]
-    fn sequence_head<'a>(&self, name: &'a [u8], args: &'a [TypeArg], bound: &Bound<'a>) -> Head<'a>
-        ensures same { head_type self.now (given_by bound.now) result
-            ≡ of_first sequence name.now (values_of (given_by bound.now) (trees_of args.now))
-            (expand_parts self.now (own_type self.now) (given_by bound.now) (trees_of args.now)) }
-        ensures declared { IsDeclared self.now result }
-    {
-        match first_part(args) {
-            Some(part) => Head::Sequence(part),
-            None => Head::Unknown(name, args),
-        }
-    }
-
-    // The head of a null-or-type.
-    #[tactic(auto, using(crate::proofs::SubtypeHeadLemmas::first_made))]
-    fn null_head<'a>(&self, name: &'a [u8], args: &'a [TypeArg], bound: &Bound<'a>) -> Head<'a>
-        ensures same { head_type self.now (given_by bound.now) result
-            ≡ of_first null_or name.now (values_of (given_by bound.now) (trees_of args.now))
-            (expand_parts self.now (own_type self.now) (given_by bound.now) (trees_of args.now)) }
-        ensures declared { IsDeclared self.now result }
-    {
-        match first_part(args) {
-            Some(part) => Head::NullOr(part),
-            None => Head::Unknown(name, args),
-        }
-    }
-
-    // The head of a token-or-type.
-    #[tactic(auto, using(crate::proofs::SubtypeHeadLemmas::first_made))]
-    fn token_head<'a>(&self, name: &'a [u8], args: &'a [TypeArg], bound: &Bound<'a>) -> Head<'a>
-        ensures same { head_type self.now (given_by bound.now) result
-            ≡ of_first (token_or (tokens_in (trees_of args.now))) name.now (values_of (given_by bound.now) (trees_of args.now))
-            (expand_parts self.now (own_type self.now) (given_by bound.now) (trees_of args.now)) }
-        ensures declared { IsDeclared self.now result }
-    {
-        match first_part(args) {
-            Some(part) => Head::TokenOr(args, part),
-            None => Head::Unknown(name, args),
+            Some(standard) => standard_head(standard, spec.name.as_slice(), args, bound),
+            None => self.declared_head(spec.name.as_slice(), args),
         }
     }
 
     // The head of a type by a name that is none of a standard type.
-    fn declared_head<'a>(
-        &'a self,
-        name: &'a [u8],
-        args: &'a [TypeArg],
-        bound: &Bound<'a>,
-    ) -> Head<'a>
+    fn declared_head<'a>(&'a self, name: &'a [u8], args: &'a [TypeArg]) -> Head<'a>
         requires { standard_named name.now ≡ None }
-        ensures same { head_type self.now (given_by bound.now) result
-            ≡ declared_type (own_type self.now) (kind_named name.now self.now) name.now (values_of (given_by bound.now) (trees_of args.now)) }
+        ensures same { (g : Given) → head_type self.now g result
+            ≡ declared_type (own_type self.now) (kind_named name.now self.now) name.now (values_of g (trees_of args.now)) }
         ensures declared { IsDeclared self.now result }
     {
         self.all_fit();
         match self.types.get(name) {
-            Some(found) => self.kind_head(&found.kind, name, args, bound),
+            Some(found) => self.kind_head(&found.kind, name, args),
             None => Head::Unknown(name, args),
         }
     }
 
     // The head of a declared type by its kind.
     #[tactic(auto, using(crate::proofs::SubtypeHeadLemmas::own_head))]
-    fn kind_head<'a>(
-        &self,
-        kind: &'a TypeKind,
-        name: &'a [u8],
-        args: &'a [TypeArg],
-        bound: &Bound<'a>,
-    ) -> Head<'a>
+    fn kind_head<'a>(&self, kind: &'a TypeKind, name: &'a [u8], args: &'a [TypeArg]) -> Head<'a>
         requires standard { standard_named name.now ≡ None }
         requires named { kind_named name.now self.now ≡ Some kind.now }
         requires fit { AllFit self.now }
-        ensures same { head_type self.now (given_by bound.now) result
-            ≡ declared_type (own_type self.now) (Some kind.now) name.now (values_of (given_by bound.now) (trees_of args.now)) }
+        ensures same { (g : Given) → head_type self.now g result
+            ≡ declared_type (own_type self.now) (Some kind.now) name.now (values_of g (trees_of args.now)) }
         ensures declared { IsDeclared self.now result }
     {
         match kind {

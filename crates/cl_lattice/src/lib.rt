@@ -3,19 +3,26 @@
 
 mod arguments;
 mod atoms;
+mod building;
+mod commands;
 mod comparing;
 mod declared_members;
 mod declared_types;
 mod heads;
 mod inheritance;
+mod known_types;
 mod lattices;
 mod laws;
 mod members;
 mod membership;
 mod plain_types;
+mod precedences;
 mod predicates;
+mod rings;
+mod sizes;
 mod subtypes;
 
+pub use building::BuildRefusal;
 pub use declared_types::{DeclaredType, DeclaredTypes, TypeKind, UserType};
 pub use inheritance::user_types_inherit;
 pub use lattices::Lattice;

@@ -11,6 +11,10 @@ use crate::arguments::Bound;
 use crate::comparing::all_tokens;
 use crate::heads::Head;
 use crate::lattices::Lattice;
+use crate::plain_types::{
+    by_blank_areas, by_booleans, by_commands, by_hosts, by_integers, by_members, by_records,
+    by_subsets, by_symbols, by_texts, by_unknown,
+};
 use cl_syntax::{TypeArg, TypeSpec};
 
 impl Lattice {
@@ -257,18 +261,18 @@ impl Lattice {
             Head::Sequence(part) => self.by_sequences(part, bound, second),
             Head::NullOr(part) => self.by_null_ors(part, bound, second),
             Head::TokenOr(args, part) => self.by_token_ors(args, part, bound, second),
-            Head::Boolean => self.by_booleans(second),
-            Head::Symbols => self.by_symbols(second),
-            Head::BlankArea => self.by_blank_areas(second),
-            Head::Command => self.by_commands(second),
-            Head::Integer(low, high) => self.by_integers(*low, *high, second),
-            Head::Text(length) => self.by_texts(*length, second),
-            Head::Member(args) => self.by_members(args, bound, second),
-            Head::Subset(args) => self.by_subsets(args, bound, second),
-            Head::Record(name) => self.by_records(name, second),
-            Head::Host(name, low, high) => self.by_hosts(name, *low, *high, second),
+            Head::Boolean => by_booleans(second),
+            Head::Symbols => by_symbols(second),
+            Head::BlankArea => by_blank_areas(second),
+            Head::Command => by_commands(second),
+            Head::Integer(low, high) => by_integers(*low, *high, second),
+            Head::Text(length) => by_texts(*length, second),
+            Head::Member(args) => by_members(args, bound, second),
+            Head::Subset(args) => by_subsets(args, bound, second),
+            Head::Record(name) => by_records(name, second),
+            Head::Host(name, low, high) => by_hosts(name, *low, *high, second),
             Head::User(name, args, user) => self.by_users(name, args, user, bound, second),
-            Head::Unknown(name, args) => self.by_unknown(name, args, bound, second),
+            Head::Unknown(name, args) => by_unknown(name, args, bound, second),
             Head::Everything => false,
             Head::Nothing => false,
             Head::SomeOf(_) => false,
