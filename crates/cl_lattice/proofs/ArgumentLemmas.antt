@@ -1,14 +1,12 @@
 -- What is given for a parameter, found among the arguments.
 use Rattle.std.proofs.Common.{◌≡◌, ℕ, Bool, true, false, List, [], ◌∷◌, refl}
-use Rattle.std.specs.Prelude.{Option, Some, None, ◌==◌, ◌||◌, if◌then◌else◌, drop, length, ◌<◌, slice_index_or}
+use Rattle.std.specs.Prelude.{Option, Some, None, ◌==◌, ◌||◌, if◌then◌else◌}
 use Rattle.std.specs.Cmp.Lexicographic.{pointwise}
 use Rattle.cl_value.specs.Data.{Data}
 use Rattle.cl_syntax.specs.TypeSpecTree.{TypeArgTree, TypeArgTrees, none, argument}
 use Rattle.cl_table.specs.Names.{named}
-use Rattle.cl_lattice.specs.Arguments.{Given, given, known, value_of, values_of, arg_given, constants, constant_before, trees_of}
+use Rattle.cl_lattice.specs.Arguments.{Given, given, known, value_of, values_of, arg_given, constant_before}
 use Rattle.cl_lattice.specs.Members.{is_among, is_given}
-use Rattle.cl_syntax.specs.TypeSpec.{arg_tree_of}
-use Rattle.cl_syntax.specs.declared.type_specs.TypeArg.{TypeArg}
 
 -- the value of an argument that is there
 abbrev pub value_in : Given → Option TypeArgTree → Option Data

@@ -1,9 +1,9 @@
 -- The expansion of a user type: it holds the expansion of what it inherits from.
-use Rattle.std.proofs.Common.{◌≡◌, ℕ, zero, suc, ◌≤◌, Bool, true, false, List, [], ◌∷◌, refl, ap, sym, subst, arith, ◌∙◌}
-use Rattle.std.specs.Prelude.{Option, Some, None, is_some, nat_le}
+use Rattle.std.proofs.Common.{◌≡◌, ℕ, zero, suc, ◌≤◌, true, List, refl, ap, subst, arith, ◌∙◌}
+use Rattle.std.specs.Prelude.{Option, Some, None, is_some}
 use Rattle.cl_value.specs.Data.{Data}
 use Rattle.cl_syntax.specs.StandardTypes.{standard_named}
-use Rattle.cl_syntax.specs.TypeSpecTree.{TypeSpecTree, specifier, TypeArgTree, Constant, Any, Param, Spec, Names, TypeArgTrees, none, argument}
+use Rattle.cl_syntax.specs.TypeSpecTree.{TypeSpecTree, specifier, Constant, Any, Param, Spec, Names, TypeArgTrees, none, argument}
 use Rattle.cl_syntax.specs.declared.type_names.StandardType.{StandardType}
 use Rattle.cl_lattice.specs.Arguments.{Given, given, tokens_in, values_of}
 use Rattle.cl_lattice.specs.Expanded.{Expanded, ExpandedTypes}

@@ -1,15 +1,15 @@
 -- Membership, by the kinds of values and by the first part of a type.
 use Rattle.std.proofs.Common.{◌≡◌, ℕ, Bool, true, false, List, [], ◌∷◌, refl}
-use Rattle.std.specs.Prelude.{Option, Some, None, ◌==◌, ◌||◌, if◌then◌else◌, is_some}
+use Rattle.std.specs.Prelude.{Option, Some, None, ◌==◌, ◌||◌, if◌then◌else◌}
 use Rattle.std.proofs.Common.{ap, sym, subst, ◌∙◌}
 use Rattle.std.specs.Cmp.Lexicographic.{pointwise}
 use Rattle.cl_syntax.specs.TypeSpecTree.{TypeSpecTree}
 use Rattle.cl_syntax.specs.declared.type_decls.CommandType.{CommandType}
 use Rattle.cl_table.specs.Names.{named}
 use Rattle.cl_value.specs.Data.{Data, int, bool, text, symbol, null, list, rec}
-use Rattle.cl_lattice.specs.Expanded.{Expanded, ExpandedTypes, none, part, sequence, null_or, token_or, everything, nothing, boolean, symbols, blank_area, command, integer, string, member, subset, some_of, each_of, record_type, host, user, unknown}
-use Rattle.cl_lattice.specs.Expansion.{declared_type, of_first, expansion, own_type}
-use Rattle.cl_lattice.specs.Members.{Answers, Membership, asks, any_asks, args_ask, any_command_asks, commands_ask, may_ask, inside, is_in, is_member, is_null, is_one_of}
+use Rattle.cl_lattice.specs.Expanded.{Expanded, user}
+use Rattle.cl_lattice.specs.Expansion.{declared_type, expansion, own_type}
+use Rattle.cl_lattice.specs.Members.{Answers, asks, args_ask, any_command_asks, commands_ask, may_ask, inside, is_in, is_member}
 use Rattle.cl_lattice.specs.World.{World, kind_in, kind_named}
 use Rattle.cl_syntax.specs.StandardTypes.{standard_named}
 use Rattle.cl_lattice.proofs.ExpansionLemmas.{own_is}

@@ -1,4 +1,4 @@
-use Rattle.std.proofs.Common.{rules, ◌≡◌, ◌+◌, ◌*◌, ◌<◌, ◌≤◌, length, arith, sym, ap, refl, ◌∙◌}
+use Rattle.std.proofs.Common.{rules, ◌≡◌, ◌+◌, ◌*◌, ◌≤◌, arith, sym, ap, refl, ◌∙◌}
 use Rattle.std.specs.Prelude.{Some}
 use Rattle.cl_value.specs.Data.{size_of, size_of_items}
 use Rattle.cl_value.specs.Value.{data_of, parts_of}

@@ -1,4 +1,4 @@
-use Rattle.std.proofs.Common.{◌≡◌, ◌+◌, ◌*◌, [], drop, map}
+use Rattle.std.proofs.Common.{◌≡◌, ◌+◌, ◌*◌, [], drop}
 use Rattle.cl_value.specs.Data.{size_of, size_of_items}
 use Rattle.cl_value.specs.Value.{data_of, parts_of}
 use Rattle.cl_lattice.specs.Arguments.{given, given_by, tokens_in, trees_of, values_of}
