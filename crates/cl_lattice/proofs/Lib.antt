@@ -20,3 +20,4 @@ pub mod RingEntries
 pub mod RingLemmas
 pub mod BuildingCommands
 pub mod BuildingLemmas
+pub mod SupertypeLemmas

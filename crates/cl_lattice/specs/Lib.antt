@@ -8,6 +8,7 @@ pub mod SubtypeConstants
 pub mod Subtypes
 pub mod SubtypeWays
 pub mod Precedence
+pub mod Supertypes
 pub mod Rings
 pub mod Sizes
 pub mod MemberRows

@@ -26,5 +26,8 @@ pub use building::BuildRefusal;
 pub use declared_types::{DeclaredType, DeclaredTypes, TypeKind, UserType};
 pub use inheritance::user_types_inherit;
 pub use lattices::Lattice;
-pub use laws::{subtypes_are_reflexive, subtypes_are_transitive, subtypes_have_fewer_members};
+pub use laws::{
+    precedence_lists_supertypes, subtypes_are_reflexive, subtypes_are_transitive,
+    subtypes_have_fewer_members,
+};
 pub use predicates::Predicates;
