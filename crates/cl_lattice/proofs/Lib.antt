@@ -21,3 +21,4 @@ pub mod RingLemmas
 pub mod BuildingCommands
 pub mod BuildingLemmas
 pub mod SupertypeLemmas
+pub mod SubtypeNameLemmas

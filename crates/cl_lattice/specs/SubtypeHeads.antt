@@ -1,5 +1,6 @@
 -- Heads of types, and the expanded types that they stand for.
-use Rattle.std.specs.Prelude.{◌≡◌, ℕ, List, Option, Some, None}
+use Rattle.std.specs.Prelude.{◌≡◌, ℕ, Bool, false, ◌==◌, List, Option, Some, None}
+use Rattle.std.specs.Cmp.Lexicographic.{pointwise}
 use Rattle.cl_value.specs.Data.{Data}
 use Rattle.cl_syntax.specs.TypeSpecTree.{TypeSpecTree, TypeArgTree, Constant, Any, Param, Spec, Names, TypeArgTrees, none, argument}
 use Rattle.cl_lattice.specs.Arguments.{Given, given, values_of, constants, tokens_in, trees_of}
@@ -55,3 +56,25 @@ abbrev pub IsDeclared : World → Head → Type 0
 IsDeclared w (head.Host x low high) = kind_named x.now w ≡ Some (kind.Host low high)
 IsDeclared w (head.User x ts u) = kind_named x.now w ≡ Some (kind.User u.now)
 IsDeclared w h = Unit {0}
+
+-- whether a head is that of a declared type of this name
+abbrev pub has_name : Head → List ℕ → Bool
+has_name (head.Record x) y = pointwise ◌==◌ y x.now
+has_name (head.Host x low high) y = pointwise ◌==◌ y x.now
+has_name (head.User x ts u) y = pointwise ◌==◌ y x.now
+has_name (head.Unknown x ts) y = pointwise ◌==◌ y x.now
+has_name head.Everything y = false
+has_name head.Nothing y = false
+has_name head.Boolean y = false
+has_name head.Symbols y = false
+has_name head.BlankArea y = false
+has_name head.Command y = false
+has_name (head.Integer low high) y = false
+has_name (head.Text n) y = false
+has_name (head.Member ts) y = false
+has_name (head.Subset ts) y = false
+has_name (head.Sequence s) y = false
+has_name (head.SomeOf ts) y = false
+has_name (head.EachOf ts) y = false
+has_name (head.NullOr s) y = false
+has_name (head.TokenOr ts s) y = false

@@ -1,11 +1,12 @@
 //! Heads of types: the name in a specifier is found, and its parts stay as they are written.
-ghost use Rattle.std.specs.Prelude.{◌≡◌, option_map, None, Some};
+ghost use Rattle.std.specs.Prelude.{◌≡◌, [], option_map, IsTrue, None, Some};
 ghost use Rattle.cl_syntax.specs.StandardTypes.{standard_named};
 ghost use Rattle.cl_lattice.specs.Arguments.{Given, given_by, tokens_in, trees_of, values_of};
 ghost use Rattle.cl_lattice.specs.Expansion.{declared_type, expand_parts, expansion, of_first, own_type, standard_type};
 ghost use Rattle.cl_lattice.specs.Laws.{AllFit};
 ghost use Rattle.cl_lattice.specs.Expanded.{sequence, null_or, token_or};
-ghost use Rattle.cl_lattice.specs.SubtypeHeads.{IsDeclared, first_part, head_type};
+ghost use Rattle.cl_lattice.specs.SubtypeHeads.{IsDeclared, first_part, has_name, head_type};
+ghost use Rattle.cl_lattice.specs.SubtypeWays.{BySecond};
 ghost use Rattle.cl_lattice.specs.World.{World, kind_named};
 
 use crate::arguments::{Bound, first_number, second_number};
@@ -174,6 +175,35 @@ impl Lattice {
             TypeKind::Record => Head::Record(name),
             TypeKind::Host(low, high) => Head::Host(name, *low, *high),
             TypeKind::User(user) => Head::User(name, args, user),
+        }
+    }
+}
+
+impl Head<'_> {
+    // Whether this is a declared type of that name.
+    fn has_name(&self, name: &[u8]) -> bool
+        ensures { result ≡ has_name self.now name.now }
+    {
+        match self {
+            Head::Record(own) => name == *own,
+            Head::Host(own, _, _) => name == *own,
+            Head::User(own, _, _) => name == *own,
+            Head::Unknown(own, _) => name == *own,
+            _ => false,
+        }
+    }
+}
+
+impl Lattice {
+    /// Whether the second is a declared type, and the first is none of that name: it looks no name up.
+    #[tactic(auto, using(crate::proofs::SubtypeNameLemmas::another_below))]
+    pub(crate) fn is_another(&self, first: &Head<'_>, second: &TypeSpec) -> bool
+        ensures { (g : Given) → IsTrue result → BySecond (head_type self.now g first.now) (expansion self.now [] second.now) → ⊥ }
+    {
+        self.all_fit();
+        match second.name.standard() {
+            Some(_) => false,
+            None => !first.has_name(second.name.as_slice()),
         }
     }
 }

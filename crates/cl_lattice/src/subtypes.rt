@@ -216,7 +216,7 @@ impl Lattice {
         }
     }
 
-    // The same for the second as a specifier.
+    // The same for the second as a specifier. Where that is a declared type of another name, it is not looked up.
     #[cycle(subtypes)]
     fn by_second_spec<'a>(
         &'a self,
@@ -227,6 +227,9 @@ impl Lattice {
         requires { IsDeclared self.now first.now }
         ensures { IsTrue result ↔ BySecond (head_type self.now (given_by bound.now) first.now) (expansion self.now [] second.now) }
     {
+        if self.is_another(first, second) {
+            return false;
+        }
         self.by_second(first, bound, &self.head_of(second, &Bound::Nothing))
     }
 
