@@ -1,5 +1,5 @@
 -- The predicates of the types of questions, by name.
-use Rattle.std.specs.Prelude.{ℕ, ℤ, pos, Bool, false, if◌then◌else◌, List, [], ◌∷◌, Option, Some, None, codes}
+use Rattle.std.specs.Prelude.{ℕ, pos, Bool, false, if◌then◌else◌, List, [], ◌∷◌, Some, None, codes}
 use Rattle.std.specs.Str.{bytes_eq}
 use Rattle.cl_value.specs.Data.{Data}
 use Rattle.cl_lattice.specs.Arguments.{number_in}
