@@ -22,3 +22,4 @@ pub mod BuildingCommands
 pub mod BuildingLemmas
 pub mod SupertypeLemmas
 pub mod SubtypeNameLemmas
+pub mod SubtypeRowLemmas

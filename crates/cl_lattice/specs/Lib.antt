@@ -7,6 +7,7 @@ pub mod SubtypeHeads
 pub mod SubtypeConstants
 pub mod Subtypes
 pub mod SubtypeWays
+pub mod SubtypeRows
 pub mod Precedence
 pub mod Supertypes
 pub mod Rings
