@@ -1,6 +1,6 @@
 -- Subtypes of all parts of a second type at once.
-use Rattle.std.specs.Prelude.{◌≡◌, ◌↔◌, ◌⊎◌, ◌&&◌, ◌||◌, ℕ, Bool, true, false, List, [], ◌∷◌, ◌++◌, drop}
-use Rattle.cl_lattice.specs.Expanded.{Expanded, everything, ExpandedTypes, none, part, sequence, some_of, each_of, null_or, token_or}
+use Rattle.std.specs.Prelude.{◌≡◌, ◌↔◌, ◌⊎◌, ◌&&◌, ◌||◌, ℕ, Bool, true, false, List, [], ◌∷◌, ◌++◌, drop, Some}
+use Rattle.cl_lattice.specs.Expanded.{Expanded, everything, host, integer, ExpandedTypes, none, part, sequence, some_of, each_of, null_or, token_or}
 use Rattle.cl_lattice.specs.SubtypeWays.{BelowEach, ByFirst}
 use Rattle.cl_lattice.specs.Subtypes.{IsSubtype}
 use Rattle.cl_lattice.specs.declared.rows.Row.{Row}
@@ -131,3 +131,8 @@ is_alone (each_of ts) = false
 is_alone (null_or t) = false
 is_alone (token_or xs t) = false
 is_alone t = true
+
+-- a host type, and the numbers that it inherits from
+abbrev pub HostInherits : Expanded → Expanded → Type 0
+HostInherits (host x low high) e = e ≡ integer (Some low) (Some high)
+HostInherits a e = ⊥

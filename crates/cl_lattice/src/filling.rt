@@ -7,13 +7,14 @@ ghost use Rattle.cl_lattice.specs.SubtypeHeads.{IsDeclared, head_type};
 ghost use Rattle.cl_lattice.specs.SubtypeRows.{Fills, FillsEach, FillsSome, InnerAgrees, KnownTells, is_alone, parts_of, parts_of_all, row_of};
 ghost use Rattle.cl_lattice.specs.SubtypeWays.{ByHeads};
 
-use crate::arguments::Bound;
+use crate::arguments::{Bound, next_spec};
 use crate::heads::Head;
 use crate::lattices::Lattice;
-use crate::rows::{Answers, Row, answer_before, count, put};
+use crate::rows::{Answers, Row, and, answer_before, count, or, put};
 use cl_syntax::{TypeArg, TypeSpec};
 
 /// What is known of all parts of a second type: of the parts of the first, or what it inherits from, and of the type inside it.
+#[derive(Drop)]
 pub(crate) struct Known<'b> {
     pub(crate) firsts: &'b Row,
     pub(crate) inner: &'b [bool],
@@ -22,7 +23,7 @@ pub(crate) struct Known<'b> {
 impl Lattice {
     // Puts an answer for each part of the second type behind the others, and gives the one for the whole; `None` where there is no room.
     #[cycle(filling)]
-    fn fill<'a>(
+    pub(crate) fn fill<'a>(
         &'a self,
         first: &Head<'a>,
         bound: &Bound<'a>,
@@ -97,7 +98,7 @@ impl Lattice {
     {
         let some = self.fill_some(first, bound, parts, known, out)?;
         let own = known.firsts.at(count(out));
-        put(out, some || own)
+        put(out, or(some, own))
     }
 
     // An `and`.
@@ -136,7 +137,7 @@ impl Lattice {
         let inner = answer_before(known.inner, count(out));
         let heads = self.heads_meet(first, bound, &Head::Sequence(part), inner);
         let own = known.firsts.at(count(out));
-        put(out, heads || own)
+        put(out, or(heads, own))
     }
 
     // A null-or-type.
@@ -157,7 +158,7 @@ impl Lattice {
         let inner = answer_before(known.inner, count(out));
         let heads = self.heads_meet(first, bound, &Head::NullOr(part), inner);
         let own = known.firsts.at(count(out));
-        put(out, (below || heads) || own)
+        put(out, or(or(below, heads), own))
     }
 
     // A token-or-type.
@@ -179,7 +180,7 @@ impl Lattice {
         let inner = answer_before(known.inner, count(out));
         let heads = self.heads_meet(first, bound, &Head::TokenOr(args, part), inner);
         let own = known.firsts.at(count(out));
-        put(out, (below || heads) || own)
+        put(out, or(or(below, heads), own))
     }
 
     // The parts of an `or`.
@@ -196,14 +197,13 @@ impl Lattice {
         requires known { KnownTells (head_type self.now (given_by bound.now) first.now) (parts_of_all (expand_parts self.now (own_type self.now) [] (trees_of parts.now))) (length out.old.items) (row_of known.now.firsts.now) known.now.inner.now }
         ensures { IfSome result (λ r. FillsSome (head_type self.now (given_by bound.now) first.now) (expand_parts self.now (own_type self.now) [] (trees_of parts.now)) out.old.items out.new.items r) }
     {
-        match parts {
-            [] => Some(false),
-            [TypeArg::Spec(part), more @ ..] => {
+        match next_spec(parts) {
+            Some((part, more)) => {
                 let below = self.fill(first, bound, part, known, out)?;
                 let later = self.fill_some(first, bound, more, known, out)?;
-                Some(below || later)
+                Some(or(below, later))
             }
-            [_, more @ ..] => self.fill_some(first, bound, more, known, out),
+            None => Some(false),
         }
     }
 
@@ -221,14 +221,13 @@ impl Lattice {
         requires known { KnownTells (head_type self.now (given_by bound.now) first.now) (parts_of_all (expand_parts self.now (own_type self.now) [] (trees_of parts.now))) (length out.old.items) (row_of known.now.firsts.now) known.now.inner.now }
         ensures { IfSome result (λ r. FillsEach (head_type self.now (given_by bound.now) first.now) (expand_parts self.now (own_type self.now) [] (trees_of parts.now)) out.old.items out.new.items r) }
     {
-        match parts {
-            [] => Some(true),
-            [TypeArg::Spec(part), more @ ..] => {
+        match next_spec(parts) {
+            Some((part, more)) => {
                 let below = self.fill(first, bound, part, known, out)?;
                 let later = self.fill_each(first, bound, more, known, out)?;
-                Some(below && later)
+                Some(and(below, later))
             }
-            [_, more @ ..] => self.fill_each(first, bound, more, known, out),
+            None => Some(true),
         }
     }
 
@@ -249,6 +248,6 @@ impl Lattice {
     {
         let heads = self.heads_meet(first, bound, second, false);
         let own = known.firsts.at(count(out));
-        put(out, heads || own)
+        put(out, or(heads, own))
     }
 }

@@ -1,11 +1,12 @@
 //! Heads of types: the name in a specifier is found, and its parts stay as they are written.
-ghost use Rattle.std.specs.Prelude.{◌≡◌, [], option_map, IsTrue, None, Some};
+ghost use Rattle.std.specs.Prelude.{◌≡◌, [], option_map, IfSome, IsTrue, None, Some};
 ghost use Rattle.cl_syntax.specs.StandardTypes.{standard_named};
 ghost use Rattle.cl_lattice.specs.Arguments.{Given, given_by, tokens_in, trees_of, values_of};
 ghost use Rattle.cl_lattice.specs.Expansion.{declared_type, expand_parts, expansion, of_first, own_type, standard_type};
 ghost use Rattle.cl_lattice.specs.Laws.{AllFit};
 ghost use Rattle.cl_lattice.specs.Expanded.{sequence, null_or, token_or};
 ghost use Rattle.cl_lattice.specs.SubtypeHeads.{IsDeclared, first_part, has_name, head_type};
+ghost use Rattle.cl_lattice.specs.SubtypeRows.{HostInherits};
 ghost use Rattle.cl_lattice.specs.SubtypeWays.{BySecond};
 ghost use Rattle.cl_lattice.specs.World.{World, kind_named};
 
@@ -180,6 +181,17 @@ impl Lattice {
 }
 
 impl Head<'_> {
+    /// The numbers that a host type inherits from; `None` where this is none.
+    pub(crate) fn host_numbers<'b>(&self) -> Option<Head<'b>>
+        ensures same { (w : World) (g : Given) → IfSome result (λ h. HostInherits (head_type w g self.now) (head_type w g h)) }
+        ensures declared { (w : World) → IfSome result (IsDeclared w) }
+    {
+        match self {
+            Head::Host(_, low, high) => Some(Head::Integer(Some(*low), Some(*high))),
+            _ => None,
+        }
+    }
+
     // Whether this is a declared type of that name.
     fn has_name(&self, name: &[u8]) -> bool
         ensures { result ≡ has_name self.now name.now }

@@ -6,6 +6,7 @@ mod atoms;
 mod building;
 mod commands;
 mod comparing;
+mod comparison;
 mod declared_members;
 mod declared_types;
 mod filling;

@@ -1,5 +1,5 @@
 //! Answers for all parts of a second type at once.
-ghost use Rattle.std.specs.Prelude.{◌≡◌, ◌+◌, [], ◌∷◌, ◌++◌, ◌⊎◌, ◌↔◌, IfSome, IsTrue, OnSome, List, drop, length};
+ghost use Rattle.std.specs.Prelude.{◌≡◌, ◌+◌, ◌||◌, ◌&&◌, [], ◌∷◌, ◌++◌, ◌⊎◌, ◌↔◌, IfSome, IsTrue, OnSome, List, drop, length};
 ghost use Rattle.cl_lattice.specs.Expanded.{Expanded};
 ghost use Rattle.cl_lattice.specs.SubtypeRows.{both_rows, either_row, row_of, zip_and, zip_or, RowTellsFrom};
 ghost use Rattle.cl_lattice.specs.SubtypeWays.{ByFirst};
@@ -147,4 +147,18 @@ pub(crate) fn answer_before(answers: &[bool], place: usize) -> bool
         Some(before) => answer_at(answers, before),
         None => false,
     }
+}
+
+/// Whether one of two is true.
+pub(crate) fn or(first: bool, second: bool) -> bool
+    ensures { result ≡ (first || second) }
+{
+    first || second
+}
+
+/// Whether both are true.
+pub(crate) fn and(first: bool, second: bool) -> bool
+    ensures { result ≡ (first && second) }
+{
+    first && second
 }

@@ -15,14 +15,19 @@ use crate::plain_types::{
     by_blank_areas, by_booleans, by_commands, by_hosts, by_integers, by_members, by_records,
     by_subsets, by_symbols, by_texts, by_unknown,
 };
+use crate::rows::{answer_before, count};
 use cl_syntax::{TypeArg, TypeSpec};
 
 impl Lattice {
-    /// Whether a type is a subtype of another, which takes no memory.
+    /// Whether a type is a subtype of another, which takes no memory. Each part of the first is compared with each part of the
+    /// second once, where the second has at most 256.
     pub fn subtype(&self, a: &TypeSpec, b: &TypeSpec) -> bool
         ensures { IsTrue result ↔ IsSubtype (expansion self.now [] a.now) (expansion self.now [] b.now) }
     {
-        self.is_subtype(a, &Bound::Nothing, b)
+        match self.row(a, &Bound::Nothing, b) {
+            Some(answers) => answer_before(answers.as_slice(), count(&answers)),
+            None => self.is_subtype(a, &Bound::Nothing, b),
+        }
     }
 
     // Whether a type is a subtype of another; the first may hold parameters of the declaration around it.

@@ -1,84 +1,220 @@
-use Rattle.std.proofs.Common.{rules, ◌≡◌, ◌↔◌, [], ◌∷◌, ◌++◌, IfSome, IsTrue, length, true, ℕ, ◌+◌, ◌-◌, ◌*◌, ◌<◌, ◌≤◌, ◌/◌, ◌%◌, Bool, false, nat_eq, nat_lt, List, slice_index_or, slice_set, bit_and, bit_or, Fits, w8, w32, w64, Bor, MutBor}
+use Rattle.std.proofs.Common.{rules, ◌≡◌, [], ◌∷◌, ◌++◌, length, Bool, true, false, ap, sym, subst, ◌∙◌}
+use Rattle.std.specs.Prelude.{◌||◌, IfSome}
 use Rattle.cl_lattice.specs.Arguments.{given_by, tokens_in, trees_of}
-use Rattle.cl_lattice.specs.Expanded.{each_of, null_or, sequence, some_of, token_or}
-use Rattle.cl_lattice.specs.Expansion.{expand_parts, expansion, own_type}
-use Rattle.cl_lattice.specs.SubtypeHeads.{IsDeclared, head_type}
-use Rattle.cl_lattice.specs.SubtypeRows.{Fills, FillsEach, FillsSome, InnerAgrees, KnownTells, is_alone, parts_of, parts_of_all, row_of}
-use Rattle.cl_lattice.specs.SubtypeWays.{ByHeads}
+use Rattle.cl_lattice.specs.Expanded.{ExpandedTypes, everything, none, each_of, null_or, sequence, some_of, token_or, part}
+use Rattle.cl_lattice.specs.Expansion.{expand_parts, expansion, own_type, next_parts}
+use Rattle.cl_lattice.specs.SubtypeHeads.{head_type}
+use Rattle.cl_lattice.specs.SubtypeRows.{Fills, FillsEach, FillsSome, KnownTells, parts_of, parts_of_all, row_of}
+use Rattle.cl_lattice.specs.Subtypes.{IsSubtype}
+use Rattle.cl_lattice.proofs.ExpansionLemmas.{parts_next}
+use Rattle.cl_lattice.proofs.SubtypeRowLemmas.{close_each, close_everything, close_null, close_sequence, close_some, close_token, each_more, each_none, known_first, known_next, null_agrees, own_tells, put_filled, put_told, sequence_agrees, some_more, some_none, token_agrees}
+use Rattle.cl_lattice.specs.declared.heads.Head.{Head}
 use Rattle.cl_lattice.proofs.lattices.Lattice.+filling.Goals as goal
 
--- src/filling.rt:117:20
-pub fill_and-fill_each-requires : goal.fill_and-fill_each-requires
-fill_and-fill_each-requires t c = ?
-
--- src/filling.rt:104:5
-pub fill_and-returns : goal.fill_and-returns
-fill_and-returns t c = ?
-
--- src/filling.rt:227:29
-pub fill_each-fill-requires : goal.fill_each-fill-requires
-fill_each-fill-requires t c = ?
-
--- src/filling.rt:228:29
-pub fill_each-fill_each-requires : goal.fill_each-fill_each-requires
-fill_each-fill_each-requires t c = ?
-
--- src/filling.rt:211:5
-pub fill_each-returns-then-below : goal.fill_each-returns-then-below
-fill_each-returns-then-below t c = ?
-
--- src/filling.rt:211:5
-pub fill_each-returns-else-below : goal.fill_each-returns-else-below
-fill_each-returns-else-below t c = ?
-
--- src/filling.rt:47:5
-pub fill_head-returns-in-Everything : goal.fill_head-returns-in-Everything
-fill_head-returns-in-Everything t c = ?
-
--- src/filling.rt:156:21
-pub fill_null-fill-requires : goal.fill_null-fill-requires
-fill_null-fill-requires t c = ?
-
--- src/filling.rt:143:5
-pub fill_null-returns : goal.fill_null-returns
-fill_null-returns t c = ?
-
--- src/filling.rt:98:20
 pub fill_or-fill_some-requires : goal.fill_or-fill_some-requires
-fill_or-fill_some-requires t c = ?
+fill_or-fill_some-requires t c =
+    let a = head_type c.args.self.now (given_by c.args.bound.now) c.args.first.now in
+    let ps = expand_parts c.args.self.now (own_type c.args.self.now) [] (trees_of c.args.parts.now) in
+    (search rules, (c.requires.declared, known_first a (parts_of_all ps) (some_of ps ∷ []) (length c.args.out.now.items) (row_of c.args.known.now.firsts.now) c.args.known.now.inner.now c.requires.known))
 
--- src/filling.rt:85:5
+pub fill_and-fill_each-requires : goal.fill_and-fill_each-requires
+fill_and-fill_each-requires t c =
+    let a = head_type c.args.self.now (given_by c.args.bound.now) c.args.first.now in
+    let ps = expand_parts c.args.self.now (own_type c.args.self.now) [] (trees_of c.args.parts.now) in
+    (search rules, (c.requires.declared, known_first a (parts_of_all ps) (each_of ps ∷ []) (length c.args.out.now.items) (row_of c.args.known.now.firsts.now) c.args.known.now.inner.now c.requires.known))
+
 pub fill_or-returns : goal.fill_or-returns
-fill_or-returns t c = ?
+fill_or-returns t c =
+    let a = head_type c.args.self.now (given_by c.args.bound.now) c.args.first.now in
+    let ps = expand_parts c.args.self.now (own_type c.args.self.now) [] (trees_of c.args.parts.now) in
+    let x = c.args.out.now.items in
+    let y = c.fill_some.new.out.items in
+    let filled = c.in_ok-some.ensures in
+    let own = c.at-own.ensures a (some_of ps) []
+    (own_tells a (some_of ps) (IsSubtype a) (parts_of_all ps) x y (row_of c.args.known.now.firsts.now) c.args.known.now.inner.now c.count.result c.requires.known filled.adds c.count.ensures) in
+    put_told a (some_of ps) x y c.put.new.answers.items (c.in_ok-some.some || c.at-own.result) c.or.result c.put.result c.or.ensures c.put.ensures.same c.put.ensures.grown
+    (close_some a ps x y c.in_ok-some.some c.at-own.result filled own)
 
--- src/filling.rt:135:9
+pub fill_and-returns : goal.fill_and-returns
+fill_and-returns t c =
+    let a = head_type c.args.self.now (given_by c.args.bound.now) c.args.first.now in
+    let ps = expand_parts c.args.self.now (own_type c.args.self.now) [] (trees_of c.args.parts.now) in
+    let x = c.args.out.now.items in
+    let y = c.fill_each.new.out.items in
+    put_filled a (each_of ps) x y c.put.new.answers.items c.in_ok-each.each c.put.result c.put.ensures.same c.put.ensures.grown
+    (close_each a ps x y c.in_ok-each.each c.in_ok-each.ensures)
+
 pub fill_sequence-fill-requires : goal.fill_sequence-fill-requires
-fill_sequence-fill-requires t c = ?
+fill_sequence-fill-requires t c =
+    let a = head_type c.args.self.now (given_by c.args.bound.now) c.args.first.now in
+    let u = expansion c.args.self.now [] c.args.part.now in
+    (search rules, (c.requires.declared, known_first a (parts_of u) ((sequence u) ∷ []) (length c.args.out.now.items) (row_of c.args.known.now.firsts.now) c.args.known.now.inner.now c.requires.known))
 
--- src/filling.rt:122:5
-pub fill_sequence-returns : goal.fill_sequence-returns
-fill_sequence-returns t c = ?
+pub fill_null-fill-requires : goal.fill_null-fill-requires
+fill_null-fill-requires t c =
+    let a = head_type c.args.self.now (given_by c.args.bound.now) c.args.first.now in
+    let u = expansion c.args.self.now [] c.args.part.now in
+    (search rules, (c.requires.declared, known_first a (parts_of u) ((null_or u) ∷ []) (length c.args.out.now.items) (row_of c.args.known.now.firsts.now) c.args.known.now.inner.now c.requires.known))
 
--- src/filling.rt:202:29
-pub fill_some-fill-requires : goal.fill_some-fill-requires
-fill_some-fill-requires t c = ?
-
--- src/filling.rt:203:29
-pub fill_some-fill_some-requires : goal.fill_some-fill_some-requires
-fill_some-fill_some-requires t c = ?
-
--- src/filling.rt:186:5
-pub fill_some-returns-then-below : goal.fill_some-returns-then-below
-fill_some-returns-then-below t c = ?
-
--- src/filling.rt:186:5
-pub fill_some-returns-else-below : goal.fill_some-returns-else-below
-fill_some-returns-else-below t c = ?
-
--- src/filling.rt:178:21
 pub fill_token-fill-requires : goal.fill_token-fill-requires
-fill_token-fill-requires t c = ?
+fill_token-fill-requires t c =
+    let a = head_type c.args.self.now (given_by c.args.bound.now) c.args.first.now in
+    let u = expansion c.args.self.now [] c.args.part.now in
+    let ys = tokens_in (trees_of c.args.args.now) in
+    (search rules, (c.requires.declared, known_first a (parts_of u) ((token_or ys u) ∷ []) (length c.args.out.now.items) (row_of c.args.known.now.firsts.now) c.args.known.now.inner.now c.requires.known))
 
--- src/filling.rt:164:5
+pub fill_sequence-returns : goal.fill_sequence-returns
+fill_sequence-returns t c =
+    let a = head_type c.args.self.now (given_by c.args.bound.now) c.args.first.now in
+    let u = expansion c.args.self.now [] c.args.part.now in
+    let f = row_of c.args.known.now.firsts.now in
+    let rs = c.args.known.now.inner.now in
+    let x = c.args.out.now.items in
+    let y = c.fill.new.out.items in
+    let filled = c.in_ok-fill.ensures in
+    let own = c.at-own.ensures a (sequence u) [] (own_tells a (sequence u) (IsSubtype a) (parts_of u) x y f rs c.count-2.result c.requires.known filled.adds c.count-2.ensures) in
+    let heads = c.heads_meet-heads.ensures (sequence_agrees a u x y f rs c.count.result c.answer_before-inner.result c.requires.known filled.adds c.count.ensures c.answer_before-inner.ensures) in
+    put_told a (sequence u) x y c.put.new.answers.items (c.heads_meet-heads.result || c.at-own.result) c.or.result c.put.result c.or.ensures c.put.ensures.same c.put.ensures.grown
+    (close_sequence a u x y c.in_ok-fill.field-0 c.heads_meet-heads.result c.at-own.result filled heads own)
+
+pub fill_null-returns : goal.fill_null-returns
+fill_null-returns t c =
+    let a = head_type c.args.self.now (given_by c.args.bound.now) c.args.first.now in
+    let u = expansion c.args.self.now [] c.args.part.now in
+    let f = row_of c.args.known.now.firsts.now in
+    let rs = c.args.known.now.inner.now in
+    let x = c.args.out.now.items in
+    let y = c.fill.new.out.items in
+    let filled = c.in_ok-below.ensures in
+    let own = c.at-own.ensures a (null_or u) [] (own_tells a (null_or u) (IsSubtype a) (parts_of u) x y f rs c.count-2.result c.requires.known filled.adds c.count-2.ensures) in
+    let heads = c.heads_meet-heads.ensures (null_agrees a u x y f rs c.count.result c.answer_before-inner.result c.requires.known filled.adds c.count.ensures c.answer_before-inner.ensures) in
+    put_told a (null_or u) x y c.put.new.answers.items ((c.in_ok-below.below || c.heads_meet-heads.result) || c.at-own.result) c.or-2.result c.put.result (c.or-2.ensures ∙ ap (λ (b : Bool). b || c.at-own.result) c.or.ensures) c.put.ensures.same c.put.ensures.grown
+    (close_null a u x y c.in_ok-below.below c.heads_meet-heads.result c.at-own.result filled heads own)
+
 pub fill_token-returns : goal.fill_token-returns
-fill_token-returns t c = ?
+fill_token-returns t c =
+    let a = head_type c.args.self.now (given_by c.args.bound.now) c.args.first.now in
+    let u = expansion c.args.self.now [] c.args.part.now in
+    let ys = tokens_in (trees_of c.args.args.now) in
+    let f = row_of c.args.known.now.firsts.now in
+    let rs = c.args.known.now.inner.now in
+    let x = c.args.out.now.items in
+    let y = c.fill.new.out.items in
+    let filled = c.in_ok-below.ensures in
+    let own = c.at-own.ensures a (token_or ys u) [] (own_tells a (token_or ys u) (IsSubtype a) (parts_of u) x y f rs c.count-2.result c.requires.known filled.adds c.count-2.ensures) in
+    let heads = c.heads_meet-heads.ensures (token_agrees a u ys x y f rs c.count.result c.answer_before-inner.result c.requires.known filled.adds c.count.ensures c.answer_before-inner.ensures) in
+    put_told a (token_or ys u) x y c.put.new.answers.items ((c.in_ok-below.below || c.heads_meet-heads.result) || c.at-own.result) c.or-2.result c.put.result (c.or-2.ensures ∙ ap (λ (b : Bool). b || c.at-own.result) c.or.ensures) c.put.ensures.same c.put.ensures.grown
+    (close_token a ys u x y c.in_ok-below.below c.heads_meet-heads.result c.at-own.result filled heads own)
+
+pub fill_some-fill-requires : goal.fill_some-fill-requires
+fill_some-fill-requires t c =
+    let a = head_type c.args.self.now (given_by c.args.bound.now) c.args.first.now in
+    let w = c.args.self.now in
+    let ps = expand_parts w (own_type w) [] (trees_of c.args.parts.now) in
+    let f = row_of c.args.known.now.firsts.now in
+    let rs = c.args.known.now.inner.now in
+    let x = c.args.out.now.items in
+    let u = expansion w [] c.in-Some.part.now in
+    let ms = expand_parts w (own_type w) [] (trees_of c.in-Some.more.now) in
+    let split : ps ≡ part u ms = parts_next w (own_type w) [] (trees_of c.args.parts.now) ∙ ap (next_parts w (own_type w) []) (sym c.in-Some.ensures) in
+    let ready : KnownTells a (parts_of u ++ parts_of_all ms) (length x) f rs = subst (λ (v : ExpandedTypes). KnownTells a (parts_of_all v) (length x) f rs) split c.requires.known in
+    (search (rules, split), (c.requires.declared, known_first a (parts_of u) (parts_of_all ms) (length x) f rs ready))
+
+pub fill_some-fill_some-requires : goal.fill_some-fill_some-requires
+fill_some-fill_some-requires t c =
+    let a = head_type c.args.self.now (given_by c.args.bound.now) c.args.first.now in
+    let w = c.args.self.now in
+    let ps = expand_parts w (own_type w) [] (trees_of c.args.parts.now) in
+    let f = row_of c.args.known.now.firsts.now in
+    let rs = c.args.known.now.inner.now in
+    let x = c.args.out.now.items in
+    let u = expansion w [] c.in-Some.part.now in
+    let ms = expand_parts w (own_type w) [] (trees_of c.in-Some.more.now) in
+    let split : ps ≡ part u ms = parts_next w (own_type w) [] (trees_of c.args.parts.now) ∙ ap (next_parts w (own_type w) []) (sym c.in-Some.ensures) in
+    let ready : KnownTells a (parts_of u ++ parts_of_all ms) (length x) f rs = subst (λ (v : ExpandedTypes). KnownTells a (parts_of_all v) (length x) f rs) split c.requires.known in
+    (search (rules, split), (c.requires.declared, known_next a (IsSubtype a) (parts_of u) (parts_of_all ms) x c.fill.new.out.items f rs ready c.in_ok-below-in-Some.ensures.adds))
+
+pub fill_some-returns-in_ok-later-in-Some : goal.fill_some-returns-in_ok-later-in-Some
+fill_some-returns-in_ok-later-in-Some t c =
+    let a = head_type c.args.self.now (given_by c.args.bound.now) c.args.first.now in
+    let w = c.args.self.now in
+    let ps = expand_parts w (own_type w) [] (trees_of c.args.parts.now) in
+    let f = row_of c.args.known.now.firsts.now in
+    let rs = c.args.known.now.inner.now in
+    let x = c.args.out.now.items in
+    let u = expansion w [] c.in-Some.part.now in
+    let ms = expand_parts w (own_type w) [] (trees_of c.in-Some.more.now) in
+    let split : ps ≡ part u ms = parts_next w (own_type w) [] (trees_of c.args.parts.now) ∙ ap (next_parts w (own_type w) []) (sym c.in-Some.ensures) in
+    let ready : KnownTells a (parts_of u ++ parts_of_all ms) (length x) f rs = subst (λ (v : ExpandedTypes). KnownTells a (parts_of_all v) (length x) f rs) split c.requires.known in
+    let done = some_more a u ms x c.fill.new.out.items c.fill_some.new.out.items c.in_ok-below-in-Some.below c.in_ok-later-in-Some.later c.in_ok-below-in-Some.ensures c.in_ok-later-in-Some.ensures in
+    subst (λ (v : ExpandedTypes). FillsSome a v x c.fill_some.new.out.items c.or.result) (sym split)
+    (subst (λ (b : Bool). FillsSome a (part u ms) x c.fill_some.new.out.items b) (sym c.or.ensures) done)
+
+pub fill_some-returns-in-None : goal.fill_some-returns-in-None
+fill_some-returns-in-None t c =
+    let a = head_type c.args.self.now (given_by c.args.bound.now) c.args.first.now in
+    let w = c.args.self.now in
+    let ps = expand_parts w (own_type w) [] (trees_of c.args.parts.now) in
+    let x = c.args.out.now.items in
+    let split : ps ≡ none = parts_next w (own_type w) [] (trees_of c.args.parts.now) ∙ ap (next_parts w (own_type w) []) (sym c.in-None.ensures) in
+    subst (λ (v : ExpandedTypes). FillsSome a v x x false) (sym split) (some_none a x)
+
+pub fill_each-fill-requires : goal.fill_each-fill-requires
+fill_each-fill-requires t c =
+    let a = head_type c.args.self.now (given_by c.args.bound.now) c.args.first.now in
+    let w = c.args.self.now in
+    let ps = expand_parts w (own_type w) [] (trees_of c.args.parts.now) in
+    let f = row_of c.args.known.now.firsts.now in
+    let rs = c.args.known.now.inner.now in
+    let x = c.args.out.now.items in
+    let u = expansion w [] c.in-Some.part.now in
+    let ms = expand_parts w (own_type w) [] (trees_of c.in-Some.more.now) in
+    let split : ps ≡ part u ms = parts_next w (own_type w) [] (trees_of c.args.parts.now) ∙ ap (next_parts w (own_type w) []) (sym c.in-Some.ensures) in
+    let ready : KnownTells a (parts_of u ++ parts_of_all ms) (length x) f rs = subst (λ (v : ExpandedTypes). KnownTells a (parts_of_all v) (length x) f rs) split c.requires.known in
+    (search (rules, split), (c.requires.declared, known_first a (parts_of u) (parts_of_all ms) (length x) f rs ready))
+
+pub fill_each-fill_each-requires : goal.fill_each-fill_each-requires
+fill_each-fill_each-requires t c =
+    let a = head_type c.args.self.now (given_by c.args.bound.now) c.args.first.now in
+    let w = c.args.self.now in
+    let ps = expand_parts w (own_type w) [] (trees_of c.args.parts.now) in
+    let f = row_of c.args.known.now.firsts.now in
+    let rs = c.args.known.now.inner.now in
+    let x = c.args.out.now.items in
+    let u = expansion w [] c.in-Some.part.now in
+    let ms = expand_parts w (own_type w) [] (trees_of c.in-Some.more.now) in
+    let split : ps ≡ part u ms = parts_next w (own_type w) [] (trees_of c.args.parts.now) ∙ ap (next_parts w (own_type w) []) (sym c.in-Some.ensures) in
+    let ready : KnownTells a (parts_of u ++ parts_of_all ms) (length x) f rs = subst (λ (v : ExpandedTypes). KnownTells a (parts_of_all v) (length x) f rs) split c.requires.known in
+    (search (rules, split), (c.requires.declared, known_next a (IsSubtype a) (parts_of u) (parts_of_all ms) x c.fill.new.out.items f rs ready c.in_ok-below-in-Some.ensures.adds))
+
+pub fill_each-returns-in_ok-later-in-Some : goal.fill_each-returns-in_ok-later-in-Some
+fill_each-returns-in_ok-later-in-Some t c =
+    let a = head_type c.args.self.now (given_by c.args.bound.now) c.args.first.now in
+    let w = c.args.self.now in
+    let ps = expand_parts w (own_type w) [] (trees_of c.args.parts.now) in
+    let f = row_of c.args.known.now.firsts.now in
+    let rs = c.args.known.now.inner.now in
+    let x = c.args.out.now.items in
+    let u = expansion w [] c.in-Some.part.now in
+    let ms = expand_parts w (own_type w) [] (trees_of c.in-Some.more.now) in
+    let split : ps ≡ part u ms = parts_next w (own_type w) [] (trees_of c.args.parts.now) ∙ ap (next_parts w (own_type w) []) (sym c.in-Some.ensures) in
+    let ready : KnownTells a (parts_of u ++ parts_of_all ms) (length x) f rs = subst (λ (v : ExpandedTypes). KnownTells a (parts_of_all v) (length x) f rs) split c.requires.known in
+    let done = each_more a u ms x c.fill.new.out.items c.fill_each.new.out.items c.in_ok-below-in-Some.below c.in_ok-later-in-Some.later c.in_ok-below-in-Some.ensures c.in_ok-later-in-Some.ensures in
+    subst (λ (v : ExpandedTypes). FillsEach a v x c.fill_each.new.out.items c.and.result) (sym split)
+    (subst (λ (b : Bool). FillsEach a (part u ms) x c.fill_each.new.out.items b) (sym c.and.ensures) done)
+
+pub fill_each-returns-in-None : goal.fill_each-returns-in-None
+fill_each-returns-in-None t c =
+    let a = head_type c.args.self.now (given_by c.args.bound.now) c.args.first.now in
+    let w = c.args.self.now in
+    let ps = expand_parts w (own_type w) [] (trees_of c.args.parts.now) in
+    let x = c.args.out.now.items in
+    let split : ps ≡ none = parts_next w (own_type w) [] (trees_of c.args.parts.now) ∙ ap (next_parts w (own_type w) []) (sym c.in-None.ensures) in
+    subst (λ (v : ExpandedTypes). FillsEach a v x x true) (sym split) (each_none a x)
+
+pub fill_head-returns-in-Everything : goal.fill_head-returns-in-Everything
+fill_head-returns-in-Everything t c =
+    let a = head_type c.args.self.now (given_by c.args.bound.now) c.args.first.now in
+    let x = c.args.out.now.items in
+    subst (λ (h : Head). IfSome c.put.result (λ r. Fills a (head_type c.args.self.now [] h) x c.put.new.answers.items r)) (sym c.in-Everything.is)
+    (put_filled a everything x x c.put.new.answers.items true c.put.result c.put.ensures.same c.put.ensures.grown (close_everything a x))
