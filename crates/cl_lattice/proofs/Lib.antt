@@ -23,3 +23,4 @@ pub mod BuildingLemmas
 pub mod SupertypeLemmas
 pub mod SubtypeNameLemmas
 pub mod SubtypeRowLemmas
+pub mod SubtypeFillLemmas

@@ -7,7 +7,8 @@ use Rattle.cl_lattice.specs.SubtypeHeads.{head_type}
 use Rattle.cl_lattice.specs.SubtypeRows.{Fills, FillsEach, FillsSome, KnownTells, parts_of, parts_of_all, row_of}
 use Rattle.cl_lattice.specs.Subtypes.{IsSubtype}
 use Rattle.cl_lattice.proofs.ExpansionLemmas.{parts_next}
-use Rattle.cl_lattice.proofs.SubtypeRowLemmas.{close_each, close_everything, close_null, close_sequence, close_some, close_token, each_more, each_none, known_first, known_next, null_agrees, own_tells, put_filled, put_told, sequence_agrees, some_more, some_none, token_agrees}
+use Rattle.cl_lattice.proofs.SubtypeFillLemmas.{close_each, close_everything, close_null, close_sequence, close_some, close_token, each_more, each_none, null_agrees, own_tells, put_filled, put_told, sequence_agrees, some_more, some_none, token_agrees}
+use Rattle.cl_lattice.proofs.SubtypeRowLemmas.{known_first, known_next}
 use Rattle.cl_lattice.specs.declared.heads.Head.{Head}
 use Rattle.cl_lattice.proofs.lattices.Lattice.+filling.Goals as goal
 

@@ -9,7 +9,8 @@ use Rattle.cl_lattice.specs.SubtypeWays.{ByFirst, EachBelow, SomeBelow}
 use Rattle.cl_lattice.specs.Subtypes.{IsSubtype}
 use Rattle.cl_lattice.specs.declared.heads.Head.{Head}
 use Rattle.cl_lattice.proofs.ExpansionLemmas.{parts_next}
-use Rattle.cl_lattice.proofs.SubtypeRowLemmas.{all_tell, both_tell, either_tells, from_start, host_lighter, host_row, if_some}
+use Rattle.cl_lattice.proofs.SubtypeFillLemmas.{host_lighter, host_row, if_some}
+use Rattle.cl_lattice.proofs.SubtypeRowLemmas.{all_tell, both_tell, either_tells, from_start}
 use Rattle.cl_lattice.proofs.lattices.Lattice.+rows.Goals as goal
 
 pub head_row-fill-requires-clause-known : goal.head_row-fill-requires-clause-known

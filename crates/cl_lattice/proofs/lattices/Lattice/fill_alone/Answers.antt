@@ -5,7 +5,7 @@ use Rattle.cl_lattice.specs.Expanded.{Expanded}
 use Rattle.cl_lattice.specs.SubtypeHeads.{head_type}
 use Rattle.cl_lattice.specs.SubtypeRows.{KnownTells, row_of}
 use Rattle.cl_lattice.specs.Subtypes.{IsSubtype}
-use Rattle.cl_lattice.proofs.SubtypeRowLemmas.{adds_none, alone_agrees, alone_parts, finish_alone, own_tells, put_told}
+use Rattle.cl_lattice.proofs.SubtypeFillLemmas.{adds_none, alone_agrees, alone_parts, finish_alone, own_tells, put_told}
 use Rattle.cl_lattice.proofs.lattices.Lattice.fill_alone.Goals as goal
 
 pub returns : goal.returns

@@ -2,7 +2,7 @@ use Rattle.std.proofs.Common.{[], List, Bool, length, ap, sym, subst, ◌∙◌}
 use Rattle.cl_lattice.specs.Expansion.{expansion}
 use Rattle.cl_lattice.specs.SubtypeRows.{TellsAll, parts_of}
 use Rattle.cl_lattice.specs.Subtypes.{IsSubtype}
-use Rattle.cl_lattice.proofs.SubtypeRowLemmas.{last_tells}
+use Rattle.cl_lattice.proofs.SubtypeFillLemmas.{last_tells}
 use Rattle.cl_lattice.proofs.lattices.Lattice.subtype.Goals as goal
 
 pub returns-in-Some : goal.returns-in-Some
