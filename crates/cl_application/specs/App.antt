@@ -6,6 +6,7 @@ use Rattle.cl_application.specs.declared.applications.App.{App}
 use Rattle.cl_syntax.specs.declared.type_decls.RecordDecl.{RecordDecl}
 use Rattle.cl_application.specs.declared.declarations.FunctionDecl.{FunctionDecl}
 use Rattle.cl_application.specs.declared.declarations.DisplayDecl.{DisplayDecl}
+use Rattle.cl_application.specs.declared.declarations.MethodDecl.{MethodDecl}
 use Rattle.cl_application.specs.declared.declarations.CommandDecl.{CommandDecl}
 use Rattle.cl_application.specs.declared.declarations.SlotDecl.{SlotDecl}
 use Rattle.cl_application.specs.declared.declarations.PaneDecl.{PaneDecl}
@@ -13,6 +14,14 @@ use Rattle.cl_syntax.specs.TypeSpecTree.{TypeSpecTree}
 
 abbrev pub record_named : List ℕ → App → Option RecordDecl
 record_named x app = named x app.records
+
+-- how the type of that name presents its values, where the text says so
+abbrev pub present_method : List ℕ → App → Option MethodDecl
+present_method x app = named x app.present_methods
+
+-- how the type of that name reads texts, where the text says so
+abbrev pub accept_method : List ℕ → App → Option MethodDecl
+accept_method x app = named x app.accept_methods
 
 abbrev pub function_named : List ℕ → App → Option FunctionDecl
 function_named x app = named x app.functions

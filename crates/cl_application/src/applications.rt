@@ -1,17 +1,22 @@
 //! Applications.
 ghost use Rattle.std.specs.Prelude.{◌≡◌, option_map};
-ghost use Rattle.cl_application.specs.App.{record_named, function_named, display_named, command_named, slot_type, pane_named, forms_of};
+ghost use Rattle.cl_application.specs.App.{record_named, function_named, display_named, command_named, slot_type, pane_named, forms_of, present_method, accept_method};
 
 use crate::declarations::{
-    CommandDecl, Commands, DisplayDecl, Displays, FrameDecl, FunctionDecl, Functions, PaneDecl,
+    CommandDecl, Commands, DisplayDecl, Displays, FrameDecl, FunctionDecl, Functions, HostDecls,
+    MethodDecl, Methods, PaneDecl,
 };
-use cl_syntax::{RecordDecl, Records, Shape, TypeSpec};
+use cl_syntax::{RecordDecl, Records, Shape, TypeSpec, UserTypes};
 use cl_value::Text;
 
 /// An application: what its text declares.
 #[derive(Drop)]
 pub struct App {
     pub records: Records,
+    pub types: UserTypes,
+    pub hosts: HostDecls,
+    pub present_methods: Methods,
+    pub accept_methods: Methods,
     pub functions: Functions,
     pub displays: Displays,
     pub commands: Commands,
@@ -24,6 +29,20 @@ impl App {
         ensures { option_map (λ d. d.now) result ≡ record_named name.now self.now }
     {
         self.records.get(name)
+    }
+
+    /// How the type of that name presents its values, where the text says so.
+    pub fn present_method(&self, name: &[u8]) -> Option<&MethodDecl>
+        ensures { option_map (λ d. d.now) result ≡ present_method name.now self.now }
+    {
+        self.present_methods.get(name)
+    }
+
+    /// How the type of that name reads texts, where the text says so.
+    pub fn accept_method(&self, name: &[u8]) -> Option<&MethodDecl>
+        ensures { option_map (λ d. d.now) result ≡ accept_method name.now self.now }
+    {
+        self.accept_methods.get(name)
     }
 
     /// The function of that name.

@@ -21,6 +21,29 @@ pub struct DisplayDecl {
     pub at: u32,
 }
 
+/// `(define-present-method NAME (PARAMETER) BODY)` or `(define-accept-method NAME (PARAMETER) BODY)`: how the type of that
+/// name presents its values, or reads texts.
+#[derive(Drop)]
+pub struct MethodDecl {
+    pub name: Text,
+    pub parameter: Text,
+    pub body: Expr,
+    pub at: u32,
+}
+
+/// `(define-host-type NAME)`: the text uses the host type of that name.
+#[derive(Drop)]
+pub struct HostDecl {
+    pub name: Text,
+    pub at: u32,
+}
+
+/// The methods of one kind by the names of their types.
+pub type Methods = Table<MethodDecl>;
+
+/// The host types that a text declares, by name.
+pub type HostDecls = Table<HostDecl>;
+
 /// The functions of an application by name.
 pub type Functions = Table<FunctionDecl>;
 
@@ -45,6 +68,22 @@ impl Declared for FunctionDecl {
 }
 
 impl Declared for DisplayDecl {
+    ghost own_name = { λ d. d.name };
+
+    fn name(&self) -> &Text {
+        &self.name
+    }
+}
+
+impl Declared for MethodDecl {
+    ghost own_name = { λ d. d.name };
+
+    fn name(&self) -> &Text {
+        &self.name
+    }
+}
+
+impl Declared for HostDecl {
     ghost own_name = { λ d. d.name };
 
     fn name(&self) -> &Text {

@@ -38,8 +38,9 @@ abbrev pub no_place : List FrameForm → Option Fault
 no_place [] = None
 no_place (f ∷ more) = fault_in (place_frame f)
 
+-- no text declares types or methods of types yet
 abbrev pub app_of : Declarations → FrameDecl → App
-app_of s f = record { records = s.records; functions = s.functions; displays = s.displays; commands = s.commands; frame = f }
+app_of s f = record { records = s.records; types = []; hosts = []; present_methods = []; accept_methods = []; functions = s.functions; displays = s.displays; commands = s.commands; frame = f }
 
 abbrev pub app_placed : Declarations → Result FrameDecl Fault → Option App
 app_placed s (Ok f) = Some (app_of s f)

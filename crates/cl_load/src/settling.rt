@@ -12,6 +12,7 @@ use crate::readings::first_reading;
 use cl_application::{App, FrameDecl};
 use cl_declare::{Declarations, FrameForm, FrameForms};
 use cl_forms::LoadRefusal;
+use cl_table::Table;
 use std::alloc::Global;
 
 /// The application of declarations in a text of this length, with its opening slots; or the first of
@@ -28,7 +29,7 @@ pub fn settle(alloc: Global, length: u32, declarations: Declarations) -> Result<
     let mut declarations = declarations;
     let frame = take_frame(length, &mut declarations.frames)?;
     let frame = place_frame(alloc, frame)?;
-    open(alloc, app_of(declarations, frame))
+    open(alloc, app_of(alloc, declarations, frame))
 }
 
 /// The one frame.
@@ -46,11 +47,15 @@ fn take_frame(length: u32, frames: &mut FrameForms) -> Result<FrameForm, LoadRef
     Ok(frame)
 }
 
-fn app_of(declarations: Declarations, frame: FrameDecl) -> App
+fn app_of(alloc: Global, declarations: Declarations, frame: FrameDecl) -> App
     ensures { result ≡ app_of declarations frame }
 {
     App {
         records: declarations.records,
+        types: Table::new(alloc),
+        hosts: Table::new(alloc),
+        present_methods: Table::new(alloc),
+        accept_methods: Table::new(alloc),
         functions: declarations.functions,
         displays: declarations.displays,
         commands: declarations.commands,
