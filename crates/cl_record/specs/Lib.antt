@@ -8,7 +8,6 @@ pub mod Replays
 pub mod Counts
 pub mod Boxes
 pub mod Ranges
-pub mod Printed
 pub mod Lines
 pub mod TreeLines
 pub mod Seen

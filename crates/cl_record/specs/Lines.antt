@@ -11,7 +11,7 @@ use Rattle.cl_syntax.specs.TypeSpecTree.{name_of}
 use Rattle.cl_record.specs.Heads.{HeadAt}
 use Rattle.cl_record.specs.Labels.{LabelAt}
 use Rattle.cl_record.specs.Marks.{Mark, open_update, close, draw, history_marks, open_presentation}
-use Rattle.cl_record.specs.Printed.{print_value}
+use Rattle.cl_print.specs.Printed.{print_value}
 use Rattle.cl_record.specs.Trees.{Tree}
 
 -- each number behind a space

@@ -14,7 +14,6 @@ mod printing;
 mod replaying;
 mod shifts;
 mod summaries;
-mod values;
 
 pub use branches::{Piece, Presented};
 pub use canvases::Canvas;

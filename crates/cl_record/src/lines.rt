@@ -6,8 +6,8 @@ ghost use Rattle.cl_record.specs.Lines.{head_line, item_line, label_line, number
 
 use crate::heads::Head;
 use crate::labels::Label;
-use crate::values::put_value;
 use cl_medium::{AnyLeaf, Area, Direction, Leaf, LeafShape};
+use cl_print::put_value;
 use cl_region::Shift;
 use itoa::Buffer;
 use std::alloc::AllocError;

@@ -9,6 +9,7 @@ pub fn is_space(byte: u8) -> bool
     matches!(byte, 9 | 10 | 13 | 32)
 }
 
+/// Whether a byte may stand in a word: a printable one that is none of `(`, `)`, `'`, `"` and `;`.
 pub fn is_word(byte: u8) -> bool
     ensures { result ≡ is_word byte }
 {

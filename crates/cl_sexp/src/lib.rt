@@ -15,7 +15,9 @@ mod laws;
 mod quoted;
 mod word;
 
+pub use byte::is_word;
 pub use laws::{first_fault_is_told, tokens_are_read, tokens_join, tokens_lie, tokens_rise};
+pub use word::{is_number, number_in};
 
 /// A word of an optional `-` and digits is a number; any other word is a symbol.
 #[derive(Clone, Copy, PartialEq, Eq, Debug)]

@@ -25,7 +25,8 @@ pub fn word_begins(word: &[u8]) -> Begins
     }
 }
 
-fn is_number(word: &[u8]) -> bool
+/// Whether a word is a number: an optional `-`, and one or more digits.
+pub fn is_number(word: &[u8]) -> bool
     ensures { result ≡ is_number word.now }
 {
     are_digits(digits_in(word))
@@ -53,8 +54,8 @@ fn all_digits(bytes: &[u8]) -> bool
     bytes.iter().all(|byte| byte.is_ascii_digit())
 }
 
-/// The number that a sign and digits write, where it fits.
-fn number_in(word: &[u8]) -> Option<i64>
+/// The number that a sign and digits write, where it fits. What is no number is read as if it were one.
+pub fn number_in(word: &[u8]) -> Option<i64>
     ensures { result ≡ (if fits_i64 (number_of word.now) then Some (number_of word.now) else None) }
 {
     let magnitude = magnitude_of(digits_in(word));

@@ -1,8 +1,8 @@
 use Rattle.std.proofs.Common.{◌≡◌, ◌≤◌, ◌+◌, ◌*◌, ◌++◌, drop}
 use Rattle.cl_value.specs.Data.{size_of, size_of_items}
 use Rattle.cl_value.specs.Value.{data_of, parts_of}
-use Rattle.cl_record.specs.Printed.{print_parts}
-use Rattle.cl_record.proofs.values.+print.Given as goal
+use Rattle.cl_print.specs.Printed.{print_parts}
+use Rattle.cl_print.proofs.printing.+print.Given as goal
 
 abbrev pub invariant-put_parts-loop-part : goal.invariant-put_parts-loop-part
 invariant-put_parts-loop-part l = record {

@@ -1,15 +1,16 @@
 //! The printed form of values.
 ghost use Rattle.std.specs.Prelude.{◌≡◌, ◌++◌, ◌∷◌, [], OnOk, true};
 ghost use Rattle.cl_value.specs.Value.{data_of, parts_of};
-ghost use Rattle.cl_record.specs.Printed.{escape, print_value, print_parts};
+ghost use Rattle.cl_print.specs.Printed.{escape, print_value, print_parts};
 
 use cl_value::Value;
 use itoa::Buffer;
 use std::alloc::AllocError;
 
-// Puts the printed form of a value behind a line.
+/// Puts the printed form of a value behind a line: a number in decimal, a text in quotes, a symbol's name, the parts of a
+/// list in parentheses, and before them `#` and the name for a record.
 #[cycle(print)]
-pub(crate) fn put_value(line: &mut Vec<u8>, value: &Value) -> Result<(), AllocError>
+pub fn put_value(line: &mut Vec<u8>, value: &Value) -> Result<(), AllocError>
     ensures { OnOk result (line.new.items ≡ line.old.items ++ print_value (data_of value.now)) }
 {
     match value {
@@ -48,8 +49,8 @@ fn put_parts(line: &mut Vec<u8>, parts: &[Value]) -> Result<(), AllocError>
     Ok(())
 }
 
-// Puts bytes in quotes behind a line, with a `\` before each `"` and `\`.
-fn put_quoted(line: &mut Vec<u8>, bytes: &[u8]) -> Result<(), AllocError>
+/// Puts bytes in quotes behind a line, with a `\` before each `"` and `\`.
+pub fn put_quoted(line: &mut Vec<u8>, bytes: &[u8]) -> Result<(), AllocError>
     ensures { OnOk result (line.new.items ≡ line.old.items ++ 34 ∷ (escape bytes.now ++ 34 ∷ [])) }
 {
     line.push(b'"')?;
