@@ -22,7 +22,7 @@ pub enum Bound<'a> {
 
 /// The constant that an argument is; `None` for `*`, and for what is no constant.
 #[tactic(auto, using(crate::proofs::ArgumentLemmas::found_value))]
-pub(crate) fn value_of<'a>(arg: &'a TypeArg, bound: &Bound<'a>) -> Option<&'a Value>
+pub fn value_of<'a>(arg: &'a TypeArg, bound: &Bound<'a>) -> Option<&'a Value>
     ensures { option_map (λ v. data_of v.now) result ≡ value_of (given_by bound.now) (arg_tree_of arg.now) }
 {
     match arg {
@@ -72,7 +72,7 @@ fn number_in(value: Option<&Value>) -> Option<i64>
 }
 
 /// The number that the first argument is.
-pub(crate) fn first_number<'a>(args: &'a [TypeArg], bound: &Bound<'a>) -> Option<i64>
+pub fn first_number<'a>(args: &'a [TypeArg], bound: &Bound<'a>) -> Option<i64>
     ensures { result ≡ first_number (values_of (given_by bound.now) (trees_of args.now)) }
 {
     match args.split_first() {
@@ -82,7 +82,7 @@ pub(crate) fn first_number<'a>(args: &'a [TypeArg], bound: &Bound<'a>) -> Option
 }
 
 /// The number that the second argument is.
-pub(crate) fn second_number<'a>(args: &'a [TypeArg], bound: &Bound<'a>) -> Option<i64>
+pub fn second_number<'a>(args: &'a [TypeArg], bound: &Bound<'a>) -> Option<i64>
     ensures { result ≡ second_number (values_of (given_by bound.now) (trees_of args.now)) }
 {
     match args.split_first() {
@@ -92,7 +92,7 @@ pub(crate) fn second_number<'a>(args: &'a [TypeArg], bound: &Bound<'a>) -> Optio
 }
 
 /// Whether two values are the same.
-pub(crate) fn is_same(value: &Value, other: &Value) -> bool
+pub fn is_same(value: &Value, other: &Value) -> bool
     ensures { result ≡ is_same (data_of value.now) (data_of other.now) }
 {
     match value.order(other) {
@@ -114,7 +114,7 @@ fn is_given<'a>(value: &Value, arg: &'a TypeArg, bound: &Bound<'a>) -> bool
 
 /// Whether a value is one of the constants among arguments.
 #[tactic(auto, using(crate::proofs::ArgumentLemmas::before))]
-pub(crate) fn is_among<'a>(value: &Value, args: &'a [TypeArg], bound: &Bound<'a>) -> bool
+pub fn is_among<'a>(value: &Value, args: &'a [TypeArg], bound: &Bound<'a>) -> bool
     ensures { result ≡ is_among (data_of value.now) (constants (values_of (given_by bound.now) (trees_of args.now))) }
 {
     for arg in args {
@@ -126,7 +126,7 @@ pub(crate) fn is_among<'a>(value: &Value, args: &'a [TypeArg], bound: &Bound<'a>
 }
 
 /// The tokens of the first argument that has any.
-pub(crate) fn tokens_in(args: &[TypeArg]) -> &[Text]
+pub fn tokens_in(args: &[TypeArg]) -> &[Text]
     ensures { result.now ≡ tokens_in (trees_of args.now) }
 {
     match args.split_first() {
@@ -142,7 +142,7 @@ pub(crate) fn tokens_in(args: &[TypeArg]) -> &[Text]
 }
 
 /// The first specifier among arguments, and the arguments behind it.
-pub(crate) fn next_spec(args: &[TypeArg]) -> Option<(&TypeSpec, &[TypeArg])>
+pub fn next_spec(args: &[TypeArg]) -> Option<(&TypeSpec, &[TypeArg])>
     ensures { option_map (λ p. (p.0.now, trees_of p.1.now)) result ≡ next_spec (trees_of args.now) }
 {
     match args.split_first() {

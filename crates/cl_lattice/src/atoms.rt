@@ -25,7 +25,7 @@ fn is_at_most(high: Option<i64>, number: i64) -> bool
 }
 
 /// Whether a value is a number within bounds; `None` is no bound.
-pub(crate) fn is_within(low: Option<i64>, high: Option<i64>, value: &Value) -> bool
+pub fn is_within(low: Option<i64>, high: Option<i64>, value: &Value) -> bool
     ensures { result ≡ is_within low high (data_of value.now) }
 {
     match value {
@@ -34,7 +34,7 @@ pub(crate) fn is_within(low: Option<i64>, high: Option<i64>, value: &Value) -> b
     }
 }
 
-pub(crate) fn is_boolean(value: &Value) -> bool
+pub fn is_boolean(value: &Value) -> bool
     ensures { result ≡ is_boolean (data_of value.now) }
 {
     match value {
@@ -43,7 +43,7 @@ pub(crate) fn is_boolean(value: &Value) -> bool
     }
 }
 
-pub(crate) fn is_symbol(value: &Value) -> bool
+pub fn is_symbol(value: &Value) -> bool
     ensures { result ≡ is_symbol (data_of value.now) }
 {
     match value {
@@ -52,7 +52,7 @@ pub(crate) fn is_symbol(value: &Value) -> bool
     }
 }
 
-pub(crate) fn is_null(value: &Value) -> bool
+pub fn is_null(value: &Value) -> bool
     ensures { result ≡ is_null (data_of value.now) }
 {
     match value {
@@ -74,7 +74,7 @@ fn has_length(wanted: Option<i64>, length: usize) -> bool
 }
 
 /// Whether a value is a text, of so many bytes where a length is given.
-pub(crate) fn is_text(wanted: Option<i64>, value: &Value) -> bool
+pub fn is_text(wanted: Option<i64>, value: &Value) -> bool
     ensures { result ≡ is_text wanted (data_of value.now) }
 {
     match value {
@@ -84,7 +84,7 @@ pub(crate) fn is_text(wanted: Option<i64>, value: &Value) -> bool
 }
 
 /// Whether a value is a record of that name.
-pub(crate) fn is_of_record(name: &[u8], value: &Value) -> bool
+pub fn is_of_record(name: &[u8], value: &Value) -> bool
     ensures { result ≡ is_of_record name.now (data_of value.now) }
 {
     match value {
@@ -94,7 +94,7 @@ pub(crate) fn is_of_record(name: &[u8], value: &Value) -> bool
 }
 
 /// Whether a name is one of the tokens.
-pub(crate) fn is_token(tokens: &[Text], name: &[u8]) -> bool
+pub fn is_token(tokens: &[Text], name: &[u8]) -> bool
     ensures { result ≡ is_token tokens.now name.now }
 {
     for token in tokens {
@@ -106,7 +106,7 @@ pub(crate) fn is_token(tokens: &[Text], name: &[u8]) -> bool
 }
 
 /// Whether a value is the symbol of one of the tokens.
-pub(crate) fn is_one_of(tokens: &[Text], value: &Value) -> bool
+pub fn is_one_of(tokens: &[Text], value: &Value) -> bool
     ensures { result ≡ is_one_of tokens.now (data_of value.now) }
 {
     match value {
@@ -162,7 +162,7 @@ fn is_place(parts: &[Value]) -> bool
 }
 
 /// Whether a value is a list of a symbol and two numbers.
-pub(crate) fn is_blank_area(value: &Value) -> bool
+pub fn is_blank_area(value: &Value) -> bool
     ensures { result ≡ is_blank_area (data_of value.now) }
 {
     match value {
@@ -184,7 +184,7 @@ fn is_part(value: &Value, parts: &[Value]) -> bool
 }
 
 /// Whether no part is met twice.
-pub(crate) fn differ(parts: &[Value]) -> bool
+pub fn differ(parts: &[Value]) -> bool
     ensures { result ≡ differ (parts_of parts.now) }
 {
     let mut left = parts;

@@ -71,7 +71,7 @@ impl Lattice {
             (expansion self.now (given own.now.parameters (values_of (given_by bound.now) (trees_of args.now))) own.now.inherit_from))) }
     {
         let inner = Bound::Given(&own.parameters, &*args, &*bound);
-        match self.holds(alloc, value, &own.inherit_from, &inner, preds) {
+        match self.member_under(alloc, value, &own.inherit_from, &inner, preds) {
             Held::Yes => satisfies(alloc, value, &own.satisfies, args, bound, preds),
             Held::No => Held::No,
             Held::Memory => Held::Memory,
@@ -148,7 +148,7 @@ impl Lattice {
     {
         match values.split_first() {
             Some((value, values)) => match specs.split_first() {
-                Some((spec, specs)) => match self.holds(
+                Some((spec, specs)) => match self.member_under(
                     alloc,
                     value,
                     spec,

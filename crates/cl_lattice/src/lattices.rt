@@ -2,8 +2,9 @@
 ghost use Rattle.std.specs.Prelude.{◌≡◌, option_map};
 ghost use Rattle.cl_lattice.specs.Laws.{AllFit};
 ghost use Rattle.cl_lattice.specs.Precedence.{precedence};
+ghost use Rattle.cl_lattice.specs.World.{kind_named};
 
-use crate::declared_types::DeclaredTypes;
+use crate::declared_types::{DeclaredTypes, TypeKind};
 use cl_syntax::CommandTypes;
 use cl_table::{Declared, Names, Table};
 use cl_value::Text;
@@ -59,6 +60,16 @@ impl Lattice {
     {
         match self.precedences.get(name) {
             Some(found) => Some(&found.names),
+            None => None,
+        }
+    }
+
+    /// What a name stands for that is none of a standard type.
+    pub fn kind(&self, name: &[u8]) -> Option<&TypeKind>
+        ensures { option_map (λ k. k.now) result ≡ kind_named name.now self.now }
+    {
+        match self.types.get(name) {
+            Some(declared) => Some(&declared.kind),
             None => None,
         }
     }

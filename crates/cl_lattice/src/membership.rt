@@ -35,13 +35,13 @@ impl Lattice {
             (is_member self.now (P.answers preds.now) (data_of value.now) (expansion self.now [] spec.now))
             (may_ask self.now (expansion self.now [] spec.now)) }
     {
-        self.holds(alloc, value, spec, &Bound::Nothing, preds)
+        self.member_under(alloc, value, spec, &Bound::Nothing, preds)
     }
 
-    // Whether a value is a member of a type, with the parameters of the declaration around put in.
+    /// The same with the parameters of the declaration around put in.
     #[cycle(member)]
     #[tactic(auto, using(crate::proofs::MemberLemmas::member_in))]
-    pub(crate) fn holds<'a, P: Predicates>(
+    pub fn member_under<'a, P: Predicates>(
         &self,
         alloc: Global,
         value: &Value,
@@ -141,7 +141,7 @@ impl Lattice {
             (may_ask self.now (expansion self.now (given_by bound.now) spec.now)) }
     {
         for value in values {
-            let held = self.holds(alloc, value, spec, bound, preds);
+            let held = self.member_under(alloc, value, spec, bound, preds);
             if held != Held::Yes {
                 return held;
             }
@@ -165,7 +165,7 @@ impl Lattice {
             (any_asks (commands_ask self.now) (parts_under self.now bound.now args.now)) }
     {
         match next_spec(args) {
-            Some((spec, more)) => match self.holds(alloc, value, spec, bound, preds) {
+            Some((spec, more)) => match self.member_under(alloc, value, spec, bound, preds) {
                 Held::Yes => Held::Yes,
                 Held::No => self.some_holds(alloc, value, more, bound, preds),
                 Held::Memory => Held::Memory,
@@ -190,7 +190,7 @@ impl Lattice {
             (any_asks (commands_ask self.now) (parts_under self.now bound.now args.now)) }
     {
         match next_spec(args) {
-            Some((spec, more)) => match self.holds(alloc, value, spec, bound, preds) {
+            Some((spec, more)) => match self.member_under(alloc, value, spec, bound, preds) {
                 Held::Yes => self.each_holds(alloc, value, more, bound, preds),
                 Held::No => Held::No,
                 Held::Memory => Held::Memory,
@@ -220,7 +220,7 @@ impl Lattice {
                 if beside {
                     Held::Yes
                 } else {
-                    self.holds(alloc, value, spec, bound, preds)
+                    self.member_under(alloc, value, spec, bound, preds)
                 }
             }
             None => Held::No,

@@ -14,8 +14,8 @@ use Rattle.cl_lattice.proofs.MemberLemmas.{declared_user}
 use Rattle.cl_lattice.proofs.WeightLemmas.{less_type, less_value, span_some, within_span}
 use Rattle.cl_lattice.proofs.lattices.Lattice.+member.Goals as goal
 
-pub all_hold-holds-held-requires : goal.all_hold-holds-held-requires
-all_hold-holds-held-requires g t c κs within =
+pub all_hold-member_under-held-requires : goal.all_hold-member_under-held-requires
+all_hold-member_under-held-requires g t c κs within =
     let part = part_size c.args.values.now c.loop-value.value-index c.value-item.result c.loop-value-test.true in
     let size : size_of (data_of c.value-item.result) ≤ size_of_items (parts_of c.args.values.now) = rw c.value-item.is part in
     let more = 4 * weight (expansion c.args.self.now (given_by c.args.bound.now) c.args.spec.now) in

@@ -9,8 +9,8 @@ use Rattle.cl_lattice.specs.Weights.{args_weight, falling, first_weight}
 use Rattle.cl_lattice.specs.World.{kind_named}
 use Rattle.cl_lattice.proofs.lattices.Lattice.+member.Given as goal
 
-abbrev pub decreases-holds : goal.decreases-holds
-decreases-holds g l = falling l.self.now (size_of (data_of l.value.now)) (4 * weight (expansion l.self.now (given_by l.bound.now) l.spec.now) + 2)
+abbrev pub decreases-member_under : goal.decreases-member_under
+decreases-member_under g l = falling l.self.now (size_of (data_of l.value.now)) (4 * weight (expansion l.self.now (given_by l.bound.now) l.spec.now) + 2)
 
 abbrev pub decreases-standard_holds : goal.decreases-standard_holds
 decreases-standard_holds g l =
