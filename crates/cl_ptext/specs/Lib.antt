@@ -1,0 +1,9 @@
+pub mod Answers
+pub mod Book
+pub mod Hosts
+pub mod Methods
+pub mod Parts
+pub mod Presenting
+pub mod Readings
+pub mod Texts
+pub mod Words
