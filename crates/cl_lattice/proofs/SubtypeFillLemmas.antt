@@ -1,5 +1,5 @@
 -- Answers for a second type behind those for its parts.
-use Rattle.std.proofs.Common.{◌≡◌, ◌↔◌, ℕ, ◌+◌, ◌<◌, Bool, true, false, List, [], ◌∷◌, ◌++◌, length, drop, refl, ap, sym, subst, append_assoc, length-append, arith, ◌∙◌}
+use Rattle.std.proofs.Common.{◌≡◌, ◌↔◌, ℕ, ◌+◌, ◌<◌, Bool, true, false, List, [], ◌∷◌, ◌++◌, length, drop, refl, ap, sym, subst, append_assoc, length-append, arith, ◌∙◌, inl, inr}
 use Rattle.std.specs.Prelude.{◌⊎◌, ◌||◌, ◌&&◌, IfSome, OnSome, Option, Some, None}
 use Rattle.cl_lattice.specs.Expanded.{Expanded, everything, nothing, boolean, symbols, blank_area, command, integer, string, member, subset, sequence, some_of, each_of, null_or, token_or, record_type, host, user, unknown, ExpandedTypes, none, part, weight}
 use Rattle.cl_lattice.specs.Subtypes.{IsSubtype}
@@ -258,6 +258,12 @@ finish_alone a (some_of ts) x heads own e h o = cc
 finish_alone a (each_of ts) x heads own e h o = cc
 finish_alone a (null_or u) x heads own e h o = cc
 finish_alone a (token_or ys u) x heads own e h o = cc
+
+-- where no way by the second leads to it
+pub finish_another : (a t : Expanded) (x : List Bool) (own : Bool) → is_alone t ≡ true → (BySecond a t → ⊥) → ((own ≡ true) ↔ ByFirst a t) → Fills a t x (x ++ own ∷ []) own
+finish_another a t x own e apart k =
+    closed a t [] x x own (alone_parts t e) (adds_none (IsSubtype a) x)
+    (λ h. (either a t).0 (inr (k.0 h)), λ d. elim ((either a t).1 d) [ inl s ↦ absurd (apart s) | inr f ↦ k.1 f ])
 
 pub alone_agrees : (a t : Expanded) (r : Bool) → is_alone t ≡ true → InnerAgrees a t r
 alone_agrees everything t r e = tt

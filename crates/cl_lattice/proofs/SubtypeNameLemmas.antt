@@ -13,6 +13,7 @@ use Rattle.cl_lattice.specs.Expanded as type
 use Rattle.cl_lattice.specs.Expansion.{declared_type, expand_parts, expansion, named_type, own_type}
 use Rattle.cl_lattice.specs.Laws.{AllFit}
 use Rattle.cl_lattice.specs.SubtypeHeads.{has_name, head_type}
+use Rattle.cl_lattice.specs.SubtypeRows.{is_alone}
 use Rattle.cl_lattice.specs.SubtypeWays.{ByHeads, BySecond}
 use Rattle.cl_lattice.specs.World.{World, kind_named}
 use Rattle.cl_lattice.specs.declared.declared_types.TypeKind.{TypeKind}
@@ -65,6 +66,19 @@ second_named : (w : World) → AllFit w → (s : TypeSpecTree) → standard_name
 second_named w f (specifier y ts o) plain a h =
     declared_named w f y plain (kind_named y w) refl (values_of [] ts) a
     (subst (λ (t : Option StandardType). BySecond a (named_type (own_type w) t (kind_named y w) y (values_of [] ts) (tokens_in ts) (expand_parts w (own_type w) [] ts))) plain h)
+
+declared_alone : (w : World) → AllFit w → (y : List ℕ) → standard_named y ≡ None → (k : Option TypeKind) → kind_named y w ≡ k → (vs : List (Option Data))
+    → is_alone (declared_type (own_type w) k y vs) ≡ true
+declared_alone w f y plain None e vs = refl
+declared_alone w f y plain (Some kind.Record) e vs = refl
+declared_alone w f y plain (Some (kind.Host low high)) e vs = refl
+declared_alone w f y plain (Some (kind.User u)) e vs = ap is_alone (own_head w f y u plain e vs)
+
+-- a declared type is its own only part
+pub second_alone : (w : World) → AllFit w → (s : TypeSpecTree) → standard_named (name_of s) ≡ None → is_alone (expansion w [] s) ≡ true
+second_alone w f (specifier y ts o) plain =
+    subst (λ (t : Option StandardType). is_alone (named_type (own_type w) t (kind_named y w) y (values_of [] ts) (tokens_in ts) (expand_parts w (own_type w) [] ts)) ≡ true) (sym plain)
+    (declared_alone w f y plain (kind_named y w) refl (values_of [] ts))
 
 head_named : (w : World) (g : Given) (h : Head) (y : List ℕ) → own_name (head_type w g h) ≡ Some y → has_name h y ≡ true
 head_named w g (head.Record x) y e = equal y x.now (some_same x.now y e)

@@ -35,6 +35,9 @@ impl Lattice {
         requires known { KnownTells (head_type self.now (given_by bound.now) first.now) (parts_of (expansion self.now [] second.now)) (length out.old.items) (row_of known.now.firsts.now) known.now.inner.now }
         ensures { IfSome result (λ r. Fills (head_type self.now (given_by bound.now) first.now) (expansion self.now [] second.now) out.old.items out.new.items r) }
     {
+        if self.is_another(first, second) {
+            return put(out, known.firsts.at(count(out)));
+        }
         self.fill_head(
             first,
             bound,

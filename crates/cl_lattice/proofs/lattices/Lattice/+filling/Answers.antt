@@ -1,16 +1,30 @@
-use Rattle.std.proofs.Common.{rules, ◌≡◌, [], ◌∷◌, ◌++◌, length, Bool, true, false, ap, sym, subst, ◌∙◌}
+use Rattle.std.proofs.Common.{rules, ◌≡◌, [], ◌∷◌, ◌++◌, length, List, Bool, true, false, refl, ap, sym, subst, ◌∙◌}
 use Rattle.std.specs.Prelude.{◌||◌, IfSome}
 use Rattle.cl_lattice.specs.Arguments.{given_by, tokens_in, trees_of}
-use Rattle.cl_lattice.specs.Expanded.{ExpandedTypes, everything, none, each_of, null_or, sequence, some_of, token_or, part}
+use Rattle.cl_lattice.specs.Expanded.{Expanded, ExpandedTypes, everything, none, each_of, null_or, sequence, some_of, token_or, part}
 use Rattle.cl_lattice.specs.Expansion.{expand_parts, expansion, own_type, next_parts}
 use Rattle.cl_lattice.specs.SubtypeHeads.{head_type}
 use Rattle.cl_lattice.specs.SubtypeRows.{Fills, FillsEach, FillsSome, KnownTells, parts_of, parts_of_all, row_of}
 use Rattle.cl_lattice.specs.Subtypes.{IsSubtype}
 use Rattle.cl_lattice.proofs.ExpansionLemmas.{parts_next}
-use Rattle.cl_lattice.proofs.SubtypeFillLemmas.{close_each, close_everything, close_null, close_sequence, close_some, close_token, each_more, each_none, null_agrees, own_tells, put_filled, put_told, sequence_agrees, some_more, some_none, token_agrees}
+use Rattle.cl_lattice.proofs.SubtypeFillLemmas.{adds_none, alone_parts, finish_another, close_each, close_everything, close_null, close_sequence, close_some, close_token, each_more, each_none, null_agrees, own_tells, put_filled, put_told, sequence_agrees, some_more, some_none, token_agrees}
 use Rattle.cl_lattice.proofs.SubtypeRowLemmas.{known_first, known_next}
 use Rattle.cl_lattice.specs.declared.heads.Head.{Head}
 use Rattle.cl_lattice.proofs.lattices.Lattice.+filling.Goals as goal
+
+pub fill-returns-then-is_another : goal.fill-returns-then-is_another
+fill-returns-then-is_another t c =
+    let a = head_type c.args.self.now (given_by c.args.bound.now) c.args.first.now in
+    let u = expansion c.args.self.now [] c.args.second.now in
+    let f = row_of c.args.known.now.firsts.now in
+    let rs = c.args.known.now.inner.now in
+    let x = c.args.out.now.items in
+    let alone = c.if-is_another.ensures.alone refl in
+    let no_way = c.if-is_another.ensures.no_way (given_by c.args.bound.now) refl in
+    let ready : KnownTells a (u ∷ []) (length x) f rs = subst (λ (v : List Expanded). KnownTells a v (length x) f rs) (alone_parts u alone) c.requires.known in
+    let own = c.at.ensures a u [] (own_tells a u (IsSubtype a) [] x x f rs c.count.result ready (adds_none (IsSubtype a) x) c.count.ensures) in
+    put_filled a u x x c.put.new.answers.items c.at.result c.put.result c.put.ensures.same c.put.ensures.grown
+    (finish_another a u x c.at.result alone no_way own)
 
 pub fill_or-fill_some-requires : goal.fill_or-fill_some-requires
 fill_or-fill_some-requires t c =
