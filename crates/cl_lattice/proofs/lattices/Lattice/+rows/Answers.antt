@@ -1,28 +1,43 @@
 use Rattle.std.proofs.Common.{rules, ℕ, ◌≡◌, [], length, Bool, List, ap, sym, subst, ◌∙◌}
 use Rattle.std.specs.Prelude.{IfSome}
 use Rattle.cl_lattice.specs.Arguments.{given_by, trees_of}
-use Rattle.cl_lattice.specs.Expanded.{ExpandedTypes, none, part}
+use Rattle.cl_lattice.specs.Expanded.{ExpandedTypes, none, part, some_of}
 use Rattle.cl_lattice.specs.Expansion.{expand_parts, expansion, own_type, next_parts}
 use Rattle.cl_lattice.specs.SubtypeHeads.{head_type}
 use Rattle.cl_lattice.specs.SubtypeRows.{InnerTells, KnownTells, RowOf, RowTells, TellsAll, known, parts_of, row_of, both_rows, either_row}
 use Rattle.cl_lattice.specs.SubtypeWays.{ByFirst, EachBelow, SomeBelow}
 use Rattle.cl_lattice.specs.Subtypes.{IsSubtype}
 use Rattle.cl_lattice.specs.declared.heads.Head.{Head}
+use Rattle.cl_lattice.specs.declared.rows.Row.{Row}
 use Rattle.cl_lattice.proofs.ExpansionLemmas.{parts_next}
 use Rattle.cl_lattice.proofs.SubtypeFillLemmas.{host_lighter, host_row, if_some}
-use Rattle.cl_lattice.proofs.SubtypeRowLemmas.{all_tell, both_tell, either_tells, from_start}
+use Rattle.cl_lattice.proofs.SubtypeRowLemmas.{all_same, all_tell, both_tell, either_tells, from_start}
+use Rattle.cl_lattice.proofs.SubtypeSplitLemmas.{or_split}
 use Rattle.cl_lattice.proofs.lattices.Lattice.+rows.Goals as goal
 
-pub head_row-fill-requires-clause-known : goal.head_row-fill-requires-clause-known
-head_row-fill-requires-clause-known t c =
+pub head_row-returns-in-SomeOf-Known : goal.head_row-returns-in-SomeOf-Known
+head_row-returns-in-SomeOf-Known t c =
     let w = c.args.self.now in
     let g = given_by c.args.bound.now in
     let qs = parts_of (expansion w [] c.args.second.now) in
     let a = head_type w g c.args.first.now in
-    let f = row_of c.in_ok-firsts.firsts in
+    let ps = expand_parts w (own_type w) g (trees_of c.in-SomeOf-Known.field-0-0.now) in
+    let rs = c.in-SomeOf-Known.answers.items in
+    let told : TellsAll (ByFirst a) qs rs = subst (λ (r : Row). RowTells (ByFirst a) qs (row_of r)) c.in-SomeOf-Known.is-1 c.in_ok-firsts.ensures in
+    let each : TellsAll (EachBelow ps) qs rs = subst (λ (h : Head). TellsAll (ByFirst (head_type w g h)) qs rs) c.in-SomeOf-Known.is-0 told in
+    subst (λ (h : Head). TellsAll (IsSubtype (head_type w g h)) qs rs) (sym c.in-SomeOf-Known.is-0)
+    (all_same (EachBelow ps) (IsSubtype (some_of ps)) (or_split ps) qs rs each)
+
+pub filled_row-fill-requires-clause-known : goal.filled_row-fill-requires-clause-known
+filled_row-fill-requires-clause-known t c =
+    let w = c.args.self.now in
+    let g = given_by c.args.bound.now in
+    let qs = parts_of (expansion w [] c.args.second.now) in
+    let a = head_type w g c.args.first.now in
+    let f = row_of c.args.firsts.now in
     let rs = c.as_slice.result.now in
     let begun : KnownTells a qs 0 f rs = record {
-      firsts_tell = from_start (ByFirst a) qs f c.in_ok-firsts.ensures;
+      firsts_tell = from_start (ByFirst a) qs f c.requires.firsts;
       inner_tells = subst (λ (v : List Bool). InnerTells a qs v) (sym c.as_slice.ensures.value) c.in_ok-inner.ensures;
     } in
     subst (λ (n : ℕ). KnownTells a qs n f rs) (sym (ap length c.new-out.ensures)) begun
