@@ -19,21 +19,38 @@ append_none (r ∷ rs) = ap (λ v. r ∷ v) (append_none rs)
 pub adds_none : (P : Expanded → Type 0) (x : List Bool) → Adds P [] x x
 adds_none P x = record { added = []; grown = sym (append_none x); tell = tt }
 
-pub some_none : (a : Expanded) (x : List Bool) → FillsSome a none x x false
-some_none a x = record { told = (λ e. cc, λ h. absurd h); adds = adds_none (IsSubtype a) x }
+along : {A B C : Type 0} → (A ↔ B) → (B ↔ C) → (A ↔ C)
+along h k = (λ x. k.0 (h.0 x), λ z. h.1 (k.1 z))
 
-pub some_more : (a t : Expanded) (ts : ExpandedTypes) (x y z : List Bool) (r s : Bool) → Fills a t x y r → FillsSome a ts y z s → FillsSome a (part t ts) x z (r || s)
-some_more a t ts x y z r s h k = record {
-  told = either_iff r s (IsSubtype a t) (BelowSome a ts) h.told k.told;
+wrong : (y : Bool) → false ≡ true → y ≡ true
+wrong y e = cc
+
+some_along : (so_far r : Bool) (P Q : Type 0) → ((r ≡ true) ↔ P) → (((so_far || r) ≡ true) ⊎ Q) ↔ ((so_far ≡ true) ⊎ (P ⊎ Q))
+some_along true r P Q h = (λ s. inl refl, λ s. inl refl)
+some_along false r P Q h = (
+  λ s. elim s [ inl e ↦ inr (inl (h.0 e)) | inr q ↦ inr (inr q) ],
+  λ s. elim s [ inl e ↦ inl (wrong r e) | inr p ↦ elim p [ inl x ↦ inl (h.1 x) | inr q ↦ inr q ] ],
+)
+
+pub some_none : (a : Expanded) (x : List Bool) (so_far : Bool) → FillsSome a none x x so_far so_far
+some_none a x so_far = record { told = (λ e. inl e, λ s. elim s [ inl e ↦ e | inr h ↦ absurd h ]); adds = adds_none (IsSubtype a) x }
+
+pub some_more : (a t : Expanded) (ts : ExpandedTypes) (x y z : List Bool) (so_far r s : Bool) → Fills a t x y r → FillsSome a ts y z (so_far || r) s → FillsSome a (part t ts) x z so_far s
+some_more a t ts x y z so_far r s h k = record {
+  told = along k.told (some_along so_far r (IsSubtype a t) (BelowSome a ts) h.told);
   adds = adds_join (IsSubtype a) (parts_of t) (parts_of_all ts) x y z h.adds k.adds;
 }
 
-pub each_none : (a : Expanded) (x : List Bool) → FillsEach a none x x true
-each_none a x = record { told = (λ e. tt, λ h. refl); adds = adds_none (IsSubtype a) x }
+each_along : (so_far r : Bool) (P Q : Type 0) → ((r ≡ true) ↔ P) → (((so_far && r) ≡ true) × Q) ↔ ((so_far ≡ true) × (P × Q))
+each_along true r P Q h = (λ s. (refl, (h.0 s.0, s.1)), λ s. (h.1 s.1.0, s.1.1))
+each_along false r P Q h = (λ s. absurd cc, λ s. absurd cc)
 
-pub each_more : (a t : Expanded) (ts : ExpandedTypes) (x y z : List Bool) (r s : Bool) → Fills a t x y r → FillsEach a ts y z s → FillsEach a (part t ts) x z (r && s)
-each_more a t ts x y z r s h k = record {
-  told = both_iff r s (IsSubtype a t) (BelowEach a ts) h.told k.told;
+pub each_none : (a : Expanded) (x : List Bool) (so_far : Bool) → FillsEach a none x x so_far so_far
+each_none a x so_far = record { told = (λ e. (e, tt), λ s. s.0); adds = adds_none (IsSubtype a) x }
+
+pub each_more : (a t : Expanded) (ts : ExpandedTypes) (x y z : List Bool) (so_far r s : Bool) → Fills a t x y r → FillsEach a ts y z (so_far && r) s → FillsEach a (part t ts) x z so_far s
+each_more a t ts x y z so_far r s h k = record {
+  told = along k.told (each_along so_far r (IsSubtype a t) (BelowEach a ts) h.told);
   adds = adds_join (IsSubtype a) (parts_of t) (parts_of_all ts) x y z h.adds k.adds;
 }
 
@@ -45,15 +62,18 @@ closed a t qs x y r e h k = record {
   adds = subst (λ (ps : List Expanded). Adds (IsSubtype a) ps x (y ++ r ∷ [])) (sym e) (adds_join (IsSubtype a) qs (t ∷ []) x y (y ++ r ∷ []) h (adds_one (IsSubtype a) t y r k));
 }
 
-along : {A B C : Type 0} → (A ↔ B) → (B ↔ C) → (A ↔ C)
-along h k = (λ x. k.0 (h.0 x), λ z. h.1 (k.1 z))
+none_before : (Q : Type 0) → ((false ≡ true) ⊎ Q) ↔ Q
+none_before Q = (λ s. elim s [ inl e ↦ absurd cc | inr q ↦ q ], λ q. inr q)
 
-pub close_some : (a : Expanded) (ts : ExpandedTypes) (x y : List Bool) (r own : Bool) → FillsSome a ts x y r → ((own ≡ true) ↔ ByFirst a (some_of ts)) → Fills a (some_of ts) x (y ++ (r || own) ∷ []) (r || own)
+all_before : (Q : Type 0) → ((true ≡ true) × Q) ↔ Q
+all_before Q = (λ s. s.1, λ q. (refl, q))
+
+pub close_some : (a : Expanded) (ts : ExpandedTypes) (x y : List Bool) (r own : Bool) → FillsSome a ts x y false r → ((own ≡ true) ↔ ByFirst a (some_of ts)) → Fills a (some_of ts) x (y ++ (r || own) ∷ []) (r || own)
 close_some a ts x y r own h k =
-    closed a (some_of ts) (parts_of_all ts) x y (r || own) refl h.adds (along (either_iff r own (BelowSome a ts) (ByFirst a (some_of ts)) h.told k) (step_some a ts))
+    closed a (some_of ts) (parts_of_all ts) x y (r || own) refl h.adds (along (either_iff r own (BelowSome a ts) (ByFirst a (some_of ts)) (along h.told (none_before (BelowSome a ts))) k) (step_some a ts))
 
-pub close_each : (a : Expanded) (ts : ExpandedTypes) (x y : List Bool) (r : Bool) → FillsEach a ts x y r → Fills a (each_of ts) x (y ++ r ∷ []) r
-close_each a ts x y r h = closed a (each_of ts) (parts_of_all ts) x y r refl h.adds (along h.told (and_split a ts))
+pub close_each : (a : Expanded) (ts : ExpandedTypes) (x y : List Bool) (r : Bool) → FillsEach a ts x y true r → Fills a (each_of ts) x (y ++ r ∷ []) r
+close_each a ts x y r h = closed a (each_of ts) (parts_of_all ts) x y r refl h.adds (along h.told (along (all_before (BelowEach a ts)) (and_split a ts)))
 
 pub close_null : (a t : Expanded) (x y : List Bool) (r heads own : Bool) → Fills a t x y r → ((heads ≡ true) ↔ ByHeads a (null_or t)) → ((own ≡ true) ↔ ByFirst a (null_or t))
     → Fills a (null_or t) x (y ++ ((r || heads) || own) ∷ []) ((r || heads) || own)

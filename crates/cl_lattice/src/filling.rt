@@ -11,7 +11,7 @@ use crate::arguments::{Bound, next_spec};
 use crate::heads::Head;
 use crate::lattices::Lattice;
 use crate::rows::{Answers, Row, and, answer_before, count, or, put};
-use cl_syntax::{TypeArg, TypeSpec};
+use cl_syntax::{StandardType, TypeArg, TypeSpec};
 
 /// What is known of all parts of a second type: of the parts of the first, or what it inherits from, and of the type inside it.
 #[derive(Drop)]
@@ -23,6 +23,7 @@ pub(crate) struct Known<'b> {
 impl Lattice {
     // Puts an answer for each part of the second type behind the others, and gives the one for the whole; `None` where there is no room.
     #[cycle(filling)]
+    #[inline(always)]
     pub(crate) fn fill<'a>(
         &'a self,
         first: &Head<'a>,
@@ -38,13 +39,36 @@ impl Lattice {
         if self.is_another(first, second) {
             return put(out, known.firsts.at(count(out)));
         }
-        self.fill_head(
-            first,
-            bound,
-            &self.head_of(second, &Bound::Nothing),
-            known,
-            out,
-        )
+        self.fill_found(first, bound, second, known, out)
+    }
+
+    // The same by what the second is. An `or` and an `and` are told by their names, and no head is made of them.
+    #[cycle(filling)]
+    #[inline(never)]
+    fn fill_found<'a>(
+        &'a self,
+        first: &Head<'a>,
+        bound: &Bound<'a>,
+        second: &'a TypeSpec,
+        known: &Known<'_>,
+        out: &mut Answers,
+    ) -> Option<bool>
+        requires declared { IsDeclared self.now first.now }
+        requires known { KnownTells (head_type self.now (given_by bound.now) first.now) (parts_of (expansion self.now [] second.now)) (length out.old.items) (row_of known.now.firsts.now) known.now.inner.now }
+        ensures { IfSome result (λ r. Fills (head_type self.now (given_by bound.now) first.now) (expansion self.now [] second.now) out.old.items out.new.items r) }
+    {
+        let args = second.args.as_slice();
+        match second.name.standard() {
+            Some(StandardType::Or) => self.fill_or(first, bound, args, known, out),
+            Some(StandardType::And) => self.fill_and(first, bound, args, known, out),
+            _ => self.fill_head(
+                first,
+                bound,
+                &self.head_of(second, &Bound::Nothing),
+                known,
+                out,
+            ),
+        }
     }
 
     // The same for the second by its head.
@@ -99,7 +123,7 @@ impl Lattice {
         requires known { KnownTells (head_type self.now (given_by bound.now) first.now) (parts_of (some_of (expand_parts self.now (own_type self.now) [] (trees_of parts.now)))) (length out.old.items) (row_of known.now.firsts.now) known.now.inner.now }
         ensures { IfSome result (λ r. Fills (head_type self.now (given_by bound.now) first.now) (some_of (expand_parts self.now (own_type self.now) [] (trees_of parts.now))) out.old.items out.new.items r) }
     {
-        let some = self.fill_some(first, bound, parts, known, out)?;
+        let some = self.fill_some(first, bound, parts, known, out, false)?;
         let own = known.firsts.at(count(out));
         put(out, or(some, own))
     }
@@ -118,7 +142,7 @@ impl Lattice {
         requires known { KnownTells (head_type self.now (given_by bound.now) first.now) (parts_of (each_of (expand_parts self.now (own_type self.now) [] (trees_of parts.now)))) (length out.old.items) (row_of known.now.firsts.now) known.now.inner.now }
         ensures { IfSome result (λ r. Fills (head_type self.now (given_by bound.now) first.now) (each_of (expand_parts self.now (own_type self.now) [] (trees_of parts.now))) out.old.items out.new.items r) }
     {
-        let each = self.fill_each(first, bound, parts, known, out)?;
+        let each = self.fill_each(first, bound, parts, known, out, true)?;
         put(out, each)
     }
 
@@ -186,7 +210,7 @@ impl Lattice {
         put(out, or(or(below, heads), own))
     }
 
-    // The parts of an `or`.
+    // The parts of an `or`, behind those that were looked at.
     #[cycle(filling)]
     fn fill_some<'a>(
         &'a self,
@@ -195,22 +219,22 @@ impl Lattice {
         parts: &'a [TypeArg],
         known: &Known<'_>,
         out: &mut Answers,
+        so_far: bool,
     ) -> Option<bool>
         requires declared { IsDeclared self.now first.now }
         requires known { KnownTells (head_type self.now (given_by bound.now) first.now) (parts_of_all (expand_parts self.now (own_type self.now) [] (trees_of parts.now))) (length out.old.items) (row_of known.now.firsts.now) known.now.inner.now }
-        ensures { IfSome result (λ r. FillsSome (head_type self.now (given_by bound.now) first.now) (expand_parts self.now (own_type self.now) [] (trees_of parts.now)) out.old.items out.new.items r) }
+        ensures { IfSome result (λ r. FillsSome (head_type self.now (given_by bound.now) first.now) (expand_parts self.now (own_type self.now) [] (trees_of parts.now)) out.old.items out.new.items so_far r) }
     {
         match next_spec(parts) {
             Some((part, more)) => {
                 let below = self.fill(first, bound, part, known, out)?;
-                let later = self.fill_some(first, bound, more, known, out)?;
-                Some(or(below, later))
+                self.fill_some(first, bound, more, known, out, or(so_far, below))
             }
-            None => Some(false),
+            None => Some(so_far),
         }
     }
 
-    // The parts of an `and`.
+    // The parts of an `and`, behind those that were looked at.
     #[cycle(filling)]
     fn fill_each<'a>(
         &'a self,
@@ -219,18 +243,18 @@ impl Lattice {
         parts: &'a [TypeArg],
         known: &Known<'_>,
         out: &mut Answers,
+        so_far: bool,
     ) -> Option<bool>
         requires declared { IsDeclared self.now first.now }
         requires known { KnownTells (head_type self.now (given_by bound.now) first.now) (parts_of_all (expand_parts self.now (own_type self.now) [] (trees_of parts.now))) (length out.old.items) (row_of known.now.firsts.now) known.now.inner.now }
-        ensures { IfSome result (λ r. FillsEach (head_type self.now (given_by bound.now) first.now) (expand_parts self.now (own_type self.now) [] (trees_of parts.now)) out.old.items out.new.items r) }
+        ensures { IfSome result (λ r. FillsEach (head_type self.now (given_by bound.now) first.now) (expand_parts self.now (own_type self.now) [] (trees_of parts.now)) out.old.items out.new.items so_far r) }
     {
         match next_spec(parts) {
             Some((part, more)) => {
                 let below = self.fill(first, bound, part, known, out)?;
-                let later = self.fill_each(first, bound, more, known, out)?;
-                Some(and(below, later))
+                self.fill_each(first, bound, more, known, out, and(so_far, below))
             }
-            None => Some(true),
+            None => Some(so_far),
         }
     }
 

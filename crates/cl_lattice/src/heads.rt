@@ -193,6 +193,7 @@ impl Head<'_> {
     }
 
     // Whether this is a declared type of that name.
+    #[inline]
     fn has_name(&self, name: &[u8]) -> bool
         ensures { result ≡ has_name self.now name.now }
     {
@@ -209,6 +210,7 @@ impl Head<'_> {
 impl Lattice {
     /// Whether the second is a declared type, and the first is none of that name: it looks no name up.
     #[tactic(auto, using(crate::proofs::SubtypeNameLemmas::another_below, crate::proofs::SubtypeNameLemmas::second_alone))]
+    #[inline]
     pub(crate) fn is_another(&self, first: &Head<'_>, second: &TypeSpec) -> bool
         ensures no_way { (g : Given) → IsTrue result → BySecond (head_type self.now g first.now) (expansion self.now [] second.now) → ⊥ }
         ensures alone { IsTrue result → is_alone (expansion self.now [] second.now) ≡ true }
