@@ -8,7 +8,7 @@ use Rattle.cl_lattice.specs.SubtypeRows.{parts_of, parts_of_all, Tells, TellsAll
 use Rattle.cl_lattice.specs.SubtypeWays.{ByHeads, BelowEach, ByFirst, BySecond}
 use Rattle.cl_lattice.proofs.SubtypeSplitLemmas.{and_split}
 use Rattle.cl_lattice.proofs.SubtypeWayLemmas.{either}
-use Rattle.cl_lattice.proofs.SubtypeRowLemmas.{step_some, step_null, step_token, tells_behind, all_length, all_tell, adds_join, adds_one, both_iff, either_iff, drop_drop, adds_length, known_next}
+use Rattle.cl_lattice.proofs.SubtypeRowLemmas.{step_some, step_null, step_token, tells_behind, all_length, all_tell, adds_join, adds_one, either_iff, drop_drop, adds_length, known_next}
 
 -- ---- parts in turn
 

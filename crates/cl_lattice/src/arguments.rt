@@ -142,7 +142,6 @@ pub fn tokens_in(args: &[TypeArg]) -> &[Text]
 }
 
 /// The first specifier among arguments, and the arguments behind it.
-#[inline]
 pub fn next_spec(args: &[TypeArg]) -> Option<(&TypeSpec, &[TypeArg])>
     ensures { option_map (λ p. (p.0.now, trees_of p.1.now)) result ≡ next_spec (trees_of args.now) }
 {

@@ -7,7 +7,7 @@ ghost use Rattle.cl_lattice.specs.SubtypeHeads.{IsDeclared, head_type};
 ghost use Rattle.cl_lattice.specs.SubtypeRows.{Fills, FillsEach, FillsSome, InnerAgrees, KnownTells, is_alone, parts_of, parts_of_all, row_of};
 ghost use Rattle.cl_lattice.specs.SubtypeWays.{ByHeads};
 
-use crate::arguments::{Bound, next_spec};
+use crate::arguments::Bound;
 use crate::heads::Head;
 use crate::lattices::Lattice;
 use crate::rows::{Answers, Row, and, answer_before, count, or, put};
@@ -225,11 +225,14 @@ impl Lattice {
         requires known { KnownTells (head_type self.now (given_by bound.now) first.now) (parts_of_all (expand_parts self.now (own_type self.now) [] (trees_of parts.now))) (length out.old.items) (row_of known.now.firsts.now) known.now.inner.now }
         ensures { IfSome result (λ r. FillsSome (head_type self.now (given_by bound.now) first.now) (expand_parts self.now (own_type self.now) [] (trees_of parts.now)) out.old.items out.new.items so_far r) }
     {
-        match next_spec(parts) {
-            Some((part, more)) => {
-                let below = self.fill(first, bound, part, known, out)?;
-                self.fill_some(first, bound, more, known, out, or(so_far, below))
-            }
+        match parts.split_first() {
+            Some((arg, more)) => match arg {
+                TypeArg::Spec(part) => {
+                    let below = self.fill(first, bound, part, known, out)?;
+                    self.fill_some(first, bound, more, known, out, or(so_far, below))
+                }
+                _ => self.fill_some(first, bound, more, known, out, so_far),
+            },
             None => Some(so_far),
         }
     }
@@ -249,11 +252,14 @@ impl Lattice {
         requires known { KnownTells (head_type self.now (given_by bound.now) first.now) (parts_of_all (expand_parts self.now (own_type self.now) [] (trees_of parts.now))) (length out.old.items) (row_of known.now.firsts.now) known.now.inner.now }
         ensures { IfSome result (λ r. FillsEach (head_type self.now (given_by bound.now) first.now) (expand_parts self.now (own_type self.now) [] (trees_of parts.now)) out.old.items out.new.items so_far r) }
     {
-        match next_spec(parts) {
-            Some((part, more)) => {
-                let below = self.fill(first, bound, part, known, out)?;
-                self.fill_each(first, bound, more, known, out, and(so_far, below))
-            }
+        match parts.split_first() {
+            Some((arg, more)) => match arg {
+                TypeArg::Spec(part) => {
+                    let below = self.fill(first, bound, part, known, out)?;
+                    self.fill_each(first, bound, more, known, out, and(so_far, below))
+                }
+                _ => self.fill_each(first, bound, more, known, out, so_far),
+            },
             None => Some(so_far),
         }
     }

@@ -1,14 +1,14 @@
-use Rattle.std.proofs.Common.{rules, ◌≡◌, [], ◌∷◌, ◌++◌, length, List, Bool, true, false, refl, ap, sym, subst, ◌∙◌}
+use Rattle.std.proofs.Common.{rules, ◌≡◌, [], ◌∷◌, ◌++◌, length, List, Bool, true, refl, ap, sym, subst, ◌∙◌}
 use Rattle.std.specs.Prelude.{◌||◌, ◌&&◌, IfSome}
 use Rattle.std.proofs.lemmas.Option.{IfSome_then}
 use Rattle.cl_lattice.specs.Arguments.{given_by, tokens_in, trees_of}
-use Rattle.cl_lattice.specs.Expanded.{Expanded, ExpandedTypes, everything, none, each_of, null_or, sequence, some_of, token_or, part}
-use Rattle.cl_lattice.specs.Expansion.{expand_parts, expansion, own_type, next_parts}
+use Rattle.cl_lattice.specs.Expanded.{Expanded, ExpandedTypes, everything, each_of, null_or, sequence, some_of, token_or, part}
+use Rattle.cl_lattice.specs.Expansion.{expand_parts, expansion, own_type}
 use Rattle.cl_lattice.specs.SubtypeHeads.{head_type}
 use Rattle.cl_lattice.specs.SubtypeRows.{Fills, FillsEach, FillsSome, KnownTells, parts_of, parts_of_all, row_of}
 use Rattle.cl_lattice.specs.Subtypes.{IsSubtype}
-use Rattle.cl_lattice.proofs.ExpansionLemmas.{parts_next}
-use Rattle.cl_lattice.proofs.SubtypeFillLemmas.{adds_none, alone_parts, finish_another, close_each, close_everything, close_null, close_sequence, close_some, close_token, each_more, each_none, null_agrees, own_tells, put_filled, put_told, sequence_agrees, some_more, some_none, token_agrees}
+use Rattle.cl_lattice.proofs.ExpansionLemmas.{parts_first}
+use Rattle.cl_lattice.proofs.SubtypeFillLemmas.{adds_none, alone_parts, finish_another, close_each, close_everything, close_null, close_sequence, close_some, close_token, each_more, null_agrees, own_tells, put_filled, put_told, sequence_agrees, some_more, token_agrees}
 use Rattle.cl_lattice.proofs.SubtypeRowLemmas.{known_first, known_next}
 use Rattle.cl_lattice.specs.declared.heads.Head.{Head}
 use Rattle.cl_lattice.proofs.lattices.Lattice.+filling.Goals as goal
@@ -127,12 +127,13 @@ fill_some-fill-requires t c =
     let a = head_type c.args.self.now (given_by c.args.bound.now) c.args.first.now in
     let w = c.args.self.now in
     let ps = expand_parts w (own_type w) [] (trees_of c.args.parts.now) in
+    let x = c.args.out.now.items in
+    let u = expansion w [] c.in-Spec.part in
+    let ms = expand_parts w (own_type w) [] (trees_of c.in-Some.more.now) in
+    let split : ps ≡ part u ms =
+    parts_first w (own_type w) [] c.args.parts.now c.in-Some.more.now c.in-Some.arg.now c.in-Spec.part c.in-Some.ensures.cases.0 c.in-Spec.is in
     let f = row_of c.args.known.now.firsts.now in
     let rs = c.args.known.now.inner.now in
-    let x = c.args.out.now.items in
-    let u = expansion w [] c.in-Some.part.now in
-    let ms = expand_parts w (own_type w) [] (trees_of c.in-Some.more.now) in
-    let split : ps ≡ part u ms = parts_next w (own_type w) [] (trees_of c.args.parts.now) ∙ ap (next_parts w (own_type w) []) (sym c.in-Some.ensures) in
     let ready : KnownTells a (parts_of u ++ parts_of_all ms) (length x) f rs = subst (λ (v : ExpandedTypes). KnownTells a (parts_of_all v) (length x) f rs) split c.requires.known in
     (search (rules, split), (c.requires.declared, known_first a (parts_of u) (parts_of_all ms) (length x) f rs ready))
 
@@ -141,53 +142,47 @@ fill_some-fill_some-requires t c =
     let a = head_type c.args.self.now (given_by c.args.bound.now) c.args.first.now in
     let w = c.args.self.now in
     let ps = expand_parts w (own_type w) [] (trees_of c.args.parts.now) in
+    let x = c.args.out.now.items in
+    let u = expansion w [] c.in-Spec.part in
+    let ms = expand_parts w (own_type w) [] (trees_of c.in-Some.more.now) in
+    let split : ps ≡ part u ms =
+    parts_first w (own_type w) [] c.args.parts.now c.in-Some.more.now c.in-Some.arg.now c.in-Spec.part c.in-Some.ensures.cases.0 c.in-Spec.is in
     let f = row_of c.args.known.now.firsts.now in
     let rs = c.args.known.now.inner.now in
-    let x = c.args.out.now.items in
-    let u = expansion w [] c.in-Some.part.now in
-    let ms = expand_parts w (own_type w) [] (trees_of c.in-Some.more.now) in
-    let split : ps ≡ part u ms = parts_next w (own_type w) [] (trees_of c.args.parts.now) ∙ ap (next_parts w (own_type w) []) (sym c.in-Some.ensures) in
     let ready : KnownTells a (parts_of u ++ parts_of_all ms) (length x) f rs = subst (λ (v : ExpandedTypes). KnownTells a (parts_of_all v) (length x) f rs) split c.requires.known in
-    (search (rules, split), (c.requires.declared, known_next a (IsSubtype a) (parts_of u) (parts_of_all ms) x c.fill.new.out.items f rs ready c.in_ok-below-in-Some.ensures.adds))
+    (search (rules, split), (c.requires.declared, known_next a (IsSubtype a) (parts_of u) (parts_of_all ms) x c.fill.new.out.items f rs ready c.in_ok-below-in-Spec.ensures.adds))
 
-pub fill_some-returns-in_ok-below-in-Some : goal.fill_some-returns-in_ok-below-in-Some
-fill_some-returns-in_ok-below-in-Some t c =
+pub fill_some-returns-in_ok-below-in-Spec : goal.fill_some-returns-in_ok-below-in-Spec
+fill_some-returns-in_ok-below-in-Spec t c =
     let a = head_type c.args.self.now (given_by c.args.bound.now) c.args.first.now in
     let w = c.args.self.now in
     let ps = expand_parts w (own_type w) [] (trees_of c.args.parts.now) in
     let x = c.args.out.now.items in
+    let u = expansion w [] c.in-Spec.part in
+    let ms = expand_parts w (own_type w) [] (trees_of c.in-Some.more.now) in
+    let split : ps ≡ part u ms =
+    parts_first w (own_type w) [] c.args.parts.now c.in-Some.more.now c.in-Some.arg.now c.in-Spec.part c.in-Some.ensures.cases.0 c.in-Spec.is in
     let y = c.fill.new.out.items in
     let z = c.fill_some.new.out.items in
     let so_far = c.args.so_far in
-    let below = c.in_ok-below-in-Some.below in
-    let u = expansion w [] c.in-Some.part.now in
-    let ms = expand_parts w (own_type w) [] (trees_of c.in-Some.more.now) in
-    let split : ps ≡ part u ms = parts_next w (own_type w) [] (trees_of c.args.parts.now) ∙ ap (next_parts w (own_type w) []) (sym c.in-Some.ensures) in
+    let below = c.in_ok-below-in-Spec.below in
     let later : IfSome c.fill_some.result (λ r. FillsSome a ms y z (so_far || below) r) =
     subst (λ (b : Bool). IfSome c.fill_some.result (λ r. FillsSome a ms y z b r)) c.or.ensures c.fill_some.ensures in
     IfSome_then c.fill_some.result later
-    (λ r h. subst (λ (v : ExpandedTypes). FillsSome a v x z so_far r) (sym split) (some_more a u ms x y z so_far below r c.in_ok-below-in-Some.ensures h))
-
-pub fill_some-returns-in-None : goal.fill_some-returns-in-None
-fill_some-returns-in-None t c =
-    let a = head_type c.args.self.now (given_by c.args.bound.now) c.args.first.now in
-    let w = c.args.self.now in
-    let ps = expand_parts w (own_type w) [] (trees_of c.args.parts.now) in
-    let x = c.args.out.now.items in
-    let split : ps ≡ none = parts_next w (own_type w) [] (trees_of c.args.parts.now) ∙ ap (next_parts w (own_type w) []) (sym c.in-None.ensures) in
-    subst (λ (v : ExpandedTypes). FillsSome a v x x c.args.so_far c.args.so_far) (sym split) (some_none a x c.args.so_far)
+    (λ r h. subst (λ (v : ExpandedTypes). FillsSome a v x z so_far r) (sym split) (some_more a u ms x y z so_far below r c.in_ok-below-in-Spec.ensures h))
 
 pub fill_each-fill-requires : goal.fill_each-fill-requires
 fill_each-fill-requires t c =
     let a = head_type c.args.self.now (given_by c.args.bound.now) c.args.first.now in
     let w = c.args.self.now in
     let ps = expand_parts w (own_type w) [] (trees_of c.args.parts.now) in
+    let x = c.args.out.now.items in
+    let u = expansion w [] c.in-Spec.part in
+    let ms = expand_parts w (own_type w) [] (trees_of c.in-Some.more.now) in
+    let split : ps ≡ part u ms =
+    parts_first w (own_type w) [] c.args.parts.now c.in-Some.more.now c.in-Some.arg.now c.in-Spec.part c.in-Some.ensures.cases.0 c.in-Spec.is in
     let f = row_of c.args.known.now.firsts.now in
     let rs = c.args.known.now.inner.now in
-    let x = c.args.out.now.items in
-    let u = expansion w [] c.in-Some.part.now in
-    let ms = expand_parts w (own_type w) [] (trees_of c.in-Some.more.now) in
-    let split : ps ≡ part u ms = parts_next w (own_type w) [] (trees_of c.args.parts.now) ∙ ap (next_parts w (own_type w) []) (sym c.in-Some.ensures) in
     let ready : KnownTells a (parts_of u ++ parts_of_all ms) (length x) f rs = subst (λ (v : ExpandedTypes). KnownTells a (parts_of_all v) (length x) f rs) split c.requires.known in
     (search (rules, split), (c.requires.declared, known_first a (parts_of u) (parts_of_all ms) (length x) f rs ready))
 
@@ -196,41 +191,34 @@ fill_each-fill_each-requires t c =
     let a = head_type c.args.self.now (given_by c.args.bound.now) c.args.first.now in
     let w = c.args.self.now in
     let ps = expand_parts w (own_type w) [] (trees_of c.args.parts.now) in
+    let x = c.args.out.now.items in
+    let u = expansion w [] c.in-Spec.part in
+    let ms = expand_parts w (own_type w) [] (trees_of c.in-Some.more.now) in
+    let split : ps ≡ part u ms =
+    parts_first w (own_type w) [] c.args.parts.now c.in-Some.more.now c.in-Some.arg.now c.in-Spec.part c.in-Some.ensures.cases.0 c.in-Spec.is in
     let f = row_of c.args.known.now.firsts.now in
     let rs = c.args.known.now.inner.now in
-    let x = c.args.out.now.items in
-    let u = expansion w [] c.in-Some.part.now in
-    let ms = expand_parts w (own_type w) [] (trees_of c.in-Some.more.now) in
-    let split : ps ≡ part u ms = parts_next w (own_type w) [] (trees_of c.args.parts.now) ∙ ap (next_parts w (own_type w) []) (sym c.in-Some.ensures) in
     let ready : KnownTells a (parts_of u ++ parts_of_all ms) (length x) f rs = subst (λ (v : ExpandedTypes). KnownTells a (parts_of_all v) (length x) f rs) split c.requires.known in
-    (search (rules, split), (c.requires.declared, known_next a (IsSubtype a) (parts_of u) (parts_of_all ms) x c.fill.new.out.items f rs ready c.in_ok-below-in-Some.ensures.adds))
+    (search (rules, split), (c.requires.declared, known_next a (IsSubtype a) (parts_of u) (parts_of_all ms) x c.fill.new.out.items f rs ready c.in_ok-below-in-Spec.ensures.adds))
 
-pub fill_each-returns-in_ok-below-in-Some : goal.fill_each-returns-in_ok-below-in-Some
-fill_each-returns-in_ok-below-in-Some t c =
+pub fill_each-returns-in_ok-below-in-Spec : goal.fill_each-returns-in_ok-below-in-Spec
+fill_each-returns-in_ok-below-in-Spec t c =
     let a = head_type c.args.self.now (given_by c.args.bound.now) c.args.first.now in
     let w = c.args.self.now in
     let ps = expand_parts w (own_type w) [] (trees_of c.args.parts.now) in
     let x = c.args.out.now.items in
+    let u = expansion w [] c.in-Spec.part in
+    let ms = expand_parts w (own_type w) [] (trees_of c.in-Some.more.now) in
+    let split : ps ≡ part u ms =
+    parts_first w (own_type w) [] c.args.parts.now c.in-Some.more.now c.in-Some.arg.now c.in-Spec.part c.in-Some.ensures.cases.0 c.in-Spec.is in
     let y = c.fill.new.out.items in
     let z = c.fill_each.new.out.items in
     let so_far = c.args.so_far in
-    let below = c.in_ok-below-in-Some.below in
-    let u = expansion w [] c.in-Some.part.now in
-    let ms = expand_parts w (own_type w) [] (trees_of c.in-Some.more.now) in
-    let split : ps ≡ part u ms = parts_next w (own_type w) [] (trees_of c.args.parts.now) ∙ ap (next_parts w (own_type w) []) (sym c.in-Some.ensures) in
+    let below = c.in_ok-below-in-Spec.below in
     let later : IfSome c.fill_each.result (λ r. FillsEach a ms y z (so_far && below) r) =
     subst (λ (b : Bool). IfSome c.fill_each.result (λ r. FillsEach a ms y z b r)) c.and.ensures c.fill_each.ensures in
     IfSome_then c.fill_each.result later
-    (λ r h. subst (λ (v : ExpandedTypes). FillsEach a v x z so_far r) (sym split) (each_more a u ms x y z so_far below r c.in_ok-below-in-Some.ensures h))
-
-pub fill_each-returns-in-None : goal.fill_each-returns-in-None
-fill_each-returns-in-None t c =
-    let a = head_type c.args.self.now (given_by c.args.bound.now) c.args.first.now in
-    let w = c.args.self.now in
-    let ps = expand_parts w (own_type w) [] (trees_of c.args.parts.now) in
-    let x = c.args.out.now.items in
-    let split : ps ≡ none = parts_next w (own_type w) [] (trees_of c.args.parts.now) ∙ ap (next_parts w (own_type w) []) (sym c.in-None.ensures) in
-    subst (λ (v : ExpandedTypes). FillsEach a v x x c.args.so_far c.args.so_far) (sym split) (each_none a x c.args.so_far)
+    (λ r h. subst (λ (v : ExpandedTypes). FillsEach a v x z so_far r) (sym split) (each_more a u ms x y z so_far below r c.in_ok-below-in-Spec.ensures h))
 
 pub fill_head-returns-in-Everything : goal.fill_head-returns-in-Everything
 fill_head-returns-in-Everything t c =
