@@ -92,3 +92,12 @@ parts_next w own g (argument (Names xs) ts) = parts_next w own g ts
 pub parts_first : (w : World) (own : Own) (g : Given) (args more : List TypeArg) (first : TypeArg) (s : TypeSpecTree) → args ≡ first ∷ more → first ≡ arg.Spec s
     → expand_parts w own g (trees_of args) ≡ type.part (expand w own g s) (expand_parts w own g (trees_of more))
 parts_first w own g args more first s e h = ap (λ v. expand_parts w own g (trees_of v)) e ∙ ap (λ v. expand_parts w own g (trees_of (v ∷ more))) h
+
+-- an argument that is no specifier is no part
+pub parts_later : (w : World) (own : Own) (g : Given) (args more : List TypeArg) (first : TypeArg) → args ≡ first ∷ more → ((s : TypeSpecTree) → first ≡ arg.Spec s → ⊥)
+    → expand_parts w own g (trees_of args) ≡ expand_parts w own g (trees_of more)
+parts_later w own g args more (arg.Constant v) e h = ap (λ x. expand_parts w own g (trees_of x)) e
+parts_later w own g args more arg.Any e h = ap (λ x. expand_parts w own g (trees_of x)) e
+parts_later w own g args more (arg.Param x) e h = ap (λ x. expand_parts w own g (trees_of x)) e
+parts_later w own g args more (arg.Spec s) e h = absurd (h s refl)
+parts_later w own g args more (arg.Names xs) e h = ap (λ x. expand_parts w own g (trees_of x)) e

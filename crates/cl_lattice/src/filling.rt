@@ -1,5 +1,5 @@
 //! Subtypes of all parts of a second type at once, so that no pair of parts is compared twice.
-ghost use Rattle.std.specs.Prelude.{◌≡◌, ◌↔◌, [], ◌∷◌, ◌++◌, IfSome, IsTrue, length, true};
+ghost use Rattle.std.specs.Prelude.{◌≡◌, ◌↔◌, [], ◌∷◌, ◌++◌, IfSome, IsTrue, false, length, true};
 ghost use Rattle.cl_lattice.specs.Arguments.{given_by, tokens_in, trees_of};
 ghost use Rattle.cl_lattice.specs.Expanded.{each_of, null_or, sequence, some_of, token_or};
 ghost use Rattle.cl_lattice.specs.Expansion.{expand_parts, expansion, own_type};
@@ -123,7 +123,7 @@ impl Lattice {
         requires known { KnownTells (head_type self.now (given_by bound.now) first.now) (parts_of (some_of (expand_parts self.now (own_type self.now) [] (trees_of parts.now)))) (length out.old.items) (row_of known.now.firsts.now) known.now.inner.now }
         ensures { IfSome result (λ r. Fills (head_type self.now (given_by bound.now) first.now) (some_of (expand_parts self.now (own_type self.now) [] (trees_of parts.now))) out.old.items out.new.items r) }
     {
-        let some = self.fill_some(first, bound, parts, known, out, false)?;
+        let some = self.fill_some(first, bound, parts, known, out)?;
         let own = known.firsts.at(count(out));
         put(out, or(some, own))
     }
@@ -142,7 +142,7 @@ impl Lattice {
         requires known { KnownTells (head_type self.now (given_by bound.now) first.now) (parts_of (each_of (expand_parts self.now (own_type self.now) [] (trees_of parts.now)))) (length out.old.items) (row_of known.now.firsts.now) known.now.inner.now }
         ensures { IfSome result (λ r. Fills (head_type self.now (given_by bound.now) first.now) (each_of (expand_parts self.now (own_type self.now) [] (trees_of parts.now))) out.old.items out.new.items r) }
     {
-        let each = self.fill_each(first, bound, parts, known, out, true)?;
+        let each = self.fill_each(first, bound, parts, known, out)?;
         put(out, each)
     }
 
@@ -210,7 +210,7 @@ impl Lattice {
         put(out, or(or(below, heads), own))
     }
 
-    // The parts of an `or`, behind those that were looked at.
+    // The parts of an `or`.
     #[cycle(filling)]
     fn fill_some<'a>(
         &'a self,
@@ -219,25 +219,21 @@ impl Lattice {
         parts: &'a [TypeArg],
         known: &Known<'_>,
         out: &mut Answers,
-        so_far: bool,
     ) -> Option<bool>
         requires declared { IsDeclared self.now first.now }
         requires known { KnownTells (head_type self.now (given_by bound.now) first.now) (parts_of_all (expand_parts self.now (own_type self.now) [] (trees_of parts.now))) (length out.old.items) (row_of known.now.firsts.now) known.now.inner.now }
-        ensures { IfSome result (λ r. FillsSome (head_type self.now (given_by bound.now) first.now) (expand_parts self.now (own_type self.now) [] (trees_of parts.now)) out.old.items out.new.items so_far r) }
+        ensures { IfSome result (λ r. FillsSome (head_type self.now (given_by bound.now) first.now) (expand_parts self.now (own_type self.now) [] (trees_of parts.now)) out.old.items out.new.items false r) }
     {
-        match parts.split_first() {
-            Some((arg, more)) => match arg {
-                TypeArg::Spec(part) => {
-                    let below = self.fill(first, bound, part, known, out)?;
-                    self.fill_some(first, bound, more, known, out, or(so_far, below))
-                }
-                _ => self.fill_some(first, bound, more, known, out, so_far),
-            },
-            None => Some(so_far),
+        let mut some = false;
+        for arg in parts {
+            if let TypeArg::Spec(part) = arg {
+                some = or(some, self.fill(first, bound, part, known, out)?);
+            }
         }
+        Some(some)
     }
 
-    // The parts of an `and`, behind those that were looked at.
+    // The parts of an `and`.
     #[cycle(filling)]
     fn fill_each<'a>(
         &'a self,
@@ -246,22 +242,18 @@ impl Lattice {
         parts: &'a [TypeArg],
         known: &Known<'_>,
         out: &mut Answers,
-        so_far: bool,
     ) -> Option<bool>
         requires declared { IsDeclared self.now first.now }
         requires known { KnownTells (head_type self.now (given_by bound.now) first.now) (parts_of_all (expand_parts self.now (own_type self.now) [] (trees_of parts.now))) (length out.old.items) (row_of known.now.firsts.now) known.now.inner.now }
-        ensures { IfSome result (λ r. FillsEach (head_type self.now (given_by bound.now) first.now) (expand_parts self.now (own_type self.now) [] (trees_of parts.now)) out.old.items out.new.items so_far r) }
+        ensures { IfSome result (λ r. FillsEach (head_type self.now (given_by bound.now) first.now) (expand_parts self.now (own_type self.now) [] (trees_of parts.now)) out.old.items out.new.items true r) }
     {
-        match parts.split_first() {
-            Some((arg, more)) => match arg {
-                TypeArg::Spec(part) => {
-                    let below = self.fill(first, bound, part, known, out)?;
-                    self.fill_each(first, bound, more, known, out, and(so_far, below))
-                }
-                _ => self.fill_each(first, bound, more, known, out, so_far),
-            },
-            None => Some(so_far),
+        let mut each = true;
+        for arg in parts {
+            if let TypeArg::Spec(part) = arg {
+                each = and(each, self.fill(first, bound, part, known, out)?);
+            }
         }
+        Some(each)
     }
 
     // A type that is its own only part.
