@@ -285,6 +285,10 @@ finish_another a t x own e apart k =
     closed a t [] x x own (alone_parts t e) (adds_none (IsSubtype a) x)
     (λ h. (either a t).0 (inr (k.0 h)), λ d. elim ((either a t).1 d) [ inl s ↦ absurd (apart s) | inr f ↦ k.1 f ])
 
+-- where it is known to be a subtype
+pub finish_below : (a t : Expanded) (x : List Bool) → is_alone t ≡ true → IsSubtype a t → Fills a t x (x ++ true ∷ []) true
+finish_below a t x e d = closed a t [] x x true (alone_parts t e) (adds_none (IsSubtype a) x) (λ h. d, λ k. refl)
+
 pub alone_agrees : (a t : Expanded) (r : Bool) → is_alone t ≡ true → InnerAgrees a t r
 alone_agrees everything t r e = tt
 alone_agrees nothing t r e = tt

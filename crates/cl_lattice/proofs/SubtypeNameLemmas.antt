@@ -1,5 +1,5 @@
 -- A declared type takes only types of its own name.
-use Rattle.std.proofs.Common.{◌≡◌, ℕ, ℤ, true, false, List, [], refl, ap, sym, subst}
+use Rattle.std.proofs.Common.{◌≡◌, ℕ, ℤ, true, false, List, [], refl, ap, sym, subst, ◌∙◌}
 use Rattle.std.specs.Prelude.{Option, Some, None, ◌==◌}
 use Rattle.std.specs.Cmp.Lexicographic.{pointwise}
 use Rattle.std.proofs.lemmas.Slice.Eq.{bytes_eq-Decides}
@@ -14,6 +14,7 @@ use Rattle.cl_lattice.specs.Expansion.{declared_type, expand_parts, expansion, n
 use Rattle.cl_lattice.specs.Laws.{AllFit}
 use Rattle.cl_lattice.specs.SubtypeHeads.{has_name, head_type}
 use Rattle.cl_lattice.specs.SubtypeRows.{is_alone}
+use Rattle.cl_lattice.specs.Subtypes.{IsSubtype, itself}
 use Rattle.cl_lattice.specs.SubtypeWays.{ByHeads, BySecond}
 use Rattle.cl_lattice.specs.World.{World, kind_named}
 use Rattle.cl_lattice.specs.declared.declared_types.TypeKind.{TypeKind}
@@ -107,3 +108,14 @@ pub another_below : (w : World) → AllFit w → (s : TypeSpecTree) → standard
 another_below w f s plain h other g b =
     let named : has_name h (name_of s) ≡ true = head_named w g h (name_of s) (second_named w f s plain (head_type w g h) b) in
     cc
+
+record_is : (w : World) (s : TypeSpecTree) → standard_named (name_of s) ≡ None → kind_named (name_of s) w ≡ Some kind.Record → expansion w [] s ≡ type.record_type (name_of s)
+record_is w (specifier y ts o) plain k = λ i. named_type (own_type w) (plain i) (k i) y (values_of [] ts) (tokens_in ts) (expand_parts w (own_type w) [] ts)
+
+-- a record is below the one of its name
+pub record_below : (w : World) (s : TypeSpecTree) → standard_named (name_of s) ≡ None → (x : List ℕ) → kind_named x w ≡ Some kind.Record → pointwise ◌==◌ (name_of s) x ≡ true
+    → IsSubtype (type.record_type x) (expansion w [] s)
+record_below w s plain x declared same =
+    let names : name_of s ≡ x = (bytes_eq-Decides (name_of s) x).0 same in
+    let whole : expansion w [] s ≡ type.record_type x = record_is w s plain (ap (λ y. kind_named y w) names ∙ declared) ∙ ap type.record_type names in
+    subst (λ (t : Expanded). IsSubtype (type.record_type x) t) (sym whole) (itself (type.record_type x) refl)

@@ -42,7 +42,7 @@ impl Lattice {
         self.fill_found(first, bound, second, known, out)
     }
 
-    // The same by what the second is. An `or` and an `and` are told by their names, and no head is made of them.
+    // The same by what the second is. Neither the record that the first is nor an `or` nor an `and` is made a head.
     #[cycle(filling)]
     #[inline(never)]
     fn fill_found<'a>(
@@ -57,6 +57,9 @@ impl Lattice {
         requires known { KnownTells (head_type self.now (given_by bound.now) first.now) (parts_of (expansion self.now [] second.now)) (length out.old.items) (row_of known.now.firsts.now) known.now.inner.now }
         ensures { IfSome result (λ r. Fills (head_type self.now (given_by bound.now) first.now) (expansion self.now [] second.now) out.old.items out.new.items r) }
     {
+        if self.is_same_record(first, second) {
+            return put(out, true);
+        }
         let args = second.args.as_slice();
         match second.name.standard() {
             Some(StandardType::Or) => self.fill_or(first, bound, args, known, out),

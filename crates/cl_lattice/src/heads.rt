@@ -8,6 +8,7 @@ ghost use Rattle.cl_lattice.specs.Expanded.{sequence, null_or, token_or};
 ghost use Rattle.cl_lattice.specs.SubtypeHeads.{IsDeclared, first_part, has_name, head_type};
 ghost use Rattle.cl_lattice.specs.SubtypeRows.{HostInherits, is_alone};
 ghost use Rattle.cl_lattice.specs.SubtypeWays.{BySecond};
+ghost use Rattle.cl_lattice.specs.Subtypes.{IsSubtype};
 ghost use Rattle.cl_lattice.specs.World.{World, kind_named};
 
 use crate::arguments::{Bound, first_number, second_number};
@@ -219,6 +220,24 @@ impl Lattice {
         match second.name.standard() {
             Some(_) => false,
             None => !first.has_name(second.name.as_slice()),
+        }
+    }
+
+    /// Whether the second is the record that the first is: it looks no name up.
+    #[inline]
+    #[tactic(auto, using(crate::proofs::SubtypeNameLemmas::record_below, crate::proofs::SubtypeNameLemmas::second_alone))]
+    pub(crate) fn is_same_record(&self, first: &Head<'_>, second: &TypeSpec) -> bool
+        requires { IsDeclared self.now first.now }
+        ensures below { (g : Given) → IsTrue result → IsSubtype (head_type self.now g first.now) (expansion self.now [] second.now) }
+        ensures alone { IsTrue result → is_alone (expansion self.now [] second.now) ≡ true }
+    {
+        self.all_fit();
+        match first {
+            Head::Record(_) => match second.name.standard() {
+                Some(_) => false,
+                None => first.has_name(second.name.as_slice()),
+            },
+            _ => false,
         }
     }
 }

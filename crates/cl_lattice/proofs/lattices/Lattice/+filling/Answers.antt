@@ -8,7 +8,7 @@ use Rattle.cl_lattice.specs.SubtypeHeads.{head_type}
 use Rattle.cl_lattice.specs.SubtypeRows.{Fills, KnownTells, parts_of, parts_of_all, row_of}
 use Rattle.cl_lattice.specs.Subtypes.{IsSubtype}
 use Rattle.cl_lattice.proofs.ExpansionLemmas.{parts_first, parts_later}
-use Rattle.cl_lattice.proofs.SubtypeFillLemmas.{adds_none, alone_parts, finish_another, close_each, close_everything, close_null, close_sequence, close_some, close_token, null_agrees, own_tells, put_filled, put_told, sequence_agrees, token_agrees}
+use Rattle.cl_lattice.proofs.SubtypeFillLemmas.{adds_none, alone_parts, finish_another, finish_below, close_each, close_everything, close_null, close_sequence, close_some, close_token, null_agrees, own_tells, put_filled, put_told, sequence_agrees, token_agrees}
 use Rattle.cl_lattice.proofs.SubtypeLoopLemmas.{EachLeft, SomeLeft, each_end, each_step, some_end, some_step}
 use Rattle.cl_lattice.proofs.SubtypeRowLemmas.{known_first}
 use Rattle.cl_syntax.specs.declared.type_specs.TypeArg.{TypeArg}
@@ -29,6 +29,14 @@ fill-returns-then-is_another t c =
     let own = c.at.ensures a u [] (own_tells a u (IsSubtype a) [] x x f rs c.count.result ready (adds_none (IsSubtype a) x) c.count.ensures) in
     put_filled a u x x c.put.new.answers.items c.at.result c.put.result c.put.ensures.same c.put.ensures.grown
     (finish_another a u x c.at.result alone no_way own)
+
+pub fill_found-returns-then-is_same_record : goal.fill_found-returns-then-is_same_record
+fill_found-returns-then-is_same_record t c =
+    let a = head_type c.args.self.now (given_by c.args.bound.now) c.args.first.now in
+    let u = expansion c.args.self.now [] c.args.second.now in
+    let x = c.args.out.now.items in
+    put_filled a u x x c.put.new.answers.items true c.put.result c.put.ensures.same c.put.ensures.grown
+    (finish_below a u x (c.if-is_same_record.ensures.alone refl) (c.if-is_same_record.ensures.below (given_by c.args.bound.now) refl))
 
 pub fill_or-fill_some-requires : goal.fill_or-fill_some-requires
 fill_or-fill_some-requires t c =
