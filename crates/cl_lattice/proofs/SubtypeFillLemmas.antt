@@ -9,7 +9,8 @@ use Rattle.cl_lattice.specs.SubtypeRows.{parts_of, parts_of_all, Tells, TellsAll
 use Rattle.cl_lattice.specs.SubtypeWays.{ByHeads, BelowEach, ByFirst, BySecond}
 use Rattle.cl_lattice.proofs.SubtypeSplitLemmas.{and_split}
 use Rattle.cl_lattice.proofs.SubtypeWayLemmas.{either}
-use Rattle.cl_lattice.proofs.SubtypeRowLemmas.{step_some, step_null, step_token, tells_behind, all_length, all_tell, adds_join, adds_one, either_iff, wrong, adds_length, known_next}
+use Rattle.cl_lattice.proofs.SubtypeRowLemmas.{step_some, step_null, step_token}
+use Rattle.cl_lattice.proofs.SubtypeRowLemmas.{tells_behind, all_length, all_tell, adds_join, adds_one, either_iff, wrong, adds_length, known_next}
 
 -- ---- parts in turn
 
@@ -29,7 +30,8 @@ some_along false r P Q h = (
 pub some_none : (a : Expanded) (x : List Bool) (so_far : Bool) → FillsSome a none x x so_far so_far
 some_none a x so_far = record { told = (λ e. inl e, λ s. elim s [ inl e ↦ e | inr h ↦ absurd h ]); adds = adds_none (IsSubtype a) x }
 
-pub some_more : (a t : Expanded) (ts : ExpandedTypes) (x y z : List Bool) (so_far r s : Bool) → Fills a t x y r → FillsSome a ts y z (so_far || r) s → FillsSome a (part t ts) x z so_far s
+pub some_more : (a t : Expanded) (ts : ExpandedTypes) (x y z : List Bool) (so_far r s : Bool) → Fills a t x y r → FillsSome a ts y z (so_far || r) s
+    → FillsSome a (part t ts) x z so_far s
 some_more a t ts x y z so_far r s h k = record {
   told = along k.told (some_along so_far r (IsSubtype a t) (BelowSome a ts) h.told);
   adds = adds_join (IsSubtype a) (parts_of t) (parts_of_all ts) x y z h.adds k.adds;
@@ -42,7 +44,8 @@ each_along false r P Q h = (λ s. absurd cc, λ s. absurd cc)
 pub each_none : (a : Expanded) (x : List Bool) (so_far : Bool) → FillsEach a none x x so_far so_far
 each_none a x so_far = record { told = (λ e. (e, tt), λ s. s.0); adds = adds_none (IsSubtype a) x }
 
-pub each_more : (a t : Expanded) (ts : ExpandedTypes) (x y z : List Bool) (so_far r s : Bool) → Fills a t x y r → FillsEach a ts y z (so_far && r) s → FillsEach a (part t ts) x z so_far s
+pub each_more : (a t : Expanded) (ts : ExpandedTypes) (x y z : List Bool) (so_far r s : Bool) → Fills a t x y r → FillsEach a ts y z (so_far && r) s
+    → FillsEach a (part t ts) x z so_far s
 each_more a t ts x y z so_far r s h k = record {
   told = along k.told (each_along so_far r (IsSubtype a t) (BelowEach a ts) h.told);
   adds = adds_join (IsSubtype a) (parts_of t) (parts_of_all ts) x y z h.adds k.adds;
@@ -62,9 +65,11 @@ none_before Q = (λ s. elim s [ inl e ↦ absurd cc | inr q ↦ q ], λ q. inr q
 all_before : (Q : Type 0) → ((true ≡ true) × Q) ↔ Q
 all_before Q = (λ s. s.1, λ q. (refl, q))
 
-pub close_some : (a : Expanded) (ts : ExpandedTypes) (x y : List Bool) (r own : Bool) → FillsSome a ts x y false r → ((own ≡ true) ↔ ByFirst a (some_of ts)) → Fills a (some_of ts) x (y ++ (r || own) ∷ []) (r || own)
+pub close_some : (a : Expanded) (ts : ExpandedTypes) (x y : List Bool) (r own : Bool) → FillsSome a ts x y false r → ((own ≡ true) ↔ ByFirst a (some_of ts))
+    → Fills a (some_of ts) x (y ++ (r || own) ∷ []) (r || own)
 close_some a ts x y r own h k =
-    closed a (some_of ts) (parts_of_all ts) x y (r || own) refl h.adds (along (either_iff r own (BelowSome a ts) (ByFirst a (some_of ts)) (along h.told (none_before (BelowSome a ts))) k) (step_some a ts))
+    closed a (some_of ts) (parts_of_all ts) x y (r || own) refl h.adds
+    (along (either_iff r own (BelowSome a ts) (ByFirst a (some_of ts)) (along h.told (none_before (BelowSome a ts))) k) (step_some a ts))
 
 pub close_each : (a : Expanded) (ts : ExpandedTypes) (x y : List Bool) (r : Bool) → FillsEach a ts x y true r → Fills a (each_of ts) x (y ++ r ∷ []) r
 close_each a ts x y r h = closed a (each_of ts) (parts_of_all ts) x y r refl h.adds (along h.told (along (all_before (BelowEach a ts)) (and_split a ts)))
@@ -88,8 +93,8 @@ close_sequence a t x y r heads own h k l =
     (along (either_iff heads own (ByHeads a (sequence t)) (ByFirst a (sequence t)) k l) (either a (sequence t)))
 
 -- a type that is its own only part
-close_alone : (a t : Expanded) (x : List Bool) (heads own : Bool) → parts_of t ≡ t ∷ [] → ((BySecond a t) ≡ (ByHeads a t)) → ((heads ≡ true) ↔ ByHeads a t) → ((own ≡ true) ↔ ByFirst a t)
-    → Fills a t x (x ++ (heads || own) ∷ []) (heads || own)
+close_alone : (a t : Expanded) (x : List Bool) (heads own : Bool) → parts_of t ≡ t ∷ [] → ((BySecond a t) ≡ (ByHeads a t)) → ((heads ≡ true) ↔ ByHeads a t)
+    → ((own ≡ true) ↔ ByFirst a t) → Fills a t x (x ++ (heads || own) ∷ []) (heads || own)
 close_alone a t x heads own e same k l =
     closed a t [] x x (heads || own) e (adds_none (IsSubtype a) x)
     (along (either_iff heads own (ByHeads a t) (ByFirst a t) k l) (subst (λ (B : Type 0). (B ⊎ ByFirst a t) ↔ IsSubtype a t) same (either a t)))

@@ -29,7 +29,8 @@ some_step a ps u ms x y z so_far r f rs h k = record {
   whole = λ v s e. h.whole v s (some_more a u ms y z v so_far r s k e);
 }
 
-pub some_end : (a : Expanded) (ps : ExpandedTypes) (x y : List Bool) (so_far : Bool) (f : RowOf) (rs : List Bool) → SomeLeft a ps none x y so_far f rs → FillsSome a ps x y false so_far
+pub some_end : (a : Expanded) (ps : ExpandedTypes) (x y : List Bool) (so_far : Bool) (f : RowOf) (rs : List Bool) → SomeLeft a ps none x y so_far f rs
+    → FillsSome a ps x y false so_far
 some_end a ps x y so_far f rs h = h.whole y so_far (some_none a y so_far)
 
 pub each_start : (a : Expanded) (ps : ExpandedTypes) (x : List Bool) (f : RowOf) (rs : List Bool) → KnownTells a (parts_of_all ps) (length x) f rs → EachLeft a ps ps x x true f rs
@@ -43,5 +44,6 @@ each_step a ps u ms x y z so_far r f rs h k = record {
   whole = λ v s e. h.whole v s (each_more a u ms y z v so_far r s k e);
 }
 
-pub each_end : (a : Expanded) (ps : ExpandedTypes) (x y : List Bool) (so_far : Bool) (f : RowOf) (rs : List Bool) → EachLeft a ps none x y so_far f rs → FillsEach a ps x y true so_far
+pub each_end : (a : Expanded) (ps : ExpandedTypes) (x y : List Bool) (so_far : Bool) (f : RowOf) (rs : List Bool) → EachLeft a ps none x y so_far f rs
+    → FillsEach a ps x y true so_far
 each_end a ps x y so_far f rs h = h.whole y so_far (each_none a y so_far)

@@ -78,8 +78,8 @@ declared_alone w f y plain (Some (kind.User u)) e vs = ap is_alone (own_head w f
 -- a declared type is its own only part
 pub second_alone : (w : World) → AllFit w → (s : TypeSpecTree) → standard_named (name_of s) ≡ None → is_alone (expansion w [] s) ≡ true
 second_alone w f (specifier y ts o) plain =
-    subst (λ (t : Option StandardType). is_alone (named_type (own_type w) t (kind_named y w) y (values_of [] ts) (tokens_in ts) (expand_parts w (own_type w) [] ts)) ≡ true) (sym plain)
-    (declared_alone w f y plain (kind_named y w) refl (values_of [] ts))
+    ap (λ (t : Option StandardType). is_alone (named_type (own_type w) t (kind_named y w) y (values_of [] ts) (tokens_in ts) (expand_parts w (own_type w) [] ts))) plain
+    ∙ (declared_alone w f y plain (kind_named y w) refl (values_of [] ts))
 
 head_named : (w : World) (g : Given) (h : Head) (y : List ℕ) → own_name (head_type w g h) ≡ Some y → has_name h y ≡ true
 head_named w g (head.Record x) y e = equal y x.now (some_same x.now y e)

@@ -22,6 +22,7 @@ pub(crate) struct Known<'b> {
 
 impl Lattice {
     // Puts an answer for each part of the second type behind the others, and gives the one for the whole; `None` where there is no room.
+    // A declared type of another name is its own only part, and nothing is looked up.
     #[cycle(filling)]
     #[inline(always)]
     pub(crate) fn fill<'a>(
@@ -42,7 +43,8 @@ impl Lattice {
         self.fill_found(first, bound, second, known, out)
     }
 
-    // The same by what the second is. Neither the record that the first is nor an `or` nor an `and` is made a head.
+    // The same where the second has the first's name or is a standard type. The first's own record, an `or` and an `and` are told
+    // before a head is made.
     #[cycle(filling)]
     #[inline(never)]
     fn fill_found<'a>(
@@ -54,7 +56,8 @@ impl Lattice {
         out: &mut Answers,
     ) -> Option<bool>
         requires declared { IsDeclared self.now first.now }
-        requires known { KnownTells (head_type self.now (given_by bound.now) first.now) (parts_of (expansion self.now [] second.now)) (length out.old.items) (row_of known.now.firsts.now) known.now.inner.now }
+        requires known { KnownTells (head_type self.now (given_by bound.now) first.now) (parts_of (expansion self.now [] second.now))
+            (length out.old.items) (row_of known.now.firsts.now) known.now.inner.now }
         ensures { IfSome result (λ r. Fills (head_type self.now (given_by bound.now) first.now) (expansion self.now [] second.now) out.old.items out.new.items r) }
     {
         if self.is_same_record(first, second) {
@@ -225,7 +228,8 @@ impl Lattice {
     ) -> Option<bool>
         requires declared { IsDeclared self.now first.now }
         requires known { KnownTells (head_type self.now (given_by bound.now) first.now) (parts_of_all (expand_parts self.now (own_type self.now) [] (trees_of parts.now))) (length out.old.items) (row_of known.now.firsts.now) known.now.inner.now }
-        ensures { IfSome result (λ r. FillsSome (head_type self.now (given_by bound.now) first.now) (expand_parts self.now (own_type self.now) [] (trees_of parts.now)) out.old.items out.new.items false r) }
+        ensures { IfSome result (λ r. FillsSome (head_type self.now (given_by bound.now) first.now) (expand_parts self.now (own_type self.now) [] (trees_of parts.now))
+            out.old.items out.new.items false r) }
     {
         let mut some = false;
         for arg in parts {
@@ -248,7 +252,8 @@ impl Lattice {
     ) -> Option<bool>
         requires declared { IsDeclared self.now first.now }
         requires known { KnownTells (head_type self.now (given_by bound.now) first.now) (parts_of_all (expand_parts self.now (own_type self.now) [] (trees_of parts.now))) (length out.old.items) (row_of known.now.firsts.now) known.now.inner.now }
-        ensures { IfSome result (λ r. FillsEach (head_type self.now (given_by bound.now) first.now) (expand_parts self.now (own_type self.now) [] (trees_of parts.now)) out.old.items out.new.items true r) }
+        ensures { IfSome result (λ r. FillsEach (head_type self.now (given_by bound.now) first.now) (expand_parts self.now (own_type self.now) [] (trees_of parts.now))
+            out.old.items out.new.items true r) }
     {
         let mut each = true;
         for arg in parts {

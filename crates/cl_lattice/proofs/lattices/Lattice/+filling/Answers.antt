@@ -8,7 +8,8 @@ use Rattle.cl_lattice.specs.SubtypeHeads.{head_type}
 use Rattle.cl_lattice.specs.SubtypeRows.{Fills, KnownTells, parts_of, parts_of_all, row_of}
 use Rattle.cl_lattice.specs.Subtypes.{IsSubtype}
 use Rattle.cl_lattice.proofs.ExpansionLemmas.{parts_first, parts_later}
-use Rattle.cl_lattice.proofs.SubtypeFillLemmas.{adds_none, alone_parts, finish_another, finish_below, close_each, close_everything, close_null, close_sequence, close_some, close_token, null_agrees, own_tells, put_filled, put_told, sequence_agrees, token_agrees}
+use Rattle.cl_lattice.proofs.SubtypeFillLemmas.{close_each, close_everything, close_null, close_sequence, close_some, close_token, finish_another, finish_below}
+use Rattle.cl_lattice.proofs.SubtypeFillLemmas.{adds_none, alone_parts, null_agrees, own_tells, put_filled, put_told, sequence_agrees, token_agrees}
 use Rattle.cl_lattice.proofs.SubtypeLoopLemmas.{EachLeft, SomeLeft, each_end, each_step, some_end, some_step}
 use Rattle.cl_lattice.proofs.SubtypeRowLemmas.{known_first}
 use Rattle.cl_syntax.specs.declared.type_specs.TypeArg.{TypeArg}
