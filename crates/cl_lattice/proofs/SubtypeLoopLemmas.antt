@@ -18,9 +18,6 @@ pub record EachLeft (a : Expanded) (ps rest : ExpandedTypes) (x y : List Bool) (
   pub lighter : weight_all rest ≤ weight_all ps
   pub whole : (z : List Bool) (s : Bool) → FillsEach a rest y z so_far s → FillsEach a ps x z true s
 
-pub some_start : (a : Expanded) (ps : ExpandedTypes) (x : List Bool) (f : RowOf) (rs : List Bool) → KnownTells a (parts_of_all ps) (length x) f rs → SomeLeft a ps ps x x false f rs
-some_start a ps x f rs h = record { tells = h; lighter = omega arith; whole = λ z s k. k }
-
 pub some_step : (a : Expanded) (ps : ExpandedTypes) (u : Expanded) (ms : ExpandedTypes) (x y z : List Bool) (so_far r : Bool) (f : RowOf) (rs : List Bool)
     → SomeLeft a ps (part u ms) x y so_far f rs → Fills a u y z r → SomeLeft a ps ms x z (so_far || r) f rs
 some_step a ps u ms x y z so_far r f rs h k = record {
@@ -32,9 +29,6 @@ some_step a ps u ms x y z so_far r f rs h k = record {
 pub some_end : (a : Expanded) (ps : ExpandedTypes) (x y : List Bool) (so_far : Bool) (f : RowOf) (rs : List Bool) → SomeLeft a ps none x y so_far f rs
     → FillsSome a ps x y false so_far
 some_end a ps x y so_far f rs h = h.whole y so_far (some_none a y so_far)
-
-pub each_start : (a : Expanded) (ps : ExpandedTypes) (x : List Bool) (f : RowOf) (rs : List Bool) → KnownTells a (parts_of_all ps) (length x) f rs → EachLeft a ps ps x x true f rs
-each_start a ps x f rs h = record { tells = h; lighter = omega arith; whole = λ z s k. k }
 
 pub each_step : (a : Expanded) (ps : ExpandedTypes) (u : Expanded) (ms : ExpandedTypes) (x y z : List Bool) (so_far r : Bool) (f : RowOf) (rs : List Bool)
     → EachLeft a ps (part u ms) x y so_far f rs → Fills a u y z r → EachLeft a ps ms x z (so_far && r) f rs

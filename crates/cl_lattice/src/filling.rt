@@ -40,14 +40,14 @@ impl Lattice {
         if self.is_another(first, second) {
             return put(out, known.firsts.at(count(out)));
         }
-        self.fill_found(first, bound, second, known, out)
+        self.fill_named(first, bound, second, known, out)
     }
 
     // The same where the second has the first's name or is a standard type. The first's own record, an `or` and an `and` are told
     // before a head is made.
     #[cycle(filling)]
     #[inline(never)]
-    fn fill_found<'a>(
+    fn fill_named<'a>(
         &'a self,
         first: &Head<'a>,
         bound: &Bound<'a>,

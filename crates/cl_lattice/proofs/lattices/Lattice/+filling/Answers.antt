@@ -31,8 +31,8 @@ fill-returns-then-is_another t c =
     put_filled a u x x c.put.new.answers.items c.at.result c.put.result c.put.ensures.same c.put.ensures.grown
     (finish_another a u x c.at.result alone no_way own)
 
-pub fill_found-returns-then-is_same_record : goal.fill_found-returns-then-is_same_record
-fill_found-returns-then-is_same_record t c =
+pub fill_named-returns-then-is_same_record : goal.fill_named-returns-then-is_same_record
+fill_named-returns-then-is_same_record t c =
     let a = head_type c.args.self.now (given_by c.args.bound.now) c.args.first.now in
     let u = expansion c.args.self.now [] c.args.second.now in
     let x = c.args.out.now.items in

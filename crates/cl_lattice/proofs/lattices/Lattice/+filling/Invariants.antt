@@ -10,8 +10,8 @@ use Rattle.cl_lattice.proofs.lattices.Lattice.+filling.Given as goal
 abbrev pub decreases-fill : goal.decreases-fill
 decreases-fill l = 2 ^ 65 * weight (expansion l.self.now [] l.second.now) + 7
 
-abbrev pub decreases-fill_found : goal.decreases-fill_found
-decreases-fill_found l = 2 ^ 65 * weight (expansion l.self.now [] l.second.now) + 6
+abbrev pub decreases-fill_named : goal.decreases-fill_named
+decreases-fill_named l = 2 ^ 65 * weight (expansion l.self.now [] l.second.now) + 6
 
 abbrev pub decreases-fill_head : goal.decreases-fill_head
 decreases-fill_head l = 2 ^ 65 * weight (head_type l.self.now [] l.second.now) + 5
