@@ -1,11 +1,13 @@
 -- The expansion of a user type: it holds the expansion of what it inherits from.
-use Rattle.std.proofs.Common.{◌≡◌, ℕ, zero, suc, ◌≤◌, true, List, refl, ap, subst, arith, ◌∙◌}
+use Rattle.std.proofs.Common.{◌≡◌, ℕ, zero, suc, ◌≤◌, true, List, ◌∷◌, refl, ap, subst, arith, ◌∙◌}
 use Rattle.std.specs.Prelude.{Option, Some, None, is_some}
 use Rattle.cl_value.specs.Data.{Data}
 use Rattle.cl_syntax.specs.StandardTypes.{standard_named}
 use Rattle.cl_syntax.specs.TypeSpecTree.{TypeSpecTree, specifier, Constant, Any, Param, Spec, Names, TypeArgTrees, none, argument}
 use Rattle.cl_syntax.specs.declared.type_names.StandardType.{StandardType}
-use Rattle.cl_lattice.specs.Arguments.{Given, given, tokens_in, values_of}
+use Rattle.cl_syntax.specs.declared.type_specs.TypeArg.{TypeArg}
+use Rattle.cl_syntax.specs.declared.type_specs.TypeArg.TheVariants as arg
+use Rattle.cl_lattice.specs.Arguments.{Given, given, tokens_in, trees_of, values_of}
 use Rattle.cl_lattice.specs.Expanded.{Expanded, ExpandedTypes}
 use Rattle.cl_lattice.specs.Expanded as type
 use Rattle.cl_lattice.specs.Expansion.{Own, named_type, expand, expand_parts, own_within, own_type, expansion, next_spec, next_parts}
@@ -85,3 +87,17 @@ parts_next w own g (argument Any ts) = parts_next w own g ts
 parts_next w own g (argument (Param x) ts) = parts_next w own g ts
 parts_next w own g (argument (Spec s) ts) = refl
 parts_next w own g (argument (Names xs) ts) = parts_next w own g ts
+
+-- the same where the first argument is a specifier
+pub parts_first : (w : World) (own : Own) (g : Given) (args more : List TypeArg) (first : TypeArg) (s : TypeSpecTree) → args ≡ first ∷ more → first ≡ arg.Spec s
+    → expand_parts w own g (trees_of args) ≡ type.part (expand w own g s) (expand_parts w own g (trees_of more))
+parts_first w own g args more first s e h = ap (λ v. expand_parts w own g (trees_of v)) e ∙ ap (λ v. expand_parts w own g (trees_of (v ∷ more))) h
+
+-- an argument that is no specifier is no part
+pub parts_later : (w : World) (own : Own) (g : Given) (args more : List TypeArg) (first : TypeArg) → args ≡ first ∷ more → ((s : TypeSpecTree) → first ≡ arg.Spec s → ⊥)
+    → expand_parts w own g (trees_of args) ≡ expand_parts w own g (trees_of more)
+parts_later w own g args more (arg.Constant v) e h = ap (λ x. expand_parts w own g (trees_of x)) e
+parts_later w own g args more arg.Any e h = ap (λ x. expand_parts w own g (trees_of x)) e
+parts_later w own g args more (arg.Param x) e h = ap (λ x. expand_parts w own g (trees_of x)) e
+parts_later w own g args more (arg.Spec s) e h = absurd (h s refl)
+parts_later w own g args more (arg.Names xs) e h = ap (λ x. expand_parts w own g (trees_of x)) e

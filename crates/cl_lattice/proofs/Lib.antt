@@ -24,3 +24,4 @@ pub mod SupertypeLemmas
 pub mod SubtypeNameLemmas
 pub mod SubtypeRowLemmas
 pub mod SubtypeFillLemmas
+pub mod SubtypeLoopLemmas

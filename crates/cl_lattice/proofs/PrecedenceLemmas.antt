@@ -57,9 +57,6 @@ has_first w x None None h k = h
 has_first w x None (Some p) h k = k
 has_first w x (Some p) o' h k = h
 
-right_has : (w : World) (x : List ℕ) (p : Precedence) → IsRight w x (Some p) → Has w x (Some p)
-right_has w x p h = h
-
 first_right : (w : World) (t : Lists) (x y : List ℕ) (xs : List (List ℕ)) (b : Bool) → AreRight w t → precedence w y ≡ Some xs
     → IsRight w x (named x (if b then t else t ++ (y, record { name = y; names = xs }) ∷ []))
 first_right w t x y xs true all h = all x

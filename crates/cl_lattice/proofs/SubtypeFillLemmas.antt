@@ -1,39 +1,53 @@
 -- Answers for a second type behind those for its parts.
-use Rattle.std.proofs.Common.{◌≡◌, ◌↔◌, ℕ, ◌+◌, ◌<◌, Bool, true, false, List, [], ◌∷◌, ◌++◌, length, drop, refl, ap, sym, subst, append_assoc, length-append, arith, ◌∙◌}
+use Rattle.std.proofs.Common.{◌≡◌, ◌↔◌, ℕ, ◌+◌, ◌<◌, Bool, true, false, List, [], ◌∷◌, ◌++◌, length, drop, refl, ap, sym, subst, append_assoc, length-append, arith, ◌∙◌, inl, inr}
+use Rattle.std.proofs.lemmas.List.{append-nil, drop-drop}
 use Rattle.std.specs.Prelude.{◌⊎◌, ◌||◌, ◌&&◌, IfSome, OnSome, Option, Some, None}
-use Rattle.cl_lattice.specs.Expanded.{Expanded, everything, nothing, boolean, symbols, blank_area, command, integer, string, member, subset, sequence, some_of, each_of, null_or, token_or, record_type, host, user, unknown, ExpandedTypes, none, part, weight}
+use Rattle.cl_lattice.specs.Expanded.{Expanded, everything, sequence, some_of, each_of, null_or, token_or, host, ExpandedTypes, none, part, weight}
 use Rattle.cl_lattice.specs.Subtypes.{IsSubtype}
 use Rattle.cl_lattice.specs.Subtypes as rule
 use Rattle.cl_lattice.specs.SubtypeRows.{parts_of, parts_of_all, Tells, TellsAll, Adds, BelowSome, InnerTells, InnerAgrees, HostInherits, RowOf, RowTellsFrom, KnownTells, is_alone, Fills, FillsSome, FillsEach}
 use Rattle.cl_lattice.specs.SubtypeWays.{ByHeads, BelowEach, ByFirst, BySecond}
 use Rattle.cl_lattice.proofs.SubtypeSplitLemmas.{and_split}
 use Rattle.cl_lattice.proofs.SubtypeWayLemmas.{either}
-use Rattle.cl_lattice.proofs.SubtypeRowLemmas.{step_some, step_null, step_token, tells_behind, all_length, all_tell, adds_join, adds_one, both_iff, either_iff, drop_drop, adds_length, known_next}
+use Rattle.cl_lattice.proofs.SubtypeRowLemmas.{step_some, step_null, step_token}
+use Rattle.cl_lattice.proofs.SubtypeRowLemmas.{tells_behind, all_length, all_tell, adds_join, adds_one, either_iff, wrong, adds_length, known_next}
 
 -- ---- parts in turn
 
-append_none : (x : List Bool) → x ++ [] ≡ x
-append_none [] = refl
-append_none (r ∷ rs) = ap (λ v. r ∷ v) (append_none rs)
-
 pub adds_none : (P : Expanded → Type 0) (x : List Bool) → Adds P [] x x
-adds_none P x = record { added = []; grown = sym (append_none x); tell = tt }
+adds_none P x = record { added = []; grown = sym (append-nil x); tell = tt }
 
-pub some_none : (a : Expanded) (x : List Bool) → FillsSome a none x x false
-some_none a x = record { told = (λ e. cc, λ h. absurd h); adds = adds_none (IsSubtype a) x }
+along : {A B C : Type 0} → (A ↔ B) → (B ↔ C) → (A ↔ C)
+along h k = (λ x. k.0 (h.0 x), λ z. h.1 (k.1 z))
 
-pub some_more : (a t : Expanded) (ts : ExpandedTypes) (x y z : List Bool) (r s : Bool) → Fills a t x y r → FillsSome a ts y z s → FillsSome a (part t ts) x z (r || s)
-some_more a t ts x y z r s h k = record {
-  told = either_iff r s (IsSubtype a t) (BelowSome a ts) h.told k.told;
+some_along : (so_far r : Bool) (P Q : Type 0) → ((r ≡ true) ↔ P) → (((so_far || r) ≡ true) ⊎ Q) ↔ ((so_far ≡ true) ⊎ (P ⊎ Q))
+some_along true r P Q h = (λ s. inl refl, λ s. inl refl)
+some_along false r P Q h = (
+  λ s. elim s [ inl e ↦ inr (inl (h.0 e)) | inr q ↦ inr (inr q) ],
+  λ s. elim s [ inl e ↦ inl (wrong r e) | inr p ↦ elim p [ inl x ↦ inl (h.1 x) | inr q ↦ inr q ] ],
+)
+
+pub some_none : (a : Expanded) (x : List Bool) (so_far : Bool) → FillsSome a none x x so_far so_far
+some_none a x so_far = record { told = (λ e. inl e, λ s. elim s [ inl e ↦ e | inr h ↦ absurd h ]); adds = adds_none (IsSubtype a) x }
+
+pub some_more : (a t : Expanded) (ts : ExpandedTypes) (x y z : List Bool) (so_far r s : Bool) → Fills a t x y r → FillsSome a ts y z (so_far || r) s
+    → FillsSome a (part t ts) x z so_far s
+some_more a t ts x y z so_far r s h k = record {
+  told = along k.told (some_along so_far r (IsSubtype a t) (BelowSome a ts) h.told);
   adds = adds_join (IsSubtype a) (parts_of t) (parts_of_all ts) x y z h.adds k.adds;
 }
 
-pub each_none : (a : Expanded) (x : List Bool) → FillsEach a none x x true
-each_none a x = record { told = (λ e. tt, λ h. refl); adds = adds_none (IsSubtype a) x }
+each_along : (so_far r : Bool) (P Q : Type 0) → ((r ≡ true) ↔ P) → (((so_far && r) ≡ true) × Q) ↔ ((so_far ≡ true) × (P × Q))
+each_along true r P Q h = (λ s. (refl, (h.0 s.0, s.1)), λ s. (h.1 s.1.0, s.1.1))
+each_along false r P Q h = (λ s. absurd cc, λ s. absurd cc)
 
-pub each_more : (a t : Expanded) (ts : ExpandedTypes) (x y z : List Bool) (r s : Bool) → Fills a t x y r → FillsEach a ts y z s → FillsEach a (part t ts) x z (r && s)
-each_more a t ts x y z r s h k = record {
-  told = both_iff r s (IsSubtype a t) (BelowEach a ts) h.told k.told;
+pub each_none : (a : Expanded) (x : List Bool) (so_far : Bool) → FillsEach a none x x so_far so_far
+each_none a x so_far = record { told = (λ e. (e, tt), λ s. s.0); adds = adds_none (IsSubtype a) x }
+
+pub each_more : (a t : Expanded) (ts : ExpandedTypes) (x y z : List Bool) (so_far r s : Bool) → Fills a t x y r → FillsEach a ts y z (so_far && r) s
+    → FillsEach a (part t ts) x z so_far s
+each_more a t ts x y z so_far r s h k = record {
+  told = along k.told (each_along so_far r (IsSubtype a t) (BelowEach a ts) h.told);
   adds = adds_join (IsSubtype a) (parts_of t) (parts_of_all ts) x y z h.adds k.adds;
 }
 
@@ -45,15 +59,20 @@ closed a t qs x y r e h k = record {
   adds = subst (λ (ps : List Expanded). Adds (IsSubtype a) ps x (y ++ r ∷ [])) (sym e) (adds_join (IsSubtype a) qs (t ∷ []) x y (y ++ r ∷ []) h (adds_one (IsSubtype a) t y r k));
 }
 
-along : {A B C : Type 0} → (A ↔ B) → (B ↔ C) → (A ↔ C)
-along h k = (λ x. k.0 (h.0 x), λ z. h.1 (k.1 z))
+none_before : (Q : Type 0) → ((false ≡ true) ⊎ Q) ↔ Q
+none_before Q = (λ s. elim s [ inl e ↦ absurd cc | inr q ↦ q ], λ q. inr q)
 
-pub close_some : (a : Expanded) (ts : ExpandedTypes) (x y : List Bool) (r own : Bool) → FillsSome a ts x y r → ((own ≡ true) ↔ ByFirst a (some_of ts)) → Fills a (some_of ts) x (y ++ (r || own) ∷ []) (r || own)
+all_before : (Q : Type 0) → ((true ≡ true) × Q) ↔ Q
+all_before Q = (λ s. s.1, λ q. (refl, q))
+
+pub close_some : (a : Expanded) (ts : ExpandedTypes) (x y : List Bool) (r own : Bool) → FillsSome a ts x y false r → ((own ≡ true) ↔ ByFirst a (some_of ts))
+    → Fills a (some_of ts) x (y ++ (r || own) ∷ []) (r || own)
 close_some a ts x y r own h k =
-    closed a (some_of ts) (parts_of_all ts) x y (r || own) refl h.adds (along (either_iff r own (BelowSome a ts) (ByFirst a (some_of ts)) h.told k) (step_some a ts))
+    closed a (some_of ts) (parts_of_all ts) x y (r || own) refl h.adds
+    (along (either_iff r own (BelowSome a ts) (ByFirst a (some_of ts)) (along h.told (none_before (BelowSome a ts))) k) (step_some a ts))
 
-pub close_each : (a : Expanded) (ts : ExpandedTypes) (x y : List Bool) (r : Bool) → FillsEach a ts x y r → Fills a (each_of ts) x (y ++ r ∷ []) r
-close_each a ts x y r h = closed a (each_of ts) (parts_of_all ts) x y r refl h.adds (along h.told (and_split a ts))
+pub close_each : (a : Expanded) (ts : ExpandedTypes) (x y : List Bool) (r : Bool) → FillsEach a ts x y true r → Fills a (each_of ts) x (y ++ r ∷ []) r
+close_each a ts x y r h = closed a (each_of ts) (parts_of_all ts) x y r refl h.adds (along h.told (along (all_before (BelowEach a ts)) (and_split a ts)))
 
 pub close_null : (a t : Expanded) (x y : List Bool) (r heads own : Bool) → Fills a t x y r → ((heads ≡ true) ↔ ByHeads a (null_or t)) → ((own ≡ true) ↔ ByFirst a (null_or t))
     → Fills a (null_or t) x (y ++ ((r || heads) || own) ∷ []) ((r || heads) || own)
@@ -67,18 +86,15 @@ close_token a ys t x y r heads own h k l =
     closed a (token_or ys t) (parts_of t) x y ((r || heads) || own) refl h.adds
     (along (either_iff (r || heads) own (IsSubtype a t ⊎ ByHeads a (token_or ys t)) (ByFirst a (token_or ys t)) (either_iff r heads (IsSubtype a t) (ByHeads a (token_or ys t)) h.told k) l) (step_token a ys t))
 
-step_sequence : (a t : Expanded) → (ByHeads a (sequence t) ⊎ ByFirst a (sequence t)) ↔ IsSubtype a (sequence t)
-step_sequence a t = either a (sequence t)
-
 pub close_sequence : (a t : Expanded) (x y : List Bool) (r heads own : Bool) → Fills a t x y r → ((heads ≡ true) ↔ ByHeads a (sequence t)) → ((own ≡ true) ↔ ByFirst a (sequence t))
     → Fills a (sequence t) x (y ++ (heads || own) ∷ []) (heads || own)
 close_sequence a t x y r heads own h k l =
     closed a (sequence t) (parts_of t) x y (heads || own) refl h.adds
-    (along (either_iff heads own (ByHeads a (sequence t)) (ByFirst a (sequence t)) k l) (step_sequence a t))
+    (along (either_iff heads own (ByHeads a (sequence t)) (ByFirst a (sequence t)) k l) (either a (sequence t)))
 
 -- a type that is its own only part
-pub close_alone : (a t : Expanded) (x : List Bool) (heads own : Bool) → parts_of t ≡ t ∷ [] → ((BySecond a t) ≡ (ByHeads a t)) → ((heads ≡ true) ↔ ByHeads a t) → ((own ≡ true) ↔ ByFirst a t)
-    → Fills a t x (x ++ (heads || own) ∷ []) (heads || own)
+close_alone : (a t : Expanded) (x : List Bool) (heads own : Bool) → parts_of t ≡ t ∷ [] → ((BySecond a t) ≡ (ByHeads a t)) → ((heads ≡ true) ↔ ByHeads a t)
+    → ((own ≡ true) ↔ ByFirst a t) → Fills a t x (x ++ (heads || own) ∷ []) (heads || own)
 close_alone a t x heads own e same k l =
     closed a t [] x x (heads || own) e (adds_none (IsSubtype a) x)
     (along (either_iff heads own (ByHeads a t) (ByFirst a t) k l) (subst (λ (B : Type 0). (B ⊎ ByFirst a t) ↔ IsSubtype a t) same (either a t)))
@@ -105,25 +121,12 @@ record Last (u : Expanded) : Type 0 where
   whole : parts_of u ≡ front ++ u ∷ []
 
 last : (u : Expanded) → Last u
-last everything = record { front = []; whole = refl }
-last nothing = record { front = []; whole = refl }
-last boolean = record { front = []; whole = refl }
-last symbols = record { front = []; whole = refl }
-last blank_area = record { front = []; whole = refl }
-last command = record { front = []; whole = refl }
-last (integer low high) = record { front = []; whole = refl }
-last (string n) = record { front = []; whole = refl }
-last (member cs) = record { front = []; whole = refl }
-last (subset cs) = record { front = []; whole = refl }
 last (sequence t) = record { front = parts_of t; whole = refl }
 last (some_of ts) = record { front = parts_of_all ts; whole = refl }
 last (each_of ts) = record { front = parts_of_all ts; whole = refl }
 last (null_or t) = record { front = parts_of t; whole = refl }
 last (token_or xs t) = record { front = parts_of t; whole = refl }
-last (record_type x) = record { front = []; whole = refl }
-last (host x low high) = record { front = []; whole = refl }
-last (user x vs f t) = record { front = []; whole = refl }
-last (unknown x vs) = record { front = []; whole = refl }
+last u = record { front = []; whole = refl }
 
 at_first : (P : Expanded → Type 0) (u : Expanded) (us : List Expanded) (rs : List Bool) (ans : Bool) → Tells P (u ∷ us) rs → ((r : Bool) (ss : List Bool) → rs ≡ r ∷ ss → ans ≡ r) → (ans ≡ true) ↔ P u
 at_first P u us [] ans h e = absurd h
@@ -137,7 +140,7 @@ before_tells P u us n place rs ans h e b =
     let split : parts_of u ++ us ≡ l.front ++ (u ∷ us) = ap (λ v. v ++ us) l.whole ∙ append_assoc l.front (u ∷ []) us in
     let behind : Tells P (u ∷ us) (drop (length l.front) (drop n rs)) =
     tells_behind P l.front (u ∷ us) (drop n rs) (subst (λ (v : List Expanded). Tells P v (drop n rs)) split h) in
-    let here : Tells P (u ∷ us) (drop (n + length l.front) rs) = subst (λ (v : List Bool). Tells P (u ∷ us) v) (drop_drop (length l.front) n rs) behind in
+    let here : Tells P (u ∷ us) (drop (n + length l.front) rs) = subst (λ (v : List Bool). Tells P (u ∷ us) v) (drop-drop (length l.front) n rs) behind in
     let size : length (parts_of u) ≡ length l.front + 1 = ap length l.whole ∙ length-append l.front (u ∷ []) in
     at_first P u us (drop (n + length l.front) rs) ans here (b (n + length l.front) (e ∙ omega (arith, size)))
 
@@ -149,68 +152,17 @@ inner_of a u t x y f rs place ans h k e b P tells = before_tells P u (t ∷ []) 
 pub sequence_agrees : (a u : Expanded) (x y : List Bool) (f : RowOf) (rs : List Bool) (place : ℕ) (ans : Bool) → KnownTells a (parts_of (sequence u)) (length x) f rs → Adds (IsSubtype a) (parts_of u) x y
     → place ≡ length y → ((k : ℕ) → place ≡ k + 1 → (r : Bool) (ss : List Bool) → drop k rs ≡ r ∷ ss → ans ≡ r) → InnerAgrees a (sequence u) ans
 sequence_agrees (sequence v) u x y f rs place ans h k e b = inner_of (sequence v) u (sequence u) x y f rs place ans h.inner_tells k e b (IsSubtype v) h.inner_tells
-sequence_agrees everything u x y f rs place ans h k e b = tt
-sequence_agrees nothing u x y f rs place ans h k e b = tt
-sequence_agrees boolean u x y f rs place ans h k e b = tt
-sequence_agrees symbols u x y f rs place ans h k e b = tt
-sequence_agrees blank_area u x y f rs place ans h k e b = tt
-sequence_agrees command u x y f rs place ans h k e b = tt
-sequence_agrees (integer low high) u x y f rs place ans h k e b = tt
-sequence_agrees (string n) u x y f rs place ans h k e b = tt
-sequence_agrees (member cs) u x y f rs place ans h k e b = tt
-sequence_agrees (subset cs) u x y f rs place ans h k e b = tt
-sequence_agrees (some_of ts) u x y f rs place ans h k e b = tt
-sequence_agrees (each_of ts) u x y f rs place ans h k e b = tt
-sequence_agrees (null_or v) u x y f rs place ans h k e b = tt
-sequence_agrees (token_or xs v) u x y f rs place ans h k e b = tt
-sequence_agrees (record_type w) u x y f rs place ans h k e b = tt
-sequence_agrees (host w low high) u x y f rs place ans h k e b = tt
-sequence_agrees (user w vs g v) u x y f rs place ans h k e b = tt
-sequence_agrees (unknown w vs) u x y f rs place ans h k e b = tt
+sequence_agrees a u x y f rs place ans h k e b = tt
 
 pub null_agrees : (a u : Expanded) (x y : List Bool) (f : RowOf) (rs : List Bool) (place : ℕ) (ans : Bool) → KnownTells a (parts_of (null_or u)) (length x) f rs → Adds (IsSubtype a) (parts_of u) x y
     → place ≡ length y → ((k : ℕ) → place ≡ k + 1 → (r : Bool) (ss : List Bool) → drop k rs ≡ r ∷ ss → ans ≡ r) → InnerAgrees a (null_or u) ans
 null_agrees (null_or v) u x y f rs place ans h k e b = inner_of (null_or v) u (null_or u) x y f rs place ans h.inner_tells k e b (IsSubtype v) h.inner_tells
-null_agrees everything u x y f rs place ans h k e b = tt
-null_agrees nothing u x y f rs place ans h k e b = tt
-null_agrees boolean u x y f rs place ans h k e b = tt
-null_agrees symbols u x y f rs place ans h k e b = tt
-null_agrees blank_area u x y f rs place ans h k e b = tt
-null_agrees command u x y f rs place ans h k e b = tt
-null_agrees (integer low high) u x y f rs place ans h k e b = tt
-null_agrees (string n) u x y f rs place ans h k e b = tt
-null_agrees (member cs) u x y f rs place ans h k e b = tt
-null_agrees (subset cs) u x y f rs place ans h k e b = tt
-null_agrees (sequence v) u x y f rs place ans h k e b = tt
-null_agrees (some_of ts) u x y f rs place ans h k e b = tt
-null_agrees (each_of ts) u x y f rs place ans h k e b = tt
-null_agrees (token_or xs v) u x y f rs place ans h k e b = tt
-null_agrees (record_type w) u x y f rs place ans h k e b = tt
-null_agrees (host w low high) u x y f rs place ans h k e b = tt
-null_agrees (user w vs g v) u x y f rs place ans h k e b = tt
-null_agrees (unknown w vs) u x y f rs place ans h k e b = tt
+null_agrees a u x y f rs place ans h k e b = tt
 
 pub token_agrees : (a u : Expanded) (ys : List (List ℕ)) (x y : List Bool) (f : RowOf) (rs : List Bool) (place : ℕ) (ans : Bool) → KnownTells a (parts_of (token_or ys u)) (length x) f rs
     → Adds (IsSubtype a) (parts_of u) x y → place ≡ length y → ((k : ℕ) → place ≡ k + 1 → (r : Bool) (ss : List Bool) → drop k rs ≡ r ∷ ss → ans ≡ r) → InnerAgrees a (token_or ys u) ans
 token_agrees (token_or xs v) u ys x y f rs place ans h k e b = inner_of (token_or xs v) u (token_or ys u) x y f rs place ans h.inner_tells k e b (IsSubtype v) h.inner_tells
-token_agrees everything u ys x y f rs place ans h k e b = tt
-token_agrees nothing u ys x y f rs place ans h k e b = tt
-token_agrees boolean u ys x y f rs place ans h k e b = tt
-token_agrees symbols u ys x y f rs place ans h k e b = tt
-token_agrees blank_area u ys x y f rs place ans h k e b = tt
-token_agrees command u ys x y f rs place ans h k e b = tt
-token_agrees (integer low high) u ys x y f rs place ans h k e b = tt
-token_agrees (string n) u ys x y f rs place ans h k e b = tt
-token_agrees (member cs) u ys x y f rs place ans h k e b = tt
-token_agrees (subset cs) u ys x y f rs place ans h k e b = tt
-token_agrees (sequence v) u ys x y f rs place ans h k e b = tt
-token_agrees (some_of ts) u ys x y f rs place ans h k e b = tt
-token_agrees (each_of ts) u ys x y f rs place ans h k e b = tt
-token_agrees (null_or v) u ys x y f rs place ans h k e b = tt
-token_agrees (record_type w) u ys x y f rs place ans h k e b = tt
-token_agrees (host w low high) u ys x y f rs place ans h k e b = tt
-token_agrees (user w vs g v) u ys x y f rs place ans h k e b = tt
-token_agrees (unknown w vs) u ys x y f rs place ans h k e b = tt
+token_agrees a u ys x y f rs place ans h k e b = tt
 
 pub close_everything : (a : Expanded) (x : List Bool) → Fills a everything x (x ++ true ∷ []) true
 close_everything a x = record { told = (λ e. rule.in_everything a, λ d. refl); adds = adds_one (IsSubtype a) everything x true (λ e. rule.in_everything a, λ d. refl) }
@@ -218,182 +170,54 @@ close_everything a x = record { told = (λ e. rule.in_everything a, λ d. refl);
 -- ---- types that are their own only part
 
 pub alone_parts : (t : Expanded) → is_alone t ≡ true → parts_of t ≡ t ∷ []
-alone_parts nothing e = refl
-alone_parts boolean e = refl
-alone_parts symbols e = refl
-alone_parts blank_area e = refl
-alone_parts command e = refl
-alone_parts (integer low high) e = refl
-alone_parts (string n) e = refl
-alone_parts (member cs) e = refl
-alone_parts (subset cs) e = refl
-alone_parts (record_type w) e = refl
-alone_parts (host w low high) e = refl
-alone_parts (user w vs g v) e = refl
-alone_parts (unknown w vs) e = refl
 alone_parts everything e = cc
 alone_parts (sequence u) e = cc
 alone_parts (some_of ts) e = cc
 alone_parts (each_of ts) e = cc
 alone_parts (null_or u) e = cc
 alone_parts (token_or ys u) e = cc
+alone_parts t e = refl
 
 pub finish_alone : (a t : Expanded) (x : List Bool) (heads own : Bool) → is_alone t ≡ true → ((heads ≡ true) ↔ ByHeads a t) → ((own ≡ true) ↔ ByFirst a t) → Fills a t x (x ++ (heads || own) ∷ []) (heads || own)
-finish_alone a nothing x heads own e h o = close_alone a nothing x heads own refl refl h o
-finish_alone a boolean x heads own e h o = close_alone a boolean x heads own refl refl h o
-finish_alone a symbols x heads own e h o = close_alone a symbols x heads own refl refl h o
-finish_alone a blank_area x heads own e h o = close_alone a blank_area x heads own refl refl h o
-finish_alone a command x heads own e h o = close_alone a command x heads own refl refl h o
-finish_alone a (integer low high) x heads own e h o = close_alone a (integer low high) x heads own refl refl h o
-finish_alone a (string n) x heads own e h o = close_alone a (string n) x heads own refl refl h o
-finish_alone a (member cs) x heads own e h o = close_alone a (member cs) x heads own refl refl h o
-finish_alone a (subset cs) x heads own e h o = close_alone a (subset cs) x heads own refl refl h o
-finish_alone a (record_type w) x heads own e h o = close_alone a (record_type w) x heads own refl refl h o
-finish_alone a (host w low high) x heads own e h o = close_alone a (host w low high) x heads own refl refl h o
-finish_alone a (user w vs g v) x heads own e h o = close_alone a (user w vs g v) x heads own refl refl h o
-finish_alone a (unknown w vs) x heads own e h o = close_alone a (unknown w vs) x heads own refl refl h o
 finish_alone a everything x heads own e h o = cc
 finish_alone a (sequence u) x heads own e h o = cc
 finish_alone a (some_of ts) x heads own e h o = cc
 finish_alone a (each_of ts) x heads own e h o = cc
 finish_alone a (null_or u) x heads own e h o = cc
 finish_alone a (token_or ys u) x heads own e h o = cc
+finish_alone a t x heads own e h o = close_alone a t x heads own refl refl h o
+
+-- where no way by the second leads to it
+pub finish_another : (a t : Expanded) (x : List Bool) (own : Bool) → is_alone t ≡ true → (BySecond a t → ⊥) → ((own ≡ true) ↔ ByFirst a t) → Fills a t x (x ++ own ∷ []) own
+finish_another a t x own e apart k =
+    closed a t [] x x own (alone_parts t e) (adds_none (IsSubtype a) x)
+    (λ h. (either a t).0 (inr (k.0 h)), λ d. elim ((either a t).1 d) [ inl s ↦ absurd (apart s) | inr f ↦ k.1 f ])
+
+-- where it is known to be a subtype
+pub finish_below : (a t : Expanded) (x : List Bool) → is_alone t ≡ true → IsSubtype a t → Fills a t x (x ++ true ∷ []) true
+finish_below a t x e d = closed a t [] x x true (alone_parts t e) (adds_none (IsSubtype a) x) (λ h. d, λ k. refl)
 
 pub alone_agrees : (a t : Expanded) (r : Bool) → is_alone t ≡ true → InnerAgrees a t r
-alone_agrees everything t r e = tt
-alone_agrees nothing t r e = tt
-alone_agrees boolean t r e = tt
-alone_agrees symbols t r e = tt
-alone_agrees blank_area t r e = tt
-alone_agrees command t r e = tt
-alone_agrees (integer l h) t r e = tt
-alone_agrees (string m) t r e = tt
-alone_agrees (member ds) t r e = tt
-alone_agrees (subset ds) t r e = tt
-alone_agrees (some_of ps) t r e = tt
-alone_agrees (each_of ps) t r e = tt
-alone_agrees (record_type z) t r e = tt
-alone_agrees (host z l h) t r e = tt
-alone_agrees (user z ws p q) t r e = tt
-alone_agrees (unknown z ws) t r e = tt
-alone_agrees (sequence b) nothing r e = tt
-alone_agrees (sequence b) boolean r e = tt
-alone_agrees (sequence b) symbols r e = tt
-alone_agrees (sequence b) blank_area r e = tt
-alone_agrees (sequence b) command r e = tt
-alone_agrees (sequence b) (integer low high) r e = tt
-alone_agrees (sequence b) (string n) r e = tt
-alone_agrees (sequence b) (member cs) r e = tt
-alone_agrees (sequence b) (subset cs) r e = tt
-alone_agrees (sequence b) (record_type w) r e = tt
-alone_agrees (sequence b) (host w low high) r e = tt
-alone_agrees (sequence b) (user w vs g v) r e = tt
-alone_agrees (sequence b) (unknown w vs) r e = tt
-alone_agrees (sequence b) everything r e = cc
 alone_agrees (sequence b) (sequence u) r e = cc
-alone_agrees (sequence b) (some_of ts) r e = cc
-alone_agrees (sequence b) (each_of ts) r e = cc
-alone_agrees (sequence b) (null_or u) r e = cc
-alone_agrees (sequence b) (token_or ys u) r e = cc
-alone_agrees (null_or b) nothing r e = tt
-alone_agrees (null_or b) boolean r e = tt
-alone_agrees (null_or b) symbols r e = tt
-alone_agrees (null_or b) blank_area r e = tt
-alone_agrees (null_or b) command r e = tt
-alone_agrees (null_or b) (integer low high) r e = tt
-alone_agrees (null_or b) (string n) r e = tt
-alone_agrees (null_or b) (member cs) r e = tt
-alone_agrees (null_or b) (subset cs) r e = tt
-alone_agrees (null_or b) (record_type w) r e = tt
-alone_agrees (null_or b) (host w low high) r e = tt
-alone_agrees (null_or b) (user w vs g v) r e = tt
-alone_agrees (null_or b) (unknown w vs) r e = tt
-alone_agrees (null_or b) everything r e = cc
-alone_agrees (null_or b) (sequence u) r e = cc
-alone_agrees (null_or b) (some_of ts) r e = cc
-alone_agrees (null_or b) (each_of ts) r e = cc
 alone_agrees (null_or b) (null_or u) r e = cc
-alone_agrees (null_or b) (token_or ys u) r e = cc
-alone_agrees (token_or zs b) nothing r e = tt
-alone_agrees (token_or zs b) boolean r e = tt
-alone_agrees (token_or zs b) symbols r e = tt
-alone_agrees (token_or zs b) blank_area r e = tt
-alone_agrees (token_or zs b) command r e = tt
-alone_agrees (token_or zs b) (integer low high) r e = tt
-alone_agrees (token_or zs b) (string n) r e = tt
-alone_agrees (token_or zs b) (member cs) r e = tt
-alone_agrees (token_or zs b) (subset cs) r e = tt
-alone_agrees (token_or zs b) (record_type w) r e = tt
-alone_agrees (token_or zs b) (host w low high) r e = tt
-alone_agrees (token_or zs b) (user w vs g v) r e = tt
-alone_agrees (token_or zs b) (unknown w vs) r e = tt
-alone_agrees (token_or zs b) everything r e = cc
-alone_agrees (token_or zs b) (sequence u) r e = cc
-alone_agrees (token_or zs b) (some_of ts) r e = cc
-alone_agrees (token_or zs b) (each_of ts) r e = cc
-alone_agrees (token_or zs b) (null_or u) r e = cc
 alone_agrees (token_or zs b) (token_or ys u) r e = cc
+alone_agrees a t r e = tt
 
 -- ---- a whole row
 
 pub adds_all : (P : Expanded → Type 0) (qs : List Expanded) (y : List Bool) → Adds P qs [] y → TellsAll P qs y
 adds_all P qs y h = subst (λ (v : List Bool). TellsAll P qs v) (sym h.grown) h.tell
 
-append_nothing : (x : List Expanded) → x ++ [] ≡ x
-append_nothing [] = refl
-append_nothing (q ∷ qs) = ap (λ v. q ∷ v) (append_nothing qs)
-
 pub last_tells : (P : Expanded → Type 0) (u : Expanded) (rs : List Bool) (place : ℕ) (ans : Bool) → TellsAll P (parts_of u) rs → place ≡ length rs
     → ((k : ℕ) → place ≡ k + 1 → (r : Bool) (ss : List Bool) → drop k rs ≡ r ∷ ss → ans ≡ r) → (ans ≡ true) ↔ P u
 last_tells P u rs place ans h e b =
-    before_tells P u [] 0 place rs ans (subst (λ (v : List Expanded). Tells P v rs) (sym (append_nothing (parts_of u))) (all_tell P (parts_of u) rs h))
+    before_tells P u [] 0 place rs ans (subst (λ (v : List Expanded). Tells P v rs) (sym (append-nil (parts_of u))) (all_tell P (parts_of u) rs h))
     (e ∙ (all_length P (parts_of u) rs h ∙ omega arith)) b
-
-pub inner_all : (a : Expanded) (t : Expanded) (qs : List Expanded) (rs : List Bool) → TellsAll (IsSubtype t) qs rs → Tells (IsSubtype t) qs rs
-inner_all a t qs rs h = all_tell (IsSubtype t) qs rs h
-
-pub if_some : {V : Type 0} (P Q : V → Type 0) (o : Option V) → ((v : V) → P v → Q v) → IfSome o P → IfSome o Q
-if_some P Q None f h = tt
-if_some P Q (Some v) f h = f v h
 
 pub host_row : (a e : Expanded) (qs : List Expanded) (rs : List Bool) → HostInherits a e → TellsAll (IsSubtype e) qs rs → TellsAll (ByFirst a) qs rs
 host_row (host x low high) e qs rs h k = subst (λ (v : Expanded). TellsAll (IsSubtype v) qs rs) h k
-host_row everything e qs rs h k = absurd h
-host_row nothing e qs rs h k = absurd h
-host_row boolean e qs rs h k = absurd h
-host_row symbols e qs rs h k = absurd h
-host_row blank_area e qs rs h k = absurd h
-host_row command e qs rs h k = absurd h
-host_row (integer l m) e qs rs h k = absurd h
-host_row (string m) e qs rs h k = absurd h
-host_row (member ds) e qs rs h k = absurd h
-host_row (subset ds) e qs rs h k = absurd h
-host_row (sequence b) e qs rs h k = absurd h
-host_row (some_of ps) e qs rs h k = absurd h
-host_row (each_of ps) e qs rs h k = absurd h
-host_row (null_or b) e qs rs h k = absurd h
-host_row (token_or zs b) e qs rs h k = absurd h
-host_row (record_type z) e qs rs h k = absurd h
-host_row (user z ws p q) e qs rs h k = absurd h
-host_row (unknown z ws) e qs rs h k = absurd h
+host_row a e qs rs h k = absurd h
 
 pub host_lighter : (a e : Expanded) → HostInherits a e → weight e < weight a
 host_lighter (host x low high) e h = rw h (omega arith)
-host_lighter everything e h = absurd h
-host_lighter nothing e h = absurd h
-host_lighter boolean e h = absurd h
-host_lighter symbols e h = absurd h
-host_lighter blank_area e h = absurd h
-host_lighter command e h = absurd h
-host_lighter (integer l m) e h = absurd h
-host_lighter (string m) e h = absurd h
-host_lighter (member ds) e h = absurd h
-host_lighter (subset ds) e h = absurd h
-host_lighter (sequence b) e h = absurd h
-host_lighter (some_of ps) e h = absurd h
-host_lighter (each_of ps) e h = absurd h
-host_lighter (null_or b) e h = absurd h
-host_lighter (token_or zs b) e h = absurd h
-host_lighter (record_type z) e h = absurd h
-host_lighter (user z ws p q) e h = absurd h
-host_lighter (unknown z ws) e h = absurd h
+host_lighter a e h = absurd h

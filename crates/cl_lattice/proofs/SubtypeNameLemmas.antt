@@ -1,5 +1,5 @@
 -- A declared type takes only types of its own name.
-use Rattle.std.proofs.Common.{◌≡◌, ℕ, ℤ, true, false, List, [], refl, ap, sym, subst}
+use Rattle.std.proofs.Common.{◌≡◌, ℕ, ℤ, true, false, List, [], refl, ap, sym, subst, ◌∙◌}
 use Rattle.std.specs.Prelude.{Option, Some, None, ◌==◌}
 use Rattle.std.specs.Cmp.Lexicographic.{pointwise}
 use Rattle.std.proofs.lemmas.Slice.Eq.{bytes_eq-Decides}
@@ -13,6 +13,8 @@ use Rattle.cl_lattice.specs.Expanded as type
 use Rattle.cl_lattice.specs.Expansion.{declared_type, expand_parts, expansion, named_type, own_type}
 use Rattle.cl_lattice.specs.Laws.{AllFit}
 use Rattle.cl_lattice.specs.SubtypeHeads.{has_name, head_type}
+use Rattle.cl_lattice.specs.SubtypeRows.{is_alone}
+use Rattle.cl_lattice.specs.Subtypes.{IsSubtype, itself}
 use Rattle.cl_lattice.specs.SubtypeWays.{ByHeads, BySecond}
 use Rattle.cl_lattice.specs.World.{World, kind_named}
 use Rattle.cl_lattice.specs.declared.declared_types.TypeKind.{TypeKind}
@@ -66,6 +68,19 @@ second_named w f (specifier y ts o) plain a h =
     declared_named w f y plain (kind_named y w) refl (values_of [] ts) a
     (subst (λ (t : Option StandardType). BySecond a (named_type (own_type w) t (kind_named y w) y (values_of [] ts) (tokens_in ts) (expand_parts w (own_type w) [] ts))) plain h)
 
+declared_alone : (w : World) → AllFit w → (y : List ℕ) → standard_named y ≡ None → (k : Option TypeKind) → kind_named y w ≡ k → (vs : List (Option Data))
+    → is_alone (declared_type (own_type w) k y vs) ≡ true
+declared_alone w f y plain None e vs = refl
+declared_alone w f y plain (Some kind.Record) e vs = refl
+declared_alone w f y plain (Some (kind.Host low high)) e vs = refl
+declared_alone w f y plain (Some (kind.User u)) e vs = ap is_alone (own_head w f y u plain e vs)
+
+-- a declared type is its own only part
+pub second_alone : (w : World) → AllFit w → (s : TypeSpecTree) → standard_named (name_of s) ≡ None → is_alone (expansion w [] s) ≡ true
+second_alone w f (specifier y ts o) plain =
+    ap (λ (t : Option StandardType). is_alone (named_type (own_type w) t (kind_named y w) y (values_of [] ts) (tokens_in ts) (expand_parts w (own_type w) [] ts))) plain
+    ∙ (declared_alone w f y plain (kind_named y w) refl (values_of [] ts))
+
 head_named : (w : World) (g : Given) (h : Head) (y : List ℕ) → own_name (head_type w g h) ≡ Some y → has_name h y ≡ true
 head_named w g (head.Record x) y e = equal y x.now (some_same x.now y e)
 head_named w g (head.Host x low high) y e = equal y x.now (some_same x.now y e)
@@ -93,3 +108,14 @@ pub another_below : (w : World) → AllFit w → (s : TypeSpecTree) → standard
 another_below w f s plain h other g b =
     let named : has_name h (name_of s) ≡ true = head_named w g h (name_of s) (second_named w f s plain (head_type w g h) b) in
     cc
+
+record_is : (w : World) (s : TypeSpecTree) → standard_named (name_of s) ≡ None → kind_named (name_of s) w ≡ Some kind.Record → expansion w [] s ≡ type.record_type (name_of s)
+record_is w (specifier y ts o) plain k = λ i. named_type (own_type w) (plain i) (k i) y (values_of [] ts) (tokens_in ts) (expand_parts w (own_type w) [] ts)
+
+-- a record is below the one of its name
+pub record_below : (w : World) (s : TypeSpecTree) → standard_named (name_of s) ≡ None → (x : List ℕ) → kind_named x w ≡ Some kind.Record → pointwise ◌==◌ (name_of s) x ≡ true
+    → IsSubtype (type.record_type x) (expansion w [] s)
+record_below w s plain x declared same =
+    let names : name_of s ≡ x = (bytes_eq-Decides (name_of s) x).0 same in
+    let whole : expansion w [] s ≡ type.record_type x = record_is w s plain (ap (λ y. kind_named y w) names ∙ declared) ∙ ap type.record_type names in
+    subst (λ (t : Expanded). IsSubtype (type.record_type x) t) (sym whole) (itself (type.record_type x) refl)

@@ -1,7 +1,8 @@
 -- Answers for all parts of a second type.
-use Rattle.std.proofs.Common.{◌≡◌, ◌↔◌, ℕ, zero, suc, ◌+◌, Bool, true, false, List, [], ◌∷◌, ◌++◌, length, drop, refl, ap, sym, subst, inl, inr, append_assoc, length-append, arith, ◌∙◌}
+use Rattle.std.proofs.Common.{◌≡◌, ◌↔◌, ℕ, suc, ◌+◌, Bool, true, false, List, [], ◌∷◌, ◌++◌, length, drop, refl, ap, sym, subst, inl, inr, append_assoc, length-append, ◌∙◌}
+use Rattle.std.proofs.lemmas.List.{drop-drop}
 use Rattle.std.specs.Prelude.{◌⊎◌, ◌||◌, ◌&&◌}
-use Rattle.cl_lattice.specs.Expanded.{Expanded, everything, nothing, boolean, symbols, blank_area, command, integer, string, member, subset, sequence, some_of, each_of, null_or, token_or, record_type, host, user, unknown, ExpandedTypes, none, part}
+use Rattle.cl_lattice.specs.Expanded.{Expanded, sequence, some_of, null_or, token_or, ExpandedTypes, none, part}
 use Rattle.cl_lattice.specs.Subtypes.{IsSubtype}
 use Rattle.cl_lattice.specs.Subtypes as rule
 use Rattle.cl_lattice.specs.SubtypeRows.{Tells, TellsAll, Adds, BelowSome, InnerTells, RowOf, never, always, known, RowTells, RowTellsFrom, KnownTells, zip_and, zip_or, both_rows, either_row}
@@ -40,7 +41,7 @@ step_token a ys t = (
 
 -- ---- answers behind one another
 
-pub tells_first : (P : Expanded → Type 0) (qs us : List Expanded) (rs : List Bool) → Tells P (qs ++ us) rs → Tells P qs rs
+tells_first : (P : Expanded → Type 0) (qs us : List Expanded) (rs : List Bool) → Tells P (qs ++ us) rs → Tells P qs rs
 tells_first P [] us rs h = tt
 tells_first P (q ∷ qs) us [] h = absurd h
 tells_first P (q ∷ qs) us (r ∷ rs) h = (h.0, tells_first P qs us rs h.1)
@@ -61,7 +62,7 @@ all_tell P [] rs h = tt
 all_tell P (q ∷ qs) [] h = absurd h
 all_tell P (q ∷ qs) (r ∷ rs) h = (h.0, all_tell P qs rs h.1)
 
-pub all_join : (P : Expanded → Type 0) (qs us : List Expanded) (rs ss : List Bool) → TellsAll P qs rs → TellsAll P us ss → TellsAll P (qs ++ us) (rs ++ ss)
+all_join : (P : Expanded → Type 0) (qs us : List Expanded) (rs ss : List Bool) → TellsAll P qs rs → TellsAll P us ss → TellsAll P (qs ++ us) (rs ++ ss)
 all_join P [] us [] ss h k = k
 all_join P [] us (r ∷ rs) ss h k = absurd h
 all_join P (q ∷ qs) us [] ss h k = absurd h
@@ -83,21 +84,21 @@ pub both_iff : (x y : Bool) (P Q : Type 0) → ((x ≡ true) ↔ P) → ((y ≡ 
 both_iff true y P Q h k = (λ e. (h.0 refl, k.0 e), λ p. k.1 p.1)
 both_iff false y P Q h k = (λ e. cc, λ p. h.1 p.0)
 
-wrong : (y : Bool) → false ≡ true → y ≡ true
+pub wrong : (y : Bool) → false ≡ true → y ≡ true
 wrong y e = cc
 
 pub either_iff : (x y : Bool) (P Q : Type 0) → ((x ≡ true) ↔ P) → ((y ≡ true) ↔ Q) → ((x || y) ≡ true) ↔ (P ⊎ Q)
 either_iff true y P Q h k = (λ e. inl (h.0 refl), λ p. refl)
 either_iff false y P Q h k = (λ e. inr (k.0 e), λ s. elim s [ inl p ↦ wrong y (h.1 p) | inr q ↦ k.1 q ])
 
-pub zip_tells : (P Q : Expanded → Type 0) (qs : List Expanded) (xs ys : List Bool) → TellsAll P qs xs → TellsAll Q qs ys → TellsAll (λ q. P q × Q q) qs (zip_and xs ys)
+zip_tells : (P Q : Expanded → Type 0) (qs : List Expanded) (xs ys : List Bool) → TellsAll P qs xs → TellsAll Q qs ys → TellsAll (λ q. P q × Q q) qs (zip_and xs ys)
 zip_tells P Q [] [] ys h k = tt
 zip_tells P Q [] (x ∷ xs) ys h k = absurd h
 zip_tells P Q (q ∷ qs) [] ys h k = absurd h
 zip_tells P Q (q ∷ qs) (x ∷ xs) [] h k = absurd k
 zip_tells P Q (q ∷ qs) (x ∷ xs) (y ∷ ys) h k = (both_iff x y (P q) (Q q) h.0 k.0, zip_tells P Q qs xs ys h.1 k.1)
 
-pub zip_either : (P Q : Expanded → Type 0) (qs : List Expanded) (xs ys : List Bool) → TellsAll P qs xs → TellsAll Q qs ys → TellsAll (λ q. P q ⊎ Q q) qs (zip_or xs ys)
+zip_either : (P Q : Expanded → Type 0) (qs : List Expanded) (xs ys : List Bool) → TellsAll P qs xs → TellsAll Q qs ys → TellsAll (λ q. P q ⊎ Q q) qs (zip_or xs ys)
 zip_either P Q [] [] ys h k = tt
 zip_either P Q [] (x ∷ xs) ys h k = absurd h
 zip_either P Q (q ∷ qs) [] ys h k = absurd h
@@ -137,79 +138,36 @@ from_start P qs (known rs) h = all_tell P qs rs h
 
 -- ---- from a place on
 
-drop_none : (n : ℕ) → (rs : List Bool) → rs ≡ [] → drop n rs ≡ []
-drop_none zero rs e = e
-drop_none (suc n) [] e = refl
-drop_none (suc n) (r ∷ rs) e = cc
-
-same_drop : (m n : ℕ) (rs : List Bool) → m ≡ n → drop m rs ≡ drop n rs
-same_drop m n rs e = ap (λ k. drop k rs) e
-
-pub drop_drop : (m n : ℕ) (rs : List Bool) → drop m (drop n rs) ≡ drop (n + m) rs
-drop_drop m zero rs = same_drop m (0 + m) rs (omega arith)
-drop_drop m (suc n) [] = drop_none m [] refl ∙ sym (drop_none (suc n + m) [] refl)
-drop_drop m (suc n) (r ∷ rs) = drop_drop m n rs ∙ same_drop (suc (n + m)) (suc n + m) (r ∷ rs) (omega arith)
-
-pub row_first : (P : Expanded → Type 0) (qs us : List Expanded) (n : ℕ) (a : RowOf) → RowTellsFrom P (qs ++ us) n a → RowTellsFrom P qs n a
+row_first : (P : Expanded → Type 0) (qs us : List Expanded) (n : ℕ) (a : RowOf) → RowTellsFrom P (qs ++ us) n a → RowTellsFrom P qs n a
 row_first P qs us n never h = h
 row_first P qs us n always h = h
 row_first P qs us n (known rs) h = tells_first P qs us (drop n rs) h
 
-pub row_behind : (P : Expanded → Type 0) (qs us : List Expanded) (n : ℕ) (a : RowOf) → RowTellsFrom P (qs ++ us) n a → RowTellsFrom P us (n + length qs) a
+row_behind : (P : Expanded → Type 0) (qs us : List Expanded) (n : ℕ) (a : RowOf) → RowTellsFrom P (qs ++ us) n a → RowTellsFrom P us (n + length qs) a
 row_behind P qs us n never h = h
 row_behind P qs us n always h = h
-row_behind P qs us n (known rs) h = subst (λ (x : List Bool). Tells P us x) (drop_drop (length qs) n rs) (tells_behind P qs us (drop n rs) h)
+row_behind P qs us n (known rs) h = subst (λ (x : List Bool). Tells P us x) (drop-drop (length qs) n rs) (tells_behind P qs us (drop n rs) h)
 
-pub inner_first : (a : Expanded) (qs us : List Expanded) (rs : List Bool) → InnerTells a (qs ++ us) rs → InnerTells a qs rs
+inner_first : (a : Expanded) (qs us : List Expanded) (rs : List Bool) → InnerTells a (qs ++ us) rs → InnerTells a qs rs
 inner_first (sequence t) qs us rs h = tells_first (IsSubtype t) qs us rs h
 inner_first (null_or t) qs us rs h = tells_first (IsSubtype t) qs us rs h
 inner_first (token_or xs t) qs us rs h = tells_first (IsSubtype t) qs us rs h
-inner_first everything qs us rs h = tt
-inner_first nothing qs us rs h = tt
-inner_first boolean qs us rs h = tt
-inner_first symbols qs us rs h = tt
-inner_first blank_area qs us rs h = tt
-inner_first command qs us rs h = tt
-inner_first (integer low high) qs us rs h = tt
-inner_first (string n) qs us rs h = tt
-inner_first (member cs) qs us rs h = tt
-inner_first (subset cs) qs us rs h = tt
-inner_first (some_of ts) qs us rs h = tt
-inner_first (each_of ts) qs us rs h = tt
-inner_first (record_type x) qs us rs h = tt
-inner_first (host x low high) qs us rs h = tt
-inner_first (user x vs f t) qs us rs h = tt
-inner_first (unknown x vs) qs us rs h = tt
+inner_first a qs us rs h = tt
 
-pub inner_behind : (a : Expanded) (qs us : List Expanded) (rs : List Bool) → InnerTells a (qs ++ us) rs → InnerTells a us (drop (length qs) rs)
+inner_behind : (a : Expanded) (qs us : List Expanded) (rs : List Bool) → InnerTells a (qs ++ us) rs → InnerTells a us (drop (length qs) rs)
 inner_behind (sequence t) qs us rs h = tells_behind (IsSubtype t) qs us rs h
 inner_behind (null_or t) qs us rs h = tells_behind (IsSubtype t) qs us rs h
 inner_behind (token_or xs t) qs us rs h = tells_behind (IsSubtype t) qs us rs h
-inner_behind everything qs us rs h = tt
-inner_behind nothing qs us rs h = tt
-inner_behind boolean qs us rs h = tt
-inner_behind symbols qs us rs h = tt
-inner_behind blank_area qs us rs h = tt
-inner_behind command qs us rs h = tt
-inner_behind (integer low high) qs us rs h = tt
-inner_behind (string n) qs us rs h = tt
-inner_behind (member cs) qs us rs h = tt
-inner_behind (subset cs) qs us rs h = tt
-inner_behind (some_of ts) qs us rs h = tt
-inner_behind (each_of ts) qs us rs h = tt
-inner_behind (record_type x) qs us rs h = tt
-inner_behind (host x low high) qs us rs h = tt
-inner_behind (user x vs f t) qs us rs h = tt
-inner_behind (unknown x vs) qs us rs h = tt
+inner_behind a qs us rs h = tt
 
 -- what is known for the parts of a second type, and then for those behind them
 pub known_first : (a : Expanded) (qs us : List Expanded) (n : ℕ) (f : RowOf) (rs : List Bool) → KnownTells a (qs ++ us) n f rs → KnownTells a qs n f rs
 known_first a qs us n f rs h = record { firsts_tell = row_first (ByFirst a) qs us n f h.firsts_tell; inner_tells = inner_first a qs us (drop n rs) h.inner_tells }
 
-pub known_behind : (a : Expanded) (qs us : List Expanded) (n : ℕ) (f : RowOf) (rs : List Bool) → KnownTells a (qs ++ us) n f rs → KnownTells a us (n + length qs) f rs
+known_behind : (a : Expanded) (qs us : List Expanded) (n : ℕ) (f : RowOf) (rs : List Bool) → KnownTells a (qs ++ us) n f rs → KnownTells a us (n + length qs) f rs
 known_behind a qs us n f rs h = record {
   firsts_tell = row_behind (ByFirst a) qs us n f h.firsts_tell;
-  inner_tells = subst (λ (x : List Bool). InnerTells a us x) (drop_drop (length qs) n rs) (inner_behind a qs us (drop n rs) h.inner_tells);
+  inner_tells = subst (λ (x : List Bool). InnerTells a us x) (drop-drop (length qs) n rs) (inner_behind a qs us (drop n rs) h.inner_tells);
 }
 
 -- as many answers more as parts

@@ -51,8 +51,9 @@ head_type w g (head.Host x low high) = type.host x.now low high
 head_type w g (head.User x ts u) = user_type w x.now (values_of g (trees_of ts.now)) u.now
 head_type w g (head.Unknown x ts) = type.unknown x.now (values_of g (trees_of ts.now))
 
--- a host type or a user type is the one of its name
+-- a record, a host type or a user type is the one of its name
 abbrev pub IsDeclared : World → Head → Type 0
+IsDeclared w (head.Record x) = kind_named x.now w ≡ Some kind.Record
 IsDeclared w (head.Host x low high) = kind_named x.now w ≡ Some (kind.Host low high)
 IsDeclared w (head.User x ts u) = kind_named x.now w ≡ Some (kind.User u.now)
 IsDeclared w h = Unit {0}

@@ -114,12 +114,13 @@ pub record Fills (a t : Expanded) (old new : List Bool) (r : Bool) : Type 0 wher
   pub told : (r ≡ true) ↔ IsSubtype a t
   pub adds : Adds (IsSubtype a) (parts_of t) old new
 
-pub record FillsSome (a : Expanded) (ts : ExpandedTypes) (old new : List Bool) (r : Bool) : Type 0 where
-  pub told : (r ≡ true) ↔ BelowSome a ts
+-- the same for the parts of an `or` or of an `and`, with the answer for those before them
+pub record FillsSome (a : Expanded) (ts : ExpandedTypes) (old new : List Bool) (so_far r : Bool) : Type 0 where
+  pub told : (r ≡ true) ↔ ((so_far ≡ true) ⊎ BelowSome a ts)
   pub adds : Adds (IsSubtype a) (parts_of_all ts) old new
 
-pub record FillsEach (a : Expanded) (ts : ExpandedTypes) (old new : List Bool) (r : Bool) : Type 0 where
-  pub told : (r ≡ true) ↔ BelowEach a ts
+pub record FillsEach (a : Expanded) (ts : ExpandedTypes) (old new : List Bool) (so_far r : Bool) : Type 0 where
+  pub told : (r ≡ true) ↔ ((so_far ≡ true) × BelowEach a ts)
   pub adds : Adds (IsSubtype a) (parts_of_all ts) old new
 
 -- a type that is its own only part, and takes others by its kind alone

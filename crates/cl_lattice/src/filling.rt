@@ -1,5 +1,5 @@
 //! Subtypes of all parts of a second type at once, so that no pair of parts is compared twice.
-ghost use Rattle.std.specs.Prelude.{◌≡◌, ◌↔◌, [], ◌∷◌, ◌++◌, IfSome, IsTrue, length, true};
+ghost use Rattle.std.specs.Prelude.{◌≡◌, ◌↔◌, [], ◌∷◌, ◌++◌, IfSome, IsTrue, false, length, true};
 ghost use Rattle.cl_lattice.specs.Arguments.{given_by, tokens_in, trees_of};
 ghost use Rattle.cl_lattice.specs.Expanded.{each_of, null_or, sequence, some_of, token_or};
 ghost use Rattle.cl_lattice.specs.Expansion.{expand_parts, expansion, own_type};
@@ -7,11 +7,11 @@ ghost use Rattle.cl_lattice.specs.SubtypeHeads.{IsDeclared, head_type};
 ghost use Rattle.cl_lattice.specs.SubtypeRows.{Fills, FillsEach, FillsSome, InnerAgrees, KnownTells, is_alone, parts_of, parts_of_all, row_of};
 ghost use Rattle.cl_lattice.specs.SubtypeWays.{ByHeads};
 
-use crate::arguments::{Bound, next_spec};
+use crate::arguments::Bound;
 use crate::heads::Head;
 use crate::lattices::Lattice;
 use crate::rows::{Answers, Row, and, answer_before, count, or, put};
-use cl_syntax::{TypeArg, TypeSpec};
+use cl_syntax::{StandardType, TypeArg, TypeSpec};
 
 /// What is known of all parts of a second type: of the parts of the first, or what it inherits from, and of the type inside it.
 #[derive(Drop)]
@@ -22,7 +22,9 @@ pub(crate) struct Known<'b> {
 
 impl Lattice {
     // Puts an answer for each part of the second type behind the others, and gives the one for the whole; `None` where there is no room.
+    // A declared type of another name is its own only part, and nothing is looked up.
     #[cycle(filling)]
+    #[inline(always)]
     pub(crate) fn fill<'a>(
         &'a self,
         first: &Head<'a>,
@@ -35,13 +37,44 @@ impl Lattice {
         requires known { KnownTells (head_type self.now (given_by bound.now) first.now) (parts_of (expansion self.now [] second.now)) (length out.old.items) (row_of known.now.firsts.now) known.now.inner.now }
         ensures { IfSome result (λ r. Fills (head_type self.now (given_by bound.now) first.now) (expansion self.now [] second.now) out.old.items out.new.items r) }
     {
-        self.fill_head(
-            first,
-            bound,
-            &self.head_of(second, &Bound::Nothing),
-            known,
-            out,
-        )
+        if self.is_another(first, second) {
+            return put(out, known.firsts.at(count(out)));
+        }
+        self.fill_named(first, bound, second, known, out)
+    }
+
+    // The same where the second has the first's name or is a standard type. The first's own record, an `or` and an `and` are told
+    // before a head is made.
+    #[cycle(filling)]
+    #[inline(never)]
+    fn fill_named<'a>(
+        &'a self,
+        first: &Head<'a>,
+        bound: &Bound<'a>,
+        second: &'a TypeSpec,
+        known: &Known<'_>,
+        out: &mut Answers,
+    ) -> Option<bool>
+        requires declared { IsDeclared self.now first.now }
+        requires known { KnownTells (head_type self.now (given_by bound.now) first.now) (parts_of (expansion self.now [] second.now))
+            (length out.old.items) (row_of known.now.firsts.now) known.now.inner.now }
+        ensures { IfSome result (λ r. Fills (head_type self.now (given_by bound.now) first.now) (expansion self.now [] second.now) out.old.items out.new.items r) }
+    {
+        if self.is_same_record(first, second) {
+            return put(out, true);
+        }
+        let args = second.args.as_slice();
+        match second.name.standard() {
+            Some(StandardType::Or) => self.fill_or(first, bound, args, known, out),
+            Some(StandardType::And) => self.fill_and(first, bound, args, known, out),
+            _ => self.fill_head(
+                first,
+                bound,
+                &self.head_of(second, &Bound::Nothing),
+                known,
+                out,
+            ),
+        }
     }
 
     // The same for the second by its head.
@@ -195,16 +228,16 @@ impl Lattice {
     ) -> Option<bool>
         requires declared { IsDeclared self.now first.now }
         requires known { KnownTells (head_type self.now (given_by bound.now) first.now) (parts_of_all (expand_parts self.now (own_type self.now) [] (trees_of parts.now))) (length out.old.items) (row_of known.now.firsts.now) known.now.inner.now }
-        ensures { IfSome result (λ r. FillsSome (head_type self.now (given_by bound.now) first.now) (expand_parts self.now (own_type self.now) [] (trees_of parts.now)) out.old.items out.new.items r) }
+        ensures { IfSome result (λ r. FillsSome (head_type self.now (given_by bound.now) first.now) (expand_parts self.now (own_type self.now) [] (trees_of parts.now))
+            out.old.items out.new.items false r) }
     {
-        match next_spec(parts) {
-            Some((part, more)) => {
-                let below = self.fill(first, bound, part, known, out)?;
-                let later = self.fill_some(first, bound, more, known, out)?;
-                Some(or(below, later))
+        let mut some = false;
+        for arg in parts {
+            if let TypeArg::Spec(part) = arg {
+                some = or(some, self.fill(first, bound, part, known, out)?);
             }
-            None => Some(false),
         }
+        Some(some)
     }
 
     // The parts of an `and`.
@@ -219,16 +252,16 @@ impl Lattice {
     ) -> Option<bool>
         requires declared { IsDeclared self.now first.now }
         requires known { KnownTells (head_type self.now (given_by bound.now) first.now) (parts_of_all (expand_parts self.now (own_type self.now) [] (trees_of parts.now))) (length out.old.items) (row_of known.now.firsts.now) known.now.inner.now }
-        ensures { IfSome result (λ r. FillsEach (head_type self.now (given_by bound.now) first.now) (expand_parts self.now (own_type self.now) [] (trees_of parts.now)) out.old.items out.new.items r) }
+        ensures { IfSome result (λ r. FillsEach (head_type self.now (given_by bound.now) first.now) (expand_parts self.now (own_type self.now) [] (trees_of parts.now))
+            out.old.items out.new.items true r) }
     {
-        match next_spec(parts) {
-            Some((part, more)) => {
-                let below = self.fill(first, bound, part, known, out)?;
-                let later = self.fill_each(first, bound, more, known, out)?;
-                Some(and(below, later))
+        let mut each = true;
+        for arg in parts {
+            if let TypeArg::Spec(part) = arg {
+                each = and(each, self.fill(first, bound, part, known, out)?);
             }
-            None => Some(true),
         }
+        Some(each)
     }
 
     // A type that is its own only part.

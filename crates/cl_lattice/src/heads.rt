@@ -1,13 +1,14 @@
 //! Heads of types: the name in a specifier is found, and its parts stay as they are written.
-ghost use Rattle.std.specs.Prelude.{◌≡◌, [], option_map, IfSome, IsTrue, None, Some};
+ghost use Rattle.std.specs.Prelude.{◌≡◌, [], option_map, true, IfSome, IsTrue, None, Some};
 ghost use Rattle.cl_syntax.specs.StandardTypes.{standard_named};
 ghost use Rattle.cl_lattice.specs.Arguments.{Given, given_by, tokens_in, trees_of, values_of};
 ghost use Rattle.cl_lattice.specs.Expansion.{declared_type, expand_parts, expansion, of_first, own_type, standard_type};
 ghost use Rattle.cl_lattice.specs.Laws.{AllFit};
 ghost use Rattle.cl_lattice.specs.Expanded.{sequence, null_or, token_or};
 ghost use Rattle.cl_lattice.specs.SubtypeHeads.{IsDeclared, first_part, has_name, head_type};
-ghost use Rattle.cl_lattice.specs.SubtypeRows.{HostInherits};
+ghost use Rattle.cl_lattice.specs.SubtypeRows.{HostInherits, is_alone};
 ghost use Rattle.cl_lattice.specs.SubtypeWays.{BySecond};
+ghost use Rattle.cl_lattice.specs.Subtypes.{IsSubtype};
 ghost use Rattle.cl_lattice.specs.World.{World, kind_named};
 
 use crate::arguments::{Bound, first_number, second_number};
@@ -193,6 +194,7 @@ impl Head<'_> {
     }
 
     // Whether this is a declared type of that name.
+    #[inline]
     fn has_name(&self, name: &[u8]) -> bool
         ensures { result ≡ has_name self.now name.now }
     {
@@ -208,14 +210,34 @@ impl Head<'_> {
 
 impl Lattice {
     /// Whether the second is a declared type, and the first is none of that name: it looks no name up.
-    #[tactic(auto, using(crate::proofs::SubtypeNameLemmas::another_below))]
+    #[tactic(auto, using(crate::proofs::SubtypeNameLemmas::another_below, crate::proofs::SubtypeNameLemmas::second_alone))]
+    #[inline]
     pub(crate) fn is_another(&self, first: &Head<'_>, second: &TypeSpec) -> bool
-        ensures { (g : Given) → IsTrue result → BySecond (head_type self.now g first.now) (expansion self.now [] second.now) → ⊥ }
+        ensures no_way { (g : Given) → IsTrue result → BySecond (head_type self.now g first.now) (expansion self.now [] second.now) → ⊥ }
+        ensures alone { IsTrue result → is_alone (expansion self.now [] second.now) ≡ true }
     {
         self.all_fit();
         match second.name.standard() {
             Some(_) => false,
             None => !first.has_name(second.name.as_slice()),
+        }
+    }
+
+    /// Whether the second is the record that the first is: it looks no name up.
+    #[inline]
+    #[tactic(auto, using(crate::proofs::SubtypeNameLemmas::record_below, crate::proofs::SubtypeNameLemmas::second_alone))]
+    pub(crate) fn is_same_record(&self, first: &Head<'_>, second: &TypeSpec) -> bool
+        requires { IsDeclared self.now first.now }
+        ensures below { (g : Given) → IsTrue result → IsSubtype (head_type self.now g first.now) (expansion self.now [] second.now) }
+        ensures alone { IsTrue result → is_alone (expansion self.now [] second.now) ≡ true }
+    {
+        self.all_fit();
+        match first {
+            Head::Record(_) => match second.name.standard() {
+                Some(_) => false,
+                None => first.has_name(second.name.as_slice()),
+            },
+            _ => false,
         }
     }
 }

@@ -1,12 +1,12 @@
 //! Presentation types: members, subtypes and precedence, after the CLIM II specification's chapter on presentation types.
 #![tactic(auto)]
 
+mod all_parts;
 mod arguments;
 mod atoms;
 mod building;
 mod commands;
 mod comparing;
-mod comparison;
 mod declared_members;
 mod declared_types;
 mod filling;

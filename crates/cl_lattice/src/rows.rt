@@ -55,6 +55,7 @@ impl Row {
     }
 
     /// The answer for the part at a place.
+    #[inline]
     pub(crate) fn at(&self, place: usize) -> bool
         ensures { (a q : Expanded) (qs : List Expanded) → RowTellsFrom (ByFirst a) (q ∷ qs) place (row_of self.now)
             → IsTrue result ↔ ByFirst a q }
@@ -124,6 +125,7 @@ fn add_either(answers: &[bool], others: &[bool], zipped: &mut Answers) -> Option
 }
 
 /// Puts an answer behind the others, and gives it; `None` where there is no room.
+#[inline]
 pub(crate) fn put(answers: &mut Answers, answer: bool) -> Option<bool>
     ensures same { IfSome result (λ r. r ≡ answer) }
     ensures grown { OnSome result (answers.new.items ≡ answers.old.items ++ answer ∷ []) }
@@ -133,6 +135,7 @@ pub(crate) fn put(answers: &mut Answers, answer: bool) -> Option<bool>
 }
 
 /// How many answers there are.
+#[inline]
 pub(crate) fn count(answers: &Answers) -> usize
     ensures { result ≡ length answers.now.items }
 {

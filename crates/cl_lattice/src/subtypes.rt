@@ -1,20 +1,15 @@
 //! Subtypes: whether one type is a subtype of another, after the CLIM II specification's chapter on presentation types.
 ghost use Rattle.std.specs.Prelude.{◌≡◌, ◌↔◌, ◌⊎◌, [], IsTrue};
-ghost use Rattle.cl_lattice.specs.Arguments.{given_by, tokens_in, trees_of};
-ghost use Rattle.cl_lattice.specs.Expanded.{null_or, sequence, token_or};
+ghost use Rattle.cl_lattice.specs.Arguments.{given_by, trees_of};
 ghost use Rattle.cl_lattice.specs.Expansion.{expand_parts, expansion, own_type};
 ghost use Rattle.cl_lattice.specs.SubtypeHeads.{IsDeclared, head_type};
+ghost use Rattle.cl_lattice.specs.SubtypeRows.{InnerAgrees};
 ghost use Rattle.cl_lattice.specs.SubtypeWays.{BelowEach, ByFirst, ByHeads, BySecond, BySomeSecond, EachBelow, SomeBelow};
 ghost use Rattle.cl_lattice.specs.Subtypes.{IsSubtype};
 
 use crate::arguments::Bound;
-use crate::comparing::all_tokens;
 use crate::heads::Head;
 use crate::lattices::Lattice;
-use crate::plain_types::{
-    by_blank_areas, by_booleans, by_commands, by_hosts, by_integers, by_members, by_records,
-    by_subsets, by_symbols, by_texts, by_unknown,
-};
 use crate::rows::{answer_before, count};
 use cl_syntax::{TypeArg, TypeSpec};
 
@@ -265,66 +260,20 @@ impl Lattice {
         requires second { IsDeclared self.now second.now }
         ensures { IsTrue result ↔ ByHeads (head_type self.now (given_by bound.now) first.now) (head_type self.now [] second.now) }
     {
-        match first {
-            Head::Sequence(part) => self.by_sequences(part, bound, second),
-            Head::NullOr(part) => self.by_null_ors(part, bound, second),
-            Head::TokenOr(args, part) => self.by_token_ors(args, part, bound, second),
-            Head::Boolean => by_booleans(second),
-            Head::Symbols => by_symbols(second),
-            Head::BlankArea => by_blank_areas(second),
-            Head::Command => by_commands(second),
-            Head::Integer(low, high) => by_integers(*low, *high, second),
-            Head::Text(length) => by_texts(*length, second),
-            Head::Member(args) => by_members(args, bound, second),
-            Head::Subset(args) => by_subsets(args, bound, second),
-            Head::Record(name) => by_records(name, second),
-            Head::Host(name, low, high) => by_hosts(name, *low, *high, second),
-            Head::User(name, args, user) => self.by_users(name, args, user, bound, second),
-            Head::Unknown(name, args) => by_unknown(name, args, bound, second),
-            Head::Everything => false,
-            Head::Nothing => false,
-            Head::SomeOf(_) => false,
-            Head::EachOf(_) => false,
-        }
+        let inner = self.inner_is_below(first, bound, second);
+        self.heads_meet(first, bound, second, inner)
     }
 
-    // Two sequences.
+    // The types inside two of one kind; no where they are not of one kind, or have none inside.
     #[cycle(subtypes)]
-    fn by_sequences<'a>(&'a self, first: &'a TypeSpec, bound: &Bound<'a>, second: &Head<'a>) -> bool
-        ensures { IsTrue result ↔ ByHeads (sequence (expansion self.now (given_by bound.now) first.now)) (head_type self.now [] second.now) }
+    fn inner_is_below<'a>(&'a self, first: &Head<'a>, bound: &Bound<'a>, second: &Head<'a>) -> bool
+        ensures { InnerAgrees (head_type self.now (given_by bound.now) first.now) (head_type self.now [] second.now) result }
     {
-        match second {
-            Head::Sequence(second) => self.is_subtype(first, bound, second),
-            _ => false,
-        }
-    }
-
-    // Two null-or-types.
-    #[cycle(subtypes)]
-    fn by_null_ors<'a>(&'a self, first: &'a TypeSpec, bound: &Bound<'a>, second: &Head<'a>) -> bool
-        ensures { IsTrue result ↔ ByHeads (null_or (expansion self.now (given_by bound.now) first.now)) (head_type self.now [] second.now) }
-    {
-        match second {
-            Head::NullOr(second) => self.is_subtype(first, bound, second),
-            _ => false,
-        }
-    }
-
-    // Two token-or-types.
-    #[cycle(subtypes)]
-    fn by_token_ors<'a>(
-        &'a self,
-        args: &'a [TypeArg],
-        first: &'a TypeSpec,
-        bound: &Bound<'a>,
-        second: &Head<'a>,
-    ) -> bool
-        ensures { IsTrue result
-            ↔ ByHeads (token_or (tokens_in (trees_of args.now)) (expansion self.now (given_by bound.now) first.now)) (head_type self.now [] second.now) }
-    {
-        match second {
-            Head::TokenOr(others, second) => {
-                all_tokens(args, others) && self.is_subtype(first, bound, second)
+        match (first, second) {
+            (Head::Sequence(part), Head::Sequence(other)) => self.is_subtype(part, bound, other),
+            (Head::NullOr(part), Head::NullOr(other)) => self.is_subtype(part, bound, other),
+            (Head::TokenOr(_, part), Head::TokenOr(_, other)) => {
+                self.is_subtype(part, bound, other)
             }
             _ => false,
         }

@@ -1,28 +1,44 @@
 use Rattle.std.proofs.Common.{rules, ℕ, ◌≡◌, [], length, Bool, List, ap, sym, subst, ◌∙◌}
+use Rattle.std.proofs.lemmas.Option.{IfSome_then}
 use Rattle.std.specs.Prelude.{IfSome}
 use Rattle.cl_lattice.specs.Arguments.{given_by, trees_of}
-use Rattle.cl_lattice.specs.Expanded.{ExpandedTypes, none, part}
+use Rattle.cl_lattice.specs.Expanded.{ExpandedTypes, none, part, some_of}
 use Rattle.cl_lattice.specs.Expansion.{expand_parts, expansion, own_type, next_parts}
 use Rattle.cl_lattice.specs.SubtypeHeads.{head_type}
 use Rattle.cl_lattice.specs.SubtypeRows.{InnerTells, KnownTells, RowOf, RowTells, TellsAll, known, parts_of, row_of, both_rows, either_row}
 use Rattle.cl_lattice.specs.SubtypeWays.{ByFirst, EachBelow, SomeBelow}
 use Rattle.cl_lattice.specs.Subtypes.{IsSubtype}
 use Rattle.cl_lattice.specs.declared.heads.Head.{Head}
+use Rattle.cl_lattice.specs.declared.rows.Row.{Row}
 use Rattle.cl_lattice.proofs.ExpansionLemmas.{parts_next}
-use Rattle.cl_lattice.proofs.SubtypeFillLemmas.{host_lighter, host_row, if_some}
-use Rattle.cl_lattice.proofs.SubtypeRowLemmas.{all_tell, both_tell, either_tells, from_start}
+use Rattle.cl_lattice.proofs.SubtypeFillLemmas.{host_lighter, host_row}
+use Rattle.cl_lattice.proofs.SubtypeRowLemmas.{all_same, all_tell, both_tell, either_tells, from_start}
+use Rattle.cl_lattice.proofs.SubtypeSplitLemmas.{or_split}
 use Rattle.cl_lattice.proofs.lattices.Lattice.+rows.Goals as goal
 
-pub head_row-fill-requires-clause-known : goal.head_row-fill-requires-clause-known
-head_row-fill-requires-clause-known t c =
+pub head_row-returns-in-SomeOf-Known : goal.head_row-returns-in-SomeOf-Known
+head_row-returns-in-SomeOf-Known t c =
     let w = c.args.self.now in
     let g = given_by c.args.bound.now in
     let qs = parts_of (expansion w [] c.args.second.now) in
     let a = head_type w g c.args.first.now in
-    let f = row_of c.in_ok-firsts.firsts in
+    let ps = expand_parts w (own_type w) g (trees_of c.in-SomeOf-Known.field-0-0.now) in
+    let rs = c.in-SomeOf-Known.answers.items in
+    let told : TellsAll (ByFirst a) qs rs = subst (λ (r : Row). RowTells (ByFirst a) qs (row_of r)) c.in-SomeOf-Known.is-1 c.in_ok-firsts.ensures in
+    let each : TellsAll (EachBelow ps) qs rs = subst (λ (h : Head). TellsAll (ByFirst (head_type w g h)) qs rs) c.in-SomeOf-Known.is-0 told in
+    subst (λ (h : Head). TellsAll (IsSubtype (head_type w g h)) qs rs) (sym c.in-SomeOf-Known.is-0)
+    (all_same (EachBelow ps) (IsSubtype (some_of ps)) (or_split ps) qs rs each)
+
+pub filled_row-fill-requires-clause-known : goal.filled_row-fill-requires-clause-known
+filled_row-fill-requires-clause-known t c =
+    let w = c.args.self.now in
+    let g = given_by c.args.bound.now in
+    let qs = parts_of (expansion w [] c.args.second.now) in
+    let a = head_type w g c.args.first.now in
+    let f = row_of c.args.firsts.now in
     let rs = c.as_slice.result.now in
     let begun : KnownTells a qs 0 f rs = record {
-      firsts_tell = from_start (ByFirst a) qs f c.in_ok-firsts.ensures;
+      firsts_tell = from_start (ByFirst a) qs f c.requires.firsts;
       inner_tells = subst (λ (v : List Bool). InnerTells a qs v) (sym c.as_slice.ensures.value) c.in_ok-inner.ensures;
     } in
     subst (λ (n : ℕ). KnownTells a qs n f rs) (sym (ap length c.new-out.ensures)) begun
@@ -68,7 +84,7 @@ inner_row-returns-in-Sequence t c =
     let g = given_by c.args.bound.now in
     let qs = parts_of (expansion w [] c.args.second.now) in
     subst (λ (h : Head). IfSome c.row.result (λ v. InnerTells (head_type w g h) qs v.items)) (sym c.in-Sequence.is)
-    (if_some _ _ c.row.result (λ v k. all_tell (IsSubtype (expansion w g c.in-Sequence.part.now)) qs v.items k) c.row.ensures)
+    (IfSome_then c.row.result c.row.ensures (λ v k. all_tell (IsSubtype (expansion w g c.in-Sequence.part.now)) qs v.items k))
 
 pub inner_row-returns-in-NullOr : goal.inner_row-returns-in-NullOr
 inner_row-returns-in-NullOr t c =
@@ -76,7 +92,7 @@ inner_row-returns-in-NullOr t c =
     let g = given_by c.args.bound.now in
     let qs = parts_of (expansion w [] c.args.second.now) in
     subst (λ (h : Head). IfSome c.row-in-NullOr.result (λ v. InnerTells (head_type w g h) qs v.items)) (sym c.in-NullOr.is)
-    (if_some _ _ c.row-in-NullOr.result (λ v k. all_tell (IsSubtype (expansion w g c.in-NullOr.part.now)) qs v.items k) c.row-in-NullOr.ensures)
+    (IfSome_then c.row-in-NullOr.result c.row-in-NullOr.ensures (λ v k. all_tell (IsSubtype (expansion w g c.in-NullOr.part.now)) qs v.items k))
 
 pub inner_row-returns-in-TokenOr : goal.inner_row-returns-in-TokenOr
 inner_row-returns-in-TokenOr t c =
@@ -84,7 +100,7 @@ inner_row-returns-in-TokenOr t c =
     let g = given_by c.args.bound.now in
     let qs = parts_of (expansion w [] c.args.second.now) in
     subst (λ (h : Head). IfSome c.row-in-TokenOr.result (λ v. InnerTells (head_type w g h) qs v.items)) (sym c.in-TokenOr.is)
-    (if_some _ _ c.row-in-TokenOr.result (λ v k. all_tell (IsSubtype (expansion w g c.in-TokenOr.part.now)) qs v.items k) c.row-in-TokenOr.ensures)
+    (IfSome_then c.row-in-TokenOr.result c.row-in-TokenOr.ensures (λ v k. all_tell (IsSubtype (expansion w g c.in-TokenOr.part.now)) qs v.items k))
 
 pub each_row-row-requires : goal.each_row-row-requires
 each_row-row-requires t c =
@@ -122,7 +138,7 @@ each_row-returns-in_ok-later-in-Some t c =
     let told : RowTells (EachBelow (part u ms)) qs (both_rows (known xs) later) =
     both_tell (IsSubtype u) (EachBelow ms) qs (known xs) later c.in_ok-row-in-Some.ensures c.in_ok-later-in-Some.ensures in
     let whole : RowTells (EachBelow ps) qs (both_rows (known xs) later) = subst (λ (v : ExpandedTypes). RowTells (EachBelow v) qs (both_rows (known xs) later)) (sym split) told in
-    if_some _ _ c.both.result (λ r e. subst (λ (v : RowOf). RowTells (EachBelow ps) qs v) (sym e) whole) c.both.ensures
+    IfSome_then c.both.result c.both.ensures (λ r e. subst (λ (v : RowOf). RowTells (EachBelow ps) qs v) (sym e) whole)
 
 pub each_row-returns-in-None : goal.each_row-returns-in-None
 each_row-returns-in-None t c =
@@ -169,7 +185,7 @@ some_row-returns-in_ok-later-in-Some t c =
     let told : RowTells (SomeBelow (part u ms)) qs (either_row (known xs) later) =
     either_tells (IsSubtype u) (SomeBelow ms) qs (known xs) later c.in_ok-row-in-Some.ensures c.in_ok-later-in-Some.ensures in
     let whole : RowTells (SomeBelow ps) qs (either_row (known xs) later) = subst (λ (v : ExpandedTypes). RowTells (SomeBelow v) qs (either_row (known xs) later)) (sym split) told in
-    if_some _ _ c.either.result (λ r e. subst (λ (v : RowOf). RowTells (SomeBelow ps) qs v) (sym e) whole) c.either.ensures
+    IfSome_then c.either.result c.either.ensures (λ r e. subst (λ (v : RowOf). RowTells (SomeBelow ps) qs v) (sym e) whole)
 
 pub some_row-returns-in-None : goal.some_row-returns-in-None
 some_row-returns-in-None t c =

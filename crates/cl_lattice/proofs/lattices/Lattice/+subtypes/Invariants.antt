@@ -62,14 +62,6 @@ abbrev pub decreases-by_heads : goal.decreases-by_heads
 decreases-by_heads l =
     measure (weight (head_type l.self.now (given_by l.bound.now) l.first.now)) (weight (head_type l.self.now [] l.second.now)) 1
 
-abbrev pub decreases-by_sequences : goal.decreases-by_sequences
-decreases-by_sequences l =
-    measure (weight (expansion l.self.now (given_by l.bound.now) l.first.now)) (weight (head_type l.self.now [] l.second.now)) 0
-
-abbrev pub decreases-by_null_ors : goal.decreases-by_null_ors
-decreases-by_null_ors l =
-    measure (weight (expansion l.self.now (given_by l.bound.now) l.first.now)) (weight (head_type l.self.now [] l.second.now)) 0
-
-abbrev pub decreases-by_token_ors : goal.decreases-by_token_ors
-decreases-by_token_ors l =
-    measure (weight (expansion l.self.now (given_by l.bound.now) l.first.now)) (weight (head_type l.self.now [] l.second.now)) 0
+abbrev pub decreases-inner_is_below : goal.decreases-inner_is_below
+decreases-inner_is_below l =
+    measure (weight (head_type l.self.now (given_by l.bound.now) l.first.now)) (weight (head_type l.self.now [] l.second.now)) 0

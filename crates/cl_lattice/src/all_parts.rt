@@ -29,7 +29,7 @@ impl Lattice {
         self.head_row(&self.head_of(first, bound), bound, second)
     }
 
-    // The same for the first by its head.
+    // The same for the first by its head. Of an `or` the answers are those where each of its parts has a yes.
     #[cycle(rows)]
     fn head_row<'a>(
         &'a self,
@@ -40,10 +40,28 @@ impl Lattice {
         requires { IsDeclared self.now first.now }
         ensures { IfSome result (λ v. TellsAll (IsSubtype (head_type self.now (given_by bound.now) first.now)) (parts_of (expansion self.now [] second.now)) v.items) }
     {
-        let firsts = self.firsts(first, bound, second)?;
+        match (first, self.firsts(first, bound, second)?) {
+            (Head::SomeOf(_), Row::Known(answers)) => Some(answers),
+            (_, firsts) => self.filled_row(first, bound, second, &firsts),
+        }
+    }
+
+    // The same with what is known by the parts of the first type, or by what it inherits from.
+    #[cycle(rows)]
+    fn filled_row<'a>(
+        &'a self,
+        first: &Head<'a>,
+        bound: &Bound<'a>,
+        second: &'a TypeSpec,
+        firsts: &Row,
+    ) -> Option<Answers>
+        requires declared { IsDeclared self.now first.now }
+        requires firsts { RowTells (ByFirst (head_type self.now (given_by bound.now) first.now)) (parts_of (expansion self.now [] second.now)) (row_of firsts.now) }
+        ensures { IfSome result (λ v. TellsAll (IsSubtype (head_type self.now (given_by bound.now) first.now)) (parts_of (expansion self.now [] second.now)) v.items) }
+    {
         let inner = self.inner_row(first, bound, second)?;
         let known = Known {
-            firsts: &firsts,
+            firsts,
             inner: inner.as_slice(),
         };
         let mut out = Answers::new();
