@@ -1,5 +1,6 @@
 pub mod Answers
 pub mod Book
+pub mod HostTypes
 pub mod Hosts
 pub mod Methods
 pub mod Parts

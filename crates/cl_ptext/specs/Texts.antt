@@ -3,8 +3,10 @@
 use Rattle.std.specs.Prelude.{ℕ, ℤ, Bool, true, false, List, [], ◌∷◌, ◌++◌, Option, Some, None, if◌then◌else◌, codes, ◌||◌}
 use Rattle.cl_application.specs.App.{present_method}
 use Rattle.cl_application.specs.declared.declarations.MethodDecl.{MethodDecl}
-use Rattle.cl_eval.specs.Meaning.{Go}
-use Rattle.cl_eval.specs.Outcome.{Run, give, ◌>>=◌}
+use Rattle.cl_eval.specs.Meaning.{Go, means}
+use Rattle.cl_eval.specs.Outcome.{Outcome, Run, after, give, ◌>>=◌}
+use Rattle.cl_eval.specs.Slots.{Slots}
+use Rattle.cl_eval.specs.declared.metering.Limits.{Limits}
 use Rattle.cl_lattice.specs.Expanded.{Expanded, ExpandedTypes}
 use Rattle.cl_lattice.specs.Expanded as type
 use Rattle.cl_lattice.specs.Members.{is_member, is_null, is_one_of}
@@ -112,3 +114,7 @@ abbrev mutual
   pub text_by_first : Book → Go → ℕ → ExpandedTypes → TypeArgTrees → Data → Writes
   text_by_first b go level type.none args d out = plain d out
   text_by_first b go level (type.part t ts) args d out = text_of b go level t (first_spec args) d out
+
+-- the text of a value by itself, from no cost
+unfoldable pub outcome_of_text : Book → Limits → Slots → Expanded → TypeSpecTree → Data → Outcome Data
+outcome_of_text b limits slots t s d = after (text_of b (means limits.depth limits.budget b.app slots) 0 t s d [] 0 0) (λ x. give (text x))

@@ -3,10 +3,12 @@
 
 mod accepting;
 mod books;
+mod host_types;
 mod hosts;
 mod methods;
 mod parts;
 mod pieces;
+mod presenting;
 mod putting;
 mod reading;
 mod specifiers;
@@ -15,4 +17,5 @@ mod writing;
 
 pub use accepting::Accepted;
 pub use books::TypeBook;
+pub use host_types::HostTypes;
 pub use hosts::Hosts;

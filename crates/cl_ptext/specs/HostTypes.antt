@@ -1,0 +1,14 @@
+-- The names of host types that are handed in.
+use Rattle.std.specs.Prelude.{ℕ, List, [], ◌∷◌, Option, Some, None, if◌then◌else◌}
+use Rattle.std.specs.Str.{bytes_eq}
+use Rattle.cl_ptext.specs.Hosts.{NameEntries}
+
+-- the names that are there; none where they are not
+abbrev pub names_there : Option NameEntries → NameEntries
+names_there None = []
+names_there (Some names) = names
+
+-- the names of the first host type of a name; none where there is no such host type
+abbrev pub host_names : List ℕ → List (List ℕ × NameEntries) → NameEntries
+host_names x [] = []
+host_names x (h ∷ hs) = if bytes_eq x h.0 then h.1 else host_names x hs

@@ -1,0 +1,81 @@
+//! Texts of values by their types, each by itself.
+ghost use Rattle.std.specs.Prelude.{◌≡◌, ◌≤◌, []};
+ghost use Rattle.cl_eval.specs.Evaluated.{Evaluates, met_memory};
+ghost use Rattle.cl_eval.specs.Outcome.{RisesBy, cost_of};
+ghost use Rattle.cl_lattice.specs.Expansion.{expansion};
+ghost use Rattle.cl_value.specs.Value.{data_of};
+ghost use Rattle.cl_ptext.specs.Presenting.{book_of};
+ghost use Rattle.cl_ptext.specs.Texts.{outcome_of_text};
+
+use crate::books::TypeBook;
+use crate::hosts::Hosts;
+use crate::putting::Writing;
+use crate::writing::Presenter;
+use cl_eval::{Context, Env, Evaluated, Limits, Meter, Scope, Slots, Standpoint, Stop};
+use cl_lattice::Bound;
+use cl_outside::{Ledger, Steps};
+use cl_syntax::TypeSpec;
+use cl_value::{Text, Value};
+
+impl<'a, H: Hosts> TypeBook<'a, H> {
+    // What present methods are evaluated in on these slots.
+    fn context_on<'b>(&self, slots: &'b Slots, budget: u64) -> Context<'b>
+    where
+        'a: 'b,
+        ensures app { result.app.now ≡ self.now.app.now }
+        ensures slots { result.slots.now ≡ slots.now }
+        ensures budget { result.budget ≡ budget }
+    {
+        Context {
+            alloc: self.alloc,
+            app: self.app,
+            slots,
+            budget,
+        }
+    }
+
+    /// The text of a value by a type, on these slots, with its cost and its reach. Present methods alone enter forms: texts of
+    /// the standard types cost nothing. Of a value that is no member of the type it gives a text too, or the trap of a method.
+    #[tactic(auto, unfolding(crate::specs::Texts::outcome_of_text))]
+    pub fn text<'x, L: Ledger>(
+        &'x self,
+        value: &Value,
+        spec: &TypeSpec,
+        slots: &'x Slots,
+        limits: Limits,
+        steps: &mut Steps<L>,
+    ) -> Evaluated
+        requires { limits.depth ≤ 512 }
+        ensures meaning { Evaluates result
+            (outcome_of_text (book_of H.entries self.now) limits slots.now (expansion self.now.lattice.now [] spec.now) spec.now (data_of value.now)) }
+        ensures ledger { RisesBy (met_memory result) steps.old steps.new
+            (cost_of (outcome_of_text (book_of H.entries self.now) limits slots.now (expansion self.now.lattice.now [] spec.now) spec.now (data_of value.now))) }
+    {
+        let context = self.context_on(slots, limits.budget);
+        let nothing = Env::new(self.alloc);
+        let scope = Scope::Given(&nothing);
+        let here = Standpoint {
+            context: &context,
+            scope: &scope,
+            left: limits.depth,
+            level: 0,
+        };
+        let presenter = Presenter { book: &*self, here: &here };
+        let mut writing = Writing {
+            bytes: Vec::new(self.alloc),
+            meter: Meter::new(),
+        };
+        match presenter.write(value, spec, &Bound::Nothing, &mut writing, steps) {
+            Ok(()) => match Text::from_vec(self.alloc, writing.bytes) {
+                Ok(text) => Evaluated::Value(
+                    Value::Text(text),
+                    writing.meter.cost,
+                    writing.meter.deepest,
+                ),
+                Err(_) => Evaluated::Memory,
+            },
+            Err(Stop::Trap(kind)) => Evaluated::Trap(kind, writing.meter.cost),
+            Err(Stop::Memory) => Evaluated::Memory,
+        }
+    }
+}
