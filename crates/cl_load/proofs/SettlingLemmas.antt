@@ -1,6 +1,7 @@
 -- What the last steps come to, by their answers.
 use Rattle.std.proofs.Common.{◌≡◌, ◌++◌, ℕ, List, [], ◌∷◌, refl}
 use Rattle.std.specs.Prelude.{Option, Some, None, Result, Ok, Err, option_to_list}
+use Rattle.cl_application.specs.declared.applications.App.{App}
 use Rattle.cl_application.specs.declared.declarations.FrameDecl.{FrameDecl}
 use Rattle.cl_expressions.specs.Load.{itself}
 use Rattle.cl_forms.specs.declared.refusals.LoadRefusal.{LoadRefusal}
@@ -8,6 +9,7 @@ use Rattle.cl_forms.specs.declared.refusals.LoadRefusal.TheVariants.{Refused, Me
 use Rattle.cl_declare.specs.declared.declarations.Declarations.{Declarations}
 use Rattle.cl_declare.specs.declared.frames.FrameForm.{FrameForm}
 use Rattle.cl_load.specs.Answers.{Makes, Passes}
+use Rattle.cl_load.specs.Opening.{OpensSlots}
 use Rattle.cl_load.specs.Placing.{place_frame}
 use Rattle.cl_load.specs.Readings.{Finds}
 use Rattle.cl_load.specs.Refusals.{app_of, numbered}
@@ -40,3 +42,8 @@ pub opens : (r : Result Opened LoadRefusal) (size : ℕ) (s : Declarations) (rea
 opens (Ok opened) size s reading f d found none one placed o = record { reading = reading; found = found; verdict = rw (none, one, placed, o.1, o.0) refl }
 opens (Err (Refused number at)) size s reading f d found none one placed o = record { reading = reading; found = found; verdict = rw (none, one, placed, o) refl }
 opens (Err Memory) size s reading f d found none one placed o = tt
+
+-- an opening value that is not fit
+pub opens_refused : (e : LoadRefusal) (app : App) → OpensSlots (Err e) app → Opens (Err e) app
+opens_refused (Refused number at) app h = rw (h.0, h.1) refl
+opens_refused Memory app h = tt
