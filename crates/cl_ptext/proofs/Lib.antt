@@ -1,7 +1,11 @@
-pub mod Measures
 pub mod CostLemmas
+pub mod CutLemmas
+pub mod LawLemmas
+pub mod LimitLemmas
+pub mod Measures
 pub mod PartLemmas
 pub mod PartTypes
 pub mod PieceLemmas
 pub mod ReadingLemmas
+pub mod SlotLemmas
 pub mod WordLemmas

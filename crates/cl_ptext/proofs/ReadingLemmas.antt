@@ -1,11 +1,13 @@
 -- What is read is a member of the type.
-use Rattle.std.proofs.Common.{◌≡◌, Bool, true, false, refl, ap, subst}
+use Rattle.std.proofs.Common.{◌≡◌, ℕ, List, Bool, true, false, refl, ap, subst}
 use Rattle.cl_value.specs.Data.{Data}
+use Rattle.cl_eval.specs.Slots.{Slots}
+use Rattle.cl_syntax.specs.TypeSpecTree.{TypeSpecTree}
 use Rattle.cl_lattice.specs.Expanded.{Expanded}
 use Rattle.cl_lattice.specs.Members.{is_member}
 use Rattle.cl_ptext.specs.Book.{Book}
 use Rattle.cl_ptext.specs.Methods.{Reading, Object, Nothing, Trap, predicates_of}
-use Rattle.cl_ptext.specs.Readings.{if_holds, only_members}
+use Rattle.cl_ptext.specs.Readings.{if_holds, only_members, reading, row_read}
 
 object_same : (d e : Data) → Object d ≡ Object e → d ≡ e
 object_same d e h = ap (λ r. elim r [ Object c ↦ c | Nothing ↦ d | Trap k ↦ d ]) h
@@ -18,3 +20,6 @@ pub read_member : (b : Book) (t : Expanded) (r : Reading) (d : Data) → only_me
 read_member b t (Object c) d o = held_by c d (is_member b.world (predicates_of b.app) c t) (λ e. is_member b.world (predicates_of b.app) e t) refl o
 read_member b t Nothing d o = cc
 read_member b t (Trap k) d o = cc
+
+pub object_read : (b : Book) (slots : Slots) (t : Expanded) (s : TypeSpecTree) (x : List ℕ) (d : Data) → reading b slots t s x ≡ Object d → is_member b.world (predicates_of b.app) d t ≡ true
+object_read b slots t s x d o = read_member b t (row_read b slots t s x) d o

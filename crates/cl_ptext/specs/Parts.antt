@@ -89,3 +89,15 @@ piece_length separator stage (b ∷ bs) = if may_end stage && b == separator the
 abbrev pub bytes_of : Part → List ℕ
 bytes_of (part.Plain bytes) = bytes.now
 bytes_of (part.Quoted bytes) = bytes.items
+
+-- ---- what cutting leaves
+
+-- pieces with a separator before each
+abbrev pub each_behind : ℕ → List (List ℕ) → List ℕ
+each_behind separator [] = []
+each_behind separator (p ∷ ps) = separator ∷ (p ++ each_behind separator ps)
+
+-- pieces with a separator between two
+abbrev pub joined_pieces : ℕ → List (List ℕ) → List ℕ
+joined_pieces separator [] = []
+joined_pieces separator (p ∷ ps) = p ++ each_behind separator ps

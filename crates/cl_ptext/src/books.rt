@@ -26,12 +26,7 @@ pub struct TypeBook<'a, H> {
 
 impl<'a, H: Hosts> TypeBook<'a, H> {
     /// Of an application, its lattice, and the host types.
-    pub fn new(
-        alloc: Global,
-        app: &'a App,
-        lattice: &'a Lattice,
-        hosts: &'a H,
-    ) -> TypeBook<'a, H>
+    pub fn new(alloc: Global, app: &'a App, lattice: &'a Lattice, hosts: &'a H) -> TypeBook<'a, H>
         ensures app { result.app.now ≡ app.now }
         ensures lattice { result.lattice.now ≡ lattice.now }
         ensures hosts { result.hosts.now ≡ hosts.now }

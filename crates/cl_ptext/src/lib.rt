@@ -5,6 +5,7 @@ mod accepting;
 mod books;
 mod host_types;
 mod hosts;
+mod laws;
 mod methods;
 mod parts;
 mod pieces;
@@ -19,3 +20,7 @@ pub use accepting::Accepted;
 pub use books::TypeBook;
 pub use host_types::HostTypes;
 pub use hosts::Hosts;
+pub use laws::{
+    cutting_loses_nothing, objects_are_members, text_limits_can_be_wider,
+    texts_see_what_methods_name,
+};

@@ -60,7 +60,10 @@ impl<'a, H: Hosts> TypeBook<'a, H> {
             left: limits.depth,
             level: 0,
         };
-        let presenter = Presenter { book: &*self, here: &here };
+        let presenter = Presenter {
+            book: &*self,
+            here: &here,
+        };
         let mut writing = Writing {
             bytes: Vec::new(self.alloc),
             meter: Meter::new(),

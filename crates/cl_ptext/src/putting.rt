@@ -62,7 +62,11 @@ pub(crate) fn put_string(value: &Value, writing: &mut Writing) -> Result<(), Sto
 }
 
 /// Puts a separator, but before the first part.
-pub(crate) fn put_separator(first: bool, separator: u8, bytes: &mut Vec<u8>) -> Result<(), AllocError>
+pub(crate) fn put_separator(
+    first: bool,
+    separator: u8,
+    bytes: &mut Vec<u8>,
+) -> Result<(), AllocError>
     ensures { OnOk result (bytes.new.items ≡ before_part first separator bytes.old.items) }
 {
     if !first {

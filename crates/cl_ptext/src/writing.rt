@@ -85,9 +85,7 @@ impl<H: Hosts> Presenter<'_, H> {
             StandardType::Subset => put_subset(value, separator_of(spec), writing),
             StandardType::Sequence => self.write_sequence(value, spec, bound, writing, steps),
             StandardType::Or => self.write_some(value, args_of(spec), bound, writing, steps),
-            StandardType::And => {
-                self.write_first(value, args_of(spec), bound, writing, steps)
-            }
+            StandardType::And => { self.write_first(value, args_of(spec), bound, writing, steps) }
             StandardType::NullOrType => {
                 self.write_beside(is_null(value), value, spec, bound, writing, steps)
             }
@@ -119,7 +117,10 @@ impl<H: Hosts> Presenter<'_, H> {
         match next_spec(args_of(spec)) {
             Some((inner, _)) => match value {
                 Value::List(parts) => {
-                    let joint = Joint { inner, separator: separator_of(spec) };
+                    let joint = Joint {
+                        inner,
+                        separator: separator_of(spec),
+                    };
                     self.write_joined(parts.as_slice(), &joint, bound, writing, steps)
                 }
                 _ => put(value, writing),

@@ -38,8 +38,8 @@ decreases-write_beside g l = 4 * first_weight (parts_in l.self.now.book.now l.bo
 abbrev pub invariant-write_joined-loop-value : goal.invariant-write_joined-loop-value
 invariant-write_joined-loop-value g l = record {
   text : each_joined l.first l.joint.separator (text_by g.H.Hosts.entries l.self (expanded l.self.book.now l.bound l.joint.inner.now) l.joint.inner.now) (parts_of (drop l.value-index l.values))
-          l.writing.bytes.items l.writing.meter.cost l.writing.meter.deepest
+      l.writing.bytes.items l.writing.meter.cost l.writing.meter.deepest
       ≡ each_joined true l.joint.separator (text_by g.H.Hosts.entries l.self (expanded l.self.book.now l.bound l.joint.inner.now) l.joint.inner.now) (parts_of l.values)
-          l.initial.writing.bytes.items l.initial.writing.meter.cost l.initial.writing.meter.deepest;
+      l.initial.writing.bytes.items l.initial.writing.meter.cost l.initial.writing.meter.deepest;
   ledger : l.steps + l.initial.writing.meter.cost ≡ l.initial.steps + l.writing.meter.cost;
 }

@@ -1,0 +1,42 @@
+-- Texts by themselves under other limits, and on other slots.
+use Rattle.std.proofs.Common.{◌≡◌, ◌≤◌, ◌+◌, ℕ, List, [], ◌∷◌, refl, arith}
+use Rattle.std.specs.Prelude.{Some}
+use Rattle.cl_application.specs.App.{present_method}
+use Rattle.cl_application.specs.declared.declarations.MethodDecl.{MethodDecl}
+use Rattle.cl_eval.proofs.LimitLemmas.{goes-give, goes-means, goes-then}
+use Rattle.cl_eval.proofs.NameLemmas.{same-means}
+use Rattle.cl_eval.specs.Meaning.{means}
+use Rattle.cl_eval.specs.Outcome.{Gives, after, give}
+use Rattle.cl_eval.specs.Slots.{Slots}
+use Rattle.cl_eval.specs.Uses.{AgreeOn, Uses}
+use Rattle.cl_eval.specs.declared.metering.Limits.{Limits}
+use Rattle.cl_lattice.specs.Expanded.{Expanded}
+use Rattle.cl_syntax.specs.TypeSpecTree.{TypeSpecTree}
+use Rattle.cl_value.specs.Data.{Data, text}
+use Rattle.cl_ptext.specs.Book.{Book}
+use Rattle.cl_ptext.specs.Texts.{outcome_of_text, text_of}
+use Rattle.cl_ptext.proofs.LimitLemmas.{text-goes}
+use Rattle.cl_ptext.proofs.SlotLemmas.{text-same}
+
+pub wider_text : (b : Book) (limits wider : Limits) (slots : Slots) (t : Expanded) (s : TypeSpecTree) (d x : Data) (cost reach : ℕ)
+    → outcome_of_text b limits slots t s d ≡ Gives x cost reach → cost ≤ wider.budget → reach ≤ wider.depth → outcome_of_text b wider slots t s d ≡ Gives x cost reach
+unfolding outcome_of_text
+wider_text b limits wider slots t s d x cost reach p cheap shallow =
+    let go = means limits.depth limits.budget b.app slots in
+    let go' = means wider.depth wider.budget b.app slots in
+    let within : reach ≤ 0 + wider.depth = omega (arith, shallow) in
+    (goes-then wider.budget (0 + wider.depth) (text_of b go 0 t s d []) (text_of b go' 0 t s d []) (λ y. give (text y)) (λ y. give (text y))
+    (text-goes wider.budget (0 + wider.depth) b go go' 0 (goes-means limits.depth limits.budget wider.depth wider.budget b.app slots 0) t s d [])
+    (λ y. goes-give wider.budget (0 + wider.depth) (text y)) 0 0 x cost reach p).same cheap within
+
+pub same_slots : (b : Book) (limits : Limits) (slots other : Slots)
+    → ((x : List ℕ) (m : MethodDecl) → present_method x b.app ≡ Some m → (d : Data) → AgreeOn b.app m.body slots ((m.parameter, d) ∷ []) other ((m.parameter, d) ∷ []))
+    → (t : Expanded) (s : TypeSpecTree) (d : Data) → outcome_of_text b limits slots t s d ≡ outcome_of_text b limits other t s d
+unfolding outcome_of_text
+same_slots b limits slots other agree t s d =
+    let go = means limits.depth limits.budget b.app slots in
+    let go' = means limits.depth limits.budget b.app other in
+    let same = text-same b go go' 0
+    (λ x m found e. λ i. same-means b.app slots other limits.depth limits.budget 0 ((m.parameter, e) ∷ []) ((m.parameter, e) ∷ []) m.body (λ r n p. agree x m found e r (record { calls = n; named = p })) i)
+    t s d [] in
+    λ i. after (same i 0 0) (λ y. give (text y))
