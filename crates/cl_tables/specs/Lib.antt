@@ -1,0 +1,3 @@
+pub mod Inheritance
+pub mod Rings
+pub mod Walk

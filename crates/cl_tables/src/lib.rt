@@ -1,0 +1,7 @@
+//! What a frame's command table sees: the tables it inherits from, and the names, keystrokes and commands in them.
+#![tactic(auto)]
+
+mod declarations;
+mod inheritance;
+
+pub use declarations::{CommandPlace, TableDecl};
