@@ -1,3 +1,4 @@
+mod CommandLemmas
 mod NameLemmas
 mod RingLemmas
 mod WalkLemmas

@@ -1,3 +1,5 @@
+pub mod Accessible
+pub mod Groups
 pub mod Inheritance
 pub mod Rings
 pub mod Walk

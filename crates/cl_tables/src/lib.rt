@@ -2,6 +2,7 @@
 #![tactic(auto)]
 
 mod declarations;
+mod groups;
 mod inheritance;
 
 pub use declarations::{CommandPlace, TableDecl};
