@@ -1,4 +1,5 @@
 mod CommandLemmas
+mod IndexLemmas
 mod NameLemmas
 mod RingLemmas
 mod WalkLemmas

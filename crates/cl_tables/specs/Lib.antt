@@ -1,5 +1,7 @@
 pub mod Accessible
 pub mod Groups
+pub mod Indexes
 pub mod Inheritance
+pub mod Lookups
 pub mod Rings
 pub mod Walk

@@ -3,6 +3,7 @@
 
 mod declarations;
 mod groups;
+mod indexes;
 mod inheritance;
 
 pub use declarations::{CommandPlace, TableDecl};
