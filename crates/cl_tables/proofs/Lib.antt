@@ -1,5 +1,7 @@
 mod CommandLemmas
 mod IndexLemmas
 mod NameLemmas
+mod NamingLemmas
 mod RingLemmas
+mod SightLemmas
 mod WalkLemmas

@@ -1,8 +1,8 @@
 -- Indexes: commands by their names, by their command-line names in small letters, and by their keystrokes.
-use Rattle.std.specs.Prelude.{◌≡◌, ◌≤◌, ℕ, Bool, All, List, length, find, Option, Some, None, option_map}
+use Rattle.std.specs.Prelude.{◌≡◌, ◌≤◌, ◌<◌, ℕ, Bool, true, All, List, length, find, Option, Some, None, option_map}
 use Rattle.std.specs.Str.{str_to_ascii_lowercase}
 use Rattle.cl_table.specs.Names.{named, with_first}
-use Rattle.cl_tables.specs.Lookups.{is_key}
+use Rattle.cl_tables.specs.Lookups.{begins, is_key}
 use Rattle.cl_tables.specs.declared.declarations.CommandPlace.{CommandPlace}
 use Rattle.cl_tables.specs.declared.indexes.Key.{Key}
 use Rattle.cl_tables.specs.declared.indexes.Key.TheVariants.{Name, LineName, Keystroke}
@@ -36,3 +36,15 @@ IsIndex kind commands index = (x : List ℕ) → command_under x index ≡ find 
 -- no command-line name is longer
 abbrev pub AreWithin : ℕ → List CommandPlace → Type 0
 AreWithin most commands = All (λ c. length c.line_name ≤ most) commands
+
+-- no command-line name that begins the line is so long
+abbrev pub BeginWithin : ℕ → List ℕ → List CommandPlace → Type 0
+BeginWithin most line commands = All (λ c. begins line c ≡ true → length c.line_name < most) commands
+
+-- the commands are found by each of their keys, and their longest name has at most 64 bytes
+pub record IsIndexed (commands : List CommandPlace) (by_name by_line_name by_keystroke : Index) (longest : ℕ) : Type 0 where
+  pub names : IsIndex Name commands by_name
+  pub line_names : IsIndex LineName commands by_line_name
+  pub keystrokes : IsIndex Keystroke commands by_keystroke
+  pub within : AreWithin longest commands
+  pub short : longest ≤ 64

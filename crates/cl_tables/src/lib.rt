@@ -5,5 +5,7 @@ mod declarations;
 mod groups;
 mod indexes;
 mod inheritance;
+mod tables;
 
 pub use declarations::{CommandPlace, TableDecl};
+pub use tables::Tables;
