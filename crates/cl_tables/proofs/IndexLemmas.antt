@@ -16,9 +16,9 @@ abbrev pub first_of : {A : Type 0} → Option A → Option A → Option A
 first_of None o = o
 first_of (Some a) o = Some a
 
-named-last : (x y : List ℕ) (d : Keyed) (es : Index) → named x (es ++ (y, d) ∷ []) ≡ first_of (named x es) (cond (bytes_eq x y) (Some d) None)
+pub named-last : {D : Type 0} (x y : List ℕ) (d : D) (es : List (List ℕ × D)) → named x (es ++ (y, d) ∷ []) ≡ first_of (named x es) (cond (bytes_eq x y) (Some d) None)
 named-last x y d [] = refl
-named-last x y d (e ∷ es) = by (bytes_eq x e.0) (named-last x y d es)
+named-last {D} x y d (e ∷ es) = by (bytes_eq x e.0) (named-last x y d es)
   where
     by : (b : Bool) → named x (es ++ (y, d) ∷ []) ≡ first_of (named x es) (cond (bytes_eq x y) (Some d) None)
         → cond b (Some e.1) (named x (es ++ (y, d) ∷ [])) ≡ first_of (cond b (Some e.1) (named x es)) (cond (bytes_eq x y) (Some d) None)

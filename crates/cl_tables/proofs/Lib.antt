@@ -1,4 +1,5 @@
 mod CommandLemmas
+mod EnabledLemmas
 mod IndexLemmas
 mod NameLemmas
 mod NamingLemmas

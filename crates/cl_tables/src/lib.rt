@@ -2,10 +2,12 @@
 #![tactic(auto)]
 
 mod declarations;
+mod enabled;
 mod groups;
 mod indexes;
 mod inheritance;
 mod tables;
 
 pub use declarations::{CommandPlace, TableDecl};
+pub use enabled::Enabled;
 pub use tables::Tables;
