@@ -1,7 +1,7 @@
 -- How the inheritance order is found: the tables that were visited, and those that wait, the next of them last.
 use Rattle.std.specs.Prelude.{Bool, if◌then◌else◌, is_some, ℕ, List, ◌++◌}
 use Rattle.cl_table.specs.Names.{named, with_first}
-use Rattle.cl_tables.specs.declared.inheritance.Visited.{Visited}
+use Rattle.cl_tables.specs.declared.walk.Visited.{Visited}
 
 -- the tables that were visited
 abbrev pub Visits : Type 0

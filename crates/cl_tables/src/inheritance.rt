@@ -1,27 +1,13 @@
 //! The inheritance order of a table.
-ghost use Rattle.std.specs.Prelude.{◌≡◌, ◌++◌, ◌∷◌, [], IfOk, OnOk, reverse};
-ghost use Rattle.cl_tables.specs.Inheritance.{inheritance, parents_of};
+ghost use Rattle.std.specs.Prelude.{◌≡◌, IfOk};
+ghost use Rattle.cl_tables.specs.Inheritance.{inheritance};
 ghost use Rattle.cl_tables.specs.Rings.{HasNoRing};
-ghost use Rattle.cl_tables.specs.Walk.{is_visited, with_more, with_visit};
 
 use crate::declarations::TableDecl;
-use cl_table::{Declared, Names, Table};
+use crate::walk::visit;
+use cl_table::{Names, Table};
 use cl_value::Text;
 use std::alloc::{AllocError, Global};
-
-/// A table that was visited.
-#[derive(Drop)]
-struct Visited {
-    name: Text,
-}
-
-impl Declared for Visited {
-    ghost own_name = { λ v. v.name };
-
-    fn name(&self) -> &Text {
-        &self.name
-    }
-}
 
 /// The inheritance order of a table.
 pub(crate) fn inheritance(
@@ -40,39 +26,4 @@ pub(crate) fn inheritance(
         visit(tables, name, &mut visited, &mut order, &mut waiting)?;
     }
     Ok(order)
-}
-
-// Visits a table: where it was not visited before, its parents wait, the first of them last.
-fn visit(
-    tables: &Table<TableDecl>,
-    name: Text,
-    visited: &mut Table<Visited>,
-    order: &mut Names,
-    waiting: &mut Vec<Text>,
-) -> Result<(), AllocError>
-    ensures visited { OnOk result (visited.new ≡ with_visit name visited.old) }
-    ensures order { OnOk result (order.new ≡ with_more (is_visited name visited.old) order.old (name ∷ [])) }
-    ensures waiting { OnOk result (waiting.new.items
-        ≡ with_more (is_visited name visited.old) waiting.old.items (reverse (parents_of tables.now name))) }
-{
-    if visited.get(name.as_slice()).is_some() {
-        return Ok(());
-    }
-    if let Some(decl) = tables.get(name.as_slice()) {
-        push_reversed(decl.inherit_from.as_slice(), waiting)?;
-    }
-    order.push(name.copy()?)?;
-    visited.add_first(Visited { name })
-}
-
-// Puts names behind the others, the last of them first.
-fn push_reversed(names: &[Text], waiting: &mut Vec<Text>) -> Result<(), AllocError>
-    ensures { OnOk result (waiting.new.items ≡ waiting.old.items ++ reverse names.now) }
-{
-    let mut rest = names;
-    while let Some((last, before)) = rest.split_last() {
-        waiting.push(last.copy()?)?;
-        rest = before;
-    }
-    Ok(())
 }

@@ -7,6 +7,7 @@ mod groups;
 mod indexes;
 mod inheritance;
 mod tables;
+mod walk;
 
 pub use declarations::{CommandPlace, TableDecl};
 pub use enabled::Enabled;
