@@ -1,3 +1,4 @@
+mod ClearingLemmas
 mod CommandLemmas
 mod EnabledLemmas
 mod IndexLemmas

@@ -1,4 +1,5 @@
 pub mod Accessible
+pub mod Clearing
 pub mod Enabled
 pub mod Groups
 pub mod Indexes

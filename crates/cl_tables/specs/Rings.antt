@@ -1,6 +1,7 @@
 -- Rings of command tables.
-use Rattle.std.specs.Prelude.{◌≡◌, ℕ, true, List}
+use Rattle.std.specs.Prelude.{◌≡◌, ◌⊎◌, ℕ, true, List, [], ◌∷◌, Option, Some, None}
 use Rattle.cl_tables.specs.Inheritance.{TableDecls, is_among, parents_of}
+use Rattle.cl_tables.specs.declared.declarations.TableDecl.{TableDecl}
 
 -- from one table to another along parents
 pub data Reaches (tables : TableDecls) : List ℕ → List ℕ → Type 0 where
@@ -14,3 +15,10 @@ IsOnRing tables x = Reaches tables x x
 -- no table reaches itself
 abbrev pub HasNoRing : TableDecls → Type 0
 HasNoRing tables = (x : List ℕ) → IsOnRing tables x → ⊥
+
+-- Some offset: that of the first declaration whose table is on a ring; None: there is none
+abbrev pub IsFirstOnRing : TableDecls → TableDecls → Option ℕ → Type 0
+IsFirstOnRing tables [] None = Unit {0}
+IsFirstOnRing tables [] (Some at) = ⊥
+IsFirstOnRing tables (t ∷ ts) None = (IsOnRing tables t.0 → ⊥) × IsFirstOnRing tables ts None
+IsFirstOnRing tables (t ∷ ts) (Some at) = (IsOnRing tables t.0 × (t.1.at ≡ at)) ⊎ ((IsOnRing tables t.0 → ⊥) × IsFirstOnRing tables ts (Some at))

@@ -1,6 +1,7 @@
 //! What a frame's command table sees: the tables it inherits from, and the names, keystrokes and commands in them.
 #![tactic(auto)]
 
+mod clearing;
 mod declarations;
 mod enabled;
 mod groups;
