@@ -47,7 +47,7 @@ parents_clear tables clear x all h ring =
     let next = ring_parent tables x ring in
     clear_one tables clear next.0 all (all_clear (is_clear tables clear) next.0 (parents_of tables x) h next.1) next.2
 
-visited_by : (b : Bool) (x y : List ℕ) (visits : Visits) → is_visited y (if b then visits else visits ++ (x, record { name = x }) ∷ []) ≡ true
+pub visited_by : (b : Bool) (x y : List ℕ) (visits : Visits) → is_visited y (if b then visits else visits ++ (x, record { name = x }) ∷ []) ≡ true
     → (is_visited y visits || bytes_eq y x) ≡ true
 visited_by true x y visits h = ap (λ c. c || bytes_eq y x) h
 visited_by false x y visits h = sym (has_last y (x, record { name = x }) visits) ∙ h
@@ -71,17 +71,17 @@ lighter true false n h = let no : false ≡ true = h refl in cc
 lighter false true n h = omega arith
 lighter false false n h = omega arith
 
-visited_more : (x : List ℕ) (e : List ℕ × Visited) (visits : Visits) → is_visited x visits ≡ true → is_visited x (visits ++ e ∷ []) ≡ true
+pub visited_more : (x : List ℕ) (e : List ℕ × Visited) (visits : Visits) → is_visited x visits ≡ true → is_visited x (visits ++ e ∷ []) ≡ true
 visited_more x e visits h = has_last x e visits ∙ ap (λ b. b || bytes_eq x e.0) h
 
 right : (a b : Bool) → b ≡ true → (a || b) ≡ true
 right true b h = refl
 right false b h = h
 
-visited_last : (x : List ℕ) (d : Visited) (visits : Visits) → is_visited x (visits ++ (x, d) ∷ []) ≡ true
+pub visited_last : (x : List ℕ) (d : Visited) (visits : Visits) → is_visited x (visits ++ (x, d) ∷ []) ≡ true
 visited_last x d visits = has_last x (x, d) visits ∙ right (is_visited x visits) (bytes_eq x x) (own_name x)
 
-pending_more : (ts : TableDecls) (e : List ℕ × Visited) (visits : Visits) → pending ts (visits ++ e ∷ []) ≤ pending ts visits
+pub pending_more : (ts : TableDecls) (e : List ℕ × Visited) (visits : Visits) → pending ts (visits ++ e ∷ []) ≤ pending ts visits
 pending_more [] e visits = omega arith
 pending_more (t ∷ ts) e visits =
     omega (arith, pending_more ts e visits, lighter (is_visited t.0 visits) (is_visited t.0 (visits ++ e ∷ [])) (length t.1.inherit_from + 1) (visited_more t.0 e visits))

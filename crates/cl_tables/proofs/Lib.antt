@@ -5,5 +5,6 @@ mod IndexLemmas
 mod NameLemmas
 mod NamingLemmas
 mod RingLemmas
+mod SearchLemmas
 mod SightLemmas
 mod WalkLemmas

@@ -7,9 +7,11 @@ mod enabled;
 mod groups;
 mod indexes;
 mod inheritance;
+mod rings;
 mod tables;
 mod walk;
 
 pub use declarations::{CommandPlace, TableDecl};
 pub use enabled::Enabled;
+pub use rings::first_on_a_ring;
 pub use tables::Tables;
