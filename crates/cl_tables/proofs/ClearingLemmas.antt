@@ -1,5 +1,5 @@
 -- Tables that are on no ring, and how much of a walk is left.
-use Rattle.std.proofs.Common.{◌≡◌, ◌≤◌, ◌<◌, ◌+◌, ◌++◌, ◌==◌, ℕ, Bool, true, false, cond, length, List, [], ◌∷◌, Option, Some, None, refl, sym, ap, ◌∙◌, subst, arith}
+use Rattle.std.proofs.Common.{◌≡◌, ◌≤◌, ◌+◌, ◌++◌, ◌==◌, ℕ, Bool, true, false, cond, length, List, [], ◌∷◌, Option, Some, None, refl, sym, ap, ◌∙◌, subst, arith}
 use Rattle.std.specs.Prelude.{Result, Ok, Err, OnOk, is_some, not, ◌||◌, ◌&&◌, if◌then◌else◌}
 use Rattle.std.specs.List.{list_all}
 use Rattle.std.specs.Cmp.Lexicographic.{pointwise}
@@ -7,7 +7,7 @@ use Rattle.std.specs.Str.{bytes_eq}
 use Rattle.cl_table.specs.Names.{named}
 use Rattle.cl_tables.specs.Clearing.{AreClear, is_clear, pending}
 use Rattle.cl_tables.specs.Inheritance.{TableDecls, is_among, parents_by, parents_of}
-use Rattle.cl_tables.specs.Rings.{Reaches, directly, through, IsOnRing}
+use Rattle.cl_tables.specs.Rings.{directly, through, IsOnRing}
 use Rattle.cl_tables.specs.Walk.{Visits, is_visited, with_visit}
 use Rattle.cl_tables.specs.declared.declarations.TableDecl.{TableDecl}
 use Rattle.cl_tables.specs.declared.walk.Visited.{Visited}

@@ -1,5 +1,5 @@
 -- Going over the commands of a text in their order.
-use Rattle.std.proofs.Common.{◌≡◌, ℕ, suc, ◌+◌, ◌++◌, ◌<◌, ◌==◌, Bool, List, [], ◌∷◌, length, drop, refl, sym, ◌∙◌, ap, arith, Some, None, drop-cons}
+use Rattle.std.proofs.Common.{◌≡◌, ℕ, suc, ◌+◌, ◌++◌, ◌<◌, List, [], ◌∷◌, length, drop, sym, ◌∙◌, ap, arith, Some, None, drop-cons}
 use Rattle.std.specs.Prelude.{Option, slice_get, option_map, filter}
 use Rattle.std.proofs.lemmas.List.{append_assoc}
 use Rattle.std.proofs.lemmas.List.Elements.{filter-append}

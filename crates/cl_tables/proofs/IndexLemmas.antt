@@ -1,9 +1,8 @@
 -- What stands under a key once a command was added.
-use Rattle.std.proofs.Common.{◌≡◌, ◌++◌, ◌==◌, ◌+◌, ◌<◌, Bool, true, false, cond, ℕ, suc, List, [], ◌∷◌, length, get_or, drop, drop-cons, Option, Some, None, refl, sym, ap, ◌∙◌, subst, arith}
+use Rattle.std.proofs.Common.{◌≡◌, ◌++◌, ◌+◌, ◌<◌, Bool, true, false, cond, ℕ, suc, List, [], ◌∷◌, length, get_or, drop, drop-cons, Option, Some, None, refl, sym, ap, ◌∙◌, subst, arith}
 use Rattle.std.specs.Prelude.{is_some, option_map, if◌then◌else◌, find}
-use Rattle.std.specs.Cmp.Lexicographic.{pointwise}
 use Rattle.std.specs.Str.{bytes_eq}
-use Rattle.cl_table.specs.Names.{named, with_first}
+use Rattle.cl_table.specs.Names.{named}
 use Rattle.cl_tables.specs.Indexes.{Index, command_under, with_key, key_of, has_key}
 use Rattle.cl_tables.specs.Lookups.{is_key}
 use Rattle.cl_tables.specs.declared.declarations.CommandPlace.{CommandPlace}

@@ -1,9 +1,8 @@
 -- Names among names, and each name at its first occurrence.
-use Rattle.std.proofs.Common.{◌≡◌, ◌++◌, ◌==◌, Bool, true, false, cond, not, ℕ, List, [], ◌∷◌, Option, Some, None, refl, sym, ap, ◌∙◌, subst}
-use Rattle.std.specs.Prelude.{is_some, ◌||◌, filter, if◌then◌else◌, All}
-use Rattle.std.specs.Cmp.Lexicographic.{pointwise}
+use Rattle.std.proofs.Common.{◌≡◌, ◌++◌, Bool, true, false, cond, not, ℕ, List, [], ◌∷◌, Option, Some, None, refl, sym, ap, ◌∙◌, subst}
+use Rattle.std.specs.Prelude.{is_some, ◌||◌, filter, All}
 use Rattle.std.specs.Str.{bytes_eq}
-use Rattle.std.proofs.lemmas.List.Elements.{All-nil, All-cons, All-head, All-tail}
+use Rattle.std.proofs.lemmas.List.Elements.{All-head, All-tail}
 use Rattle.std.proofs.lemmas.Cmp.{nat_list_eq_equiv}
 use Rattle.std.proofs.lemmas.Slice.Eq.{bytes_eq-Decides}
 use Rattle.cl_table.specs.Names.{named}
@@ -83,6 +82,7 @@ filter-seen x seen (y ∷ ys) h = by (bytes_eq x y) (is_among y seen) refl refl 
   where
     kept : List (List ℕ) → List (List ℕ)
     kept zs = filter (λ z. not (is_among z seen)) zs
+
     by : (b c : Bool) → bytes_eq x y ≡ b → is_among y seen ≡ c → kept (filter (is_other x) ys) ≡ kept ys
         → kept (cond (not (bytes_eq x y)) (y ∷ filter (is_other x) ys) (filter (is_other x) ys)) ≡ cond (not (is_among y seen)) (y ∷ kept ys) (kept ys)
     by true true e f rest = rw (e, f) rest
@@ -104,12 +104,16 @@ filter-new x seen (y ∷ ys) = by (bytes_eq x y) refl (filter-new x seen ys)
   where
     kept : List (List ℕ) → List (List ℕ)
     kept zs = filter (λ z. not (is_among z seen)) zs
+
     left : List (List ℕ) → List (List ℕ)
     left zs = filter (λ z. not (is_among z (seen ++ x ∷ []))) zs
+
     other : bytes_eq x y ≡ false → is_among y (seen ++ x ∷ []) ≡ is_among y seen
     other e = is_among-last y x seen ∙ ap (λ b. is_among y seen || b) (nat_list_eq_equiv.symm y x ∙ e) ∙ or_false (is_among y seen)
+
     same : bytes_eq x y ≡ true → is_among y (seen ++ x ∷ []) ≡ true
     same e = is_among-last y x seen ∙ right (is_among y seen) (bytes_eq y x) (nat_list_eq_equiv.symm y x ∙ e)
+
     by : (b : Bool) → bytes_eq x y ≡ b → kept (filter (is_other x) ys) ≡ left ys
         → kept (cond (not (bytes_eq x y)) (y ∷ filter (is_other x) ys) (filter (is_other x) ys)) ≡ cond (not (is_among y (seen ++ x ∷ []))) (y ∷ left ys) (left ys)
     by true e rest = rw (e, same e) rest

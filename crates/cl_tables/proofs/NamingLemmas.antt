@@ -1,6 +1,6 @@
 -- The command that a line names.
-use Rattle.std.proofs.Common.{◌≡◌, ◌≤◌, ◌<◌, ◌+◌, ◌-◌, ◌++◌, ◌==◌, Bool, true, false, cond, ℕ, zero, suc, List, [], ◌∷◌, length, take, drop, Option, Some, None, refl, sym, ap, ◌∙◌, subst, arith, take_all, length-drop, length-take}
-use Rattle.std.specs.Prelude.{All, is_some, ◌&&◌, find, filter, map, max, min}
+use Rattle.std.proofs.Common.{◌≡◌, ◌≤◌, ◌<◌, ◌+◌, ◌-◌, ◌==◌, Bool, true, false, cond, ℕ, zero, suc, List, [], ◌∷◌, length, take, drop, Option, Some, None, refl, sym, ap, ◌∙◌, subst, arith, take_all, length-drop, length-take}
+use Rattle.std.specs.Prelude.{is_some, ◌&&◌, find, filter, map, min}
 use Rattle.std.specs.Str.{bytes_eq, str_to_ascii_lowercase}
 use Rattle.std.proofs.lemmas.Bool.{eqb-true, eqb-false, eq-eqb}
 use Rattle.std.proofs.lemmas.List.{length-map, length-take-le}
@@ -47,7 +47,7 @@ begun_by : (line : List ℕ) (c : CommandPlace) → letters_of c.line_name ≡ l
     → begins_with line (length c.line_name) c ≡ true
 begun_by line c same ends =
     let equal : bytes_eq (letters_of c.line_name) (letters_of (take (length c.line_name) line)) ≡ true
-        = subst (λ bs. bytes_eq (letters_of c.line_name) bs ≡ true) same (own_name (letters_of c.line_name)) in
+    = subst (λ bs. bytes_eq (letters_of c.line_name) bs ≡ true) same (own_name (letters_of c.line_name)) in
     rw (equal, ends, eq-eqb (length c.line_name) (length c.line_name) refl) refl
 
 -- by the line's first letters, where a name may end behind them
@@ -60,11 +60,11 @@ key_of_line line letters c lowered ends = by (bytes_eq letters (letters_of c.lin
         let same : letters ≡ letters_of c.line_name = same_name letters (letters_of c.line_name) e in
         let long : length letters ≡ length c.line_name = ap length same ∙ length-map c.line_name _ in
         e ∙ sym (ap (λ k. begins_with line k c) long
-            ∙ begun_by line c (subst (λ k. letters_of c.line_name ≡ letters_of (take k line)) long (sym same ∙ lowered)) (subst (λ k. ends_before (drop k line) ≡ true) long ends))
+        ∙ begun_by line c (subst (λ k. letters_of c.line_name ≡ letters_of (take k line)) long (sym same ∙ lowered)) (subst (λ k. ends_before (drop k line) ≡ true) long ends))
     by false e =
         e ∙ sym (not_true (begins_with line (length letters) c) (λ yes.
-          let is : letters ≡ letters_of c.line_name = lowered ∙ sym (begun line (length letters) c yes).0 in
-          let no : true ≡ false = sym (own_name letters) ∙ ap (λ bs. bytes_eq letters bs) is ∙ e in cc))
+        let is : letters ≡ letters_of c.line_name = lowered ∙ sym (begun line (length letters) c yes).0 in
+        let no : true ≡ false = sym (own_name letters) ∙ ap (λ bs. bytes_eq letters bs) is ∙ e in cc))
 
 pub found_by_key : (line letters : List ℕ) (commands : List CommandPlace) → letters ≡ letters_of (take (length letters) line) → ends_before (drop (length letters) line) ≡ true
     → find (has_key LineName letters) commands ≡ find (begins_with line (length letters)) commands
@@ -120,8 +120,8 @@ pub none_begins : (line : List ℕ) (n : ℕ) (cs : List CommandPlace) → Begin
 none_begins line n [] h = refl
 none_begins line n (c ∷ cs) h =
     ap (λ b. cond b (Some c) (find (begins_with line n) cs)) (not_true (begins_with line n c) (λ yes.
-      let short : length c.line_name < 0 = All-head (λ d. begins line d ≡ true → length d.line_name < 0) c cs h (both (begins line c) (length c.line_name == n) yes).0 in
-      omega (arith, short)))
+    let short : length c.line_name < 0 = All-head (λ d. begins line d ≡ true → length d.line_name < 0) c cs h (both (begins line c) (length c.line_name == n) yes).0 in
+    omega (arith, short)))
     ∙ none_begins line n cs (All-tail (λ d. begins line d ≡ true → length d.line_name < 0) c cs h)
 
 other_length : (line : List ℕ) (n : ℕ) (c : CommandPlace) → begins_with line n c ≡ false → (begins line c ≡ true → length c.line_name < n + 1)

@@ -1,5 +1,5 @@
 -- Where no table reaches itself, as many tables as are declared stand above one at most: its preorder goes by its parents' preorders.
-use Rattle.std.proofs.Common.{◌≡◌, ◌≤◌, ◌<◌, ◌+◌, ◌++◌, ◌==◌, ℕ, zero, suc, Bool, true, false, cond, length, List, [], ◌∷◌, Option, Some, None, refl, sym, ap, ◌∙◌, subst, arith}
+use Rattle.std.proofs.Common.{◌≡◌, ◌≤◌, ◌+◌, ◌++◌, ◌==◌, ℕ, zero, suc, Bool, true, false, cond, length, List, [], ◌∷◌, Option, Some, None, refl, sym, ap, ◌∙◌, subst, arith}
 use Rattle.std.specs.Prelude.{All, is_some, ◌||◌}
 use Rattle.std.specs.Cmp.Lexicographic.{pointwise}
 use Rattle.std.specs.List.{flat_map}
@@ -107,10 +107,10 @@ stable : (tables : TableDecls) → HasNoRing tables → (n : ℕ) (x : List ℕ)
     → preorder_within (suc n) tables x ≡ preorder_within (suc (suc n)) tables x
 stable tables ring zero x path above few =
     ap (λ xs. x ∷ xs) (flat_map-same (preorder_within zero tables) (preorder_within (suc zero) tables) (parents_of tables x)
-        (λ p m. absurd (omega (arith, left tables ring zero x path above few p m))))
+    (λ p m. absurd (omega (arith, left tables ring zero x path above few p m))))
 stable tables ring (suc n) x path above few =
     ap (λ xs. x ∷ xs) (flat_map-same (preorder_within (suc n) tables) (preorder_within (suc (suc n)) tables) (parents_of tables x)
-        (λ p m. stable tables ring n p (x ∷ path) (above_more tables x path above p m) (omega (arith, left tables ring (suc n) x path above few p m))))
+    (λ p m. stable tables ring n p (x ∷ path) (above_more tables x path above p m) (omega (arith, left tables ring (suc n) x path above few p m))))
 
 one_more : (n : ℕ) → n + 1 ≡ suc n
 one_more n = omega arith

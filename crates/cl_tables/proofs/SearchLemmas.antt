@@ -1,10 +1,10 @@
 -- The search for a ring: what is visited is reached, and once nothing waits, all that is reached was visited.
 use Rattle.std.proofs.Common.{◌≡◌, ◌≤◌, ◌<◌, ◌+◌, ◌++◌, ◌==◌, ℕ, zero, suc, Bool, true, false, cond, length, drop, drop-cons, get_or, reverse, List, [], ◌∷◌, Option, Some, None, refl, sym, ap, ◌∙◌, subst, inl, inr, arith}
-use Rattle.std.specs.Prelude.{All, ◌⊎◌, ◌||◌, is_some, if◌then◌else◌}
+use Rattle.std.specs.Prelude.{◌⊎◌, ◌||◌, is_some, if◌then◌else◌}
 use Rattle.std.specs.Cmp.Lexicographic.{pointwise}
 use Rattle.std.specs.Str.{bytes_eq}
 use Rattle.std.proofs.lemmas.List.{reverse-append, length-append, length-reverse, drop_all}
-use Rattle.std.proofs.lemmas.List.Elements.{All-nil, All-cons, All-head, All-tail, All-get_or}
+use Rattle.std.proofs.lemmas.List.Elements.{All-get_or}
 use Rattle.std.proofs.lemmas.Option.{slice_get-get_or}
 use Rattle.cl_table.specs.Names.{named, declared_at, declared_in, Differ, IsTable}
 use Rattle.cl_tables.specs.Clearing.{pending}
@@ -12,9 +12,8 @@ use Rattle.cl_tables.specs.Inheritance.{TableDecls, is_among, parents_by, parent
 use Rattle.cl_tables.specs.Rings.{Reaches, directly, through, IsOnRing, HasNoRing, IsFirstOnRing}
 use Rattle.cl_tables.specs.Walk.{Visits, is_visited, with_more, with_visit}
 use Rattle.cl_tables.specs.declared.declarations.TableDecl.{TableDecl}
-use Rattle.cl_tables.specs.declared.walk.Visited.{Visited}
-use Rattle.cl_tables.proofs.ClearingLemmas.{pending_less, pending_more, visited_by, visited_more, visited_last}
-use Rattle.cl_tables.proofs.NameLemmas.{same_name, own_name, has_last, is_among-append, among_left, among_right, among_head, among_tail}
+use Rattle.cl_tables.proofs.ClearingLemmas.{pending_less, pending_more, visited_more, visited_last}
+use Rattle.cl_tables.proofs.NameLemmas.{same_name, own_name, has_last, is_among-append, among_left, among_right, among_head}
 use Rattle.cl_tables.proofs.RingLemmas.{reaches_on}
 
 -- a table was visited, or waits
@@ -85,8 +84,8 @@ known_more : (tables : TableDecls) (visits : Visits) (items : List (List ℕ)) (
 known_more tables visits items y p known =
     either (λ v. inl (visited_more p (y, record { name = y }) visits v))
     (λ w. either (λ m. inr (among_left p items (reverse (parents_of tables y)) m))
-      (λ e. inl (subst (λ z. is_visited z (visits ++ (y, record { name = y }) ∷ []) ≡ true) (sym e) (visited_last y (record { name = y }) visits)))
-      (last_or_before p y items w))
+    (λ e. inl (subst (λ z. is_visited z (visits ++ (y, record { name = y }) ∷ []) ≡ true) (sym e) (visited_last y (record { name = y }) visits)))
+    (last_or_before p y items w))
     known
 
 search_visits : (tables : TableDecls) (x y : List ℕ) (visits : Visits) (items : List (List ℕ)) → Search tables x visits (items ++ y ∷ [])
@@ -102,7 +101,7 @@ search_visits tables x y visits items s =
       root = λ p m. known_more tables visits items y p (s.root p m);
       closed = λ v p k m. either (λ old. known_more tables visits items y p (s.closed v p old m))
           (λ same. inr (among_right p items (reverse (parents_of tables y))
-            (is_among-reverse p (parents_of tables y) ∙ subst (λ z. is_among p (parents_of tables z) ≡ true) (same_name v y same) m)))
+          (is_among-reverse p (parents_of tables y) ∙ subst (λ z. is_among p (parents_of tables z) ≡ true) (same_name v y same) m)))
           (or_true (is_visited v visits) (bytes_eq v y) (sym (has_last v (y, record { name = y }) visits) ∙ k));
     }
 
@@ -124,11 +123,16 @@ visit_left (Some d) tables y visits h new = omega (arith, pending_less tables y 
 
 falls_by : (b : Bool) (tables : TableDecls) (y : List ℕ) (visits : Visits) (items : List (List ℕ)) → is_visited y visits ≡ b
     → pending tables (if b then visits else visits ++ (y, record { name = y }) ∷ []) + length (with_more b items (reverse (parents_of tables y)))
-        < pending tables visits + length (items ++ y ∷ [])
+    < pending tables visits + length (items ++ y ∷ [])
 falls_by true tables y visits items h = omega (arith, length-append items (y ∷ []))
 falls_by false tables y visits items h =
-    omega (arith, length-append items (y ∷ []), length-append items (reverse (parents_of tables y)), length-reverse (parents_of tables y),
-      visit_left (named y tables) tables y visits refl h)
+    omega (
+      arith,
+      length-append items (y ∷ []),
+      length-append items (reverse (parents_of tables y)),
+      length-reverse (parents_of tables y),
+      visit_left (named y tables) tables y visits refl h,
+    )
 
 pub search_falls : (tables : TableDecls) (y : List ℕ) (visits : Visits) (items : List (List ℕ))
     → pending tables (with_visit y visits) + length (with_more (is_visited y visits) items (reverse (parents_of tables y))) < pending tables visits + length (items ++ y ∷ [])
@@ -204,12 +208,12 @@ parents_here tables place d h =
 pub first_goes_on : (tables : TableDecls) (place : ℕ) (d : TableDecl) → IsHere tables place d → (IsOnRing tables d.name → ⊥) → GoesOn tables place → GoesOn tables (place + 1)
 first_goes_on tables place d h off on r left =
     on r (subst (λ (es : TableDecls). IsFirstOnRing tables es r) (sym h.rest)
-      (past_one tables h.entry (drop (place + 1) tables) r (λ ring. off (subst (IsOnRing tables) h.own ring)) left))
+    (past_one tables h.entry (drop (place + 1) tables) r (λ ring. off (subst (IsOnRing tables) h.own ring)) left))
 
 pub first_stops : (tables : TableDecls) (place : ℕ) (d : TableDecl) → IsHere tables place d → IsOnRing tables d.name → GoesOn tables place → IsFirstOnRing tables tables (Some d.at)
 first_stops tables place d h ring on =
     on (Some d.at) (subst (λ (es : TableDecls). IsFirstOnRing tables es (Some d.at)) (sym h.rest)
-      (inl (subst (IsOnRing tables) (sym h.own) ring, ap (λ (t : TableDecl). t.at) h.is)))
+    (inl (subst (IsOnRing tables) (sym h.own) ring, ap (λ (t : TableDecl). t.at) h.is)))
 
 pub none_left : (tables : TableDecls) (place : ℕ) → length tables ≤ place → GoesOn tables place → IsFirstOnRing tables tables None
 none_left tables place l on = on None (subst (λ (es : TableDecls). IsFirstOnRing tables es None) (sym (drop_all place tables l)) tt)

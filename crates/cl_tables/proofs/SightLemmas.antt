@@ -1,8 +1,8 @@
 -- What a table sees, by its indexes.
-use Rattle.std.proofs.Common.{◌≡◌, ◌≤◌, ◌<◌, ◌+◌, ◌++◌, Bool, true, false, cond, ℕ, suc, List, [], ◌∷◌, length, get_or, take, Option, Some, None, refl, sym, ap, ◌∙◌, subst, arith}
-use Rattle.std.specs.Prelude.{All, is_some, option_map, ◌||◌, find, filter, map, max}
-use Rattle.std.specs.List.{flat_map, list_any}
-use Rattle.std.proofs.lemmas.List.Elements.{All-nil, All-cons, All-head, All-tail, All-append, All-weaker, All-map, All-more, All-filter, All-get_or}
+use Rattle.std.proofs.Common.{◌≡◌, ◌≤◌, ◌<◌, ◌+◌, Bool, true, false, cond, ℕ, List, [], ◌∷◌, length, get_or, take, Option, Some, None, refl, subst, arith}
+use Rattle.std.specs.Prelude.{All, is_some, option_map, ◌||◌, find, filter}
+use Rattle.std.specs.List.{list_any}
+use Rattle.std.proofs.lemmas.List.Elements.{All-nil, All-append, All-weaker, All-map, All-more, All-filter}
 use Rattle.cl_tables.specs.Accessible.{CommandPlaces, commands_of, commands_in, stands_in}
 use Rattle.cl_tables.specs.Indexes.{AreWithin}
 use Rattle.cl_tables.specs.declared.declarations.CommandPlace.{CommandPlace}

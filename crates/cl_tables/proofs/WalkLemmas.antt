@@ -1,15 +1,14 @@
 -- The walk that finds the inheritance order.
-use Rattle.std.proofs.Common.{◌≡◌, ◌≤◌, ◌<◌, ◌+◌, ◌++◌, ◌==◌, ℕ, zero, suc, Bool, true, false, length, reverse, List, [], ◌∷◌, refl, sym, ap, ◌∙◌, subst, inl, inr, arith}
+use Rattle.std.proofs.Common.{◌≡◌, ◌<◌, ◌+◌, ◌++◌, ℕ, zero, suc, Bool, true, false, length, reverse, List, [], ◌∷◌, refl, sym, ap, ◌∙◌, subst, inl, inr, arith}
 use Rattle.std.specs.Prelude.{All, ◌⊎◌, ◌||◌, if◌then◌else◌}
 use Rattle.std.specs.List.{flat_map}
 use Rattle.std.specs.Str.{bytes_eq}
 use Rattle.std.proofs.lemmas.List.{reverse-append, reverse-reverse, length-append}
-use Rattle.std.proofs.lemmas.List.Elements.{All-nil, All-cons, All-head, All-tail, All-append}
-use Rattle.cl_table.specs.Names.{named}
-use Rattle.cl_tables.specs.Inheritance.{TableDecls, is_among, parents_of, preorder_within, preorder, inheritance, firsts}
-use Rattle.cl_tables.specs.Rings.{Reaches, directly, through, IsOnRing, HasNoRing}
+use Rattle.std.proofs.lemmas.List.Elements.{All-nil, All-cons, All-append}
+use Rattle.cl_tables.specs.Inheritance.{TableDecls, is_among, parents_of, preorder_within, preorder, inheritance}
+use Rattle.cl_tables.specs.Rings.{Reaches, directly, IsOnRing, HasNoRing}
 use Rattle.cl_tables.specs.Walk.{Visits, is_visited, with_more, with_visit}
-use Rattle.cl_tables.proofs.NameLemmas.{same_name, own_name, is_among-last, among_left, among_head, among_tail, unseen, unseen-nil, unseen-seen, unseen-new, unseen-all_seen, has_last}
+use Rattle.cl_tables.proofs.NameLemmas.{same_name, own_name, is_among-last, among_left, among_head, among_tail, unseen, unseen-nil, unseen-new, unseen-all_seen, has_last}
 use Rattle.cl_tables.proofs.RingLemmas.{reaches_on, reaches_join, preorder_is}
 
 -- a name waits, and a table reaches all that wait before it
@@ -99,7 +98,7 @@ seen_within tables ring order x rest ahead h zero v f s = All-nil (λ y. is_amon
 seen_within tables ring order x rest ahead h (suc n) v f s =
     All-cons (λ y. is_among y order ≡ true) v (flat_map (preorder_within n tables) (parents_of tables v)) s
     (seen_each (preorder_within n tables) order (parents_of tables v)
-      (λ p m. seen_within tables ring order x rest ahead h n p (above p (from_more tables x v p f m)) (parent_seen tables ring order x rest ahead h v p f s m)))
+    (λ p m. seen_within tables ring order x rest ahead h n p (above p (from_more tables x v p f m)) (parent_seen tables ring order x rest ahead h v p f s m)))
 
 pub walk_skips : (tables : TableDecls) → HasNoRing tables → (root : List ℕ) (visits : Visits) (order : List (List ℕ)) (x : List ℕ) (rest : List (List ℕ))
     → is_visited x visits ≡ true → Walk tables root visits order (x ∷ rest) → Walk tables root visits order rest
@@ -196,7 +195,7 @@ walk_by false tables ring root visits order x items h w =
 pub walk_goes_on : (tables : TableDecls) → HasNoRing tables → (root : List ℕ) (visits : Visits) (order : List (List ℕ)) (x : List ℕ) (items : List (List ℕ))
     → Walk tables root visits order (reverse (items ++ x ∷ []))
     → Walk tables root (with_visit x visits) (with_more (is_visited x visits) order (x ∷ []))
-        (reverse (with_more (is_visited x visits) items (reverse (parents_of tables x))))
+    (reverse (with_more (is_visited x visits) items (reverse (parents_of tables x))))
 walk_goes_on tables ring root visits order x items w =
     walk_by (is_visited x visits) tables ring root visits order x items refl (subst (Walk tables root visits order) (front items x) w)
 
@@ -209,17 +208,17 @@ falls_by : (b : Bool) (tables : TableDecls) → HasNoRing tables → (x : List �
 falls_by true tables ring x items =
     let all : length (flat tables (x ∷ reverse items)) ≡ length (x ∷ flat tables (parents_of tables x ++ reverse items)) = ap length (flat-visit tables ring x (reverse items)) in
     let joined : length (flat tables (parents_of tables x ++ reverse items)) ≡ length (flat tables (parents_of tables x)) + length (flat tables (reverse items))
-        = ap length (flat_map-append (preorder tables) (parents_of tables x) (reverse items)) ∙ length-append (flat tables (parents_of tables x)) (flat tables (reverse items)) in
+    = ap length (flat_map-append (preorder tables) (parents_of tables x) (reverse items)) ∙ length-append (flat tables (parents_of tables x)) (flat tables (reverse items)) in
     omega (arith, all, joined)
 falls_by false tables ring x items =
     let all : length (flat tables (x ∷ reverse items)) ≡ length (x ∷ flat tables (parents_of tables x ++ reverse items)) = ap length (flat-visit tables ring x (reverse items)) in
     let same : length (flat tables (reverse (items ++ reverse (parents_of tables x)))) ≡ length (flat tables (parents_of tables x ++ reverse items))
-        = ap (λ xs. length (flat tables xs)) (pushed items (parents_of tables x)) in
+    = ap (λ xs. length (flat tables xs)) (pushed items (parents_of tables x)) in
     omega (arith, all, same)
 
 pub walk_falls : (tables : TableDecls) → HasNoRing tables → (visits : Visits) (x : List ℕ) (items : List (List ℕ))
     → length (flat_map (preorder tables) (reverse (with_more (is_visited x visits) items (reverse (parents_of tables x)))))
-        < length (flat_map (preorder tables) (reverse (items ++ x ∷ [])))
+    < length (flat_map (preorder tables) (reverse (items ++ x ∷ [])))
 walk_falls tables ring visits x items =
     subst (λ (xs : List (List ℕ)). length (flat tables (reverse (with_more (is_visited x visits) items (reverse (parents_of tables x))))) < length (flat tables xs))
     (sym (front items x)) (falls_by (is_visited x visits) tables ring x items)

@@ -1,6 +1,6 @@
 -- The accessible commands, in the inheritance order and then in the order of the text.
 use Rattle.std.specs.Prelude.{ℕ, Bool, List, map, filter}
-use Rattle.std.specs.List.{flat_map, list_any}
+use Rattle.std.specs.List.{flat_map}
 use Rattle.std.specs.Str.{bytes_eq}
 use Rattle.cl_tables.specs.Inheritance.{TableDecls, inheritance}
 use Rattle.cl_tables.specs.declared.declarations.CommandPlace.{CommandPlace}

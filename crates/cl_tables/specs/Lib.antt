@@ -4,6 +4,7 @@ pub mod Enabled
 pub mod Groups
 pub mod Indexes
 pub mod Inheritance
+pub mod Laws
 pub mod Lookups
 pub mod Rings
 pub mod Walk

@@ -1,5 +1,5 @@
 -- What a frame's command table sees, and what is looked up in it: the first of the accessible commands counts.
-use Rattle.std.specs.Prelude.{ℕ, ◌+◌, Bool, true, false, ◌&&◌, ◌==◌, max, List, [], ◌∷◌, length, take, drop, map, filter, find, Option, Some, None, option_map}
+use Rattle.std.specs.Prelude.{ℕ, Bool, true, false, ◌&&◌, ◌==◌, max, List, [], ◌∷◌, length, take, drop, map, filter, find, Option, Some, None, option_map}
 use Rattle.std.specs.List.{list_any}
 use Rattle.std.specs.Str.{bytes_eq, str_eq_ignore_ascii_case}
 use Rattle.cl_tables.specs.Accessible.{CommandPlaces, accessible_commands}

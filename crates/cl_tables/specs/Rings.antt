@@ -1,7 +1,6 @@
 -- Rings of command tables.
 use Rattle.std.specs.Prelude.{◌≡◌, ◌⊎◌, ℕ, true, List, [], ◌∷◌, Option, Some, None}
 use Rattle.cl_tables.specs.Inheritance.{TableDecls, is_among, parents_of}
-use Rattle.cl_tables.specs.declared.declarations.TableDecl.{TableDecl}
 
 -- from one table to another along parents
 pub data Reaches (tables : TableDecls) : List ℕ → List ℕ → Type 0 where

@@ -42,10 +42,7 @@ fn add_group(
     }
 }
 
-fn add_copies(
-    group: &[CommandPlace],
-    commands: &mut Vec<CommandPlace>,
-) -> Result<(), AllocError>
+fn add_copies(group: &[CommandPlace], commands: &mut Vec<CommandPlace>) -> Result<(), AllocError>
     ensures { OnOk result (commands.new.items ≡ commands.old.items ++ group.now) }
 {
     for command in group {
@@ -69,11 +66,7 @@ fn groups_of(alloc: Global, places: &Table<CommandPlace>) -> Result<Groups, Allo
 }
 
 // Puts a command behind the others of its table.
-fn add_command(
-    alloc: Global,
-    command: CommandPlace,
-    groups: &mut Groups,
-) -> Result<(), AllocError>
+fn add_command(alloc: Global, command: CommandPlace, groups: &mut Groups) -> Result<(), AllocError>
     ensures { OnOk result (AddsTo command groups.old.entries groups.new.entries) }
 {
     let table = command.table.copy()?;

@@ -7,11 +7,16 @@ mod enabled;
 mod groups;
 mod indexes;
 mod inheritance;
+mod laws;
 mod rings;
 mod tables;
 mod walk;
 
 pub use declarations::{CommandPlace, TableDecl};
 pub use enabled::Enabled;
+pub use laws::{
+    accessible_commands_stand_in_inherited_tables, last_switches_count, line_commands_are_longest,
+    preorder_follows_parents,
+};
 pub use rings::first_on_a_ring;
 pub use tables::Tables;

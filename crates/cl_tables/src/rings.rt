@@ -11,10 +11,7 @@ use cl_table::{Names, Table};
 use std::alloc::{AllocError, Global};
 
 /// The offset of the first declaration whose table is on a ring. Where there is none, no table is on a ring, declared or not.
-pub fn first_on_a_ring(
-    alloc: Global,
-    tables: &Table<TableDecl>,
-) -> Result<Option<u32>, AllocError>
+pub fn first_on_a_ring(alloc: Global, tables: &Table<TableDecl>) -> Result<Option<u32>, AllocError>
     ensures first { IfOk result (IsFirstOnRing tables.now tables.now) }
     ensures clear { IfOk result (λ first. IfNone first (HasNoRing tables.now)) }
 {

@@ -16,7 +16,7 @@ returns c =
     (pending c.args.tables.now c.add_first.new.self + length c.push_parents.new.steps.items ≤ pending c.args.tables.now c.args.entered.now + length c.args.steps.now.items)
     c.add_first.result
     (λ added. rw added (entered c.args.tables.now c.args.name c.in-Some.decl.now c.args.entered.now (length c.push_parents.new.steps.items) (length c.args.steps.now.items)
-      here
-      (ap is_some (rw c.as_slice.ensures at (sym c.get.ensures)) ∙ sym new ∙ c.if-is_some.false)
-      (omega (arith, c.in_ok-push_parents.ensures, grows, ap length c.as_slice-3.ensures))))
+    here
+    (ap is_some (rw c.as_slice.ensures at (sym c.get.ensures)) ∙ sym new ∙ c.if-is_some.false)
+    (omega (arith, c.in_ok-push_parents.ensures, grows, ap length c.as_slice-3.ensures))))
     c.add_first.ensures.ok

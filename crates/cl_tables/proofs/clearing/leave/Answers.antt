@@ -12,5 +12,5 @@ returns c =
     let clear = sym c.are_clear.ensures ∙ c.if-not-are_clear.false in
     on_ok (c.add_first.new.self ≡ with_visit c.args.name c.args.clear.now) (AreClear c.args.tables.now c.add_first.new.self) c.add_first.result
     (λ added. rw added (clear_more c.args.tables.now c.args.clear.now c.args.name c.requires
-      (ap (list_all (is_clear c.args.tables.now c.args.clear.now)) (parents ∙ sym c.as_slice-2.ensures) ∙ clear)))
+    (ap (list_all (is_clear c.args.tables.now c.args.clear.now)) (parents ∙ sym c.as_slice-2.ensures) ∙ clear)))
     c.add_first.ensures.ok

@@ -1,5 +1,4 @@
-use Rattle.std.proofs.Common.{reverse}
-use Rattle.cl_tables.proofs.WalkLemmas.{Walk, walk_begins, walk_goes_on, walk_falls}
+use Rattle.cl_tables.proofs.WalkLemmas.{walk_begins, walk_goes_on, walk_falls}
 use Rattle.cl_tables.proofs.inheritance.inheritance.Goals as goal
 
 pub loop-name-init : goal.loop-name-init
@@ -16,4 +15,4 @@ pub loop-name-preserved : goal.loop-name-preserved
 loop-name-preserved c =
     rw (c.in_ok-visit.ensures.waiting, c.in_ok-visit.ensures.order, c.in_ok-visit.ensures.visited)
     (walk_goes_on c.args.tables.now c.requires c.args.root.now c.loop-name.visited c.loop-name.order c.in-Some.name c.pop.new.self.items
-      (rw c.in-Some.ensures.items at c.loop-name.invariant))
+    (rw c.in-Some.ensures.items at c.loop-name.invariant))

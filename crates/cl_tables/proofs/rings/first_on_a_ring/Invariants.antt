@@ -1,4 +1,3 @@
-use Rattle.std.proofs.Common.{◌≡◌}
 use Rattle.cl_tables.proofs.SearchLemmas.{GoesOn}
 use Rattle.cl_tables.proofs.rings.first_on_a_ring.Given as goal
 

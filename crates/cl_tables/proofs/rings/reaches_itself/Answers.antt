@@ -1,6 +1,5 @@
 use Rattle.std.proofs.Common.{◌≡◌, ◌-◌, ◌++◌, ℕ, List, [], take, sym, ap, ◌∙◌, subst}
 use Rattle.std.specs.Prelude.{is_some}
-use Rattle.cl_tables.specs.Walk.{is_visited}
 use Rattle.cl_tables.proofs.SearchLemmas.{Search, search_begins, search_goes_on, search_falls, reached_is_visited}
 use Rattle.cl_tables.proofs.SightLemmas.{some_map}
 use Rattle.cl_tables.proofs.rings.reaches_itself.Goals as goal
@@ -26,7 +25,7 @@ returns c =
     let last : c.pop.new.self.items ≡ [] = c.in_default.ensures.rest ∙ ap (λ n. take (n - 1) c.loop-name.waiting.items) c.in_default.ensures.cases.0 in
     let empty : c.loop-name.waiting.items ≡ [] = c.in_default.ensures.items ∙ ap (λ (xs : List (List ℕ)). xs ++ []) last in
     let ended : Search c.args.tables.now c.args.decl.now.name c.loop-name.visited [] =
-        subst (Search c.args.tables.now c.args.decl.now.name c.loop-name.visited) empty c.loop-name.invariant in (
+    subst (Search c.args.tables.now c.args.decl.now.name c.loop-name.visited) empty c.loop-name.invariant in (
       λ reached. c.loop-name.invariant.visited c.args.decl.now.name (sym found ∙ reached),
       λ ring. found ∙ reached_is_visited c.args.tables.now c.args.decl.now.name c.loop-name.visited ended ring,
     )

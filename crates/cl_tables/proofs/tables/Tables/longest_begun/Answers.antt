@@ -1,5 +1,5 @@
-use Rattle.std.proofs.Common.{◌≡◌, ◌≤◌, ◌+◌, ◌-◌, ℕ, List, Option, sym, ap, ◌∙◌, length, take, arith}
-use Rattle.std.specs.Prelude.{find, option_map, is_some}
+use Rattle.std.proofs.Common.{◌≡◌, ◌-◌, ℕ, sym, ap, ◌∙◌, length, take, arith}
+use Rattle.std.specs.Prelude.{find, option_map}
 use Rattle.std.proofs.lemmas.List.{length-take-le}
 use Rattle.cl_tables.specs.Lookups.{begins_with}
 use Rattle.cl_tables.proofs.NamingLemmas.{found_is, goes_shorter, none_is, lowered_front}

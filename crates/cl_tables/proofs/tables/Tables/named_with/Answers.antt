@@ -1,4 +1,4 @@
-use Rattle.std.proofs.Common.{◌≡◌, sym, ap, ◌∙◌, length, drop}
+use Rattle.std.proofs.Common.{sym, ap, ◌∙◌, length}
 use Rattle.std.specs.Prelude.{find}
 use Rattle.cl_tables.specs.Lookups.{Sight, begins_with, ends_before}
 use Rattle.cl_tables.proofs.NamingLemmas.{found_by_key, none_ends, rest_of}
