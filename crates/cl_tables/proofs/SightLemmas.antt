@@ -3,7 +3,7 @@ use Rattle.std.proofs.Common.{◌≡◌, ◌≤◌, ◌<◌, ◌+◌, Bool, true
 use Rattle.std.specs.Prelude.{All, is_some, option_map, ◌||◌, find, filter}
 use Rattle.std.specs.List.{list_any}
 use Rattle.std.proofs.lemmas.List.Elements.{All-nil, All-append, All-weaker, All-map, All-more, All-filter}
-use Rattle.cl_tables.specs.Accessible.{CommandPlaces, commands_of, commands_in, stands_in}
+use Rattle.cl_tables.specs.Accessible.{AreShort, CommandPlaces, commands_of, commands_in, stands_in}
 use Rattle.cl_tables.specs.Indexes.{AreWithin}
 use Rattle.cl_tables.specs.declared.declarations.CommandPlace.{CommandPlace}
 
@@ -25,7 +25,7 @@ all_in : (P : CommandPlace → Type 0) (order : List (List ℕ)) (commands : Lis
 all_in P [] commands h = All-nil P
 all_in P (x ∷ xs) commands h = All-append P (filter (stands_in x) commands) (commands_in xs commands) (All-filter (stands_in x) P commands h) (all_in P xs commands h)
 
-pub short_in : (order : List (List ℕ)) (places : CommandPlaces) → All (λ e. length e.1.line_name ≤ 64) places → AreWithin 64 (commands_in order (commands_of places))
+pub short_in : (order : List (List ℕ)) (places : CommandPlaces) → AreShort places → AreWithin 64 (commands_in order (commands_of places))
 short_in order places h =
     all_in (λ c. length c.line_name ≤ 64) order (commands_of places) (All-map (λ (c : CommandPlace). length c.line_name ≤ 64) (λ (e : List ℕ × CommandPlace). e.1) places h)
 

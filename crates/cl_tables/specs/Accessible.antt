@@ -1,5 +1,5 @@
 -- The accessible commands, in the inheritance order and then in the order of the text.
-use Rattle.std.specs.Prelude.{ℕ, Bool, List, map, filter}
+use Rattle.std.specs.Prelude.{◌≤◌, ℕ, Bool, All, List, length, map, filter}
 use Rattle.std.specs.List.{flat_map}
 use Rattle.std.specs.Str.{bytes_eq}
 use Rattle.cl_tables.specs.Inheritance.{TableDecls, inheritance}
@@ -8,6 +8,10 @@ use Rattle.cl_tables.specs.declared.declarations.CommandPlace.{CommandPlace}
 -- the commands of a text, by name
 abbrev pub CommandPlaces : Type 0
 CommandPlaces = List (List ℕ × CommandPlace)
+
+-- no command-line name has more than 64 bytes
+abbrev pub AreShort : CommandPlaces → Type 0
+AreShort places = All (λ e. length e.1.line_name ≤ 64) places
 
 -- the commands in the order of the text
 abbrev pub commands_of : CommandPlaces → List CommandPlace

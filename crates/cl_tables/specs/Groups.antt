@@ -10,6 +10,7 @@ use Rattle.cl_tables.specs.declared.declarations.CommandPlace.{CommandPlace}
 abbrev pub Grouped : Type 0
 Grouped = List (List ℕ × Vec CommandPlace Global)
 
+-- the commands of a group, if there is one
 abbrev pub commands_there : Option (Vec CommandPlace Global) → List CommandPlace
 commands_there None = []
 commands_there (Some v) = v.items

@@ -14,9 +14,11 @@ key_of Name c = Some c.name
 key_of LineName c = Some (str_to_ascii_lowercase c.line_name)
 key_of Keystroke c = c.keystroke
 
+-- whether a command has this key
 abbrev pub has_key : Key → List ℕ → CommandPlace → Bool
 has_key kind x c = is_key x (key_of kind c)
 
+-- commands by their keys
 abbrev pub Index : Type 0
 Index = List (List ℕ × Keyed)
 

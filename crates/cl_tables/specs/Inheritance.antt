@@ -13,6 +13,7 @@ TableDecls = List (List ℕ × TableDecl)
 abbrev pub is_among : List ℕ → List (List ℕ) → Bool
 is_among x names = list_any (bytes_eq x) names
 
+-- the parents that a declaration names, if there is one
 abbrev pub parents_by : Option TableDecl → List (List ℕ)
 parents_by None = []
 parents_by (Some d) = d.inherit_from
@@ -30,6 +31,7 @@ preorder_within (suc n) tables x = x ∷ flat_map (preorder_within n tables) (pa
 unfoldable pub preorder : TableDecls → List ℕ → List (List ℕ)
 preorder tables x = preorder_within (length tables + 1) tables x
 
+-- whether two names differ
 abbrev pub is_other : List ℕ → List ℕ → Bool
 is_other x y = not (bytes_eq x y)
 

@@ -17,6 +17,7 @@ sight_of tables places root = record { order = inheritance tables root; commands
 
 -- ---- commands
 
+-- whether a command has this symbol
 abbrev pub is_named : List ℕ → CommandPlace → Bool
 is_named x c = bytes_eq x c.name
 
@@ -26,10 +27,12 @@ is_accessible x commands = list_any (is_named x) commands
 
 -- ---- keystrokes
 
+-- whether this is the key, if there is one
 abbrev pub is_key : List ℕ → Option (List ℕ) → Bool
 is_key x None = false
 is_key x (Some y) = bytes_eq x y
 
+-- whether a command has this keystroke
 abbrev pub has_stroke : List ℕ → CommandPlace → Bool
 has_stroke stroke c = is_key stroke c.keystroke
 
@@ -48,6 +51,7 @@ ends_before (b ∷ bs) = b == 32
 abbrev pub begins : List ℕ → CommandPlace → Bool
 begins line c = str_eq_ignore_ascii_case c.line_name (take (length c.line_name) line) && ends_before (drop (length c.line_name) line)
 
+-- the greatest of numbers; 0 of none
 abbrev pub greatest : List ℕ → ℕ
 greatest [] = 0
 greatest (n ∷ ns) = max n (greatest ns)

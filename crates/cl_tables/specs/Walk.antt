@@ -7,6 +7,7 @@ use Rattle.cl_tables.specs.declared.walk.Visited.{Visited}
 abbrev pub Visits : Type 0
 Visits = List (List ℕ × Visited)
 
+-- whether a table was visited
 abbrev pub is_visited : List ℕ → Visits → Bool
 is_visited x visits = is_some (named x visits)
 

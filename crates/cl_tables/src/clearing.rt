@@ -44,6 +44,7 @@ fn first_steps(alloc: Global, tables: &Table<TableDecl>) -> Result<Vec<Step>, Al
     Ok(steps)
 }
 
+// Takes a step of the walk.
 fn take_step(
     tables: &Table<TableDecl>,
     step: Step,
@@ -83,6 +84,7 @@ fn enter(
     entered.add_first(Visited { name })
 }
 
+// The parents of a table are to be entered.
 fn push_parents(parents: &[Text], steps: &mut Vec<Step>) -> Result<(), AllocError>
     ensures { OnOk result (length steps.new.items ≡ length steps.old.items + length parents.now) }
 {
@@ -122,6 +124,7 @@ fn are_clear(tables: &Table<TableDecl>, clear: &Table<Visited>, names: &[Text]) 
     true
 }
 
+// Whether a table is clear, or is not declared.
 fn is_clear(tables: &Table<TableDecl>, clear: &Table<Visited>, name: &[u8]) -> bool
     ensures { result ≡ is_clear tables.now clear.now name.now }
 {

@@ -1,7 +1,8 @@
 //! Command tables and commands as a text declares them.
-ghost use Rattle.std.specs.Prelude.{◌≡◌, IfOk};
+ghost use Rattle.std.specs.Prelude.{◌≡◌, ◌↔◌, IfOk, IsTrue};
+ghost use Rattle.cl_tables.specs.Accessible.{AreShort};
 
-use cl_table::{Declared, Names};
+use cl_table::{Declared, Names, Table};
 use cl_value::Text;
 use std::alloc::AllocError;
 
@@ -38,6 +39,21 @@ impl CommandPlace {
             keystroke,
         })
     }
+}
+
+/// Whether no command-line name has more than 64 bytes.
+pub fn names_are_short(places: &Table<CommandPlace>) -> bool
+    ensures { IsTrue result ↔ AreShort places.now }
+{
+    for place in 0..places.len() {
+        let Some(command) = places.at(place) else {
+            unreachable!()
+        };
+        if command.line_name.as_slice().len() > 64 {
+            return false;
+        }
+    }
+    true
 }
 
 impl Declared for TableDecl {

@@ -68,6 +68,7 @@ impl Enabled {
     }
 }
 
+// Adds a command, enabled.
 fn add_enabled(command: &Text, states: &mut IndexMap<Text, bool>) -> Result<(), AllocError>
     ensures { OnOk result (Enables command.now states.old.entries states.new.entries) }
 {

@@ -42,6 +42,7 @@ fn add_group(
     }
 }
 
+// Puts commands behind the others.
 fn add_copies(group: &[CommandPlace], commands: &mut Vec<CommandPlace>) -> Result<(), AllocError>
     ensures { OnOk result (commands.new.items ≡ commands.old.items ++ group.now) }
 {

@@ -58,6 +58,7 @@ pub(crate) fn command_under<'a>(index: &'a Index, key: &[u8]) -> Option<&'a Comm
     }
 }
 
+// Puts a command under its key, where none stands there.
 fn add_command(
     alloc: Global,
     kind: Key,

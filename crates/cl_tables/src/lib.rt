@@ -10,9 +10,11 @@ mod inheritance;
 mod laws;
 mod rings;
 mod tables;
+#[cfg(test)]
+mod tests;
 mod walk;
 
-pub use declarations::{CommandPlace, TableDecl};
+pub use declarations::{CommandPlace, TableDecl, names_are_short};
 pub use enabled::Enabled;
 pub use laws::{
     accessible_commands_stand_in_inherited_tables, last_switches_count, line_commands_are_longest,

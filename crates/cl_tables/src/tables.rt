@@ -1,6 +1,7 @@
 //! What a frame's command table sees.
-ghost use Rattle.std.specs.Prelude.{◌≡◌, ◌≤◌, ◌<◌, ◌↔◌, All, IfOk, IsTrue, ◌+◌, find, length, max, option_map, take};
+ghost use Rattle.std.specs.Prelude.{◌≡◌, ◌≤◌, ◌<◌, IfOk, IsTrue, ◌+◌, find, length, max, option_map, take};
 ghost use Rattle.std.specs.Str.{str_to_ascii_lowercase};
+ghost use Rattle.cl_tables.specs.Accessible.{AreShort};
 ghost use Rattle.cl_tables.specs.Indexes.{AreWithin, BeginWithin};
 ghost use Rattle.cl_tables.specs.Lookups.{begins_with, ends_before, is_accessible, line_command, sight_of, stroke_command, symbol_and_length};
 ghost use Rattle.cl_tables.specs.Rings.{HasNoRing};
@@ -48,7 +49,7 @@ impl Tables {
         root: &[u8],
     ) -> Result<Tables, AllocError>
         requires no_ring { HasNoRing tables.now }
-        requires short { All (λ e. length e.1.line_name ≤ 64) places.now }
+        requires short { AreShort places.now }
         ensures { IfOk result (λ t. t ≡ sight_of tables.now places.now root.now) }
     {
         let order = inheritance(alloc, tables, root)?;
