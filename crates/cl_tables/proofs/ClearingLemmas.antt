@@ -36,7 +36,8 @@ all_clear : (p : List ℕ → Bool) (x : List ℕ) (xs : List (List ℕ)) → li
 all_clear p x [] h m = cc
 all_clear p x (y ∷ ys) h m = by (bytes_eq x y) (p y) refl refl h m (λ k n. all_clear p x ys k n)
   where
-    by : (b c : Bool) → bytes_eq x y ≡ b → p y ≡ c → (c && list_all p ys) ≡ true → (b || is_among x ys) ≡ true → (list_all p ys ≡ true → is_among x ys ≡ true → p x ≡ true) → p x ≡ true
+    by : (b c : Bool) → bytes_eq x y ≡ b → p y ≡ c → (c && list_all p ys) ≡ true → (b || is_among x ys) ≡ true
+        → (list_all p ys ≡ true → is_among x ys ≡ true → p x ≡ true) → p x ≡ true
     by b false e f k n rest = cc
     by true true e f k n rest = ap p (same_name x y e) ∙ f
     by false true e f k n rest = rest k n
@@ -116,7 +117,8 @@ pub on_ok : {A E : Type 0} (P Q : Type 0) (r : Result A E) → (P → Q) → OnO
 on_ok P Q (Ok a) f h = f h
 on_ok P Q (Err e) f h = h
 
-pub entered : (ts : TableDecls) (x : List ℕ) (d : TableDecl) (old : Visits) (more less : ℕ) → named x ts ≡ Some d → is_visited x old ≡ false → more ≤ less + length d.inherit_from + 1
+pub entered : (ts : TableDecls) (x : List ℕ) (d : TableDecl) (old : Visits) (more less : ℕ) → named x ts ≡ Some d → is_visited x old ≡ false
+    → more ≤ less + length d.inherit_from + 1
     → pending ts (with_visit x old) + more ≤ pending ts old + less
 entered ts x d old more less h new grows =
     let is : with_visit x old ≡ old ++ (x, record { name = x }) ∷ [] = ap (λ b. if b then old else old ++ (x, record { name = x }) ∷ []) new in

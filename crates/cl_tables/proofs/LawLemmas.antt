@@ -173,7 +173,8 @@ line_command_is line cs = by (line_command line cs) refl
 -- ---- switches
 
 lookup_set : (x y : List ℕ) (on : Bool) (states : States)
-    → lookup (pointwise ◌==◌ x) (with_switch y on states) ≡ (if bytes_eq x y then option_map (λ (b : Bool). on) (lookup (pointwise ◌==◌ x) states) else lookup (pointwise ◌==◌ x) states)
+    → lookup (pointwise ◌==◌ x) (with_switch y on states)
+    ≡ (if bytes_eq x y then option_map (λ (b : Bool). on) (lookup (pointwise ◌==◌ x) states) else lookup (pointwise ◌==◌ x) states)
 lookup_set x y on [] = by (bytes_eq x y)
   where
     by : (b : Bool) → None ≡ (if b then option_map (λ (c : Bool). on) None else None)
@@ -195,7 +196,8 @@ lookup_set x y on (e ∷ es) = by (bytes_eq y e.0) (bytes_eq x e.0) refl refl (l
     by false false f g rest = rw g rest
 
 switched_by : (b : Bool) (on : Bool) (o : Option Bool) → is_some o ≡ true
-    → (is_some (if b then option_map (λ (c : Bool). on) o else o) ≡ true) × (unwrap_or (if b then option_map (λ (c : Bool). on) o else o) false ≡ (if b then on else unwrap_or o false))
+    → (is_some (if b then option_map (λ (c : Bool). on) o else o) ≡ true)
+    × (unwrap_or (if b then option_map (λ (c : Bool). on) o else o) false ≡ (if b then on else unwrap_or o false))
 switched_by b on None h = cc
 switched_by true on (Some c) h = (refl, refl)
 switched_by false on (Some c) h = (refl, refl)

@@ -1,5 +1,6 @@
 -- The search for a ring: what is visited is reached, and once nothing waits, all that is reached was visited.
-use Rattle.std.proofs.Common.{◌≡◌, ◌≤◌, ◌<◌, ◌+◌, ◌++◌, ◌==◌, ℕ, zero, suc, Bool, true, false, cond, length, drop, drop-cons, get_or, reverse, List, [], ◌∷◌, Option, Some, None, refl, sym, ap, ◌∙◌, subst, inl, inr, arith}
+use Rattle.std.proofs.Common.{◌≡◌, ◌≤◌, ◌<◌, ◌+◌, ◌++◌, ◌==◌, ℕ, zero, suc, Bool, true, false, cond, length, drop, drop-cons, get_or, reverse}
+use Rattle.std.proofs.Common.{List, [], ◌∷◌, Option, Some, None, refl, sym, ap, ◌∙◌, subst, inl, inr, arith}
 use Rattle.std.specs.Prelude.{◌⊎◌, ◌||◌, is_some, if◌then◌else◌}
 use Rattle.std.specs.Cmp.Lexicographic.{pointwise}
 use Rattle.std.specs.Str.{bytes_eq}
@@ -63,7 +64,8 @@ search_begins tables x parents is =
 
 last_or_before : (p x : List ℕ) (items : List (List ℕ)) → is_among p (items ++ x ∷ []) ≡ true → (is_among p items ≡ true) ⊎ (p ≡ x)
 last_or_before p x items h =
-    either inl (λ last. either (λ e. inr (same_name p x e)) (λ no_more. cc) (among-cons p x [] last)) (or_true (is_among p items) (is_among p (x ∷ [])) (sym (is_among-append p items (x ∷ [])) ∙ h))
+    either inl (λ last. either (λ e. inr (same_name p x e)) (λ no_more. cc) (among-cons p x [] last))
+    (or_true (is_among p items) (is_among p (x ∷ [])) (sym (is_among-append p items (x ∷ [])) ∙ h))
 
 known_seen : (visits : Visits) (items : List (List ℕ)) (x p : List ℕ) → is_visited x visits ≡ true → IsKnown visits (items ++ x ∷ []) p → IsKnown visits items p
 known_seen visits items x p h known =

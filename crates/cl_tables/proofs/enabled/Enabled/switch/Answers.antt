@@ -14,5 +14,6 @@ returns c =
       | in_default w ↦
           let absent = sym c.get_mut.ensures.value ∙ ap option_copied_mut w.in_default.is in
           rw w.self-inside-is (ap (λ m. m.entries) c.get_mut.follows.holds-at-none ∙ c.self.view_is
-          ∙ sym (set_value-absent (pointwise ◌==◌ c.args.command.now) c.args.self.now c.args.on (ap (λ es. lookup (pointwise ◌==◌ c.args.command.now) es) (sym c.self.view_is) ∙ absent)))
+          ∙ sym (set_value-absent (pointwise ◌==◌ c.args.command.now) c.args.self.now c.args.on
+          (ap (λ es. lookup (pointwise ◌==◌ c.args.command.now) es) (sym c.self.view_is) ∙ absent)))
     ]
