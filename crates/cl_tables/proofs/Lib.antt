@@ -2,6 +2,7 @@ mod ClearingLemmas
 mod CommandLemmas
 mod EnabledLemmas
 mod IndexLemmas
+mod InheritedLemmas
 mod LawLemmas
 mod NameLemmas
 mod NamingLemmas

@@ -1,9 +1,14 @@
 -- What the definitions mean, in the words of the language.
-use Rattle.std.specs.Prelude.{◌≡◌, ◌≤◌, ℕ, Bool, true, false, if◌then◌else◌, All, List, [], ◌∷◌, length, Option, Some, None}
+use Rattle.std.specs.Prelude.{◌≡◌, ◌≤◌, ◌⊎◌, ℕ, Bool, true, false, if◌then◌else◌, All, List, [], ◌∷◌, length, Option, Some, None}
 use Rattle.std.specs.Str.{bytes_eq}
-use Rattle.cl_tables.specs.Inheritance.{is_among}
+use Rattle.cl_tables.specs.Inheritance.{TableDecls, is_among}
 use Rattle.cl_tables.specs.Lookups.{begins}
+use Rattle.cl_tables.specs.Rings.{Reaches}
 use Rattle.cl_tables.specs.declared.declarations.CommandPlace.{CommandPlace}
+
+-- the table itself, or one that it reaches along parents
+abbrev pub IsInherited : TableDecls → List ℕ → List ℕ → Type 0
+IsInherited tables x y = (x ≡ y) ⊎ Reaches tables x y
 
 -- a command that is declared, in a table of this order
 abbrev pub stands_among : List (List ℕ) → Option CommandPlace → Bool

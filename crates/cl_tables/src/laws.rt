@@ -1,13 +1,13 @@
 //! What the definitions mean. The contracts are the laws.
-ghost use Rattle.std.specs.Prelude.{◌≡◌, ◌==◌, ◌∷◌, ℕ, Bool, List, is_some, true};
+ghost use Rattle.std.specs.Prelude.{◌≡◌, ◌↔◌, ◌==◌, ◌∷◌, ℕ, Bool, List, is_some, true};
 ghost use Rattle.std.specs.Cmp.Lexicographic.{pointwise};
 ghost use Rattle.std.specs.List.{flat_map};
 ghost use Rattle.std.specs.Map.{lookup};
 ghost use Rattle.cl_table.specs.Names.{IsTable, named};
 ghost use Rattle.cl_tables.specs.Accessible.{CommandPlaces, accessible_commands};
 ghost use Rattle.cl_tables.specs.Enabled.{States, is_enabled, with_switches};
-ghost use Rattle.cl_tables.specs.Inheritance.{TableDecls, inheritance, parents_of, preorder};
-ghost use Rattle.cl_tables.specs.Laws.{IsCommandOf, last_switch, stands_among};
+ghost use Rattle.cl_tables.specs.Inheritance.{TableDecls, inheritance, is_among, parents_of, preorder};
+ghost use Rattle.cl_tables.specs.Laws.{IsCommandOf, IsInherited, last_switch, stands_among};
 ghost use Rattle.cl_tables.specs.Lookups.{is_accessible, line_command};
 ghost use Rattle.cl_tables.specs.Rings.{HasNoRing};
 ghost use Rattle.cl_tables.specs.declared.declarations.CommandPlace.{CommandPlace};
@@ -17,6 +17,12 @@ ghost use Rattle.cl_tables.specs.declared.declarations.CommandPlace.{CommandPlac
 pub fn preorder_follows_parents()
     ensures { (tables : TableDecls) → HasNoRing tables → (x : List ℕ)
         → preorder tables x ≡ x ∷ flat_map (preorder tables) (parents_of tables x) }
+{}
+
+/// Where no table is on a ring, the inheritance order of a table has that table and those that it reaches, and no others.
+pub fn inherited_tables_are_reached()
+    ensures { (tables : TableDecls) → HasNoRing tables → (x y : List ℕ)
+        → (is_among y (inheritance tables x) ≡ true) ↔ IsInherited tables x y }
 {}
 
 /// A command is accessible exactly where it is declared in a table of the inheritance order.

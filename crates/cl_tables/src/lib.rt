@@ -17,8 +17,8 @@ mod walk;
 pub use declarations::{CommandPlace, TableDecl, names_are_short};
 pub use enabled::Enabled;
 pub use laws::{
-    accessible_commands_stand_in_inherited_tables, last_switches_count, line_commands_are_longest,
-    preorder_follows_parents,
+    accessible_commands_stand_in_inherited_tables, inherited_tables_are_reached,
+    last_switches_count, line_commands_are_longest, preorder_follows_parents,
 };
 pub use rings::first_on_a_ring;
 pub use tables::Tables;
