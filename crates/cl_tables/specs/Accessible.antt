@@ -3,15 +3,16 @@ use Rattle.std.specs.Prelude.{◌≤◌, ℕ, Bool, All, List, length, map, filt
 use Rattle.std.specs.List.{flat_map}
 use Rattle.std.specs.Str.{bytes_eq}
 use Rattle.cl_tables.specs.Inheritance.{TableDecls, inheritance}
+use Rattle.cl_tables.specs.declared.declarations.TheConstants.{MAX_LINE_NAME}
 use Rattle.cl_tables.specs.declared.declarations.CommandPlace.{CommandPlace}
 
 -- the commands of a text, by name
 abbrev pub CommandPlaces : Type 0
 CommandPlaces = List (List ℕ × CommandPlace)
 
--- no command-line name has more than 64 bytes
+-- no command-line name is longer than allowed
 abbrev pub AreShort : CommandPlaces → Type 0
-AreShort places = All (λ e. length e.1.line_name ≤ 64) places
+AreShort places = All (λ e. length e.1.line_name ≤ MAX_LINE_NAME) places
 
 -- the commands in the order of the text
 abbrev pub commands_of : CommandPlaces → List CommandPlace

@@ -6,6 +6,9 @@ use cl_table::{Declared, Names, Table};
 use cl_value::Text;
 use std::alloc::AllocError;
 
+/// How many bytes a command-line name has at most.
+pub const MAX_LINE_NAME: usize = 64;
+
 /// `(define-command-table NAME :inherit-from (TABLE ...))`. `at` is its offset in the text in bytes.
 #[derive(Drop)]
 pub struct TableDecl {
@@ -41,7 +44,7 @@ impl CommandPlace {
     }
 }
 
-/// Whether no command-line name has more than 64 bytes.
+/// Whether no command-line name is longer than allowed.
 pub fn names_are_short(places: &Table<CommandPlace>) -> bool
     ensures { IsTrue result ↔ AreShort places.now }
 {
@@ -49,7 +52,7 @@ pub fn names_are_short(places: &Table<CommandPlace>) -> bool
         let Some(command) = places.at(place) else {
             unreachable!()
         };
-        if command.line_name.as_slice().len() > 64 {
+        if command.line_name.as_slice().len() > MAX_LINE_NAME {
             return false;
         }
     }

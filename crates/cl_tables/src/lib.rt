@@ -14,7 +14,7 @@ mod tables;
 mod tests;
 mod walk;
 
-pub use declarations::{CommandPlace, TableDecl, names_are_short};
+pub use declarations::{CommandPlace, MAX_LINE_NAME, TableDecl, names_are_short};
 pub use enabled::Enabled;
 pub use laws::{
     accessible_commands_stand_in_inherited_tables, inherited_tables_are_reached,

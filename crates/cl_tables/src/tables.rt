@@ -6,7 +6,7 @@ ghost use Rattle.cl_tables.specs.Indexes.{AreWithin, BeginWithin};
 ghost use Rattle.cl_tables.specs.Lookups.{begins_with, ends_before, is_accessible, line_command, sight_of, stroke_command, symbol_and_length};
 ghost use Rattle.cl_tables.specs.Rings.{HasNoRing};
 
-use crate::declarations::{CommandPlace, TableDecl};
+use crate::declarations::{CommandPlace, MAX_LINE_NAME, TableDecl};
 use crate::groups::commands_in;
 use crate::indexes::{Index, Key, command_under, index_of};
 use crate::inheritance::inheritance;
@@ -14,9 +14,6 @@ use cl_table::{Names, Table};
 use cl_value::Text;
 use std::alloc::{AllocError, Global};
 use std::marker::Model;
-
-/// How many bytes a command-line name has at most.
-const MOST_NAME: usize = 64;
 
 /// The command tables as one of them sees them: the tables in its inheritance order, and the accessible commands.
 #[derive(Drop)]
@@ -112,7 +109,7 @@ impl Tables {
     fn line_command(&self, line: &[u8]) -> Option<&CommandPlace>
         ensures { option_map (λ c. c.now) result ≡ line_command line.now self.now.commands }
     {
-        let mut letters = [0; MOST_NAME];
+        let mut letters = [0; MAX_LINE_NAME];
         let count = line.len().min(self.longest);
         letters[..count].copy_from_slice(&line[..count]);
         letters[..count].make_ascii_lowercase();
@@ -161,9 +158,9 @@ fn ends_before(rest: &[u8]) -> bool
 
 // The length of the longest name, in bytes.
 fn longest_name(commands: &[CommandPlace]) -> usize
-    requires { AreWithin 64 commands.now }
+    requires { AreWithin MAX_LINE_NAME commands.now }
     ensures within { AreWithin result commands.now }
-    ensures short { result ≤ 64 }
+    ensures short { result ≤ MAX_LINE_NAME }
 {
     let mut most = 0;
     for command in commands {
