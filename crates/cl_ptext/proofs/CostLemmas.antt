@@ -1,12 +1,12 @@
 -- The cost so far never falls where texts are put.
-use Rattle.std.proofs.Common.{◌≡◌, ◌≤◌, ℕ, ℤ, Bool, true, false, List, refl, arith}
-use Rattle.std.specs.Prelude.{◌++◌, Option, Some, None, Result, Err, if◌then◌else◌}
+use Rattle.std.proofs.Common.{ℕ, Bool, true, false, List, refl, arith}
+use Rattle.std.specs.Prelude.{◌++◌, Option, Some, None, Err, if◌then◌else◌}
 use Rattle.cl_application.specs.App.{present_method}
 use Rattle.cl_application.specs.declared.declarations.MethodDecl.{MethodDecl}
 use Rattle.cl_eval.proofs.CostLemmas.{Grows, cost-after, grows-then, grows-lift}
 use Rattle.cl_eval.specs.Agrees.{Agrees}
 use Rattle.cl_eval.specs.Meaning.{Go}
-use Rattle.cl_eval.specs.Outcome.{Outcome, Gives, Traps, Run, after, cost_of, give}
+use Rattle.cl_eval.specs.Outcome.{Run, give}
 use Rattle.cl_eval.specs.Slots.{Env}
 use Rattle.cl_eval.specs.declared.metering.Meter.{Meter}
 use Rattle.cl_eval.specs.declared.metering.Stop.{Stop}
@@ -14,7 +14,6 @@ use Rattle.cl_eval.specs.declared.metering.Stop.TheVariants as stop
 use Rattle.cl_lattice.specs.Expanded.{Expanded, ExpandedTypes}
 use Rattle.cl_lattice.specs.Expanded as type
 use Rattle.cl_lattice.specs.Members.{is_member, is_null, is_one_of}
-use Rattle.cl_print.specs.Plain.{plain_of}
 use Rattle.cl_syntax.specs.ExprTree.{ExprTree}
 use Rattle.cl_syntax.specs.TypeSpecTree.{TypeArgTrees, TypeSpecTree}
 use Rattle.cl_value.specs.Data.{Data, Items, bool, int, item, list, none, null, rec, symbol, text}

@@ -1,5 +1,5 @@
 -- Texts by themselves under other limits, and on other slots.
-use Rattle.std.proofs.Common.{◌≡◌, ◌≤◌, ◌+◌, ℕ, List, [], ◌∷◌, refl, arith}
+use Rattle.std.proofs.Common.{◌≡◌, ◌≤◌, ◌+◌, ℕ, List, [], ◌∷◌, arith}
 use Rattle.std.specs.Prelude.{Some}
 use Rattle.cl_application.specs.App.{present_method}
 use Rattle.cl_application.specs.declared.declarations.MethodDecl.{MethodDecl}
@@ -8,7 +8,7 @@ use Rattle.cl_eval.proofs.NameLemmas.{same-means}
 use Rattle.cl_eval.specs.Meaning.{means}
 use Rattle.cl_eval.specs.Outcome.{Gives, after, give}
 use Rattle.cl_eval.specs.Slots.{Slots}
-use Rattle.cl_eval.specs.Uses.{AgreeOn, Uses}
+use Rattle.cl_eval.specs.Uses.{AgreeOn}
 use Rattle.cl_eval.specs.declared.metering.Limits.{Limits}
 use Rattle.cl_lattice.specs.Expanded.{Expanded}
 use Rattle.cl_syntax.specs.TypeSpecTree.{TypeSpecTree}

@@ -1,11 +1,11 @@
 -- A text that ends under some limits ends so under all limits that its cost and its reach do not pass.
-use Rattle.std.proofs.Common.{◌≡◌, ℕ, Bool, true, false, List, [], ◌∷◌, ◌++◌, refl, arith}
+use Rattle.std.proofs.Common.{ℕ, Bool, true, false, List, [], ◌∷◌, ◌++◌}
 use Rattle.std.specs.Prelude.{Option, Some, None}
 use Rattle.cl_application.specs.App.{present_method}
 use Rattle.cl_application.specs.declared.declarations.MethodDecl.{MethodDecl}
 use Rattle.cl_eval.proofs.LimitLemmas.{Goes, GoGoes, goes-give, goes-lift, goes-then, goes-choice}
 use Rattle.cl_eval.specs.Meaning.{Go}
-use Rattle.cl_eval.specs.Outcome.{Run, give, lift, ◌>>=◌}
+use Rattle.cl_eval.specs.Outcome.{give, lift}
 use Rattle.cl_lattice.specs.Expanded.{Expanded, ExpandedTypes}
 use Rattle.cl_lattice.specs.Expanded as type
 use Rattle.cl_lattice.specs.Members.{is_member, is_null, is_one_of}

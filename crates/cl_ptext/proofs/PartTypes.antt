@@ -7,7 +7,6 @@ use Rattle.cl_lattice.specs.Expanded.{user}
 use Rattle.cl_lattice.specs.Expansion.{declared_type, expand_parts, named_type, next_parts, next_spec, own_type}
 use Rattle.cl_lattice.specs.Laws.{AllFit}
 use Rattle.cl_lattice.specs.MemberRows.{parts_under}
-use Rattle.cl_lattice.specs.Rings.{IsUserType}
 use Rattle.cl_lattice.specs.World.{World, kind_named}
 use Rattle.cl_lattice.specs.declared.arguments.Bound.{Bound}
 use Rattle.cl_lattice.specs.declared.declared_types.TypeKind.TheVariants as kind

@@ -4,7 +4,7 @@ use Rattle.std.specs.Prelude.{Option, Some, None}
 use Rattle.cl_application.specs.App.{present_method}
 use Rattle.cl_application.specs.declared.declarations.MethodDecl.{MethodDecl}
 use Rattle.cl_eval.specs.Meaning.{Go}
-use Rattle.cl_eval.specs.Outcome.{Run, give, lift, ◌>>=◌}
+use Rattle.cl_eval.specs.Outcome.{give, lift, ◌>>=◌}
 use Rattle.cl_lattice.specs.Expanded.{Expanded, ExpandedTypes}
 use Rattle.cl_lattice.specs.Expanded as type
 use Rattle.cl_lattice.specs.Members.{is_member, is_null, is_one_of}

@@ -7,7 +7,6 @@ use Rattle.cl_lattice.specs.World.{World, kind_named}
 use Rattle.cl_lattice.specs.declared.declared_types.TypeKind.{TypeKind}
 use Rattle.cl_lattice.specs.declared.declared_types.TypeKind.TheVariants as kind
 use Rattle.cl_syntax.specs.TypeSpecTree.{TypeSpecTree, specifier, plain_type, TypeArgTrees, none}
-use Rattle.cl_syntax.specs.declared.type_specs.TypeOptions.{TypeOptions}
 
 pub record Book : Type 0 where
   pub app : App

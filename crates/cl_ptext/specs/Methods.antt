@@ -1,7 +1,7 @@
 -- Predicates, present methods and accept methods: what the evaluator gives for them. Predicates and accept methods run on a counter of their own.
-use Rattle.std.specs.Prelude.{ℕ, Bool, true, false, List, [], ◌∷◌, Option, Some, None, Result, Ok, Err}
+use Rattle.std.specs.Prelude.{ℕ, Bool, false, List, [], ◌∷◌, Result, Ok, Err}
 use Rattle.cl_value.specs.Data.{Data, Items, none, item, bool, int, list, null, rec, symbol, text}
-use Rattle.cl_application.specs.App.{function_named, present_method, accept_method}
+use Rattle.cl_application.specs.App.{function_named}
 use Rattle.cl_application.specs.declared.applications.App.{App}
 use Rattle.cl_application.specs.declared.declarations.MethodDecl.{MethodDecl}
 use Rattle.cl_eval.specs.Meaning.{Go, call_function, means}

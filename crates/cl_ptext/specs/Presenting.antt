@@ -1,5 +1,5 @@
 -- Texts and readings by the program's parts.
-use Rattle.std.specs.Prelude.{ℕ, ◌++◌, Bool, List, [], Option, Some, None, Result, if◌then◌else◌, map}
+use Rattle.std.specs.Prelude.{ℕ, ◌++◌, Bool, List, [], Option, Result, if◌then◌else◌}
 use Rattle.cl_application.specs.App.{accept_method, present_method}
 use Rattle.cl_application.specs.declared.declarations.MethodDecl.{MethodDecl}
 use Rattle.cl_eval.specs.Agrees.{Agrees, always}
@@ -82,12 +82,13 @@ first_by entries p ts args d = text_by_first (book_of entries p.book.now) (meani
 abbrev pub method_by : {H : Type 0} → Presenter H → MethodDecl → Data → Writes
 method_by p m d out = presented (meaning_at p.here.now) p.here.now.level m d >>= λ x. give (out ++ x)
 
--- by the present method of a type, else in the other way
+-- by the present method of a user type, else by what it inherits from
 abbrev pub user_by : {H : Type 0} → (H → List ℕ → NameEntries) → Presenter H → List ℕ → Expanded → TypeSpecTree → Data → Writes
 user_by entries p x t s d = method_or (meaning_at p.here.now) p.here.now.level (present_method x p.book.now.app.now) (text_by entries p t s) d
 
-abbrev pub user_plain : {H : Type 0} → Presenter H → List ℕ → Data → Writes
-user_plain p x d = method_or (meaning_at p.here.now) p.here.now.level (present_method x p.book.now.app.now) plain d
+-- by the present method of a record, else the plain form
+abbrev pub record_by : {H : Type 0} → Presenter H → List ℕ → Data → Writes
+record_by p x d = method_or (meaning_at p.here.now) p.here.now.level (present_method x p.book.now.app.now) plain d
 
 -- ---- readings
 
@@ -121,7 +122,7 @@ some_read entries r ts args x = read_by_some (book_of entries r.book.now) r.slot
 abbrev pub first_read : {H : Type 0} → (H → List ℕ → NameEntries) → Reader H → ExpandedTypes → TypeArgTrees → Reads
 first_read entries r ts args x = read_by_first (book_of entries r.book.now) r.slots.now ts args x
 
--- by the accept method of a type, else in the other way
+-- by the accept method of a user type, else by what it inherits from
 abbrev pub user_read : {H : Type 0} → (H → List ℕ → NameEntries) → Reader H → List ℕ → Expanded → TypeSpecTree → Reads
 user_read entries r n t s x = method_read (book_of entries r.book.now) r.slots.now (accept_method n r.book.now.app.now) (reading_by entries r t s) x
 

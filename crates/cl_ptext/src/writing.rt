@@ -8,7 +8,7 @@ ghost use Rattle.cl_syntax.specs.StandardTypes.{standard_named};
 ghost use Rattle.cl_syntax.specs.TypeSpecTree.{name_of};
 ghost use Rattle.cl_value.specs.Value.{data_of, parts_of};
 ghost use Rattle.cl_ptext.specs.Book.{inner_spec, separator_of};
-ghost use Rattle.cl_ptext.specs.Presenting.{WritesAs, beside_by, declared_in, expanded, first_by, inherited_by, method_by, parts_in, sequence_by, some_by, standard_in, text_by, user_by, user_plain};
+ghost use Rattle.cl_ptext.specs.Presenting.{WritesAs, beside_by, declared_in, expanded, first_by, inherited_by, method_by, parts_in, sequence_by, some_by, standard_in, text_by, user_by, record_by};
 ghost use Rattle.cl_ptext.specs.Texts.{each_joined};
 
 use crate::books::TypeBook;
@@ -291,7 +291,7 @@ impl<H: Hosts> Presenter<'_, H> {
         steps: &mut Steps<L>,
     ) -> Result<(), Stop>
         requires { self.now.here.now.level + self.now.here.now.left < 2 ^ 32 }
-        ensures text { WritesAs result writing.old writing.new (user_plain self.now name.now (data_of value.now)) }
+        ensures text { WritesAs result writing.old writing.new (record_by self.now name.now (data_of value.now)) }
         ensures ledger { steps.new + writing.old.meter.cost ≡ steps.old + writing.new.meter.cost }
     {
         match self.book.app.present_method(name) {

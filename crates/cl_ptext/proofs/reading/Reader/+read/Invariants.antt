@@ -1,5 +1,5 @@
-use Rattle.std.proofs.Common.{◌≡◌, ◌+◌, ◌*◌, [], length, map}
-use Rattle.std.specs.Prelude.{Option, Some, None, ℕ, List, option_map}
+use Rattle.std.proofs.Common.{◌≡◌, ◌+◌, ◌*◌, [], map}
+use Rattle.std.specs.Prelude.{option_map}
 use Rattle.cl_value.specs.Value.{data_of}
 use Rattle.cl_lattice.specs.Expanded.{weight, weight_all}
 use Rattle.cl_lattice.specs.MemberRows.{parts_under}

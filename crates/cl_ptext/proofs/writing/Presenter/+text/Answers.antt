@@ -1,5 +1,5 @@
 use Rattle.std.proofs.Common.{rules, ◌≡◌, ◌+◌, ◌*◌, ◌<◌, ◌∷◌, suc, drop, drop-cons, arith, ap, sym, ◌∙◌}
-use Rattle.std.specs.Prelude.{Some, true}
+use Rattle.std.specs.Prelude.{Some}
 use Rattle.std.proofs.lemmas.Result.{err_from_is_err_and}
 use Rattle.cl_eval.proofs.CostLemmas.{grows-at}
 use Rattle.cl_eval.specs.Agrees.{always}

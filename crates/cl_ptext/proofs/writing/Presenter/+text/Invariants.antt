@@ -1,6 +1,5 @@
-use Rattle.std.proofs.Common.{◌≡◌, ◌+◌, ◌*◌, [], ◌<◌, ◌^◌, drop, true}
+use Rattle.std.proofs.Common.{◌≡◌, ◌+◌, ◌*◌, [], drop, true}
 use Rattle.cl_value.specs.Value.{parts_of}
-use Rattle.cl_lattice.specs.Arguments.{trees_of}
 use Rattle.cl_lattice.specs.Expanded.{weight, weight_all}
 use Rattle.cl_lattice.specs.MemberRows.{parts_under}
 use Rattle.cl_lattice.specs.Weights.{first_weight}

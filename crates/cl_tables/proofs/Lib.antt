@@ -1,0 +1,12 @@
+mod ClearingLemmas
+mod CommandLemmas
+mod EnabledLemmas
+mod IndexLemmas
+mod InheritedLemmas
+mod LawLemmas
+mod NameLemmas
+mod NamingLemmas
+mod RingLemmas
+mod SearchLemmas
+mod SightLemmas
+mod WalkLemmas

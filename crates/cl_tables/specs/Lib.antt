@@ -1,0 +1,10 @@
+pub mod Accessible
+pub mod Clearing
+pub mod Enabled
+pub mod Groups
+pub mod Indexes
+pub mod Inheritance
+pub mod Laws
+pub mod Lookups
+pub mod Rings
+pub mod Walk
