@@ -31,13 +31,16 @@ plain-rises d out c l = omega arith
 
 pub joined-rises : (first : Bool) (s : ℕ) (write : Data → Writes) → Rising write → (ds : Items) (out : List ℕ) → Grows (each_joined first s write ds out)
 joined-rises first s write g none out c l = omega arith
-joined-rises first s write g (item d ds) out c l = grows-then (write d (before_part first s out)) (λ more. each_joined false s write ds more) (g d (before_part first s out)) (λ more. joined-rises false s write g ds more) c l
+joined-rises first s write g (item d ds) out c l =
+    grows-then (write d (before_part first s out)) (λ more. each_joined false s write ds more) (g d (before_part first s out)) (λ more. joined-rises false s write g ds more) c l
 
 -- what stops at a part stops the whole
-pub stop-joined : {A B : Type 0} → (f : A → List ℕ) (h : B → List ℕ) (first : Bool) (s : ℕ) (write : Data → Writes) → Rising write → (d : Data) (ds : Items) (out : List ℕ) (e : Stop) (m : Meter) (c l : ℕ)
+pub stop-joined : {A B : Type 0} → (f : A → List ℕ) (h : B → List ℕ) (first : Bool) (s : ℕ) (write : Data → Writes) → Rising write → (d : Data) (ds : Items)
+    (out : List ℕ) (e : Stop) (m : Meter) (c l : ℕ)
     → Agrees f (Err e) m (write d (before_part first s out) c l) → Agrees h (Err e) m (each_joined first s write (item d ds) out c l)
 stop-joined f h first s write g d ds out (stop.Trap k) m c l o = rw o refl
-stop-joined f h first s write g d ds out stop.Memory m c l o = omega (arith, o, cost-after (write d (before_part first s out) c l) (λ more. each_joined false s write ds more) (λ more. joined-rises false s write g ds more))
+stop-joined f h first s write g d ds out stop.Memory m c l o =
+    omega (arith, o, cost-after (write d (before_part first s out) c l) (λ more. each_joined false s write ds more) (λ more. joined-rises false s write g ds more))
 
 list-rises : (s : ℕ) (write : Data → Writes) → Rising write → Rising (list_text s write)
 list-rises s write g (int z) out c l = omega arith
@@ -76,7 +79,8 @@ Evaluating go = (level : ℕ) (env : Env) (t : ExprTree) → Grows (go level env
 
 method-rises : (go : Go) → Evaluating go → (level : ℕ) (m : Option MethodDecl) (other : Data → Writes) → Rising other → Rising (method_or go level m other)
 method-rises go e level None other g d out = g d out
-method-rises go e level (Some m) other g d out = grows-then (presented go level m d) (λ x. give (out ++ x)) (grows-then (go level _ m.body) (λ v. _) (e level _ m.body) (λ v. grows-lift (bytes_in v))) (λ x c l. omega arith)
+method-rises go e level (Some m) other g d out =
+    grows-then (presented go level m d) (λ x. give (out ++ x)) (grows-then (go level _ m.body) (λ v. _) (e level _ m.body) (λ v. grows-lift (bytes_in v))) (λ x c l. omega arith)
 
 by_test : (b : Bool) (x y : Run (List ℕ)) → Grows x → Grows y → Grows (if b then x else y)
 by_test true x y g h = g
@@ -97,16 +101,20 @@ mutual
   text-rises b go e level (type.sequence t) s d out c l = list-rises (separator_of s) (text_of b go level t (inner_spec s)) (text-rises b go e level t (inner_spec s)) d out c l
   text-rises b go e level (type.some_of ts) s d out c l = some-rises b go e level ts (args_of s) d out c l
   text-rises b go e level (type.each_of ts) s d out c l = first-rises b go e level ts (args_of s) d out c l
-  text-rises b go e level (type.null_or t) s d out c l = by_test (is_null d) (plain d out) (text_of b go level t (inner_spec s) d out) (plain-rises d out) (text-rises b go e level t (inner_spec s) d out) c l
-  text-rises b go e level (type.token_or xs t) s d out c l = by_test (is_one_of xs d) (plain d out) (text_of b go level t (inner_spec s) d out) (plain-rises d out) (text-rises b go e level t (inner_spec s) d out) c l
+  text-rises b go e level (type.null_or t) s d out c l =
+      by_test (is_null d) (plain d out) (text_of b go level t (inner_spec s) d out) (plain-rises d out) (text-rises b go e level t (inner_spec s) d out) c l
+  text-rises b go e level (type.token_or xs t) s d out c l =
+      by_test (is_one_of xs d) (plain d out) (text_of b go level t (inner_spec s) d out) (plain-rises d out) (text-rises b go e level t (inner_spec s) d out) c l
   text-rises b go e level (type.record_type x) s d out c l = method-rises go e level (present_method x b.app) plain plain-rises d out c l
   text-rises b go e level (type.host x low high) s d out c l = host-rises (b.hosts x) d out c l
-  text-rises b go e level (type.user x vs f t) s d out c l = method-rises go e level (present_method x b.app) (text_of b go level t (inherited_spec b x s)) (text-rises b go e level t (inherited_spec b x s)) d out c l
+  text-rises b go e level (type.user x vs f t) s d out c l =
+      method-rises go e level (present_method x b.app) (text_of b go level t (inherited_spec b x s)) (text-rises b go e level t (inherited_spec b x s)) d out c l
   text-rises b go e level (type.unknown x vs) s d out c l = omega arith
 
   pub some-rises : (b : Book) (go : Go) → Evaluating go → (level : ℕ) (ts : ExpandedTypes) (args : TypeArgTrees) → Rising (text_by_some b go level ts args)
   some-rises b go e level type.none args d out c l = omega arith
-  some-rises b go e level (type.part t ts) args d out c l = by_test (is_member b.world (predicates_of b.app) d t) (text_of b go level t (first_spec args) d out) (text_by_some b go level ts (behind_first args) d out)
+  some-rises b go e level (type.part t ts) args d out c l =
+      by_test (is_member b.world (predicates_of b.app) d t) (text_of b go level t (first_spec args) d out) (text_by_some b go level ts (behind_first args) d out)
       (text-rises b go e level t (first_spec args) d out) (some-rises b go e level ts (behind_first args) d out) c l
 
   pub first-rises : (b : Book) (go : Go) → Evaluating go → (level : ℕ) (ts : ExpandedTypes) (args : TypeArgTrees) → Rising (text_by_first b go level ts args)

@@ -15,8 +15,10 @@ use Rattle.cl_syntax.specs.TypeSpecTree.{TypeSpecTree}
 use Rattle.cl_value.specs.Data.{Data, text}
 use Rattle.cl_ptext.specs.Book.{Book}
 use Rattle.cl_ptext.specs.Texts.{outcome_of_text, text_of}
+use Rattle.cl_ptext.proofs.KeepLemmas.{keeps-give, keeps-means, keeps-then}
 use Rattle.cl_ptext.proofs.LimitLemmas.{text-goes}
 use Rattle.cl_ptext.proofs.SlotLemmas.{text-same}
+use Rattle.cl_ptext.proofs.TextKeepLemmas.{text-keeps}
 
 pub wider_text : (b : Book) (limits wider : Limits) (slots : Slots) (t : Expanded) (s : TypeSpecTree) (d x : Data) (cost reach : ℕ)
     → outcome_of_text b limits slots t s d ≡ Gives x cost reach → cost ≤ wider.budget → reach ≤ wider.depth → outcome_of_text b wider slots t s d ≡ Gives x cost reach
@@ -40,3 +42,13 @@ same_slots b limits slots other agree t s d =
     (λ x m found e. λ i. same-means b.app slots other limits.depth limits.budget 0 ((m.parameter, e) ∷ []) ((m.parameter, e) ∷ []) m.body (λ r n p. agree x m found e r (record { calls = n; named = p })) i)
     t s d [] in
     λ i. after (same i 0 0) (λ y. give (text y))
+
+pub kept_text : (b : Book) (limits : Limits) (slots : Slots) (t : Expanded) (s : TypeSpecTree) (d x : Data) (cost reach : ℕ)
+    → outcome_of_text b limits slots t s d ≡ Gives x cost reach → (cost ≤ limits.budget) × (reach ≤ limits.depth)
+unfolding outcome_of_text
+kept_text b limits slots t s d x cost reach p =
+    let go = means limits.depth limits.budget b.app slots in
+    let keeps = keeps-then limits.budget (0 + limits.depth) (text_of b go 0 t s d []) (λ y. give (text y))
+    (text-keeps limits.budget (0 + limits.depth) b go 0 (keeps-means limits.depth limits.budget b.app slots 0) t s d [])
+    (λ y. keeps-give limits.budget (0 + limits.depth) (text y)) 0 0 x cost reach (omega arith) (omega arith) p in
+    (keeps.0, omega (arith, keeps.1))

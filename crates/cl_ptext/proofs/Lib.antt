@@ -1,5 +1,6 @@
 pub mod CostLemmas
 pub mod CutLemmas
+pub mod KeepLemmas
 pub mod LawLemmas
 pub mod LimitLemmas
 pub mod Measures
@@ -8,4 +9,5 @@ pub mod PartTypes
 pub mod PieceLemmas
 pub mod ReadingLemmas
 pub mod SlotLemmas
+pub mod TextKeepLemmas
 pub mod WordLemmas

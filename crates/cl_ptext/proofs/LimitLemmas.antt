@@ -28,7 +28,8 @@ joined-goes : (budget depth : ℕ) (first : Bool) (s : ℕ) (write write' : Data
     → Goes budget depth (each_joined first s write ds out) (each_joined first s write' ds out)
 joined-goes budget depth first s write write' g none out = goes-give budget depth out
 joined-goes budget depth first s write write' g (item d ds) out =
-    goes-then budget depth (write d (before_part first s out)) (write' d (before_part first s out)) (λ more. each_joined false s write ds more) (λ more. each_joined false s write' ds more)
+    goes-then budget depth (write d (before_part first s out)) (write' d (before_part first s out)) (λ more. each_joined false s write ds more)
+    (λ more. each_joined false s write' ds more)
     (g d (before_part first s out)) (λ more. joined-goes budget depth false s write write' g ds more)
 
 list-goes : (budget depth : ℕ) (s : ℕ) (write write' : Data → Writes) → WritesGo budget depth write write' → WritesGo budget depth (list_text s write) (list_text s write')
@@ -62,7 +63,8 @@ host-goes budget depth names null out = plain-goes budget depth null out
 host-goes budget depth names (list ds) out = plain-goes budget depth (list ds) out
 host-goes budget depth names (rec x ds) out = plain-goes budget depth (rec x ds) out
 
-method-goes : (budget depth : ℕ) (go go' : Go) (level : ℕ) → GoGoes budget depth level go go' → (m : Option MethodDecl) (other other' : Data → Writes) → WritesGo budget depth other other'
+method-goes : (budget depth : ℕ) (go go' : Go) (level : ℕ) → GoGoes budget depth level go go' → (m : Option MethodDecl) (other other' : Data → Writes)
+    → WritesGo budget depth other other'
     → WritesGo budget depth (method_or go level m other) (method_or go' level m other')
 method-goes budget depth go go' level g None other other' h d out = h d out
 method-goes budget depth go go' level g (Some m) other other' h d out =
@@ -85,7 +87,8 @@ mutual
   text-goes budget depth b go go' level g (type.member cs) s d out = plain-goes budget depth d out
   text-goes budget depth b go go' level g (type.subset cs) s d out = list-goes budget depth (separator_of s) plain plain (plain-goes budget depth) d out
   text-goes budget depth b go go' level g (type.sequence t) s d out =
-      list-goes budget depth (separator_of s) (text_of b go level t (inner_spec s)) (text_of b go' level t (inner_spec s)) (text-goes budget depth b go go' level g t (inner_spec s)) d out
+      list-goes budget depth (separator_of s) (text_of b go level t (inner_spec s)) (text_of b go' level t (inner_spec s))
+      (text-goes budget depth b go go' level g t (inner_spec s)) d out
   text-goes budget depth b go go' level g (type.some_of ts) s d out = some-goes budget depth b go go' level g ts (args_of s) d out
   text-goes budget depth b go go' level g (type.each_of ts) s d out = first-goes budget depth b go go' level g ts (args_of s) d out
   text-goes budget depth b go go' level g (type.null_or t) s d out =

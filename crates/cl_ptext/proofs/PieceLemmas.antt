@@ -22,7 +22,8 @@ cut_by : (s : ℕ) (st : Stage) (p : List ℕ) (b : ℕ) (bs : List ℕ) (t : Bo
     → (piece_length s (stage_behind st b) bs < length bs → pieces_from s (stage_behind st b) (p ++ b ∷ []) bs
     ≡ ((p ++ b ∷ []) ++ take (piece_length s (stage_behind st b) bs) bs) ∷ pieces_from s Leading [] (drop (suc (piece_length s (stage_behind st b) bs)) bs))
     → (if t then p ∷ pieces_from s Leading [] bs else pieces_from s (stage_behind st b) (p ++ b ∷ []) bs)
-    ≡ (p ++ take (if t then 0 else 1 + piece_length s (stage_behind st b) bs) (b ∷ bs)) ∷ pieces_from s Leading [] (drop (suc (if t then 0 else 1 + piece_length s (stage_behind st b) bs)) (b ∷ bs))
+    ≡ (p ++ take (if t then 0 else 1 + piece_length s (stage_behind st b) bs) (b ∷ bs)) ∷ pieces_from s Leading []
+    (drop (suc (if t then 0 else 1 + piece_length s (stage_behind st b) bs)) (b ∷ bs))
 cut_by s st p b bs true h more = ap (λ x. x ∷ pieces_from s Leading [] bs) (sym (append-nil p))
 cut_by s st p b bs false h more =
     let n = piece_length s (stage_behind st b) bs in

@@ -21,5 +21,6 @@ read_member b t (Object c) d o = held_by c d (is_member b.world (predicates_of b
 read_member b t Nothing d o = cc
 read_member b t (Trap k) d o = cc
 
-pub object_read : (b : Book) (slots : Slots) (t : Expanded) (s : TypeSpecTree) (x : List ℕ) (d : Data) → reading b slots t s x ≡ Object d → is_member b.world (predicates_of b.app) d t ≡ true
+pub object_read : (b : Book) (slots : Slots) (t : Expanded) (s : TypeSpecTree) (x : List ℕ) (d : Data) → reading b slots t s x ≡ Object d → is_member b.world
+    (predicates_of b.app) d t ≡ true
 object_read b slots t s x d o = read_member b t (row_read b slots t s x) d o

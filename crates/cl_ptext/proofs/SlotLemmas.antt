@@ -19,9 +19,11 @@ Same write write' = (d : Data) (out : List ℕ) → write d out ≡ write' d out
 
 -- the same body means the same, with its parameter bound
 abbrev pub SameBodies : Book → ℕ → Go → Go → Type 0
-SameBodies b level go go' = (x : List ℕ) (m : MethodDecl) → present_method x b.app ≡ Some m → (d : Data) → go level ((m.parameter, d) ∷ []) m.body ≡ go' level ((m.parameter, d) ∷ []) m.body
+SameBodies b level go go' =
+    (x : List ℕ) (m : MethodDecl) → present_method x b.app ≡ Some m → (d : Data) → go level ((m.parameter, d) ∷ []) m.body ≡ go' level ((m.parameter, d) ∷ []) m.body
 
-joined-same : (first : Bool) (s : ℕ) (write write' : Data → Writes) → Same write write' → (ds : Items) (out : List ℕ) → each_joined first s write ds out ≡ each_joined first s write' ds out
+joined-same : (first : Bool) (s : ℕ) (write write' : Data → Writes) → Same write write' → (ds : Items) (out : List ℕ)
+    → each_joined first s write ds out ≡ each_joined first s write' ds out
 joined-same first s write write' h none out = refl
 joined-same first s write write' h (item d ds) out =
     λ i. h d (before_part first s out) i >>= λ more. joined-same false s write write' h ds more i
@@ -66,11 +68,13 @@ mutual
       (text-same b go go' level g t (inherited_spec b x s)) d out
   text-same b go go' level g (type.unknown x vs) s d out = refl
 
-  pub some-same : (b : Book) (go go' : Go) (level : ℕ) → SameBodies b level go go' → (ts : ExpandedTypes) (args : TypeArgTrees) → Same (text_by_some b go level ts args) (text_by_some b go' level ts args)
+  pub some-same : (b : Book) (go go' : Go) (level : ℕ) → SameBodies b level go go' → (ts : ExpandedTypes) (args : TypeArgTrees) → Same (text_by_some b go level ts args)
+      (text_by_some b go' level ts args)
   some-same b go go' level g type.none args d out = refl
   some-same b go go' level g (type.part t ts) args d out =
       λ i. if is_member b.world (predicates_of b.app) d t then text-same b go go' level g t (first_spec args) d out i else some-same b go go' level g ts (behind_first args) d out i
 
-  pub first-same : (b : Book) (go go' : Go) (level : ℕ) → SameBodies b level go go' → (ts : ExpandedTypes) (args : TypeArgTrees) → Same (text_by_first b go level ts args) (text_by_first b go' level ts args)
+  pub first-same : (b : Book) (go go' : Go) (level : ℕ) → SameBodies b level go go' → (ts : ExpandedTypes) (args : TypeArgTrees) → Same (text_by_first b go level ts args)
+      (text_by_first b go' level ts args)
   first-same b go go' level g type.none args d out = refl
   first-same b go go' level g (type.part t ts) args d out = text-same b go go' level g t (first_spec args) d out

@@ -36,6 +36,12 @@ pub fn text_limits_can_be_wider()
         → outcome_of_text b wider slots t s d ≡ Gives x cost reach }
 {}
 
+/// Neither the cost nor the reach of a text passes its limits.
+pub fn texts_keep_to_their_limits()
+    ensures { (b : Book) (limits : Limits) (slots : Slots) (t : Expanded) (s : TypeSpecTree) (d x : Data) (cost reach : ℕ)
+        → outcome_of_text b limits slots t s d ≡ Gives x cost reach → (cost ≤ limits.budget) × (reach ≤ limits.depth) }
+{}
+
 /// The text of a value depends on the slots that present methods name alone: where these have the same values, or have none, it
 /// is the same text or trap, with the same cost and reach, whatever the limits.
 pub fn texts_see_what_methods_name()

@@ -22,5 +22,5 @@ pub use host_types::HostTypes;
 pub use hosts::Hosts;
 pub use laws::{
     cutting_loses_nothing, objects_are_members, text_limits_can_be_wider,
-    texts_see_what_methods_name,
+    texts_keep_to_their_limits, texts_see_what_methods_name,
 };
