@@ -12,8 +12,8 @@ use std::alloc::Global;
 /// The declarations of a text. Of two of one kind and one name the first counts.
 #[derive(Drop)]
 pub struct Declarations {
-    records: Records,
-    types: UserTypes,
+    pub records: Records,
+    pub types: UserTypes,
     hosts: HostBounds,
     commands: CommandTypes,
     specs: Vec<PlacedSpec>,

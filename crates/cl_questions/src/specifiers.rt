@@ -151,7 +151,7 @@ fn word_in(word: &Text, parameters: &Names) -> Result<TypeArg, LoadRefusal> {
 }
 
 /// The symbols of data, in their order.
-pub(crate) fn names_in(alloc: Global, parts: &[Datum]) -> Result<Names, LoadRefusal> {
+pub fn names_in(alloc: Global, parts: &[Datum]) -> Result<Names, LoadRefusal> {
     let mut names = Names::new(alloc);
     for part in parts {
         names.push(symbol_text(alloc, part)?)?;
