@@ -2,3 +2,4 @@ pub mod BodyCounts
 pub mod BodySteps
 pub mod DisplayFormCounts
 pub mod StatementCounts
+pub mod TypeSubs

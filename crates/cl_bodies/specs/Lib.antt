@@ -2,4 +2,6 @@ pub mod Bodies
 pub mod DisplayForms
 pub mod Statements
 pub mod PlannedKeys
-pub mod SlotTypes
+pub mod TypeArguments
+pub mod Specifiers
+pub mod TypeViews

@@ -7,10 +7,13 @@ mod languages;
 mod own;
 mod plain_forms;
 mod planned_keys;
-mod slot_types;
+mod specifiers;
 mod statements;
+mod type_arguments;
+mod type_options;
+mod type_rows;
 
 pub use display_forms::{parse_shape, parse_shapes};
 pub use planned_keys::no_keys;
-pub use slot_types::parse_type;
+pub use specifiers::parse_type;
 pub use statements::{parse_act, parse_acts};

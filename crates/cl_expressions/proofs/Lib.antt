@@ -3,3 +3,4 @@ pub mod Onto
 pub mod ScopeLemmas
 pub mod BindingLemmas
 pub mod ExpressionCounts
+pub mod NoteLemmas

@@ -1,5 +1,6 @@
 -- The reading of a form: what it is, and what is noted of it; or its first fault.
-use Rattle.std.specs.Prelude.{◌≡◌, ℕ, Bool, true, false, List, [], ◌∷◌, ◌++◌, Option, Some, None, Result, Ok, Err}
+use Rattle.std.specs.Prelude.{◌≡◌, ℕ, Bool, true, false, List, [], length, Option, Some, None, Result, Ok, Err}
+use Rattle.std.specs.List.{insert}
 use Rattle.cl_syntax.specs.TypeSpecTree.{TypeSpecTree}
 use Rattle.cl_syntax.specs.declared.type_decls.PlacedSpec.{PlacedSpec}
 use Rattle.cl_forms.specs.declared.refusals.LoadRefusal.{LoadRefusal}
@@ -54,14 +55,14 @@ unless false at notes = record notes { unknown = first_of notes.unknown at }
 abbrev pub noted : Bool → ℕ → Load (Unit {0})
 noted known at notes = Ok (tt, unless known at notes)
 
--- a type specifier behind the others
-abbrev pub with_specifier : TypeSpecTree → List (List ℕ) → ℕ → Notes → Notes
-with_specifier spec parameters at notes =
-    record notes { specifiers = notes.specifiers ++ record { spec = spec; parameters = parameters; at = at } ∷ [] }
+-- a type specifier at a place among the others
+abbrev pub with_specifier : ℕ → TypeSpecTree → List (List ℕ) → ℕ → Notes → Notes
+with_specifier place spec parameters at notes =
+    record notes { specifiers = insert notes.specifiers place (record { spec = spec; parameters = parameters; at = at }) }
 
--- a type specifier that was read, the parameters around it, and its offset
-abbrev pub placed : TypeSpecTree → List (List ℕ) → ℕ → Load (Unit {0})
-placed spec parameters at notes = Ok (tt, with_specifier spec parameters at notes)
+-- a type specifier that is read, with the parameters around it and its offset, is noted before those that stand in it
+abbrev pub placed : List (List ℕ) → ℕ → Load TypeSpecTree → Load TypeSpecTree
+placed parameters at m notes = after (m notes) λ spec later. Ok (spec, with_specifier (length notes.specifiers) spec parameters at later)
 
 -- what the program answers
 abbrev pub Gives : {A B : Type 0} → (A → B) → Result A LoadRefusal → Notes → Result (B × Notes) Fault → Type 0

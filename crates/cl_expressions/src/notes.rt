@@ -1,5 +1,5 @@
 //! What is noted while forms are read.
-ghost use Rattle.std.specs.Prelude.{◌≡◌, ◌++◌, ◌∷◌, [], OnOk};
+ghost use Rattle.std.specs.Prelude.{◌≡◌, length, OnOk};
 ghost use Rattle.cl_expressions.specs.Load.{nothing_noted, unless, with_specifier};
 
 use cl_syntax::{PlacedSpec, TypeSpec};
@@ -61,16 +61,34 @@ impl Notes {
         }
     }
 
-    /// Puts a type specifier behind the others.
-    pub fn place(&mut self, spec: TypeSpec, parameters: Names, at: u32) -> Result<(), AllocError>
-        ensures { OnOk result (self.new ≡ with_specifier spec parameters at self.old) }
+    /// How many type specifiers are noted.
+    pub fn count(&self) -> usize
+        ensures { result ≡ length self.now.specifiers }
+    {
+        self.specifiers.len()
+    }
+
+    /// Puts a type specifier at a place among the others, which is their end where it lies behind it.
+    #[tactic(auto, using(crate::proofs::NoteLemmas::inserted_behind))]
+    pub fn place(
+        &mut self,
+        place: usize,
+        spec: TypeSpec,
+        parameters: Names,
+        at: u32,
+    ) -> Result<(), AllocError>
+        ensures { OnOk result (self.new ≡ with_specifier place spec parameters at self.old) }
     {
         let placed = PlacedSpec {
             spec,
             parameters,
             at,
         };
-        self.specifiers.push(placed)?;
+        if place < self.specifiers.len() {
+            self.specifiers.insert(place, placed)?;
+        } else {
+            self.specifiers.push(placed)?;
+        }
         Ok(())
     }
 }

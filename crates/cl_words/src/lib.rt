@@ -13,4 +13,4 @@ pub use heads::{
 };
 pub use operators::count_of;
 pub use signatures::{Callee, CalleeKind, RecordHead, Signatures, SlotHead, signatures_of};
-pub use type_names::{is_later_type, is_plain_type, is_ranged_type, is_standard_type};
+pub use type_names::is_standard_type;

@@ -1,0 +1,153 @@
+-- The type that a datum is: `NAME`, `(NAME ARGUMENT ...)` or `((NAME ARGUMENT ...) KEY VALUE ...)`. A specifier says first what makes it wrong by
+-- itself, at its own offset; then those in it are read from left to right.
+use Rattle.std.specs.Prelude.{ℕ, false, nat_le, if◌then◌else◌, List, [], ◌∷◌, length, map, Option, Some, None}
+use Rattle.cl_syntax.specs.StandardTypes.{standard_named}
+use Rattle.cl_syntax.specs.TypeSpecTree.{TypeSpecTree, specifier, TypeArgTree, Spec, Names as Tokens, arg_trees_of, no_options, plain_type}
+use Rattle.cl_syntax.specs.declared.type_names.StandardType.{StandardType}
+use Rattle.cl_syntax.specs.declared.type_names.StandardType.TheVariants as standard
+use Rattle.cl_syntax.specs.declared.type_specs.TypeOptions.{TypeOptions}
+use Rattle.cl_forms.specs.Datum.{Datum, Datums, number, literal, word, quoted, stray, list, none, item, in_order, offset}
+use Rattle.cl_forms.specs.Naming.{name_in}
+use Rattle.cl_expressions.specs.Load.{Load, ◌>>=◌, give, refuse, noted, placed}
+use Rattle.cl_expressions.specs.Scopes.{Names}
+use Rattle.cl_words.specs.Signatures.{record_in}
+use Rattle.cl_words.specs.declared.signatures.Signatures.{Signatures}
+use Rattle.cl_bodies.specs.TypeArguments.{arguments_in, first_stray, may_all_stand, options_in, tokens_in}
+use Rattle.cl_bodies.specs.declared.specifiers.Takes.{Takes}
+use Rattle.cl_bodies.specs.declared.specifiers.Takes.TheVariants as takes
+use Rattle.cl_bodies.specs.declared.type_arguments.Wanted.{Wanted}
+use Rattle.cl_bodies.specs.declared.type_arguments.Wanted.TheVariants as wanted
+
+-- an argument: as it stands, and the specifier that it is
+pub record TypeSub : Type 0 where
+  pub shape : Datum
+  pub spec : Load TypeSpecTree
+
+-- ---- what stands behind the name of a type
+
+-- the table of the standard types
+abbrev pub takes_of : StandardType → Takes
+takes_of standard.T = takes.Nothing
+takes_of standard.Nil = takes.Nothing
+takes_of standard.Boolean = takes.Nothing
+takes_of standard.Integer = takes.Bounds
+takes_of standard.String = takes.Length
+takes_of standard.Symbol = takes.Nothing
+takes_of standard.Member = takes.Constants
+takes_of standard.Subset = takes.Constants
+takes_of standard.Sequence = takes.OneType
+takes_of standard.Or = takes.SomeTypes
+takes_of standard.And = takes.SomeTypes
+takes_of standard.NullOrType = takes.OneType
+takes_of standard.TokenOrType = takes.TokensAndType
+takes_of standard.BlankArea = takes.Nothing
+takes_of standard.Command = takes.Nothing
+
+-- a record takes nothing; None where no type has the name
+abbrev pub takes_declared : Option (Option ℕ) → Option Takes
+takes_declared None = None
+takes_declared (Some fields) = Some takes.Nothing
+
+abbrev pub takes_named : Signatures → List ℕ → Option Takes
+takes_named w x = elim (standard_named x) [ None ↦ takes_declared (record_in w x) | Some t ↦ Some (takes_of t) ]
+
+-- ---- rows
+
+abbrev pub shapes : List TypeSub → List Datum
+shapes subs = map (λ s. s.shape) subs
+
+-- constants that are all of a kind, or the specifier at this offset is wrong
+abbrev pub parse_constants : Names → Wanted → ℕ → List Datum → Load (List TypeArgTree)
+parse_constants ps kind at ds =
+    if may_all_stand ps kind ds then elim (first_stray ds) [ None ↦ give (arguments_in ps ds) | Some stray_at ↦ refuse 6 stray_at ] else refuse 6 at
+
+-- the same, and at most so many
+abbrev pub parse_at_most : ℕ → Names → Wanted → ℕ → List Datum → Load (List TypeArgTree)
+parse_at_most most ps kind at ds = if nat_le (length ds) most then parse_constants ps kind at ds else refuse 6 at
+
+-- all arguments are specifiers
+abbrev pub parse_each_type : List TypeSub → Load (List TypeArgTree)
+parse_each_type [] = give []
+parse_each_type (s ∷ subs) = s.spec >>= λ t. parse_each_type subs >>= λ ts. give (Spec t ∷ ts)
+
+abbrev pub parse_nothing : ℕ → List TypeSub → Load (List TypeArgTree)
+parse_nothing at [] = give []
+parse_nothing at (s ∷ subs) = refuse 6 at
+
+abbrev pub parse_one_type : ℕ → List TypeSub → Load (List TypeArgTree)
+parse_one_type at (s ∷ []) = parse_each_type (s ∷ [])
+parse_one_type at subs = refuse 6 at
+
+abbrev pub parse_some_types : ℕ → List TypeSub → Load (List TypeArgTree)
+parse_some_types at [] = refuse 6 at
+parse_some_types at (s ∷ subs) = parse_each_type (s ∷ subs)
+
+abbrev pub parse_token_type : ℕ → Option (List (List ℕ)) → TypeSub → Load (List TypeArgTree)
+parse_token_type at None s = refuse 6 at
+parse_token_type at (Some xs) s = s.spec >>= λ t. give (Tokens xs ∷ Spec t ∷ [])
+
+-- `(NAME ...) SPECIFIER`
+abbrev pub parse_tokens_and_type : ℕ → List TypeSub → Load (List TypeArgTree)
+parse_tokens_and_type at (n ∷ s ∷ []) = parse_token_type at (tokens_in n.shape) s
+parse_tokens_and_type at subs = refuse 6 at
+
+-- what stands behind the name of a type, by what it takes
+abbrev pub parse_arguments : Names → Takes → ℕ → List TypeSub → Load (List TypeArgTree)
+parse_arguments ps takes.Nothing at subs = parse_nothing at subs
+parse_arguments ps takes.Bounds at subs = parse_at_most 2 ps wanted.NumberOrStar at (shapes subs)
+parse_arguments ps takes.Length at subs = parse_at_most 1 ps wanted.Number at (shapes subs)
+parse_arguments ps takes.Constants at subs = parse_constants ps wanted.Constant at (shapes subs)
+parse_arguments ps takes.OneType at subs = parse_one_type at subs
+parse_arguments ps takes.SomeTypes at subs = parse_some_types at subs
+parse_arguments ps takes.TokensAndType at subs = parse_tokens_and_type at subs
+
+-- a name that is not declared is noted, and what stands behind it is not looked at
+abbrev pub parse_known : Names → Option Takes → List ℕ → ℕ → ℕ → List TypeSub → Load TypeSpecTree
+parse_known ps None x name_at at subs = noted false name_at >>= λ u. give (plain_type x)
+parse_known ps (Some t) x name_at at subs = parse_arguments ps t at subs >>= λ ts. give (specifier x (arg_trees_of ts) no_options)
+
+-- a type by its name
+abbrev pub parse_named : Signatures → Names → List ℕ → ℕ → ℕ → List TypeSub → Load TypeSpecTree
+parse_named w ps x name_at at subs = parse_known ps (takes_named w x) x name_at at subs
+
+-- a type begins with its name
+abbrev pub parse_headed : Signatures → Names → ℕ → Datum → List TypeSub → Load TypeSpecTree
+parse_headed w ps at h subs = elim (name_in h) [ None ↦ refuse 6 at | Some x ↦ parse_named w ps x (offset h) at subs ]
+
+abbrev pub with_options : TypeOptions → TypeSpecTree → TypeSpecTree
+with_options o (specifier x ts other) = specifier x ts o
+
+abbrev pub parse_optioned : ℕ → Option TypeOptions → Load TypeSpecTree → Load TypeSpecTree
+parse_optioned at None m = refuse 6 at
+parse_optioned at (Some o) m = m >>= λ s. give (with_options o s)
+
+-- ---- specifiers
+
+abbrev mutual
+  -- the type that a datum is, where these are the parameters of the declaration around; it is noted with those in it
+  pub parse_type : Signatures → Names → Datum → Load TypeSpecTree
+  parse_type w ps (number z at) = refuse 6 at
+  parse_type w ps (literal s at) = refuse 6 at
+  parse_type w ps (word x at) = placed ps at (parse_headed w ps at (word x at) [])
+  parse_type w ps (quoted x at name_at) = refuse 6 at
+  parse_type w ps (stray at) = refuse 6 at
+  parse_type w ps (list ds at) = placed ps at (parse_listed w ps at ds)
+
+  -- a list by its first part: a list of a name and arguments, or a name
+  pub parse_listed : Signatures → Names → ℕ → Datums → Load TypeSpecTree
+  parse_listed w ps at none = refuse 6 at
+  parse_listed w ps at (item (list es inner_at) more) = parse_optioned at (options_in (in_order more)) (parse_parts w ps at es)
+  parse_listed w ps at (item (word x name_at) more) = parse_headed w ps at (word x name_at) (type_subs w ps more)
+  parse_listed w ps at (item (number z part_at) more) = refuse 6 at
+  parse_listed w ps at (item (literal s part_at) more) = refuse 6 at
+  parse_listed w ps at (item (quoted x part_at name_at) more) = refuse 6 at
+  parse_listed w ps at (item (stray part_at) more) = refuse 6 at
+
+  -- a name and its arguments
+  pub parse_parts : Signatures → Names → ℕ → Datums → Load TypeSpecTree
+  parse_parts w ps at none = refuse 6 at
+  parse_parts w ps at (item h more) = parse_headed w ps at h (type_subs w ps more)
+
+  pub type_subs : Signatures → Names → Datums → List TypeSub
+  type_subs w ps none = []
+  type_subs w ps (item d ds) = record { shape = d; spec = parse_type w ps d } ∷ type_subs w ps ds

@@ -1,0 +1,243 @@
+//! Type specifiers.
+ghost use Rattle.std.specs.Prelude.{◌≡◌, IfOk, map};
+ghost use Rattle.cl_forms.specs.Datum.{datums_of};
+ghost use Rattle.cl_forms.specs.DatumView.{datum_of};
+ghost use Rattle.cl_expressions.specs.Load.{Gives, itself};
+ghost use Rattle.cl_bodies.specs.Specifiers.{parse_arguments, parse_headed, parse_listed, parse_named, parse_parts, parse_type, takes_named, takes_of, type_subs};
+ghost use Rattle.cl_bodies.specs.TypeViews.{args_of, parse_specifier};
+
+use crate::type_arguments::Wanted;
+use crate::type_options::options_in;
+use crate::type_rows::{
+    parse_at_most, parse_constants, parse_nothing, parse_one_type, parse_some_types,
+    parse_tokens_and_type,
+};
+use cl_expressions::{Notes, Reader};
+use cl_forms::{Datum, LoadRefusal, name_in};
+use cl_syntax::{StandardType, TypeArg, TypeArgs, TypeOptions, TypeSpec, standard_named};
+use cl_table::Names;
+use cl_value::Text;
+use std::alloc::{AllocError, Global};
+
+/// What stands behind the name of a type.
+#[derive(Clone, Copy)]
+pub enum Takes {
+    Nothing,
+    /// At most two numbers, or `*` for no bound.
+    Bounds,
+    /// At most one number.
+    Length,
+    Constants,
+    OneType,
+    SomeTypes,
+    TokensAndType,
+}
+
+fn takes_of(standard: StandardType) -> Takes
+    ensures { result ≡ takes_of standard }
+{
+    match standard {
+        StandardType::T => Takes::Nothing,
+        StandardType::Nil => Takes::Nothing,
+        StandardType::Boolean => Takes::Nothing,
+        StandardType::Integer => Takes::Bounds,
+        StandardType::String => Takes::Length,
+        StandardType::Symbol => Takes::Nothing,
+        StandardType::Member => Takes::Constants,
+        StandardType::Subset => Takes::Constants,
+        StandardType::Sequence => Takes::OneType,
+        StandardType::Or => Takes::SomeTypes,
+        StandardType::And => Takes::SomeTypes,
+        StandardType::NullOrType => Takes::OneType,
+        StandardType::TokenOrType => Takes::TokensAndType,
+        StandardType::BlankArea => Takes::Nothing,
+        StandardType::Command => Takes::Nothing,
+    }
+}
+
+// What the type of a name takes; `None` where no type has it.
+fn takes_named(reader: &Reader, name: &[u8]) -> Option<Takes>
+    ensures { result ≡ takes_named reader.now.signatures.now name.now }
+{
+    match standard_named(name) {
+        Some(standard) => Some(takes_of(standard)),
+        None => match reader.signatures.record_fields(name) {
+            Some(_) => Some(Takes::Nothing),
+            None => None,
+        },
+    }
+}
+
+// The same names.
+fn copied(alloc: Global, names: &Names) -> Result<Names, AllocError>
+    ensures { IfOk result (λ n. n ≡ names.now) }
+{
+    let mut copied = Names::new(alloc);
+    for name in names.as_slice() {
+        copied.push(name.copy()?)?;
+    }
+    Ok(copied)
+}
+
+/// The type that a datum is, where these are the parameters of the declaration around. It is noted with its offset, before
+/// those that stand in it.
+#[cycle(specifier)]
+pub fn parse_type(
+    reader: &Reader,
+    parameters: &Names,
+    datum: &Datum,
+    notes: &mut Notes,
+) -> Result<TypeSpec, LoadRefusal>
+    ensures { Gives itself result notes.new
+        (parse_type reader.now.signatures.now parameters.now (datum_of datum.now) notes.old) }
+{
+    let place = notes.count();
+    let spec = parse_specifier(reader, parameters, datum, notes)?;
+    let around = copied(reader.alloc, parameters)?;
+    notes.place(place, spec.copy()?, around, datum.offset())?;
+    Ok(spec)
+}
+
+// The type by itself.
+#[cycle(specifier)]
+fn parse_specifier(
+    reader: &Reader,
+    parameters: &Names,
+    datum: &Datum,
+    notes: &mut Notes,
+) -> Result<TypeSpec, LoadRefusal>
+    ensures { Gives itself result notes.new
+        (parse_specifier reader.now.signatures.now parameters.now (datum_of datum.now) notes.old) }
+{
+    match datum {
+        Datum::List(parts, at) => parse_listed(reader, parameters, *at, parts.as_slice(), notes),
+        Datum::Word(_, at) => parse_headed(reader, parameters, *at, datum, &[], notes),
+        Datum::Number(_, at) => Err(LoadRefusal::Refused(6, *at)),
+        Datum::Literal(_, at) => Err(LoadRefusal::Refused(6, *at)),
+        Datum::Quoted(_, at, _) => Err(LoadRefusal::Refused(6, *at)),
+        Datum::Stray(at) => Err(LoadRefusal::Refused(6, *at)),
+    }
+}
+
+// A list by its first part: a list of a name and arguments, or a name.
+#[cycle(specifier)]
+fn parse_listed(
+    reader: &Reader,
+    parameters: &Names,
+    at: u32,
+    parts: &[Datum],
+    notes: &mut Notes,
+) -> Result<TypeSpec, LoadRefusal>
+    ensures { Gives itself result notes.new
+        (parse_listed reader.now.signatures.now parameters.now at (datums_of (map datum_of parts.now)) notes.old) }
+{
+    let Some((first, more)) = parts.split_first() else {
+        return Err(LoadRefusal::Refused(6, at));
+    };
+    match first {
+        Datum::List(inner, _) => {
+            let Some(options) = options_in(reader.alloc, more)? else {
+                return Err(LoadRefusal::Refused(6, at));
+            };
+            let spec = parse_parts(reader, parameters, at, inner.as_slice(), notes)?;
+            Ok(TypeSpec { options, ..spec })
+        }
+        Datum::Word(_, _) => parse_headed(reader, parameters, at, first, more, notes),
+        _ => Err(LoadRefusal::Refused(6, at)),
+    }
+}
+
+// A name and its arguments.
+#[cycle(specifier)]
+fn parse_parts(
+    reader: &Reader,
+    parameters: &Names,
+    at: u32,
+    parts: &[Datum],
+    notes: &mut Notes,
+) -> Result<TypeSpec, LoadRefusal>
+    ensures { Gives itself result notes.new
+        (parse_parts reader.now.signatures.now parameters.now at (datums_of (map datum_of parts.now)) notes.old) }
+{
+    let Some((head, arguments)) = parts.split_first() else {
+        return Err(LoadRefusal::Refused(6, at));
+    };
+    parse_headed(reader, parameters, at, head, arguments, notes)
+}
+
+#[cycle(specifier)]
+fn parse_headed(
+    reader: &Reader,
+    parameters: &Names,
+    at: u32,
+    head: &Datum,
+    arguments: &[Datum],
+    notes: &mut Notes,
+) -> Result<TypeSpec, LoadRefusal>
+    ensures { Gives itself result notes.new
+        (parse_headed reader.now.signatures.now parameters.now at (datum_of head.now)
+        (type_subs reader.now.signatures.now parameters.now (datums_of (map datum_of arguments.now))) notes.old) }
+{
+    match name_in(head) {
+        Some(name) => {
+            let place = (head.offset(), at);
+            parse_named(reader, parameters, name, place, arguments, notes)
+        }
+        None => Err(LoadRefusal::Refused(6, at)),
+    }
+}
+
+// A type by its name, with the offsets of the name and of the whole.
+#[cycle(specifier)]
+fn parse_named(
+    reader: &Reader,
+    parameters: &Names,
+    name: &Text,
+    place: (u32, u32),
+    arguments: &[Datum],
+    notes: &mut Notes,
+) -> Result<TypeSpec, LoadRefusal>
+    ensures { Gives itself result notes.new
+        (parse_named reader.now.signatures.now parameters.now name.now place.0 place.1
+        (type_subs reader.now.signatures.now parameters.now (datums_of (map datum_of arguments.now))) notes.old) }
+{
+    let name = name.copy()?;
+    match takes_named(reader, name.as_slice()) {
+        None => {
+            notes.note(false, place.0);
+            Ok(TypeSpec::plain(name))
+        }
+        Some(takes) => {
+            let args = parse_arguments(reader, parameters, takes, place.1, arguments, notes)?;
+            let args = TypeArgs::from_vec(reader.alloc, args)?;
+            Ok(TypeSpec::new(name, args, TypeOptions::none()))
+        }
+    }
+}
+
+// What stands behind the name of a type, by what it takes.
+#[cycle(specifier)]
+#[tactic(auto, using(crate::proofs::TypeSubs::shapes_of_subs))]
+fn parse_arguments(
+    reader: &Reader,
+    parameters: &Names,
+    takes: Takes,
+    at: u32,
+    parts: &[Datum],
+    notes: &mut Notes,
+) -> Result<Vec<TypeArg>, LoadRefusal>
+    ensures { Gives args_of result notes.new
+        (parse_arguments parameters.now takes at
+        (type_subs reader.now.signatures.now parameters.now (datums_of (map datum_of parts.now))) notes.old) }
+{
+    let alloc = reader.alloc;
+    match takes {
+        Takes::Nothing => parse_nothing(alloc, at, parts),
+        Takes::Bounds => parse_at_most(alloc, 2, parameters, Wanted::NumberOrStar, at, parts),
+        Takes::Length => parse_at_most(alloc, 1, parameters, Wanted::Number, at, parts),
+        Takes::Constants => parse_constants(alloc, parameters, Wanted::Constant, at, parts),
+        Takes::OneType => parse_one_type(reader, parameters, at, parts, notes),
+        Takes::SomeTypes => parse_some_types(reader, parameters, at, parts, notes),
+        Takes::TokensAndType => parse_tokens_and_type(reader, parameters, at, parts, notes),
+    }
+}
