@@ -9,7 +9,7 @@ use Rattle.cl_syntax.specs.declared.type_decls.CommandType.{CommandType}
 use Rattle.cl_syntax.specs.declared.type_decls.PlacedSpec.{PlacedSpec}
 use Rattle.cl_syntax.specs.declared.type_decls.TypeDecls.{TypeDecls}
 use Rattle.cl_table.specs.Names.{named, with_first}
-use Rattle.cl_lattice.specs.Building.{IsLatticeOf, IsSound, NoRing, seen_command}
+use Rattle.cl_lattice.specs.Building.{IsLatticeOf, IsSound, NoRing}
 use Rattle.cl_lattice.specs.Firsts.{IsFirst, InheritsTooMuch, IsTooLarge, StandsOnRing, is_past, offset_of}
 use Rattle.cl_lattice.specs.Laws.{AllFit, IsLattice}
 use Rattle.cl_lattice.specs.Listing.{IsListed, Lists}
@@ -23,7 +23,7 @@ use Rattle.cl_lattice.specs.declared.declared_types.TypeKind.TheVariants as kind
 use Rattle.cl_lattice.specs.declared.declared_types.UserType.{UserType}
 use Rattle.cl_lattice.proofs.BuildingEntries.{either, named_last}
 use Rattle.cl_lattice.proofs.RingEntries.{same_name}
-use Rattle.cl_lattice.proofs.RingParts.{fits_no_ring, inherited_is}
+use Rattle.cl_lattice.proofs.RingParts.{inherited_is}
 
 -- ---- where none is first, none has the property
 
@@ -108,11 +108,6 @@ no_ring_found ds h x ring =
     let one : RingUser (world_of ds) x = ring_user (world_of ds) x x ring in
     none_has ds (IsOnRing (world_of ds)) (none_first (StandsOnRing (world_of ds)) offset_of ds.types.now h) x one.user one.is ring
 
-all_fit_ring : (w : World) → AllFit w → NoRing w
-all_fit_ring w all x ring =
-    let one : RingUser w x = ring_user w x x ring in
-    fits_no_ring w x one.user.inherit_from (inherited_is w x one.user one.is) (all.fits_each x one.user one.is) ring
-
 -- ---- sizes
 
 or_past : (w : World) (s : TypeSpecTree) (b : Bool) → fits w s ≡ b → (is_past w (Some s) ≡ true → ⊥) → fits w s ≡ true
@@ -131,72 +126,35 @@ or_fits : (b : Bool) → (b ≡ false → ⊥) → b ≡ true
 or_fits true never = refl
 or_fits false never = absurd (never refl)
 
--- ---- other commands change nothing of the types
-
-module _ (t : Table) (cs ds : List (List ℕ × CommandType)) where
-  abbrev one : World
-  one = record { types = t; commands = cs }
-
-  abbrev other : World
-  other = record { types = t; commands = ds }
-
-  same_nodes : (n : ℕ) → nodes_within n one ≡ nodes_within n other
-  same_nodes zero = refl
-  same_nodes (suc n) = λ i s. each (same_nodes n) s i
-    where
-      each : nodes_within n one ≡ nodes_within n other → (s : TypeSpecTree) → nodes_within (suc n) one s ≡ nodes_within (suc n) other s
-      each h (specifier x ts o) =
-          ap (λ (f : TypeSpecTree → Option ℕ). both (Some 1) (both (sized_args f ts) (inherited_size f (inherited_by (standard_named x) (kind_in (named x t)))))) h
-
-  pub same_fits : (s : TypeSpecTree) → fits one s ≡ fits other s
-  unfolding fits
-  same_fits s = ap (λ (f : TypeSpecTree → Option ℕ). is_small (f s)) (same_nodes most_depth)
-
-  same_within : (n : ℕ) → precedence_within n one ≡ precedence_within n other
-  same_within zero = refl
-  same_within (suc n) = ap {B = List ℕ → Option (List (List ℕ))} (λ (f : List ℕ → Option (List (List ℕ))) (x : List ℕ). precedence_by f (standard_named x) (kind_in (named x t)) x) (same_within n)
-
-  pub same_precedence : (x : List ℕ) → precedence one x ≡ precedence other x
-  unfolding precedence
-  same_precedence x = ap (λ (f : List ℕ → Option (List (List ℕ))). f x) (same_within 9)
-
-  same_all_fit : AllFit one → AllFit other
-  same_all_fit all = record {
-    fits_each = λ x u is. sym (same_fits u.inherit_from) ∙ all.fits_each x u (record { own = is.own; declared = is.declared });
-  }
-
-  pub same_lattice : (ps : Lists) → AllFit one → IsListed one ps → IsLattice other ps
-  same_lattice ps all listed = record { fit = same_all_fit all; listed = λ x. listed x ∙ same_precedence x }
-
-  pub same_placed : (specs : List PlacedSpec) → IsFirst (IsTooLarge one) (λ p. p.at) specs None → All (λ p. fits other p.spec ≡ true) specs
-  same_placed specs h =
-      All-weaker (λ p. IsTooLarge one p → ⊥) (λ p. fits other p.spec ≡ true) (λ p no. sym (same_fits p.spec) ∙ or_fits (fits one p.spec) no) specs
-      (none_first (IsTooLarge one) (λ p. p.at) specs h)
-
 -- where no declaration is on a ring, no user type is
 pub ring_found : (ds : TypeDecls) (w : World) (o : Option ℕ) → w ≡ world_of ds → o ≡ None → IsFirst (StandsOnRing w) offset_of ds.types.now o → NoRing w
 ring_found ds w o same e h =
     let first : IsFirst (StandsOnRing w) offset_of ds.types.now None = subst (λ (r : Option ℕ). IsFirst (StandsOnRing w) offset_of ds.types.now r) e h in
     subst NoRing (sym same) (no_ring_found ds (subst (λ (v : World). IsFirst (StandsOnRing v) offset_of ds.types.now None) same first))
 
+-- where no placed specifier is too large, each is within the limits
+placed_small : (w : World) (specs : List PlacedSpec) → IsFirst (IsTooLarge w) (λ p. p.at) specs None → All (λ p. fits w p.spec ≡ true) specs
+placed_small w specs h =
+    All-weaker (λ p. IsTooLarge w p → ⊥) (λ p. fits w p.spec ≡ true) (λ p no. or_fits (fits w p.spec) no) specs
+    (none_first (IsTooLarge w) (λ p. p.at) specs h)
+
 pub record Made (ds : TypeDecls) (w : World) (ps : Lists) : Type 0 where
   pub is_lattice : IsLattice w ps
   pub is_of : IsLatticeOf ds w
 
+sound_made : (ds : TypeDecls) (ps : Lists) → IsSound ds (world_of ds) → IsListed (world_of ds) ps → Made ds (world_of ds) ps
+sound_made ds ps sound listed = record {
+  is_lattice = record { fit = all_fit ds sound.types; listed = listed };
+  is_of = record {
+    is_world = refl;
+    no_ring = no_ring_found ds sound.no_ring;
+    placed_fit = placed_small (world_of ds) ds.specs.now sound.placed;
+  };
+}
+
 -- what is made of the types and of copies of the commands
-pub made : (ds : TypeDecls) (w : World) (t : Table) (cs copied : List (List ℕ × CommandType)) (ps : Lists) → one t cs copied ≡ w → w ≡ world_of ds → IsSound ds w → IsListed w ps
-    → map seen_command copied ≡ map seen_command cs → Made ds (other t cs copied) ps
-made ds w t cs copied ps view same sound listed seen =
-    let first : one t cs copied ≡ world_of ds = view ∙ same in
-    let sound_of : IsSound ds (world_of ds) = subst (IsSound ds) same sound in
-    let fit : AllFit (one t cs copied) = subst AllFit (sym first) (all_fit ds sound_of.types) in
-    let lattice : IsLattice (other t cs copied) ps = same_lattice t cs copied ps fit (subst (λ (v : World). IsListed v ps) (sym view) listed) in
-    record {
-      is_lattice = lattice;
-      is_of = record {
-        types = ap (λ (v : World). v.types) first;
-        commands = seen ∙ ap (λ (v : World). map seen_command v.commands) first;
-        no_ring = all_fit_ring (other t cs copied) lattice.fit;
-        placed_fit = same_placed t cs copied ds.specs.now (subst (λ (v : World). IsFirst (IsTooLarge v) (λ p. p.at) ds.specs.now None) (sym view) sound.placed);
-      };
-    }
+pub made : (ds : TypeDecls) (w : World) (t : Table) (cs copied : List (List ℕ × CommandType)) (ps : Lists) → record { types = t; commands = cs } ≡ w → w ≡ world_of ds → IsSound ds w
+    → IsListed w ps → copied ≡ cs → Made ds (record { types = t; commands = copied }) ps
+made ds w t cs copied ps view same sound listed copies =
+    let whole : record { types = t; commands = copied } ≡ world_of ds = ap (λ (ds : List (List ℕ × CommandType)). record { types = t; commands = ds }) copies ∙ view ∙ same in
+    subst (λ (v : World). Made ds v ps) (sym whole) (sound_made ds ps (subst (IsSound ds) same sound) (subst (λ (v : World). IsListed v ps) same listed))

@@ -18,7 +18,7 @@ pub mod BuildingFirsts
 pub mod RingParts
 pub mod RingEntries
 pub mod RingLemmas
-pub mod BuildingCommands
+pub mod TableCopies
 pub mod BuildingLemmas
 pub mod SupertypeLemmas
 pub mod SubtypeNameLemmas

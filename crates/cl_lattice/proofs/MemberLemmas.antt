@@ -65,19 +65,19 @@ some_same : {A : Type 0} (a b : A) → Some a ≡ Some b → a ≡ b
 some_same a b e = ap (λ o. elim o [ None ↦ a | Some c ↦ c ]) e
 
 by_test : (w : World) (x : List ℕ) (f : List ℕ × CommandType) (es : List (List ℕ × CommandType)) (c : CommandType) (b : Bool)
-    → (if b then Some f.1 else named x es) ≡ Some c → args_ask w c.args.items ≡ true
+    → (if b then Some f.1 else named x es) ≡ Some c → args_ask w c.args ≡ true
     → (named x es ≡ Some c → any_command_asks w es ≡ true) → any_command_asks w (f ∷ es) ≡ true
-by_test w x f es c true e h more = or_left (args_ask w f.1.args.items) (any_command_asks w es) (subst (λ (d : CommandType). args_ask w d.args.items ≡ true) (sym (some_same f.1 c e)) h)
-by_test w x f es c false e h more = or_right (args_ask w f.1.args.items) (any_command_asks w es) (more e)
+by_test w x f es c true e h more = or_left (args_ask w f.1.args) (any_command_asks w es) (subst (λ (d : CommandType). args_ask w d.args ≡ true) (sym (some_same f.1 c e)) h)
+by_test w x f es c false e h more = or_right (args_ask w f.1.args) (any_command_asks w es) (more e)
 
-found_asks : (w : World) (x : List ℕ) (es : List (List ℕ × CommandType)) (c : CommandType) → named x es ≡ Some c → args_ask w c.args.items ≡ true → any_command_asks w es ≡ true
+found_asks : (w : World) (x : List ℕ) (es : List (List ℕ × CommandType)) (c : CommandType) → named x es ≡ Some c → args_ask w c.args ≡ true → any_command_asks w es ≡ true
 found_asks w x [] c e h = cc
 found_asks w x (f ∷ es) c e h = by_test w x f es c (pointwise ◌==◌ x f.0) e h (λ more. found_asks w x es c more h)
 
 -- the arguments of a command that is declared
-pub command_asks : (w : World) (x : List ℕ) (c : CommandType) → named x w.commands ≡ Some c → (commands_ask w || args_ask w c.args.items) ≡ true → commands_ask w ≡ true
+pub command_asks : (w : World) (x : List ℕ) (c : CommandType) → named x w.commands ≡ Some c → (commands_ask w || args_ask w c.args) ≡ true → commands_ask w ≡ true
 unfolding commands_ask
-command_asks w x c e h = or_true (any_command_asks w w.commands) (args_ask w c.args.items) (any_command_asks w w.commands) (λ a. a) (λ a. found_asks w x w.commands c e a) h
+command_asks w x c e h = or_true (any_command_asks w w.commands) (args_ask w c.args) (any_command_asks w w.commands) (λ a. a) (λ a. found_asks w x w.commands c e a) h
 
 -- a user type that is declared
 pub declared_user : (w : World) → AllFit w → (x : List ℕ) → standard_named x ≡ None → (d : DeclaredType) (u : UserType) → Some d ≡ named x w.types → d.kind ≡ kind.User u

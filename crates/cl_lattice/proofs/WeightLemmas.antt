@@ -28,16 +28,16 @@ some_same : {A : Type 0} (a b : A) → Some a ≡ Some b → a ≡ b
 some_same a b e = ap (λ o. elim o [ None ↦ a | Some c ↦ c ]) e
 
 by_test : (w : World) (x : List ℕ) (f : List ℕ × CommandType) (es : List (List ℕ × CommandType)) (c : CommandType) (b : Bool)
-    → (if b then Some f.1 else named x es) ≡ Some c → (named x es ≡ Some c → args_weight w c.args.items ≤ all_weights w es)
-    → args_weight w c.args.items ≤ all_weights w (f ∷ es)
-by_test w x f es c true e more = subst (λ (d : CommandType). args_weight w d.args.items ≤ all_weights w (f ∷ es)) (some_same f.1 c e) (omega arith)
+    → (if b then Some f.1 else named x es) ≡ Some c → (named x es ≡ Some c → args_weight w c.args ≤ all_weights w es)
+    → args_weight w c.args ≤ all_weights w (f ∷ es)
+by_test w x f es c true e more = subst (λ (d : CommandType). args_weight w d.args ≤ all_weights w (f ∷ es)) (some_same f.1 c e) (omega arith)
 by_test w x f es c false e more = omega (arith, more e)
 
-found_weight : (w : World) (x : List ℕ) (es : List (List ℕ × CommandType)) (c : CommandType) → named x es ≡ Some c → args_weight w c.args.items ≤ all_weights w es
+found_weight : (w : World) (x : List ℕ) (es : List (List ℕ × CommandType)) (c : CommandType) → named x es ≡ Some c → args_weight w c.args ≤ all_weights w es
 found_weight w x [] c e = cc
 found_weight w x (f ∷ es) c e = by_test w x f es c (pointwise ◌==◌ x f.0) e (λ more. found_weight w x es c more)
 
 -- the arguments of a command that is declared
-pub within_span : (w : World) (x : List ℕ) (c : CommandType) → named x w.commands ≡ Some c → 4 * args_weight w c.args.items + 3 < span w
+pub within_span : (w : World) (x : List ℕ) (c : CommandType) → named x w.commands ≡ Some c → 4 * args_weight w c.args + 3 < span w
 unfolding span
 within_span w x c e = omega (arith, found_weight w x w.commands c e)

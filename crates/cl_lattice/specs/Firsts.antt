@@ -35,3 +35,10 @@ InheritsTooMuch w e = is_past w (inherited w e.1.name) ≡ true
 -- a placed specifier that is past the limits
 abbrev pub IsTooLarge : World → PlacedSpec → Type 0
 IsTooLarge w p = fits w p.spec ≡ false
+
+-- the first placed specifier that is past the limits; if there is none, the first user type that inherits from one
+abbrev pub IsFirstLarge : World → List PlacedSpec → List (List ℕ × TypeDecl) → Option ℕ → Type 0
+IsFirstLarge w specs types None = IsFirst (IsTooLarge w) (λ p. p.at) specs None × IsFirst (InheritsTooMuch w) offset_of types None
+IsFirstLarge w specs types (Some at) =
+    IsFirst (IsTooLarge w) (λ p. p.at) specs (Some at)
+    ⊎ (IsFirst (IsTooLarge w) (λ p. p.at) specs None × IsFirst (InheritsTooMuch w) offset_of types (Some at))

@@ -203,7 +203,7 @@ fit w ms ss = false
 -- the arguments of a command that is declared
 abbrev pub fit_command : World → Option CommandType → List Membership → Bool
 fit_command w None ms = false
-fit_command w (Some c) ms = fit w ms c.args.items
+fit_command w (Some c) ms = fit w ms c.args
 
 -- the symbol of a command, and its arguments
 abbrev pub is_command : World → Data → List Membership → Bool
@@ -321,7 +321,7 @@ args_ask w (s ∷ ss) = asks false (expansion w [] s) || args_ask w ss
 
 abbrev pub any_command_asks : World → List (List ℕ × CommandType) → Bool
 any_command_asks w [] = false
-any_command_asks w (e ∷ es) = args_ask w e.1.args.items || any_command_asks w es
+any_command_asks w (e ∷ es) = args_ask w e.1.args || any_command_asks w es
 
 -- whether a predicate may be asked for the arguments of some command
 unfoldable pub commands_ask : World → Bool

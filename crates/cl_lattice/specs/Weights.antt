@@ -12,7 +12,7 @@ args_weight w (s ∷ ss) = weight (expansion w [] s) + 1 + args_weight w ss
 
 abbrev pub all_weights : World → List (List ℕ × CommandType) → ℕ
 all_weights w [] = 0
-all_weights w (e ∷ es) = args_weight w e.1.args.items + all_weights w es
+all_weights w (e ∷ es) = args_weight w e.1.args + all_weights w es
 
 -- a number above that of all arguments of a command
 unfoldable pub span : World → ℕ

@@ -40,8 +40,11 @@ with_all [] table = table
 with_all (d ∷ ds) table = with_all ds (with_first (λ t. t.name) table d)
 
 -- records, user types and host types share one space of names; of two of one name the first counts
-abbrev pub world_of : TypeDecls → World
-world_of ds = record {
-  types = with_all (map host_entry ds.hosts.now) (with_all (map user_entry ds.types.now) (with_all (map record_entry ds.records.now) []));
-  commands = ds.commands.now;
+abbrev pub world_with : List (List ℕ × RecordDecl) → List (List ℕ × TypeDecl) → List (List ℕ × HostBound) → List (List ℕ × CommandType) → World
+world_with records types hosts commands = record {
+  types = with_all (map host_entry hosts) (with_all (map user_entry types) (with_all (map record_entry records) []));
+  commands = commands;
 }
+
+abbrev pub world_of : TypeDecls → World
+world_of ds = world_with ds.records.now ds.types.now ds.hosts.now ds.commands.now

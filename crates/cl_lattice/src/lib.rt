@@ -26,10 +26,8 @@ mod rows;
 mod sizes;
 mod subtypes;
 
-pub use arguments::{
-    Bound, first_number, is_among, is_same, next_spec, second_number, tokens_in, value_of,
-};
-pub use atoms::{differ, is_null, is_one_of, is_within};
+pub use arguments::{Bound, next_spec, tokens_in, value_of};
+pub use atoms::{is_null, is_one_of};
 pub use building::BuildRefusal;
 pub use declared_types::{DeclaredType, DeclaredTypes, TypeKind, UserType};
 pub use inheritance::user_types_inherit;

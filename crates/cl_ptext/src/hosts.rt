@@ -14,11 +14,14 @@ const LONGEST: usize = 64;
 
 /// The host types that an application may use.
 pub trait Hosts {
-    ghost use Rattle.std.specs.Prelude.{ℕ, List};
+    ghost use Rattle.std.specs.Prelude.{ℕ, ℤ, List, Option};
     ghost use Rattle.cl_ptext.specs.Hosts.{NameEntries};
 
     // the names of a host type with their numbers, by the name of the type; none where there is no such type
     ghost entries: { Self → List ℕ → NameEntries };
+
+    // the least and the greatest number of a host type, by the name of the type; none where there is no such type
+    ghost bounds: { Self → List ℕ → Option (ℤ × ℤ) };
 
     /// The number of the first entry of a text among the names of a host type, by its reader. It asks for at most 64 bytes.
     fn number(&self, host: &[u8], text: &[u8]) -> Option<i64>
@@ -28,6 +31,10 @@ pub trait Hosts {
     /// The first name of a number of a host type.
     fn name_of(&self, host: &[u8], number: i64) -> Option<&Text>
         ensures { option_map (λ t. t.now) result ≡ name_of_number number (entries self.now host.now) };
+
+    /// The least and the greatest number of a host type; `None` where there is no such host type.
+    fn bounds(&self, host: &[u8]) -> Option<(i64, i64)>
+        ensures { result ≡ bounds self.now host.now };
 }
 
 // The number of a name, by the reader of its host type.

@@ -3,7 +3,7 @@ use crate::specifiers::{names_in, specifier_in};
 use cl_forms::{Datum, LoadRefusal, name_in, symbol_of};
 use cl_syntax::{
     CommandType, CommandTypes, HostBound, HostBounds, PlacedSpec, RecordDecl, Records, TypeDecl,
-    TypeDecls, TypeSpec, UserTypes,
+    TypeDecls, TypeSpec, TypeSpecs, UserTypes,
 };
 use cl_table::{Names, Table};
 use cl_value::Text;
@@ -183,12 +183,12 @@ impl Declarations {
         &mut self,
         alloc: Global,
         arguments: &[Datum],
-    ) -> Result<Vec<TypeSpec>, LoadRefusal> {
+    ) -> Result<TypeSpecs, LoadRefusal> {
         let mut args = Vec::new(alloc);
         for argument in arguments {
             args.push(self.argument_type(alloc, argument)?)?;
         }
-        Ok(args)
+        Ok(TypeSpecs::from_vec(alloc, args)?)
     }
 
     fn argument_type(&mut self, alloc: Global, argument: &Datum) -> Result<TypeSpec, LoadRefusal> {

@@ -22,4 +22,4 @@ pub use type_decls::{
     TypeDecls, UserTypes,
 };
 pub use type_names::{StandardType, TypeName, standard_named};
-pub use type_specs::{TypeArg, TypeArgs, TypeOptions, TypeSpec};
+pub use type_specs::{TypeArg, TypeArgs, TypeOptions, TypeSpec, TypeSpecs};

@@ -1,5 +1,5 @@
 //! What an application text declares of types. In each declaration `at` is its offset in the text in bytes.
-use crate::type_specs::TypeSpec;
+use crate::type_specs::{TypeSpec, TypeSpecs};
 use cl_table::{Declared, Names, Table};
 use cl_value::Text;
 
@@ -36,7 +36,7 @@ pub struct HostBound {
 #[derive(Drop)]
 pub struct CommandType {
     pub name: Text,
-    pub args: Vec<TypeSpec>,
+    pub args: TypeSpecs,
     pub at: u32,
 }
 

@@ -44,6 +44,13 @@ pub struct TypeArgs {
     row: Option<Rc<Vec<TypeArg>>>,
 }
 
+/// Specifiers in order, as the types of the arguments of a command, seen as the list of their trees. A copy shares them.
+#[derive(Drop)]
+pub struct TypeSpecs {
+    /// `None` for no specifiers, which takes no memory.
+    row: Option<Rc<Vec<TypeSpec>>>,
+}
+
 /// The options of a specifier, which have no part in membership and in subtypes: how the type is called,
 /// and the byte between the parts of its texts.
 #[derive(Drop)]
@@ -88,6 +95,21 @@ impl Model for TypeArgs {
     ghost use Rattle.cl_syntax.specs.TypeSpecFalls.{shared-nodes};
 
     ghost size_decreases = { λ a h. shared-nodes a.row };
+}
+
+impl Model for TypeSpecs {
+    ghost use Rattle.std.specs.Prelude.{List};
+    ghost use Rattle.std.specs.Coded.{coded_list};
+    ghost use Rattle.cl_syntax.specs.TypeSpecTree.{TypeSpecTree};
+    ghost use Rattle.cl_syntax.specs.TypeSpecTreeCode.{coded_type_spec_tree};
+
+    ghost Value = { List TypeSpecTree };
+
+    ghost coded = { coded_list coded_type_spec_tree };
+
+    ghost use Rattle.cl_syntax.specs.TypeSpec.{shared_specs};
+
+    ghost view = { λ s. shared_specs s.row };
 }
 
 impl TypeOptions {
@@ -155,6 +177,48 @@ impl TypeArgs {
             None => None,
         };
         Ok(TypeArgs { row })
+    }
+}
+
+impl TypeSpecs {
+    /// No specifiers, which takes no memory.
+    pub fn new() -> TypeSpecs
+        ensures { result ≡ [] }
+    {
+        TypeSpecs { row: None }
+    }
+
+    /// These specifiers, which are not copied.
+    pub fn from_vec(alloc: Global, specs: Vec<TypeSpec>) -> Result<TypeSpecs, AllocError>
+        ensures { IfOk result (λ s. s ≡ specs.items) }
+    {
+        if specs.is_empty() {
+            return Ok(TypeSpecs::new());
+        }
+        Ok(TypeSpecs {
+            row: Some(Rc::new(alloc, specs)?),
+        })
+    }
+
+    /// The specifiers in their order.
+    pub fn as_slice(&self) -> &[TypeSpec]
+        ensures { result.now ≡ self.now }
+    {
+        match &self.row {
+            Some(row) => row.as_slice(),
+            None => &[],
+        }
+    }
+
+    /// The same specifiers, which takes no memory: it fails only where one list has as many owners as can be counted.
+    pub fn copy(&self) -> Result<TypeSpecs, AllocError>
+        ensures { IfOk result (λ s. s ≡ self.now) }
+    {
+        let row = match &self.row {
+            Some(row) => Some(row.clone()?),
+            None => None,
+        };
+        Ok(TypeSpecs { row })
     }
 }
 

@@ -33,7 +33,7 @@ fit_command-fit-requires g t c κs within =
     let found = sym (c.in-Some.ensures ∙ ap (λ (v : World). named c.args.name.now v.commands) c.self.view_is) in
     let span = within_span c.args.self.now c.args.name.now c.in-Some.command.now found in
     let values = size_of_items (parts_of c.args.values.now) in
-    let less = less_value c.args.self.now values (1 + values) (4 * args_weight c.args.self.now c.in-Some.command.now.args.items + 3) 0 (omega arith) (omega (arith, span)) in
+    let less = less_value c.args.self.now values (1 + values) (4 * args_weight c.args.self.now c.in-Some.command.now.args + 3) 0 (omega arith) (omega (arith, span)) in
     (search (rules, less), within)
 
 pub sequence_holds-all_hold-requires : goal.sequence_holds-all_hold-requires
