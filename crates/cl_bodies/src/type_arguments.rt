@@ -75,7 +75,7 @@ fn is_number(value: &Value) -> bool
         Value::Symbol(_) => false,
         Value::Null => false,
         Value::List(_) => false,
-        Value::Record(_) => false,
+        Value::Record(_, _) => false,
     }
 }
 
