@@ -1,12 +1,12 @@
 -- The type that a datum is: `NAME`, `(NAME ARGUMENT ...)` or `((NAME ARGUMENT ...) KEY VALUE ...)`. A specifier says first what makes it wrong by
 -- itself, at its own offset; then those in it are read from left to right.
-use Rattle.std.specs.Prelude.{ℕ, false, nat_le, if◌then◌else◌, List, [], ◌∷◌, length, map, Option, Some, None}
+use Rattle.std.specs.Prelude.{ℕ, false, ◌==◌, nat_le, if◌then◌else◌, List, [], ◌∷◌, length, map, Option, Some, None}
 use Rattle.cl_syntax.specs.StandardTypes.{standard_named}
 use Rattle.cl_syntax.specs.TypeSpecTree.{TypeSpecTree, specifier, TypeArgTree, Spec, Names as Tokens, arg_trees_of, no_options, plain_type}
 use Rattle.cl_syntax.specs.declared.type_names.StandardType.{StandardType}
 use Rattle.cl_syntax.specs.declared.type_names.StandardType.TheVariants as standard
 use Rattle.cl_syntax.specs.declared.type_specs.TypeOptions.{TypeOptions}
-use Rattle.cl_forms.specs.Datum.{Datum, Datums, number, literal, word, quoted, stray, list, none, item, in_order, offset}
+use Rattle.cl_forms.specs.Datum.{Datum, Datums, number, literal, word, quoted, stray, list, none, item, offset}
 use Rattle.cl_forms.specs.Naming.{name_in}
 use Rattle.cl_expressions.specs.Load.{Load, ◌>>=◌, give, refuse, noted, placed}
 use Rattle.cl_expressions.specs.Scopes.{Names}
@@ -70,17 +70,15 @@ abbrev pub parse_each_type : List TypeSub → Load (List TypeArgTree)
 parse_each_type [] = give []
 parse_each_type (s ∷ subs) = s.spec >>= λ t. parse_each_type subs >>= λ ts. give (Spec t ∷ ts)
 
-abbrev pub parse_nothing : ℕ → List TypeSub → Load (List TypeArgTree)
+abbrev pub parse_nothing : ℕ → List Datum → Load (List TypeArgTree)
 parse_nothing at [] = give []
-parse_nothing at (s ∷ subs) = refuse 6 at
+parse_nothing at (d ∷ ds) = refuse 6 at
 
 abbrev pub parse_one_type : ℕ → List TypeSub → Load (List TypeArgTree)
-parse_one_type at (s ∷ []) = parse_each_type (s ∷ [])
-parse_one_type at subs = refuse 6 at
+parse_one_type at subs = if length subs == 1 then parse_each_type subs else refuse 6 at
 
 abbrev pub parse_some_types : ℕ → List TypeSub → Load (List TypeArgTree)
-parse_some_types at [] = refuse 6 at
-parse_some_types at (s ∷ subs) = parse_each_type (s ∷ subs)
+parse_some_types at subs = if length subs == 0 then refuse 6 at else parse_each_type subs
 
 abbrev pub parse_token_type : ℕ → Option (List (List ℕ)) → TypeSub → Load (List TypeArgTree)
 parse_token_type at None s = refuse 6 at
@@ -93,7 +91,7 @@ parse_tokens_and_type at subs = refuse 6 at
 
 -- what stands behind the name of a type, by what it takes
 abbrev pub parse_arguments : Names → Takes → ℕ → List TypeSub → Load (List TypeArgTree)
-parse_arguments ps takes.Nothing at subs = parse_nothing at subs
+parse_arguments ps takes.Nothing at subs = parse_nothing at (shapes subs)
 parse_arguments ps takes.Bounds at subs = parse_at_most 2 ps wanted.NumberOrStar at (shapes subs)
 parse_arguments ps takes.Length at subs = parse_at_most 1 ps wanted.Number at (shapes subs)
 parse_arguments ps takes.Constants at subs = parse_constants ps wanted.Constant at (shapes subs)
@@ -121,6 +119,15 @@ abbrev pub parse_optioned : ℕ → Option TypeOptions → Load TypeSpecTree →
 parse_optioned at None m = refuse 6 at
 parse_optioned at (Some o) m = m >>= λ s. give (with_options o s)
 
+-- a list by its first part: a list of a name and arguments, which are read so, with options behind it; or a name
+abbrev pub parse_first : Signatures → Names → ℕ → Datum → Load TypeSpecTree → List TypeSub → Load TypeSpecTree
+parse_first w ps at (list es inner_at) inner subs = parse_optioned at (options_in (shapes subs)) inner
+parse_first w ps at (word x name_at) inner subs = parse_headed w ps at (word x name_at) subs
+parse_first w ps at (number z part_at) inner subs = refuse 6 at
+parse_first w ps at (literal s part_at) inner subs = refuse 6 at
+parse_first w ps at (quoted x part_at name_at) inner subs = refuse 6 at
+parse_first w ps at (stray part_at) inner subs = refuse 6 at
+
 -- ---- specifiers
 
 abbrev mutual
@@ -133,15 +140,19 @@ abbrev mutual
   parse_type w ps (stray at) = refuse 6 at
   parse_type w ps (list ds at) = placed ps at (parse_listed w ps at ds)
 
-  -- a list by its first part: a list of a name and arguments, or a name
+  -- a list
   pub parse_listed : Signatures → Names → ℕ → Datums → Load TypeSpecTree
   parse_listed w ps at none = refuse 6 at
-  parse_listed w ps at (item (list es inner_at) more) = parse_optioned at (options_in (in_order more)) (parse_parts w ps at es)
-  parse_listed w ps at (item (word x name_at) more) = parse_headed w ps at (word x name_at) (type_subs w ps more)
-  parse_listed w ps at (item (number z part_at) more) = refuse 6 at
-  parse_listed w ps at (item (literal s part_at) more) = refuse 6 at
-  parse_listed w ps at (item (quoted x part_at name_at) more) = refuse 6 at
-  parse_listed w ps at (item (stray part_at) more) = refuse 6 at
+  parse_listed w ps at (item d more) = parse_first w ps at d (parse_inner w ps at d) (type_subs w ps more)
+
+  -- a list of a name and arguments
+  pub parse_inner : Signatures → Names → ℕ → Datum → Load TypeSpecTree
+  parse_inner w ps at (list es inner_at) = parse_parts w ps at es
+  parse_inner w ps at (number z part_at) = refuse 6 at
+  parse_inner w ps at (literal s part_at) = refuse 6 at
+  parse_inner w ps at (word x part_at) = refuse 6 at
+  parse_inner w ps at (quoted x part_at name_at) = refuse 6 at
+  parse_inner w ps at (stray part_at) = refuse 6 at
 
   -- a name and its arguments
   pub parse_parts : Signatures → Names → ℕ → Datums → Load TypeSpecTree

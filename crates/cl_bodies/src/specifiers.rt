@@ -3,7 +3,8 @@ ghost use Rattle.std.specs.Prelude.{◌≡◌, IfOk, map};
 ghost use Rattle.cl_forms.specs.Datum.{datums_of};
 ghost use Rattle.cl_forms.specs.DatumView.{datum_of};
 ghost use Rattle.cl_expressions.specs.Load.{Gives, itself};
-ghost use Rattle.cl_bodies.specs.Specifiers.{parse_arguments, parse_headed, parse_listed, parse_named, parse_parts, parse_type, takes_named, takes_of, type_subs};
+ghost use Rattle.cl_bodies.specs.Specifiers.{parse_arguments, parse_first, parse_headed, parse_inner, parse_listed, parse_named, parse_optioned, parse_parts, parse_type, takes_named, takes_of, type_subs, with_options};
+ghost use Rattle.cl_bodies.specs.TypeArguments.{options_in};
 ghost use Rattle.cl_bodies.specs.TypeViews.{args_of, parse_specifier};
 
 use crate::type_arguments::Wanted;
@@ -119,7 +120,13 @@ fn parse_specifier(
     }
 }
 
-// A list by its first part: a list of a name and arguments, or a name.
+fn with_options(options: TypeOptions, spec: TypeSpec) -> TypeSpec
+    ensures { result ≡ with_options options spec }
+{
+    TypeSpec { options, ..spec }
+}
+
+// A list.
 #[cycle(specifier)]
 fn parse_listed(
     reader: &Reader,
@@ -131,19 +138,60 @@ fn parse_listed(
     ensures { Gives itself result notes.new
         (parse_listed reader.now.signatures.now parameters.now at (datums_of (map datum_of parts.now)) notes.old) }
 {
-    let Some((first, more)) = parts.split_first() else {
-        return Err(LoadRefusal::Refused(6, at));
-    };
+    match parts {
+        [] => Err(LoadRefusal::Refused(6, at)),
+        [first, more @ ..] => parse_first(reader, parameters, at, first, more, notes),
+    }
+}
+
+// A list by its first part: a list of a name and arguments, or a name.
+#[cycle(specifier)]
+#[tactic(auto, using(crate::proofs::TypeSubs::shapes_of_subs))]
+fn parse_first(
+    reader: &Reader,
+    parameters: &Names,
+    at: u32,
+    first: &Datum,
+    more: &[Datum],
+    notes: &mut Notes,
+) -> Result<TypeSpec, LoadRefusal>
+    ensures { Gives itself result notes.new
+        (parse_first reader.now.signatures.now parameters.now at (datum_of first.now)
+        (parse_inner reader.now.signatures.now parameters.now at (datum_of first.now))
+        (type_subs reader.now.signatures.now parameters.now (datums_of (map datum_of more.now))) notes.old) }
+{
     match first {
         Datum::List(inner, _) => {
-            let Some(options) = options_in(reader.alloc, more)? else {
-                return Err(LoadRefusal::Refused(6, at));
-            };
-            let spec = parse_parts(reader, parameters, at, inner.as_slice(), notes)?;
-            Ok(TypeSpec { options, ..spec })
+            parse_optioned(reader, parameters, at, inner.as_slice(), more, notes)
         }
         Datum::Word(_, _) => parse_headed(reader, parameters, at, first, more, notes),
-        _ => Err(LoadRefusal::Refused(6, at)),
+        Datum::Number(_, _) => Err(LoadRefusal::Refused(6, at)),
+        Datum::Literal(_, _) => Err(LoadRefusal::Refused(6, at)),
+        Datum::Quoted(_, _, _) => Err(LoadRefusal::Refused(6, at)),
+        Datum::Stray(_) => Err(LoadRefusal::Refused(6, at)),
+    }
+}
+
+// A name and its arguments, with options behind them.
+#[cycle(specifier)]
+fn parse_optioned(
+    reader: &Reader,
+    parameters: &Names,
+    at: u32,
+    parts: &[Datum],
+    options: &[Datum],
+    notes: &mut Notes,
+) -> Result<TypeSpec, LoadRefusal>
+    ensures { Gives itself result notes.new
+        (parse_optioned at (options_in (map datum_of options.now))
+        (parse_parts reader.now.signatures.now parameters.now at (datums_of (map datum_of parts.now))) notes.old) }
+{
+    match options_in(reader.alloc, options)? {
+        Some(options) => {
+            let spec = parse_parts(reader, parameters, at, parts, notes)?;
+            Ok(with_options(options, spec))
+        }
+        None => Err(LoadRefusal::Refused(6, at)),
     }
 }
 
@@ -159,10 +207,10 @@ fn parse_parts(
     ensures { Gives itself result notes.new
         (parse_parts reader.now.signatures.now parameters.now at (datums_of (map datum_of parts.now)) notes.old) }
 {
-    let Some((head, arguments)) = parts.split_first() else {
-        return Err(LoadRefusal::Refused(6, at));
-    };
-    parse_headed(reader, parameters, at, head, arguments, notes)
+    match parts {
+        [] => Err(LoadRefusal::Refused(6, at)),
+        [head, arguments @ ..] => parse_headed(reader, parameters, at, head, arguments, notes),
+    }
 }
 
 #[cycle(specifier)]

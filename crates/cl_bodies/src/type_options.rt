@@ -39,7 +39,7 @@ fn separator_in(bytes: &[u8]) -> Option<u8>
 // The text behind a key, where the key stands; `None` where something else stands behind it.
 fn text_behind<'a>(values: Option<&'a [Datum]>) -> Option<Option<&'a Text>>
     ensures { option_map (λ o. option_map (λ t. t.now) o) result
-        ≡ text_behind (option_map (λ v. map datum_of v.now) values) }
+        ≡ text_behind (option_map (λ v. map datum_of v.now) values.entry) }
 {
     match values {
         None => Some(None),
@@ -52,7 +52,7 @@ fn text_behind<'a>(values: Option<&'a [Datum]>) -> Option<Option<&'a Text>>
 
 // The separator that the text behind a key is, where the key stands.
 fn separator_of(text: Option<&Text>) -> Option<Option<u8>>
-    ensures { result ≡ separator_of (option_map (λ t. t.now) text) }
+    ensures { result ≡ separator_of (option_map (λ t. t.now) text.entry) }
 {
     match text {
         None => Some(None),

@@ -5,8 +5,6 @@ ghost use Rattle.cl_forms.specs.DatumView.{datum_of};
 ghost use Rattle.cl_expressions.specs.Load.{Gives, Notes as Noted};
 ghost use Rattle.cl_bodies.specs.Specifiers.{parse_at_most, parse_constants, parse_each_type, parse_nothing, parse_one_type, parse_some_types, parse_tokens_and_type, type_subs};
 ghost use Rattle.cl_bodies.specs.TypeViews.{args_of};
-ghost use Rattle.cl_expressions.specs.Scopes.{Names as Seen};
-ghost use Rattle.cl_words.specs.declared.signatures.Signatures.{Signatures};
 
 use crate::specifiers::parse_type;
 use crate::type_arguments::{Wanted, arguments_in, first_stray, may_all_stand, tokens_in};
@@ -22,7 +20,7 @@ pub(crate) fn parse_nothing(
     at: u32,
     parts: &[Datum],
 ) -> Result<Vec<TypeArg>, LoadRefusal>
-    ensures { (w : Signatures) (ps : Seen) (n : Noted) → Gives args_of result n (parse_nothing at (type_subs w ps (datums_of (map datum_of parts.now))) n) }
+    ensures { (n : Noted) → Gives args_of result n (parse_nothing at (map datum_of parts.now) n) }
 {
     match parts {
         [] => Ok(Vec::new(alloc)),
@@ -68,6 +66,7 @@ pub(crate) fn parse_at_most(
 
 /// One specifier.
 #[cycle(specifier)]
+#[tactic(auto, using(crate::proofs::TypeSubs::subs_counted))]
 pub(crate) fn parse_one_type(
     reader: &Reader,
     parameters: &Names,
@@ -78,15 +77,15 @@ pub(crate) fn parse_one_type(
     ensures { Gives args_of result notes.new
         (parse_one_type at (type_subs reader.now.signatures.now parameters.now (datums_of (map datum_of parts.now))) notes.old) }
 {
-    match parts {
-        [_] => parse_each_type(reader, parameters, parts, notes),
-        [] => Err(LoadRefusal::Refused(6, at)),
-        [_, _, ..] => Err(LoadRefusal::Refused(6, at)),
+    if parts.len() != 1 {
+        return Err(LoadRefusal::Refused(6, at));
     }
+    parse_each_type(reader, parameters, parts, notes)
 }
 
 /// One specifier or more.
 #[cycle(specifier)]
+#[tactic(auto, using(crate::proofs::TypeSubs::subs_counted))]
 pub(crate) fn parse_some_types(
     reader: &Reader,
     parameters: &Names,
@@ -97,14 +96,15 @@ pub(crate) fn parse_some_types(
     ensures { Gives args_of result notes.new
         (parse_some_types at (type_subs reader.now.signatures.now parameters.now (datums_of (map datum_of parts.now))) notes.old) }
 {
-    match parts {
-        [] => Err(LoadRefusal::Refused(6, at)),
-        [_, ..] => parse_each_type(reader, parameters, parts, notes),
+    if parts.is_empty() {
+        return Err(LoadRefusal::Refused(6, at));
     }
+    parse_each_type(reader, parameters, parts, notes)
 }
 
 /// `(NAME ...) SPECIFIER`
 #[cycle(specifier)]
+#[tactic(auto, using(crate::proofs::TypeSubs::tokens_counts))]
 pub(crate) fn parse_tokens_and_type(
     reader: &Reader,
     parameters: &Names,

@@ -9,7 +9,7 @@ use Rattle.cl_words.specs.Signatures.{display_in}
 use Rattle.cl_words.specs.declared.signatures.Signatures.{Signatures}
 use Rattle.cl_expressions.specs.Load.{Load, ◌>>=◌, give, refuse, noted}
 use Rattle.cl_expressions.specs.Expressions.{parse_expression}
-use Rattle.cl_bodies.specs.SlotTypes.{parse_type}
+use Rattle.cl_bodies.specs.Specifiers.{parse_type}
 use Rattle.cl_application.specs.declared.declarations.SlotDecl.{SlotDecl}
 use Rattle.cl_declare.specs.Frames.{frame_keys, frame_shape}
 use Rattle.cl_declare.specs.declared.frames.FrameForm.{FrameForm}
@@ -21,7 +21,7 @@ SlotTable = List (List ℕ × SlotDecl)
 -- `(NAME TYPE E)`; of two slots of one name the first counts. What is no slot makes its frame wrong, and is not read.
 abbrev pub parse_slot : Signatures → ℕ → List Datum → SlotTable → Load SlotTable
 parse_slot w at (n ∷ t ∷ e ∷ []) slots =
-    parse_type w t >>= λ s. parse_expression w e [] >>= λ v.
+    parse_type w [] t >>= λ s. parse_expression w e [] >>= λ v.
     give (with_first (λ d. d.name) slots (record { name = symbol_of n; spec = s; opening = v; opening_at = offset e; at = at }))
 parse_slot w at parts slots = give slots
 
