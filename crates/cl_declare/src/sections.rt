@@ -13,6 +13,7 @@ use cl_application::{SlotDecl, SlotDecls};
 use cl_bodies::parse_type;
 use cl_expressions::{Notes, Reader, Scope, parse_expression};
 use cl_forms::{Datum, Key, Keyed, LoadRefusal, keyed_sections, name_in, symbol_text};
+use cl_table::Names;
 use std::alloc::AllocError;
 
 /// `(define-application-frame NAME SECTION ...)`
@@ -115,7 +116,8 @@ fn parse_slot(
 {
     match parts {
         [name, spec, value] => {
-            let spec = parse_type(reader, spec, notes)?;
+            let parameters = Names::new(reader.alloc);
+            let spec = parse_type(reader, &parameters, spec, notes)?;
             let opening = parse_expression(&reader.seeing(&Scope::Empty), value, notes)?;
             let name = symbol_text(reader.alloc, name)?;
             let opening_at = value.offset();
