@@ -9,10 +9,7 @@ use Rattle.cl_forms.specs.Keys.{Keyed, keyed_sections, keyed_pairs}
 use Rattle.cl_forms.specs.Naming.{are_names, name_in}
 use Rattle.cl_forms.specs.declared.keys.Key.{Key}
 use Rattle.cl_forms.specs.declared.keys.Key.TheVariants as key
-use Rattle.cl_words.specs.Signatures.{record_in}
-use Rattle.cl_words.specs.TypeNames.{is_plain_type, is_ranged_type, is_later_type}
 use Rattle.cl_words.specs.declared.signatures.Signatures.{Signatures}
-use Rattle.cl_bodies.specs.SlotTypes.{option_keys}
 use Rattle.cl_declare.specs.Commands.{CommandHead, command_keys, head_of, listed_head, command_head}
 use Rattle.cl_declare.specs.Frames.{frame_keys, frame_shape}
 use Rattle.cl_declare.specs.Names.{is_list, is_name_list, variables_in}
@@ -23,14 +20,14 @@ use Rattle.cl_grammar.proofs.Lying.{LieList, list_lies, own_lies, datum_rises, d
 use Rattle.cl_text_grammar.specs.FormSights.{forms_seen}
 use Rattle.cl_text_grammar.proofs.FormsLie.{forms_lie}
 use Rattle.cl_declaration_grammar.specs.Parts.{refused, type_name, display_name, expressions, shapes, acts, wrong, planned, planned_keys, planned_parts}
-use Rattle.cl_declaration_grammar.specs.Types.{plain_type_seen, ranged_type_seen, own_type_seen, named_type_seen, headed_type_seen, type_parts_seen}
-use Rattle.cl_declaration_grammar.specs.Types.{type_options_seen, listed_type_seen, type_seen}
+use Rattle.cl_declaration_grammar.specs.Types.{type_seen}
 use Rattle.cl_declaration_grammar.specs.Frames.{slot_seen, slots_seen, pane_display_seen, pane_seen, panes_seen, section_seen, sections_seen}
 use Rattle.cl_declaration_grammar.specs.Frames.{keyed_frame_seen, frame_seen}
 use Rattle.cl_declaration_grammar.specs.Declarations.{Row, record_seen, function_seen, display_seen, command_seen, headed_seen, planned_seen, rows, row_seen}
 use Rattle.cl_declaration_grammar.specs.Declarations.{listed_seen, declaration_seen}
 use Rattle.cl_declaration_grammar.specs.Texts.{text_seen}
 use Rattle.cl_declaration_grammar.proofs.PartsLie.{LieParts, parts_earlier, parts_later, parts_joined, one_lies, when_lies, list_rises, planned_lie}
+use Rattle.cl_declaration_grammar.proofs.TypesLie.{type_lies}
 use Rattle.cl_declaration_grammar.proofs.KeysLie.{LieKey, LieKeys, list_earlier, planned_keys_lie, sections_lie, pairs_lie}
 
 head_lies : (name : Option (List ℕ)) (ks : Option (List Keyed)) (from to : ℕ) → IfSome ks (λ s. LieKeys from s to)
@@ -39,73 +36,9 @@ head_lies (Some x) (Some ks) from to h = h
 head_lies (Some x) None from to h = tt
 head_lies None ks from to h = tt
 
--- ---- types
+-- ---- frames
 
 module _ (w : Signatures) where
-  plain_lies : (at : ℕ) (ds : List Datum) (from to : ℕ) → Within from at to → LieParts from (plain_type_seen at ds) to
-  plain_lies at [] from to h = omega (arith, h.0, h.1)
-  plain_lies at (a ∷ more) from to h = one_lies (refused 6 at) from to h
-
-  ranged_lies : (at : ℕ) (ds : List Datum) (from to : ℕ) → Within from at to → LieParts from (ranged_type_seen at ds) to
-  ranged_lies at [] from to h = omega (arith, h.0, h.1)
-  ranged_lies at (a ∷ more) from to h = one_lies (planned at) from to h
-
-  own_lies_so : (o : Option (Option ℕ)) (x : List ℕ) (name_at at : ℕ) (ds : List Datum) (from to : ℕ) → Within from name_at to → Within from at to
-      → LieParts from (own_type_seen o x name_at at ds) to
-  own_lies_so None x name_at at ds from to h k = one_lies (type_name x name_at) from to h
-  own_lies_so (Some fields) x name_at at ds from to h k = plain_lies at ds from to k
-
-  named_lies : (x : List ℕ) (name_at at : ℕ) (ds : List Datum) (from to : ℕ) → Within from name_at to → Within from at to
-      → LieParts from (named_type_seen w x name_at at ds) to
-  named_lies x name_at at ds from to h k =
-      when_lies (is_plain_type x) _ _ from to (plain_lies at ds from to k)
-      (when_lies (is_ranged_type x) _ _ from to (ranged_lies name_at ds from to h)
-      (when_lies (is_later_type x) _ _ from to (one_lies (planned name_at) from to h) (own_lies_so (record_in w x) x name_at at ds from to h k)))
-
-  found_lies : (o : Option (List ℕ)) (name_at at : ℕ) (ds : List Datum) (from to : ℕ) → Within from name_at to → Within from at to
-      → LieParts from (elim o [ None ↦ wrong at | Some x ↦ named_type_seen w x name_at at ds ]) to
-  found_lies None name_at at ds from to h k = one_lies (refused 6 at) from to k
-  found_lies (Some x) name_at at ds from to h k = named_lies x name_at at ds from to h k
-
-  headed_lies : (at : ℕ) (d : Datum) (ds : List Datum) (from to : ℕ) → Lies from d to → Within from at to → LieParts from (headed_type_seen w at d ds) to
-  headed_lies at d ds from to h k = found_lies (name_in d) (offset d) at ds from to (own_lies d from to h) k
-
-  -- the name and its arguments stand behind the offset of the form
-  parts_lie : (at : ℕ) (ds : List Datum) (from to : ℕ) → Within from at to → LieList (at + 1) ds to → LieParts from (type_parts_seen w at ds) to
-  parts_lie at [] from to h k = one_lies (refused 6 at) from to h
-  parts_lie at (d ∷ ds) from to h k =
-      parts_later (headed_type_seen w at d ds) from k.0 to (list_rises ds k.0 to k.2)
-      (headed_lies at d ds from k.0 (datum_earlier d from (at + 1) k.0 (omega (arith, h.0)) k.1) (h.0, omega (arith, datum_rises d (at + 1) k.0 k.1)))
-
-  options_lie : (at : ℕ) (ds : List Datum) (o : Option (List Keyed)) (from middle to : ℕ) → Within from at middle → middle ≤ to
-      → LieParts from (type_parts_seen w at ds) middle → IfSome o (λ ks. LieKeys middle ks to) → LieParts from (type_options_seen w at ds o) to
-  options_lie at ds None from middle to h e k i = one_lies (refused 6 at) from to (h.0, omega (arith, h.1, e))
-  options_lie at ds (Some ks) from middle to h e k i =
-      parts_joined (type_parts_seen w at ds) (planned_keys ks) from middle to k (planned_keys_lie ks middle to i)
-
-  listed_lies : (at : ℕ) (ds : List Datum) (from to : ℕ) → Within from at to → LieList (at + 1) ds to → LieParts from (listed_type_seen w at ds) to
-  listed_lies at [] from to h k = one_lies (refused 6 at) from to h
-  listed_lies at (list es list_at ∷ more) from to h k =
-      let inner : LieList (list_at + 1) (in_order es) k.0 = list_lies es (list_at + 1) k.0 k.1.2 in
-      options_lie at (in_order es) (keyed_pairs option_keys [] more) from k.0 to (h.0, omega (arith, k.1.0, k.1.1)) (list_rises more k.0 to k.2)
-      (parts_lie at (in_order es) from k.0 (h.0, omega (arith, k.1.0, k.1.1)) (list_earlier (in_order es) (at + 1) (list_at + 1) k.0 (omega (arith, k.1.0)) inner))
-      (pairs_lie option_keys [] more k.0 k.0 to (omega arith) k.2)
-  listed_lies at (word x first_at ∷ more) from to h k = parts_lie at (word x first_at ∷ more) from to h k
-  listed_lies at (number z first_at ∷ more) from to h k = one_lies (refused 6 at) from to h
-  listed_lies at (literal s first_at ∷ more) from to h k = one_lies (refused 6 at) from to h
-  listed_lies at (quoted x first_at name_at ∷ more) from to h k = one_lies (refused 6 at) from to h
-  listed_lies at (stray first_at ∷ more) from to h k = one_lies (refused 6 at) from to h
-
-  pub type_lies : (d : Datum) (from to : ℕ) → Lies from d to → LieParts from (type_seen w d) to
-  type_lies (list ds at) from to h = listed_lies at (in_order ds) from to (h.0, h.1) (list_lies ds (at + 1) to h.2)
-  type_lies (word x at) from to h = headed_lies at (word x at) [] from to h h
-  type_lies (number z at) from to h = one_lies (refused 6 at) from to h
-  type_lies (literal s at) from to h = one_lies (refused 6 at) from to h
-  type_lies (quoted x at name_at) from to h = one_lies (refused 6 at) from to (h.0, omega (arith, h.1, h.2))
-  type_lies (stray at) from to h = one_lies (refused 6 at) from to h
-
-  -- ---- frames
-
   -- parts of a datum stand in it
   inside : (d : Datum) (from to : ℕ) → Lies from d to → LieList from (parts_of d) to
   inside (list ds at) from to h = list_earlier (in_order ds) from (at + 1) to (omega (arith, h.0)) (list_lies ds (at + 1) to h.2)
@@ -117,8 +50,8 @@ module _ (w : Signatures) where
 
   slot_lies : (ds : List Datum) (from to : ℕ) → LieList from ds to → LieParts from (slot_seen w ds) to
   slot_lies (n ∷ t ∷ e ∷ []) from to h =
-      parts_joined (type_seen w t) (expressions (expression [] e ∷ []) ∷ []) from h.2.0 to
-      (type_lies t from h.2.0 (datum_earlier t from h.0 h.2.0 (datum_rises n from h.0 h.1) h.2.1)) (to, h.2.2, omega arith)
+      parts_joined (type_seen w [] t) (expressions (expression [] e ∷ []) ∷ []) from h.2.0 to
+      (type_lies w [] t from h.2.0 (datum_earlier t from h.0 h.2.0 (datum_rises n from h.0 h.1) h.2.1)) (to, h.2.2, omega arith)
   slot_lies [] from to h = h
   slot_lies (n ∷ []) from to h = list_rises (n ∷ []) from to h
   slot_lies (n ∷ t ∷ []) from to h = list_rises (n ∷ t ∷ []) from to h

@@ -24,7 +24,7 @@ use Rattle.cl_declaration_grammar.proofs.TypesJudged.{is_wrong, type_judged}
 module _ (w : Signatures) where
   slot_judged : (at : ℕ) (ds : List Datum) (slots : SlotTable) → Judges w (slot_seen w ds) Any (parse_slot w at ds slots)
   slot_judged at (n ∷ t ∷ e ∷ []) slots =
-      joined w (type_seen w t) (expressions (expression [] e ∷ []) ∷ []) (type_judged w t) λ s i. then_given w _ (expression_part w e [])
+      joined w (type_seen w [] t) (expressions (expression [] e ∷ []) ∷ []) (type_judged w [] t) λ s i. then_given w _ (expression_part w e [])
   slot_judged at [] slots = ended w
   slot_judged at (n ∷ []) slots = ended w
   slot_judged at (n ∷ t ∷ []) slots = ended w

@@ -4,6 +4,7 @@ pub mod DeclarationsLie
 pub mod Judging
 pub mod PartsJudged
 pub mod TypesJudged
+pub mod TypesLie
 pub mod FramesJudged
 pub mod DeclarationsJudged
 pub mod TextVerdicts

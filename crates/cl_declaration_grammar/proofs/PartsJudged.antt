@@ -4,12 +4,13 @@ use Rattle.std.specs.Prelude.{Result, Option, Some, None, is_some}
 use Rattle.std.proofs.Math.Path.{subst}
 use Rattle.cl_forms.specs.Datum.{Datum, datums_of, in_order}
 use Rattle.cl_forms.proofs.Data.{data_in_order}
-use Rattle.cl_words.specs.Signatures.{record_in, display_in}
+use Rattle.cl_words.specs.Signatures.{display_in}
 use Rattle.cl_words.specs.declared.signatures.Signatures.{Signatures}
 use Rattle.cl_expressions.specs.Load.{Load, Notes, Fault, noted}
 use Rattle.cl_expressions.specs.Scopes.{Names}
 use Rattle.cl_expressions.specs.Expressions.{parse_expression}
 use Rattle.cl_bodies.specs.DisplayForms.{parse_shapes}
+use Rattle.cl_bodies.specs.Specifiers.{takes_named}
 use Rattle.cl_bodies.specs.Statements.{parse_acts}
 use Rattle.cl_grammar.specs.Sights.{expression}
 use Rattle.cl_grammar.proofs.Judging.{Any, Verdict, noted_none, noted_one, verdict_same}
@@ -45,11 +46,11 @@ module _ (w : Signatures) where
 
   -- ---- names
 
-  unnamed_type : (x : List ℕ) (at : ℕ) → record_in w x ≡ None → (u : Notes)
+  unnamed_type : (x : List ℕ) (at : ℕ) → takes_named w x ≡ None → (u : Notes)
       → Verdict {A = Unit {0}} (λ n o. PartBlames w n o (type_name x at)) (λ o. PartUnnamed w o (type_name x at)) Any u (noted false at u)
   unnamed_type x at e u = (tt, λ n o b. b, noted_one (λ o. PartUnnamed w o (type_name x at)) u.unknown at (e, refl) (λ o b. b.1))
 
-  pub type_name_judged : (x : List ℕ) (at : ℕ) → record_in w x ≡ None → Judges w (type_name x at ∷ []) Any (noted false at)
+  pub type_name_judged : (x : List ℕ) (at : ℕ) → takes_named w x ≡ None → Judges w (type_name x at ∷ []) Any (noted false at)
   type_name_judged x at e = part_judged (type_name x at) Any (noted false at) λ from to lie u. unnamed_type x at e u
 
   none_some : {A : Type 0} {x : A} → ◌≡◌ {A = Option A} (Some x) None → ⊥

@@ -1,24 +1,30 @@
 -- The readings of types answer to what is looked at of them.
-use Rattle.std.proofs.Common.{◌≡◌, ℕ, Bool, true, false, if◌then◌else◌, List, [], ◌∷◌, ◌++◌, refl}
-use Rattle.std.specs.Prelude.{Option, Some, None}
+use Rattle.std.proofs.Common.{◌≡◌, ℕ, Bool, true, false, ◌==◌, if◌then◌else◌, List, [], ◌∷◌, ◌++◌, length, refl, sym, ap, suc}
+use Rattle.std.specs.Prelude.{Option, Some, None, Result, Ok, Err, nat_le}
 use Rattle.std.proofs.Math.Path.{subst}
-use Rattle.cl_syntax.specs.TypeSpecTree.{TypeSpecTree, plain_type}
-use Rattle.cl_forms.specs.Datum.{Datum, number, literal, word, quoted, stray, list, in_order, offset}
-use Rattle.cl_forms.specs.Keys.{Keyed, keyed_pairs}
+use Rattle.cl_syntax.specs.TypeSpecTree.{TypeArgTree, TypeSpecTree, plain_type, specifier, Spec, Names as Tokens, arg_trees_of, no_options}
+use Rattle.cl_syntax.specs.declared.type_specs.TypeOptions.{TypeOptions}
+use Rattle.cl_forms.specs.Datum.{Datum, Datums, number, literal, word, quoted, stray, list, none, item, in_order, offset}
+use Rattle.cl_forms.specs.Keys.{Keyed}
 use Rattle.cl_forms.specs.Naming.{name_in}
-use Rattle.cl_words.specs.Signatures.{record_in}
-use Rattle.cl_words.specs.TypeNames.{is_plain_type, is_ranged_type, is_later_type}
 use Rattle.cl_words.specs.declared.signatures.Signatures.{Signatures}
-use Rattle.cl_expressions.specs.Load.{Load, refuse, placed}
+use Rattle.cl_expressions.specs.Load.{Load, Fault, Notes, after, give, refuse, placed, with_specifier, ◌>>=◌}
+use Rattle.cl_expressions.specs.Scopes.{Names}
 use Rattle.cl_bodies.specs.PlannedKeys.{no_keys}
-use Rattle.cl_bodies.specs.SlotTypes.{parse_plain_type, parse_record_type, parse_ranged_type, parse_type_named, parse_type_head}
-use Rattle.cl_bodies.specs.SlotTypes.{parse_type_parts, option_keys, parse_type_options, parse_type_first, parse_type_list, parse_specifier}
-use Rattle.cl_bodies.specs.SlotTypes.{parse_type}
-use Rattle.cl_grammar.proofs.Judging.{Any, noted_none}
-use Rattle.cl_declaration_grammar.specs.Parts.{Part, wrong, planned_keys}
-use Rattle.cl_declaration_grammar.specs.Types.{plain_type_seen, ranged_type_seen, own_type_seen, named_type_seen, headed_type_seen, type_parts_seen}
-use Rattle.cl_declaration_grammar.specs.Types.{type_options_seen, first_type_seen, listed_type_seen, type_seen}
-use Rattle.cl_declaration_grammar.proofs.Judging.{Judges, Missing, joined, then_given, ended, refused_first}
+use Rattle.cl_bodies.specs.TypeArguments.{arguments_in, first_stray, is_stray, may_all_stand, options_in, tokens_in}
+use Rattle.cl_bodies.specs.Specifiers.{TypeSub, parse_arguments, parse_at_most, parse_constants, parse_each_type, parse_first, parse_headed, parse_inner}
+use Rattle.cl_bodies.specs.Specifiers.{parse_known, parse_listed, parse_named, parse_nothing, parse_one_type, parse_optioned, parse_parts, parse_some_types}
+use Rattle.cl_bodies.specs.Specifiers.{parse_token_type, parse_tokens_and_type, parse_type, shapes, takes_named, type_subs, with_options}
+use Rattle.cl_bodies.specs.declared.specifiers.Takes.{Takes}
+use Rattle.cl_bodies.specs.declared.specifiers.Takes.TheVariants as takes
+use Rattle.cl_bodies.specs.declared.type_arguments.Wanted.{Wanted}
+use Rattle.cl_bodies.specs.declared.type_arguments.Wanted.TheVariants as wanted
+use Rattle.cl_grammar.proofs.Judging.{Any, Verdict}
+use Rattle.cl_declaration_grammar.specs.Parts.{Part, refused, type_name, wrong, planned_keys}
+use Rattle.cl_declaration_grammar.specs.Types.{Sighted, arguments_seen, at_most_seen, constants_seen, each_type_seen, first_type_seen, headed_type_seen}
+use Rattle.cl_declaration_grammar.specs.Types.{inner_type_seen, known_type_seen, listed_type_seen, nothing_seen, one_type_seen, optioned_type_seen}
+use Rattle.cl_declaration_grammar.specs.Types.{shapes_sighted, some_types_seen, strays_seen, tokens_and_type_seen, type_parts_seen, type_seen, types_seen}
+use Rattle.cl_declaration_grammar.proofs.Judging.{Blamed, Judges, Missing, joined, then_given, ended, refused_first}
 use Rattle.cl_declaration_grammar.proofs.PartsJudged.{type_name_judged}
 
 module _ (w : Signatures) where
@@ -35,73 +41,173 @@ module _ (w : Signatures) where
   keys_judged [] = ended w
   keys_judged (k ∷ ks) = refused_first w 0 k.at (planned_keys ks)
 
-  plain_judged : (x : List ℕ) (at : ℕ) (ds : List Datum) → Judges w (plain_type_seen at ds) Any (parse_plain_type x at ds)
-  plain_judged x at [] = ended w
-  plain_judged x at (a ∷ more) = is_wrong at
+  -- ---- constants
 
-  ranged_judged : (x : List ℕ) (name_at : ℕ) (ds : List Datum) → Judges w (ranged_type_seen name_at ds) Any (parse_ranged_type x name_at ds)
-  ranged_judged x name_at [] = ended w
-  ranged_judged x name_at (a ∷ more) = refused_first w 0 name_at []
+  -- the first of the quotes that stand before no name
+  abbrev first_told : {A : Type 0} → Option ℕ → A → Load A
+  first_told o x = elim o [ None ↦ give x | Some at ↦ refuse 6 at ]
 
-  own_judged : (o : Option (Option ℕ)) (x : List ℕ) (name_at at : ℕ) (ds : List Datum) → record_in w x ≡ o
-      → Judges w (own_type_seen o x name_at at ds) Any (parse_record_type o x name_at at ds)
-  own_judged None x name_at at ds e = then_given w (λ u. plain_type x) (type_name_judged w x name_at e)
-  own_judged (Some fields) x name_at at ds e = plain_judged x at ds
+  stray_or : {A : Type 0} (x : A) (b : Bool) (at : ℕ) (ps : List Part) (o : Option ℕ) → Judges w ps Any (first_told o x)
+      → Judges w (if b then refused 6 at ∷ ps else ps) Any (first_told (if b then Some at else o) x)
+  stray_or x true at ps o h = refused_first w 6 at ps
+  stray_or x false at ps o h = h
 
-  named_judged : (x : List ℕ) (name_at at : ℕ) (ds : List Datum) → Judges w (named_type_seen w x name_at at ds) Any (parse_type_named w x name_at at ds)
-  named_judged x name_at at ds =
-      chosen (is_plain_type x) (plain_judged x at ds)
-      (chosen (is_ranged_type x) (ranged_judged x name_at ds)
-      (chosen (is_later_type x) (refused_first w 0 name_at []) (own_judged (record_in w x) x name_at at ds refl)))
+  strays_judged : {A : Type 0} (x : A) (ds : List Datum) → Judges w (strays_seen ds) Any (first_told (first_stray ds) x)
+  strays_judged x [] = ended w
+  strays_judged x (d ∷ ds) = stray_or x (is_stray d) (offset d) (strays_seen ds) (first_stray ds) (strays_judged x ds)
 
-  found_judged : (o : Option (List ℕ)) (name_at at : ℕ) (ds : List Datum)
-      → Judges w {A = TypeSpecTree} (elim o [ None ↦ wrong at | Some x ↦ named_type_seen w x name_at at ds ]) Any
-      (elim o [ None ↦ refuse 6 at | Some x ↦ parse_type_named w x name_at at ds ])
-  found_judged None name_at at ds = is_wrong at
-  found_judged (Some x) name_at at ds = named_judged x name_at at ds
+  constants_judged : (ps : Names) (kind : Wanted) (at : ℕ) (ds : List Datum) → Judges w (constants_seen ps kind at ds) Any (parse_constants ps kind at ds)
+  constants_judged ps kind at ds = chosen (may_all_stand ps kind ds) (strays_judged (arguments_in ps ds) ds) (is_wrong at)
 
-  headed_judged : (at : ℕ) (d : Datum) (ds : List Datum) → Judges w (headed_type_seen w at d ds) Any (parse_type_head w at d ds)
-  headed_judged at d ds = found_judged (name_in d) (offset d) at ds
+  at_most_judged : (most : ℕ) (ps : Names) (kind : Wanted) (at : ℕ) (ds : List Datum)
+      → Judges w (at_most_seen most ps kind at ds) Any (parse_at_most most ps kind at ds)
+  at_most_judged most ps kind at ds = chosen (nat_le (length ds) most) (constants_judged ps kind at ds) (is_wrong at)
 
-  parts_judged : (at : ℕ) (ds : List Datum) → Judges w (type_parts_seen w at ds) Any (parse_type_parts w at ds)
-  parts_judged at [] = is_wrong at
-  parts_judged at (d ∷ ds) = headed_judged at d ds
+  nothing_judged : (at : ℕ) (ds : List Datum) → Judges w (nothing_seen at ds) Any (parse_nothing at ds)
+  nothing_judged at [] = ended w
+  nothing_judged at (d ∷ ds) = is_wrong at
 
-  options_judged : (at : ℕ) (ds : List Datum) (o : Option (List Keyed)) → Judges w (type_options_seen w at ds o) Any (parse_type_options w at ds o)
-  options_judged at ds None = is_wrong at
-  options_judged at ds (Some ks) =
-      joined w (type_parts_seen w at ds) (planned_keys ks) (parts_judged at ds) λ t i. then_given w (λ u. t) (keys_judged ks)
+  -- ---- what is noted of a specifier is not among the names
 
-  first_judged : (at : ℕ) (d : Datum) (more : List Datum) → Judges w (first_type_seen w at d more) Any (parse_type_first w at d more)
-  first_judged at (list ds list_at) more = options_judged at (in_order ds) (keyed_pairs option_keys [] more)
-  first_judged at (number z first_at) more = is_wrong at
-  first_judged at (literal s first_at) more = is_wrong at
-  first_judged at (word x first_at) more = headed_judged at (word x first_at) more
-  first_judged at (quoted x first_at name_at) more = is_wrong at
-  first_judged at (stray first_at) more = is_wrong at
+  placed_verdict : (B : ℕ → ℕ → Type 0) (N : ℕ → Type 0) (u : Notes) (place : ℕ) (ps : Names) (at : ℕ) (r : Result (TypeSpecTree × Notes) Fault)
+      → Verdict {A = TypeSpecTree} B N Any u r
+      → Verdict {A = TypeSpecTree} B N Any u (after r (λ spec later. Ok (spec, with_specifier place spec ps at later)))
+  placed_verdict B N u place ps at (Ok x) h = h
+  placed_verdict B N u place ps at (Err fault) h = h
 
-  listed_judged : (at : ℕ) (ds : List Datum) → Judges w (listed_type_seen w at ds) Any (parse_type_list w at ds)
-  listed_judged at [] = is_wrong at
-  listed_judged at (d ∷ ds) = first_judged at d ds
-
-  specifier_judged : (d : Datum) → Judges w (type_seen w d) Any (parse_specifier w d)
-  specifier_judged (list ds at) = listed_judged at (in_order ds)
-  specifier_judged (word x at) = headed_judged at (word x at) []
-  specifier_judged (number z at) = is_wrong at
-  specifier_judged (literal s at) = is_wrong at
-  specifier_judged (quoted x at name_at) = is_wrong at
-  specifier_judged (stray at) = is_wrong at
-
-  placed_judged : (t : TypeSpecTree) (parameters : List (List ℕ)) (at : ℕ) → Judges w [] Any (placed t parameters at)
-  placed_judged t parameters at = record {
-    judged = λ from to lie u. (tt, λ n o b. b, noted_none (Missing w []) u.unknown (λ o b. b));
+  placed_judged : (qs : List Part) (ps : Names) (at : ℕ) (m : Load TypeSpecTree) → Judges w qs Any m → Judges w qs Any (placed ps at m)
+  placed_judged qs ps at m h = record {
+    judged = λ from to lie u. placed_verdict (Blamed w qs) (Missing w qs) u (length u.specifiers) ps at (m u) (h.judged from to lie u);
   }
 
-  no_more : (ps : List Part) → ps ++ [] ≡ ps
-  no_more [] = refl
-  no_more (p ∷ ps) = λ i. p ∷ no_more ps i
+  -- ---- rows, where the specifiers among the arguments are judged
 
-  pub type_judged : (d : Datum) → Judges w (type_seen w d) Any (parse_type w d)
-  type_judged d =
-      subst (λ ps. Judges w ps Any (parse_type w d)) (no_more (type_seen w d))
-      (joined w (type_seen w d) [] (specifier_judged d) λ t i. then_given w (λ u. t) (placed_judged t [] (offset d)))
+  module _ (ps : Names) where
+    abbrev EachJudged : Datums → Type 0
+    EachJudged none = Unit {0}
+    EachJudged (item d ds) = Judges w (type_seen w ps d) Any (parse_type w ps d) × EachJudged ds
+
+    shapes_read : (ds : Datums) → shapes (type_subs w ps ds) ≡ in_order ds
+    shapes_read none = refl
+    shapes_read (item d ds) = ap (λ es. d ∷ es) (shapes_read ds)
+
+    pub shapes_looked_at : (ds : Datums) → shapes_sighted (types_seen w ps ds) ≡ in_order ds
+    shapes_looked_at none = refl
+    shapes_looked_at (item d ds) = ap (λ es. d ∷ es) (shapes_looked_at ds)
+
+    as_many : (ds : Datums) → length (types_seen w ps ds) ≡ length (type_subs w ps ds)
+    as_many none = refl
+    as_many (item d ds) = ap suc (as_many ds)
+
+    -- a row over the arguments as they stand
+    by_shapes : {A : Type 0} (row : List Datum → List Part) (m : List Datum → Load A) → ((ds : List Datum) → Judges w (row ds) Any (m ds)) → (ds : Datums)
+        → Judges w (row (shapes_sighted (types_seen w ps ds))) Any (m (shapes (type_subs w ps ds)))
+    by_shapes row m h ds =
+        subst (λ es. Judges w (row es) Any (m (shapes (type_subs w ps ds)))) (sym (shapes_looked_at ds))
+        (subst (λ es. Judges w (row (in_order ds)) Any (m es)) (sym (shapes_read ds)) (h (in_order ds)))
+
+    each_judged : (ds : Datums) → EachJudged ds → Judges w (each_type_seen (types_seen w ps ds)) Any (parse_each_type (type_subs w ps ds))
+    each_judged none h = ended w
+    each_judged (item d ds) h =
+        joined w (type_seen w ps d) (each_type_seen (types_seen w ps ds)) h.0 λ t i. then_given w (λ ts. Spec t ∷ ts) (each_judged ds h.1)
+
+    one_judged : (at : ℕ) (ds : Datums) → EachJudged ds → Judges w (one_type_seen at (types_seen w ps ds)) Any (parse_one_type at (type_subs w ps ds))
+    one_judged at ds h =
+        subst (λ n. Judges w (if n == 1 then each_type_seen (types_seen w ps ds) else wrong at) Any (parse_one_type at (type_subs w ps ds))) (sym (as_many ds))
+        (chosen (length (type_subs w ps ds) == 1) (each_judged ds h) (is_wrong at))
+
+    some_judged : (at : ℕ) (ds : Datums) → EachJudged ds → Judges w (some_types_seen at (types_seen w ps ds)) Any (parse_some_types at (type_subs w ps ds))
+    some_judged at ds h =
+        subst (λ n. Judges w (if n == 0 then wrong at else each_type_seen (types_seen w ps ds)) Any (parse_some_types at (type_subs w ps ds))) (sym (as_many ds))
+        (chosen (length (type_subs w ps ds) == 0) (is_wrong at) (each_judged ds h))
+
+    token_judged : (at : ℕ) (o : Option (List (List ℕ))) (d n : Datum) → Judges w (type_seen w ps d) Any (parse_type w ps d)
+        → Judges w (elim o [ None ↦ wrong at | Some xs ↦ type_seen w ps d ]) Any (parse_token_type at o (record { shape = d; spec = parse_type w ps d }))
+    token_judged at None d n h = is_wrong at
+    token_judged at (Some xs) d n h = then_given w (λ t. Tokens xs ∷ Spec t ∷ []) h
+
+    tokens_judged : (at : ℕ) (ds : Datums) → EachJudged ds
+        → Judges w (tokens_and_type_seen at (types_seen w ps ds)) Any (parse_tokens_and_type at (type_subs w ps ds))
+    tokens_judged at none h = is_wrong at
+    tokens_judged at (item n none) h = is_wrong at
+    tokens_judged at (item n (item d none)) h = token_judged at (tokens_in n) d n h.1.0
+    tokens_judged at (item n (item d (item e ds))) h = is_wrong at
+
+    arguments_judged : (t : Takes) (at : ℕ) (ds : Datums) → EachJudged ds
+        → Judges w (arguments_seen ps t at (types_seen w ps ds)) Any (parse_arguments ps t at (type_subs w ps ds))
+    arguments_judged takes.Nothing at ds h = by_shapes (nothing_seen at) (parse_nothing at) (nothing_judged at) ds
+    arguments_judged takes.Bounds at ds h =
+        by_shapes (at_most_seen 2 ps wanted.NumberOrStar at) (parse_at_most 2 ps wanted.NumberOrStar at) (at_most_judged 2 ps wanted.NumberOrStar at) ds
+    arguments_judged takes.Length at ds h =
+        by_shapes (at_most_seen 1 ps wanted.Number at) (parse_at_most 1 ps wanted.Number at) (at_most_judged 1 ps wanted.Number at) ds
+    arguments_judged takes.Constants at ds h =
+        by_shapes (constants_seen ps wanted.Constant at) (parse_constants ps wanted.Constant at) (constants_judged ps wanted.Constant at) ds
+    arguments_judged takes.OneType at ds h = one_judged at ds h
+    arguments_judged takes.SomeTypes at ds h = some_judged at ds h
+    arguments_judged takes.TokensAndType at ds h = tokens_judged at ds h
+
+    known_judged : (o : Option Takes) (x : List ℕ) (name_at at : ℕ) (ds : Datums) → takes_named w x ≡ o → EachJudged ds
+        → Judges w (known_type_seen ps o x name_at at (types_seen w ps ds)) Any (parse_known ps o x name_at at (type_subs w ps ds))
+    known_judged None x name_at at ds e h = then_given w (λ u. plain_type x) (type_name_judged w x name_at e)
+    known_judged (Some t) x name_at at ds e h = then_given w (λ ts. specifier x (arg_trees_of ts) no_options) (arguments_judged t at ds h)
+
+    found_judged : (o : Option (List ℕ)) (name_at at : ℕ) (ds : Datums) → EachJudged ds
+        → Judges w {A = TypeSpecTree} (elim o [ None ↦ wrong at | Some x ↦ known_type_seen ps (takes_named w x) x name_at at (types_seen w ps ds) ]) Any
+        (elim o [ None ↦ refuse 6 at | Some x ↦ parse_named w ps x name_at at (type_subs w ps ds) ])
+    found_judged None name_at at ds h = is_wrong at
+    found_judged (Some x) name_at at ds h = known_judged (takes_named w x) x name_at at ds refl h
+
+    headed_judged : (at : ℕ) (d : Datum) (ds : Datums) → EachJudged ds
+        → Judges w (headed_type_seen w ps at d (types_seen w ps ds)) Any (parse_headed w ps at d (type_subs w ps ds))
+    headed_judged at d ds h = found_judged (name_in d) (offset d) at ds h
+
+    optioned_judged : (at : ℕ) (o : Option TypeOptions) (qs : List Part) (m : Load TypeSpecTree) → Judges w qs Any m
+        → Judges w (optioned_type_seen at o qs) Any (parse_optioned at o m)
+    optioned_judged at None qs m h = is_wrong at
+    optioned_judged at (Some o) qs m h = then_given w (with_options o) h
+
+    options_judged : (at : ℕ) (qs : List Part) (m : Load TypeSpecTree) (ds : Datums) → Judges w qs Any m
+        → Judges w (optioned_type_seen at (options_in (shapes_sighted (types_seen w ps ds))) qs) Any (parse_optioned at (options_in (shapes (type_subs w ps ds))) m)
+    options_judged at qs m ds h =
+        by_shapes (λ es. optioned_type_seen at (options_in es) qs) (λ es. parse_optioned at (options_in es) m) (λ es. optioned_judged at (options_in es) qs m h) ds
+
+    -- ---- specifiers
+
+    first_judged : (at : ℕ) (d : Datum) (more : Datums) → Judges w (inner_type_seen w ps at d) Any (parse_inner w ps at d) → EachJudged more
+        → Judges w (first_type_seen w ps at d (inner_type_seen w ps at d) (types_seen w ps more)) Any (parse_first w ps at d (parse_inner w ps at d) (type_subs w ps more))
+    first_judged at (list es inner_at) more i h = options_judged at (inner_type_seen w ps at (list es inner_at)) (parse_inner w ps at (list es inner_at)) more i
+    first_judged at (word x name_at) more i h = headed_judged at (word x name_at) more h
+    first_judged at (number z part_at) more i h = is_wrong at
+    first_judged at (literal s part_at) more i h = is_wrong at
+    first_judged at (quoted x part_at name_at) more i h = is_wrong at
+    first_judged at (stray part_at) more i h = is_wrong at
+
+    mutual
+      pub type_judged : (d : Datum) → Judges w (type_seen w ps d) Any (parse_type w ps d)
+      type_judged (number z at) = is_wrong at
+      type_judged (literal s at) = is_wrong at
+      type_judged (word x at) =
+          placed_judged (type_seen w ps (word x at)) ps at (parse_headed w ps at (word x at) []) (headed_judged at (word x at) none tt)
+      type_judged (quoted x at name_at) = is_wrong at
+      type_judged (stray at) = is_wrong at
+      type_judged (list ds at) = placed_judged (type_seen w ps (list ds at)) ps at (parse_listed w ps at ds) (listed_judged at ds)
+
+      listed_judged : (at : ℕ) (ds : Datums) → Judges w (listed_type_seen w ps at ds) Any (parse_listed w ps at ds)
+      listed_judged at none = is_wrong at
+      listed_judged at (item d more) = first_judged at d more (inner_judged at d) (types_judged more)
+
+      inner_judged : (at : ℕ) (d : Datum) → Judges w (inner_type_seen w ps at d) Any (parse_inner w ps at d)
+      inner_judged at (list es inner_at) = parts_judged at es
+      inner_judged at (number z part_at) = is_wrong at
+      inner_judged at (literal s part_at) = is_wrong at
+      inner_judged at (word x part_at) = is_wrong at
+      inner_judged at (quoted x part_at name_at) = is_wrong at
+      inner_judged at (stray part_at) = is_wrong at
+
+      parts_judged : (at : ℕ) (ds : Datums) → Judges w (type_parts_seen w ps at ds) Any (parse_parts w ps at ds)
+      parts_judged at none = is_wrong at
+      parts_judged at (item d more) = headed_judged at d more (types_judged more)
+
+      types_judged : (ds : Datums) → EachJudged ds
+      types_judged none = tt
+      types_judged (item d ds) = (type_judged d, types_judged ds)

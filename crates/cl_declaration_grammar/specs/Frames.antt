@@ -12,7 +12,7 @@ use Rattle.cl_declaration_grammar.specs.Types.{type_seen}
 
 -- `NAME TYPE E`: an opening value sees no variable
 abbrev pub slot_seen : Signatures → List Datum → List Part
-slot_seen w (n ∷ t ∷ e ∷ []) = type_seen w t ++ expressions (expression [] e ∷ []) ∷ []
+slot_seen w (n ∷ t ∷ e ∷ []) = type_seen w [] t ++ expressions (expression [] e ∷ []) ∷ []
 slot_seen w parts = []
 
 abbrev pub slots_seen : Signatures → List Datum → List Part

@@ -2,8 +2,9 @@
 use Rattle.std.specs.Prelude.{◌≡◌, ◌⊎◌, ℕ, List, [], ◌∷◌, None}
 use Rattle.cl_forms.specs.Datum.{Datum, offset}
 use Rattle.cl_forms.specs.Keys.{Keyed}
-use Rattle.cl_words.specs.Signatures.{record_in, display_in}
+use Rattle.cl_words.specs.Signatures.{display_in}
 use Rattle.cl_words.specs.declared.signatures.Signatures.{Signatures}
+use Rattle.cl_bodies.specs.Specifiers.{takes_named}
 use Rattle.cl_grammar.specs.Sights.{Seen}
 use Rattle.cl_grammar.specs.Blames.{BlamesAny}
 use Rattle.cl_grammar.specs.Unnamed.{UnnamedAny}
@@ -15,7 +16,7 @@ use Rattle.cl_text_grammar.specs.FormUnnamed.{FormUnnamedAny}
 pub data Part : Type 0 where
   -- a form that is refused by itself, with the number of the refusal and its offset
   refused : ℕ → ℕ → Part
-  -- the name of a type that is no standard one, with its offset
+  -- the name of a type, with its offset
   type_name : List ℕ → ℕ → Part
   -- the name of a display, with its offset
   display_name : List ℕ → ℕ → Part
@@ -43,7 +44,7 @@ PartBlames w n o (acts fs) = FormBlamesAny act_seen w fs n o
 -- the part is a name at this offset that is not declared, or has one
 abbrev pub PartUnnamed : Signatures → ℕ → Part → Type 0
 PartUnnamed w o (refused number at) = ⊥
-PartUnnamed w o (type_name x at) = (record_in w x ≡ None) × (o ≡ at)
+PartUnnamed w o (type_name x at) = (takes_named w x ≡ None) × (o ≡ at)
 PartUnnamed w o (display_name x at) = (display_in w x ≡ None) × (o ≡ at)
 PartUnnamed w o (expressions qs) = UnnamedAny w qs o
 PartUnnamed w o (shapes fs) = FormUnnamedAny (shape_seen w) w fs o

@@ -1,69 +1,122 @@
--- What is looked at of a type.
-use Rattle.std.specs.Prelude.{ℕ, if◌then◌else◌, List, [], ◌∷◌, ◌++◌, Option, Some, None}
-use Rattle.cl_forms.specs.Datum.{Datum, number, literal, word, quoted, stray, list, in_order, offset}
-use Rattle.cl_forms.specs.Keys.{Keyed, keyed_pairs}
+-- What is looked at of a type: what makes a specifier wrong by itself, at its own offset; else quotes that stand before no name, the name of a type
+-- that is not declared, and the specifiers in it, from left to right.
+use Rattle.std.specs.Prelude.{ℕ, ◌==◌, nat_le, if◌then◌else◌, List, [], ◌∷◌, ◌++◌, length, map, Option, Some, None}
+use Rattle.cl_syntax.specs.declared.type_specs.TypeOptions.{TypeOptions}
+use Rattle.cl_forms.specs.Datum.{Datum, Datums, number, literal, word, quoted, stray, list, none, item, offset}
 use Rattle.cl_forms.specs.Naming.{name_in}
-use Rattle.cl_words.specs.Signatures.{record_in}
-use Rattle.cl_words.specs.TypeNames.{is_plain_type, is_ranged_type, is_later_type}
 use Rattle.cl_words.specs.declared.signatures.Signatures.{Signatures}
-use Rattle.cl_bodies.specs.SlotTypes.{option_keys}
-use Rattle.cl_declaration_grammar.specs.Parts.{Part, type_name, wrong, planned, planned_keys}
+use Rattle.cl_expressions.specs.Scopes.{Names}
+use Rattle.cl_bodies.specs.TypeArguments.{is_stray, may_all_stand, options_in, tokens_in}
+use Rattle.cl_bodies.specs.Specifiers.{takes_named}
+use Rattle.cl_bodies.specs.declared.specifiers.Takes.{Takes}
+use Rattle.cl_bodies.specs.declared.specifiers.Takes.TheVariants as takes
+use Rattle.cl_bodies.specs.declared.type_arguments.Wanted.{Wanted}
+use Rattle.cl_bodies.specs.declared.type_arguments.Wanted.TheVariants as wanted
+use Rattle.cl_declaration_grammar.specs.Parts.{Part, refused, type_name, wrong}
 
--- a type that takes no arguments, at this offset
-abbrev pub plain_type_seen : ℕ → List Datum → List Part
-plain_type_seen at [] = []
-plain_type_seen at (a ∷ more) = wrong at
+-- an argument, and what is looked at of it where it is a specifier
+pub record Sighted : Type 0 where
+  pub shape : Datum
+  pub seen : List Part
 
--- a type whose arguments are not built yet; its name stands at this offset
-abbrev pub ranged_type_seen : ℕ → List Datum → List Part
-ranged_type_seen name_at [] = []
-ranged_type_seen name_at (a ∷ more) = planned name_at ∷ []
+abbrev pub shapes_sighted : List Sighted → List Datum
+shapes_sighted ss = map (λ s. s.shape) ss
 
--- a record takes no arguments; what stands behind a name that is not declared is not looked at
-abbrev pub own_type_seen : Option (Option ℕ) → List ℕ → ℕ → ℕ → List Datum → List Part
-own_type_seen None x name_at at arguments = type_name x name_at ∷ []
-own_type_seen (Some fields) x name_at at arguments = plain_type_seen at arguments
+-- ---- rows
 
--- a type by its name
-abbrev pub named_type_seen : Signatures → List ℕ → ℕ → ℕ → List Datum → List Part
-named_type_seen w x name_at at arguments =
-    if is_plain_type x then plain_type_seen at arguments
-    else (if is_ranged_type x then ranged_type_seen name_at arguments
-    else (if is_later_type x then planned name_at ∷ [] else own_type_seen (record_in w x) x name_at at arguments))
+-- quotes that stand before no name
+abbrev pub strays_seen : List Datum → List Part
+strays_seen [] = []
+strays_seen (d ∷ ds) = if is_stray d then refused 6 (offset d) ∷ strays_seen ds else strays_seen ds
+
+-- constants of a kind
+abbrev pub constants_seen : Names → Wanted → ℕ → List Datum → List Part
+constants_seen ps kind at ds = if may_all_stand ps kind ds then strays_seen ds else wrong at
+
+abbrev pub at_most_seen : ℕ → Names → Wanted → ℕ → List Datum → List Part
+at_most_seen most ps kind at ds = if nat_le (length ds) most then constants_seen ps kind at ds else wrong at
+
+abbrev pub nothing_seen : ℕ → List Datum → List Part
+nothing_seen at [] = []
+nothing_seen at (d ∷ ds) = wrong at
+
+-- all arguments are specifiers
+abbrev pub each_type_seen : List Sighted → List Part
+each_type_seen [] = []
+each_type_seen (s ∷ ss) = s.seen ++ each_type_seen ss
+
+abbrev pub one_type_seen : ℕ → List Sighted → List Part
+one_type_seen at ss = if length ss == 1 then each_type_seen ss else wrong at
+
+abbrev pub some_types_seen : ℕ → List Sighted → List Part
+some_types_seen at ss = if length ss == 0 then wrong at else each_type_seen ss
+
+-- `(NAME ...) SPECIFIER`
+abbrev pub tokens_and_type_seen : ℕ → List Sighted → List Part
+tokens_and_type_seen at (n ∷ s ∷ []) = elim (tokens_in n.shape) [ None ↦ wrong at | Some xs ↦ s.seen ]
+tokens_and_type_seen at ss = wrong at
+
+-- what stands behind the name of a type, by what it takes
+abbrev pub arguments_seen : Names → Takes → ℕ → List Sighted → List Part
+arguments_seen ps takes.Nothing at ss = nothing_seen at (shapes_sighted ss)
+arguments_seen ps takes.Bounds at ss = at_most_seen 2 ps wanted.NumberOrStar at (shapes_sighted ss)
+arguments_seen ps takes.Length at ss = at_most_seen 1 ps wanted.Number at (shapes_sighted ss)
+arguments_seen ps takes.Constants at ss = constants_seen ps wanted.Constant at (shapes_sighted ss)
+arguments_seen ps takes.OneType at ss = one_type_seen at ss
+arguments_seen ps takes.SomeTypes at ss = some_types_seen at ss
+arguments_seen ps takes.TokensAndType at ss = tokens_and_type_seen at ss
+
+-- what stands behind a name that is not declared is not looked at
+abbrev pub known_type_seen : Names → Option Takes → List ℕ → ℕ → ℕ → List Sighted → List Part
+known_type_seen ps None x name_at at ss = type_name x name_at ∷ []
+known_type_seen ps (Some t) x name_at at ss = arguments_seen ps t at ss
 
 -- a type begins with its name
-abbrev pub headed_type_seen : Signatures → ℕ → Datum → List Datum → List Part
-headed_type_seen w at h arguments = elim (name_in h) [ None ↦ wrong at | Some x ↦ named_type_seen w x (offset h) at arguments ]
+abbrev pub headed_type_seen : Signatures → Names → ℕ → Datum → List Sighted → List Part
+headed_type_seen w ps at h ss = elim (name_in h) [ None ↦ wrong at | Some x ↦ known_type_seen ps (takes_named w x) x (offset h) at ss ]
 
--- `NAME ARGUMENT ...`
-abbrev pub type_parts_seen : Signatures → ℕ → List Datum → List Part
-type_parts_seen w at [] = wrong at
-type_parts_seen w at (h ∷ arguments) = headed_type_seen w at h arguments
+-- options behind a name and its arguments
+abbrev pub optioned_type_seen : ℕ → Option TypeOptions → List Part → List Part
+optioned_type_seen at None inner = wrong at
+optioned_type_seen at (Some o) inner = inner
 
--- the options behind the name and its arguments, each known, once, with a value, are not built yet
-abbrev pub type_options_seen : Signatures → ℕ → List Datum → Option (List Keyed) → List Part
-type_options_seen w at parts None = wrong at
-type_options_seen w at parts (Some ks) = type_parts_seen w at parts ++ planned_keys ks
+-- a list by its first part: a list of a name and arguments, or a name
+abbrev pub first_type_seen : Signatures → Names → ℕ → Datum → List Part → List Sighted → List Part
+first_type_seen w ps at (list es inner_at) inner ss = optioned_type_seen at (options_in (shapes_sighted ss)) inner
+first_type_seen w ps at (word x name_at) inner ss = headed_type_seen w ps at (word x name_at) ss
+first_type_seen w ps at (number z part_at) inner ss = wrong at
+first_type_seen w ps at (literal s part_at) inner ss = wrong at
+first_type_seen w ps at (quoted x part_at name_at) inner ss = wrong at
+first_type_seen w ps at (stray part_at) inner ss = wrong at
 
--- a list by its first part: a name, or a list of a name and arguments
-abbrev pub first_type_seen : Signatures → ℕ → Datum → List Datum → List Part
-first_type_seen w at (list ds list_at) more = type_options_seen w at (in_order ds) (keyed_pairs option_keys [] more)
-first_type_seen w at (number z first_at) more = wrong at
-first_type_seen w at (literal s first_at) more = wrong at
-first_type_seen w at (word x first_at) more = headed_type_seen w at (word x first_at) more
-first_type_seen w at (quoted x first_at name_at) more = wrong at
-first_type_seen w at (stray first_at) more = wrong at
+-- ---- specifiers
 
--- a list that is a type
-abbrev pub listed_type_seen : Signatures → ℕ → List Datum → List Part
-listed_type_seen w at [] = wrong at
-listed_type_seen w at (h ∷ more) = first_type_seen w at h more
+abbrev mutual
+  -- `NAME`, `(NAME ARGUMENT ...)` or `((NAME ARGUMENT ...) KEY VALUE ...)`, where these are the parameters of the declaration around
+  pub type_seen : Signatures → Names → Datum → List Part
+  type_seen w ps (number z at) = wrong at
+  type_seen w ps (literal s at) = wrong at
+  type_seen w ps (word x at) = headed_type_seen w ps at (word x at) []
+  type_seen w ps (quoted x at name_at) = wrong at
+  type_seen w ps (stray at) = wrong at
+  type_seen w ps (list ds at) = listed_type_seen w ps at ds
 
--- `NAME`, `(NAME ARGUMENT ...)` or `((NAME ARGUMENT ...) KEY VALUE ...)`
-abbrev pub type_seen : Signatures → Datum → List Part
-type_seen w (list ds at) = listed_type_seen w at (in_order ds)
-type_seen w (word x at) = headed_type_seen w at (word x at) []
-type_seen w (number z at) = wrong at
-type_seen w (literal s at) = wrong at
-type_seen w (quoted x at name_at) = wrong at
-type_seen w (stray at) = wrong at
+  pub listed_type_seen : Signatures → Names → ℕ → Datums → List Part
+  listed_type_seen w ps at none = wrong at
+  listed_type_seen w ps at (item d more) = first_type_seen w ps at d (inner_type_seen w ps at d) (types_seen w ps more)
+
+  pub inner_type_seen : Signatures → Names → ℕ → Datum → List Part
+  inner_type_seen w ps at (list es inner_at) = type_parts_seen w ps at es
+  inner_type_seen w ps at (number z part_at) = wrong at
+  inner_type_seen w ps at (literal s part_at) = wrong at
+  inner_type_seen w ps at (word x part_at) = wrong at
+  inner_type_seen w ps at (quoted x part_at name_at) = wrong at
+  inner_type_seen w ps at (stray part_at) = wrong at
+
+  pub type_parts_seen : Signatures → Names → ℕ → Datums → List Part
+  type_parts_seen w ps at none = wrong at
+  type_parts_seen w ps at (item h more) = headed_type_seen w ps at h (types_seen w ps more)
+
+  pub types_seen : Signatures → Names → Datums → List Sighted
+  types_seen w ps none = []
+  types_seen w ps (item d ds) = record { shape = d; seen = type_seen w ps d } ∷ types_seen w ps ds

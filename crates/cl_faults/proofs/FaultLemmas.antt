@@ -1,9 +1,8 @@
 -- Readings whose faults stand at offsets of one kind, and that come to the same whatever was noted before.
 use Rattle.std.proofs.Common.{◌≡◌, ℕ, Bool, true, false, if◌then◌else◌, List, IfErr, refl, ap, ◌∙◌}
 use Rattle.std.specs.Prelude.{Result, Ok, Err, Option, Some, None}
-use Rattle.cl_syntax.specs.TypeSpecTree.{TypeSpecTree}
 use Rattle.cl_forms.specs.Datum.{Datum}
-use Rattle.cl_expressions.specs.Load.{Load, Notes, Fault, after, ◌>>=◌, give, refuse, noted, placed}
+use Rattle.cl_expressions.specs.Load.{Load, Notes, Fault, after, ◌>>=◌, give, refuse, noted}
 use Rattle.cl_forms.specs.Naming.{name_in}
 use Rattle.cl_expressions.specs.Expressions.{named_part}
 
@@ -32,10 +31,6 @@ module _ {P : ℕ → Type 0} where
 
   pub notes : (known : Bool) (at : ℕ) → FaultsAt P (noted known at)
   notes known at = record { steady = λ u v. refl; stand = λ u. tt }
-
-  pub places_then : {A : Type 0} (spec : TypeSpecTree) (parameters : List (List ℕ)) (at : ℕ) (x : A)
-      → FaultsAt P (placed spec parameters at >>= λ u. give x)
-  places_then spec parameters at x = record { steady = λ u v. refl; stand = λ u. tt }
 
   after_steady : {A B : Type 0} (f : A → Load B) → ((x : A) → FaultsAt P (f x)) → (r s : Result (A × Notes) Fault)
       → outcome r ≡ outcome s → outcome (after r f) ≡ outcome (after s f)

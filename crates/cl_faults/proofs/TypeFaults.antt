@@ -1,81 +1,175 @@
 -- The faults of a slot's type stand in it, or at the form that asks for it.
-use Rattle.std.proofs.Common.{inl, inr, ℕ, false, List, [], ◌∷◌, refl}
-use Rattle.std.specs.Prelude.{Option, Some, None}
+use Rattle.std.proofs.Common.{◌≡◌, inl, inr, ℕ, Bool, true, false, ◌==◌, if◌then◌else◌, List, [], ◌∷◌, length, refl, sym, ap}
+use Rattle.std.specs.Prelude.{Option, Some, None, Result, Ok, Err, nat_le}
 use Rattle.std.specs.Option.{IfSome}
-use Rattle.cl_syntax.specs.TypeSpecTree.{TypeSpecTree, plain_type}
-use Rattle.cl_forms.specs.Datum.{Datum, number, literal, word, quoted, stray, list, in_order, offset}
-use Rattle.cl_expressions.specs.Load.{refuse}
-use Rattle.cl_words.specs.TypeNames.{is_plain_type, is_ranged_type, is_later_type}
-use Rattle.cl_forms.specs.Keys.{Keyed, keyed_pairs}
+use Rattle.std.specs.Result.{IfErr}
+use Rattle.std.proofs.Math.Path.{subst}
+use Rattle.cl_syntax.specs.TypeSpecTree.{TypeArgTree, TypeSpecTree, plain_type}
+use Rattle.cl_syntax.specs.declared.type_specs.TypeOptions.{TypeOptions}
+use Rattle.cl_forms.specs.Datum.{Datum, Datums, number, literal, word, quoted, stray, list, none, item, in_order, offset}
 use Rattle.cl_forms.specs.Naming.{name_in}
-use Rattle.cl_words.specs.Signatures.{record_in}
 use Rattle.cl_words.specs.declared.signatures.Signatures.{Signatures}
-use Rattle.cl_bodies.specs.SlotTypes.{parse_plain_type, parse_record_type, parse_ranged_type, parse_type_named, parse_type_head}
-use Rattle.cl_bodies.specs.SlotTypes.{parse_type_parts, option_keys, parse_type_options, parse_type_first, parse_type_list, parse_specifier}
-use Rattle.cl_bodies.specs.SlotTypes.{parse_type}
-use Rattle.cl_faults.proofs.FaultLemmas.{FaultsAt, gives, refuses, notes_then, places_then, binds, chooses}
-use Rattle.cl_faults.proofs.ExpressionFaults.{Covers, covers_offset}
+use Rattle.cl_expressions.specs.Load.{Load, Fault, Notes, after, give, refuse, placed, with_specifier}
+use Rattle.cl_expressions.specs.Scopes.{Names}
+use Rattle.cl_bodies.specs.TypeArguments.{arguments_in, first_stray, is_stray, may_all_stand, options_in, tokens_in}
+use Rattle.cl_bodies.specs.Specifiers.{parse_arguments, parse_at_most, parse_constants, parse_each_type, parse_first, parse_headed, parse_inner, parse_known}
+use Rattle.cl_bodies.specs.Specifiers.{parse_listed, parse_named, parse_nothing, parse_one_type, parse_optioned, parse_parts, parse_some_types}
+use Rattle.cl_bodies.specs.Specifiers.{parse_token_type, parse_tokens_and_type, parse_type, shapes, takes_named, type_subs}
+use Rattle.cl_bodies.specs.declared.specifiers.Takes.{Takes}
+use Rattle.cl_bodies.specs.declared.specifiers.Takes.TheVariants as takes
+use Rattle.cl_bodies.specs.declared.type_arguments.Wanted.{Wanted}
+use Rattle.cl_bodies.specs.declared.type_arguments.Wanted.TheVariants as wanted
+use Rattle.cl_faults.proofs.FaultLemmas.{FaultsAt, outcome, gives, refuses, notes_then, binds, chooses}
+use Rattle.cl_faults.proofs.ExpressionFaults.{Covers, CoversAll, covers_offset}
 use Rattle.cl_faults.proofs.DataFaults.{CoversEach, covers_order}
-use Rattle.cl_faults.proofs.KeyFaults.{CoversKeys, pairs_covered, keys_faults}
+
+-- ---- what is noted of a specifier
+
+same_read : {A : Type 0} (x y : A) → ◌≡◌ {A = Result A Fault} (Ok x) (Ok y) → x ≡ y
+same_read x y h = cc
+
+placed_outcome : (place : ℕ) (ps : Names) (at : ℕ) (r : Result (TypeSpecTree × Notes) Fault)
+    → outcome (after r (λ spec later. Ok (spec, with_specifier place spec ps at later))) ≡ outcome r
+placed_outcome place ps at (Ok x) = refl
+placed_outcome place ps at (Err fault) = refl
+
+placed_stand : (P : ℕ → Type 0) (place : ℕ) (ps : Names) (at : ℕ) (r : Result (TypeSpecTree × Notes) Fault) → IfErr r (λ fault. P fault.1)
+    → IfErr (after r (λ spec later. Ok (spec, with_specifier place spec ps at later))) (λ fault. P fault.1)
+placed_stand P place ps at (Ok x) h = tt
+placed_stand P place ps at (Err fault) h = h
 
 module _ {P : ℕ → Type 0} where
-  plain_faults : (x : List ℕ) (at : ℕ) (ds : List Datum) → P at → FaultsAt P (parse_plain_type x at ds)
-  plain_faults x at [] h = gives
-  plain_faults x at (d ∷ ds) h = refuses h
+  placed_faults : (ps : Names) (at : ℕ) (m : Load TypeSpecTree) → FaultsAt P m → FaultsAt P (placed ps at m)
+  placed_faults ps at m h = record {
+    steady = λ u v.
+        rw (placed_outcome (length u.specifiers) ps at (m u), placed_outcome (length v.specifiers) ps at (m v)) (h.steady u v);
+    stand = λ u. placed_stand P (length u.specifiers) ps at (m u) (h.stand u);
+  }
 
-  record_faults : (fields : Option (Option ℕ)) (x : List ℕ) (name_at at : ℕ) (ds : List Datum) → P at
-      → FaultsAt P (parse_record_type fields x name_at at ds)
-  record_faults None x name_at at ds h = notes_then false name_at (plain_type x)
-  record_faults (Some fields) x name_at at ds h = plain_faults x at ds h
+  -- ---- constants
 
-  ranged_faults : (x : List ℕ) (name_at : ℕ) (ds : List Datum) → P name_at → FaultsAt P (parse_ranged_type x name_at ds)
-  ranged_faults x name_at [] g = gives
-  ranged_faults x name_at (d ∷ ds) g = refuses g
+  stray_covered : (ds : List Datum) → CoversEach P ds → IfSome (first_stray ds) P
+  stray_covered [] c = tt
+  stray_covered (d ∷ ds) c = by (is_stray d)
+    where
+      by : (b : Bool) → IfSome (if b then Some (offset d) else first_stray ds) P
+      by true = covers_offset d c.0
+      by false = stray_covered ds c.1
 
-  row_faults : (w : Signatures) (x : List ℕ) (name_at at : ℕ) (ds : List Datum) → P name_at → P at → FaultsAt P (parse_type_named w x name_at at ds)
-  row_faults w x name_at at ds g h =
-      chooses (is_plain_type x) (plain_faults x at ds h)
-      (chooses (is_ranged_type x) (ranged_faults x name_at ds g)
-      (chooses (is_later_type x) (refuses g) (record_faults (record_in w x) x name_at at ds h)))
+  told_faults : {A : Type 0} (x : A) (o : Option ℕ) → IfSome o P → FaultsAt P (elim o [ None ↦ give x | Some at ↦ refuse 6 at ])
+  told_faults x None h = gives
+  told_faults x (Some at) h = refuses h
 
-  named_faults : (name : Option (List ℕ)) (w : Signatures) (name_at at : ℕ) (ds : List Datum) → P name_at → P at
-      → FaultsAt {A = TypeSpecTree} P (elim name [ None ↦ refuse 6 at | Some x ↦ parse_type_named w x name_at at ds ])
-  named_faults None w name_at at ds g h = refuses h
-  named_faults (Some x) w name_at at ds g h = row_faults w x name_at at ds g h
+  constants_faults : (ps : Names) (kind : Wanted) (at : ℕ) (ds : List Datum) → P at → CoversEach P ds → FaultsAt P (parse_constants ps kind at ds)
+  constants_faults ps kind at ds h c =
+      chooses (may_all_stand ps kind ds) (told_faults (arguments_in ps ds) (first_stray ds) (stray_covered ds c)) (refuses h)
 
-  headed_faults : (w : Signatures) (at : ℕ) (d : Datum) (ds : List Datum) → P at → Covers P d → FaultsAt P (parse_type_head w at d ds)
-  headed_faults w at d ds h c = named_faults (name_in d) w (offset d) at ds (covers_offset d c) h
+  at_most_faults : (most : ℕ) (ps : Names) (kind : Wanted) (at : ℕ) (ds : List Datum) → P at → CoversEach P ds
+      → FaultsAt P (parse_at_most most ps kind at ds)
+  at_most_faults most ps kind at ds h c = chooses (nat_le (length ds) most) (constants_faults ps kind at ds h c) (refuses h)
 
-  parts_faults : (w : Signatures) (at : ℕ) (ds : List Datum) → P at → CoversEach P ds → FaultsAt P (parse_type_parts w at ds)
-  parts_faults w at [] h c = refuses h
-  parts_faults w at (d ∷ ds) h c = headed_faults w at d ds h c.0
+  nothing_faults : (at : ℕ) (ds : List Datum) → P at → FaultsAt P (parse_nothing at ds)
+  nothing_faults at [] h = gives
+  nothing_faults at (d ∷ ds) h = refuses h
 
-  options_faults : (w : Signatures) (at : ℕ) (ds : List Datum) (ks : Option (List Keyed)) → P at → CoversEach P ds
-      → IfSome ks (CoversKeys P) → FaultsAt P (parse_type_options w at ds ks)
-  options_faults w at ds None h c b = refuses h
-  options_faults w at ds (Some ks) h c b = binds (parts_faults w at ds h c) λ t. binds (keys_faults ks b) λ u. gives
+  -- ---- rows, where the faults of the specifiers among the arguments stand in them
 
-  first_faults : (w : Signatures) (at : ℕ) (d : Datum) (ds : List Datum) → P at → Covers P d → CoversEach P ds
-      → FaultsAt P (parse_type_first w at d ds)
-  first_faults w at (list es list_at) ds h c b = options_faults w at (in_order es) (keyed_pairs option_keys [] ds) h (covers_order es (λ o s. c o (inr s)))
-      (pairs_covered P option_keys [] ds tt b)
-  first_faults w at (number z first_at) ds h c b = headed_faults w at (number z first_at) ds h c
-  first_faults w at (literal s first_at) ds h c b = headed_faults w at (literal s first_at) ds h c
-  first_faults w at (word x first_at) ds h c b = headed_faults w at (word x first_at) ds h c
-  first_faults w at (quoted x first_at name_at) ds h c b = headed_faults w at (quoted x first_at name_at) ds h c
-  first_faults w at (stray first_at) ds h c b = headed_faults w at (stray first_at) ds h c
+  module _ (w : Signatures) (ps : Names) where
+    abbrev EachFaults : Datums → Type 0
+    EachFaults none = Unit {0}
+    EachFaults (item d ds) = FaultsAt P (parse_type w ps d) × EachFaults ds
 
-  listed_faults : (w : Signatures) (at : ℕ) (ds : List Datum) → P at → CoversEach P ds → FaultsAt P (parse_type_list w at ds)
-  listed_faults w at [] h c = refuses h
-  listed_faults w at (d ∷ ds) h c = first_faults w at d ds h c.0 c.1
+    shapes_read : (ds : Datums) → shapes (type_subs w ps ds) ≡ in_order ds
+    shapes_read none = refl
+    shapes_read (item d ds) = ap (λ es. d ∷ es) (shapes_read ds)
 
-  specifier_faults : (w : Signatures) (d : Datum) → Covers P d → FaultsAt P (parse_specifier w d)
-  specifier_faults w (list ds at) c = listed_faults w at (in_order ds) (c at (inl refl)) (covers_order ds (λ o s. c o (inr s)))
-  specifier_faults w (number z at) c = headed_faults w at (number z at) [] (c at refl) c
-  specifier_faults w (literal s at) c = headed_faults w at (literal s at) [] (c at refl) c
-  specifier_faults w (word x at) c = headed_faults w at (word x at) [] (c at refl) c
-  specifier_faults w (quoted x at name_at) c = headed_faults w at (quoted x at name_at) [] (c at (inl refl)) c
-  specifier_faults w (stray at) c = headed_faults w at (stray at) [] (c at refl) c
+    by_shapes : {A : Type 0} (m : List Datum → Load A) (ds : Datums) → FaultsAt P (m (in_order ds)) → FaultsAt P (m (shapes (type_subs w ps ds)))
+    by_shapes m ds h = subst (λ es. FaultsAt P (m es)) (sym (shapes_read ds)) h
 
-  pub type_faults : (w : Signatures) (d : Datum) → Covers P d → FaultsAt P (parse_type w d)
-  type_faults w d c = binds (specifier_faults w d c) λ t. places_then t [] (offset d) t
+    each_faults : (ds : Datums) → EachFaults ds → FaultsAt P (parse_each_type (type_subs w ps ds))
+    each_faults none e = gives
+    each_faults (item d ds) e = binds e.0 λ t. binds (each_faults ds e.1) λ ts. gives
+
+    token_faults : (at : ℕ) (o : Option (List (List ℕ))) (d : Datum) → P at → FaultsAt P (parse_type w ps d)
+        → FaultsAt P (parse_token_type at o (record { shape = d; spec = parse_type w ps d }))
+    token_faults at None d h e = refuses h
+    token_faults at (Some xs) d h e = binds e λ t. gives
+
+    tokens_faults : (at : ℕ) (ds : Datums) → P at → EachFaults ds → FaultsAt P (parse_tokens_and_type at (type_subs w ps ds))
+    tokens_faults at none h e = refuses h
+    tokens_faults at (item n none) h e = refuses h
+    tokens_faults at (item n (item d none)) h e = token_faults at (tokens_in n) d h e.1.0
+    tokens_faults at (item n (item d (item c ds))) h e = refuses h
+
+    arguments_faults : (t : Takes) (at : ℕ) (ds : Datums) → P at → CoversEach P (in_order ds) → EachFaults ds
+        → FaultsAt P (parse_arguments ps t at (type_subs w ps ds))
+    arguments_faults takes.Nothing at ds h c e = by_shapes (parse_nothing at) ds (nothing_faults at (in_order ds) h)
+    arguments_faults takes.Bounds at ds h c e =
+        by_shapes (parse_at_most 2 ps wanted.NumberOrStar at) ds (at_most_faults 2 ps wanted.NumberOrStar at (in_order ds) h c)
+    arguments_faults takes.Length at ds h c e = by_shapes (parse_at_most 1 ps wanted.Number at) ds (at_most_faults 1 ps wanted.Number at (in_order ds) h c)
+    arguments_faults takes.Constants at ds h c e = by_shapes (parse_constants ps wanted.Constant at) ds (constants_faults ps wanted.Constant at (in_order ds) h c)
+    arguments_faults takes.OneType at ds h c e = chooses (length (type_subs w ps ds) == 1) (each_faults ds e) (refuses h)
+    arguments_faults takes.SomeTypes at ds h c e = chooses (length (type_subs w ps ds) == 0) (refuses h) (each_faults ds e)
+    arguments_faults takes.TokensAndType at ds h c e = tokens_faults at ds h e
+
+    known_faults : (o : Option Takes) (x : List ℕ) (name_at at : ℕ) (ds : Datums) → P at → CoversEach P (in_order ds) → EachFaults ds
+        → FaultsAt P (parse_known ps o x name_at at (type_subs w ps ds))
+    known_faults None x name_at at ds h c e = notes_then false name_at (plain_type x)
+    known_faults (Some t) x name_at at ds h c e = binds (arguments_faults t at ds h c e) λ ts. gives
+
+    found_faults : (o : Option (List ℕ)) (name_at at : ℕ) (ds : Datums) → P at → CoversEach P (in_order ds) → EachFaults ds
+        → FaultsAt {A = TypeSpecTree} P (elim o [ None ↦ refuse 6 at | Some x ↦ parse_named w ps x name_at at (type_subs w ps ds) ])
+    found_faults None name_at at ds h c e = refuses h
+    found_faults (Some x) name_at at ds h c e = known_faults (takes_named w x) x name_at at ds h c e
+
+    headed_faults : (at : ℕ) (d : Datum) (ds : Datums) → P at → CoversEach P (in_order ds) → EachFaults ds
+        → FaultsAt P (parse_headed w ps at d (type_subs w ps ds))
+    headed_faults at d ds h c e = found_faults (name_in d) (offset d) at ds h c e
+
+    optioned_faults : (at : ℕ) (o : Option TypeOptions) (m : Load TypeSpecTree) → P at → FaultsAt P m → FaultsAt P (parse_optioned at o m)
+    optioned_faults at None m h e = refuses h
+    optioned_faults at (Some o) m h e = binds e λ s. gives
+
+    -- ---- specifiers
+
+    first_faults : (at : ℕ) (d : Datum) (more : Datums) → P at → FaultsAt P (parse_inner w ps at d) → CoversEach P (in_order more) → EachFaults more
+        → FaultsAt P (parse_first w ps at d (parse_inner w ps at d) (type_subs w ps more))
+    first_faults at (list es inner_at) more h i c e = optioned_faults at (options_in (shapes (type_subs w ps more))) (parse_inner w ps at (list es inner_at)) h i
+    first_faults at (word x name_at) more h i c e = headed_faults at (word x name_at) more h c e
+    first_faults at (number z part_at) more h i c e = refuses h
+    first_faults at (literal s part_at) more h i c e = refuses h
+    first_faults at (quoted x part_at name_at) more h i c e = refuses h
+    first_faults at (stray part_at) more h i c e = refuses h
+
+    mutual
+      specifier_faults : (d : Datum) → Covers P d → FaultsAt P (parse_type w ps d)
+      specifier_faults (list ds at) c = placed_faults ps at (parse_listed w ps at ds) (listed_faults at ds (c at (inl refl)) (λ o s. c o (inr s)))
+      specifier_faults (word x at) c = placed_faults ps at (parse_headed w ps at (word x at) []) (headed_faults at (word x at) none (c at refl) tt tt)
+      specifier_faults (number z at) c = refuses (c at refl)
+      specifier_faults (literal s at) c = refuses (c at refl)
+      specifier_faults (quoted x at name_at) c = refuses (c at (inl refl))
+      specifier_faults (stray at) c = refuses (c at refl)
+
+      listed_faults : (at : ℕ) (ds : Datums) → P at → CoversAll P ds → FaultsAt P (parse_listed w ps at ds)
+      listed_faults at none h c = refuses h
+      listed_faults at (item d more) h c =
+          first_faults at d more h (inner_faults at d h (λ o s. c o (inl s))) (covers_order more (λ o s. c o (inr s))) (types_faults more (λ o s. c o (inr s)))
+
+      inner_faults : (at : ℕ) (d : Datum) → P at → Covers P d → FaultsAt P (parse_inner w ps at d)
+      inner_faults at (list es inner_at) h c = parts_faults at es h (λ o s. c o (inr s))
+      inner_faults at (number z part_at) h c = refuses h
+      inner_faults at (literal s part_at) h c = refuses h
+      inner_faults at (word x part_at) h c = refuses h
+      inner_faults at (quoted x part_at name_at) h c = refuses h
+      inner_faults at (stray part_at) h c = refuses h
+
+      parts_faults : (at : ℕ) (ds : Datums) → P at → CoversAll P ds → FaultsAt P (parse_parts w ps at ds)
+      parts_faults at none h c = refuses h
+      parts_faults at (item d more) h c = headed_faults at d more h (covers_order more (λ o s. c o (inr s))) (types_faults more (λ o s. c o (inr s)))
+
+      types_faults : (ds : Datums) → CoversAll P ds → EachFaults ds
+      types_faults none c = tt
+      types_faults (item d ds) c = (specifier_faults d (λ o s. c o (inl s)), types_faults ds (λ o s. c o (inr s)))
+
+  pub type_faults : (w : Signatures) (d : Datum) → Covers P d → FaultsAt P (parse_type w [] d)
+  type_faults w d c = specifier_faults w [] d c
