@@ -1,35 +1,24 @@
 //! Execution of statements.
-ghost use Rattle.std.specs.Prelude.{◌≡◌, ◌+◌, ◌<◌, ◌≤◌, ◌^◌, Bool, map};
-ghost use Rattle.cl_value.specs.Data.{Data};
+ghost use Rattle.std.specs.Prelude.{◌≡◌, ◌+◌, ◌<◌, ◌≤◌, ◌^◌, map};
 ghost use Rattle.cl_value.specs.Value.{data_of};
 ghost use Rattle.cl_syntax.specs.ActTree.{act_trees_of};
 ghost use Rattle.cl_syntax.specs.Expr.{bindings_of};
-ghost use Rattle.cl_syntax.specs.TypeSpecTree.{TypeSpecTree};
 ghost use Rattle.cl_eval.specs.Outcome.{RisesBy, cost_of};
 ghost use Rattle.cl_eval.specs.Scope.{variables_of};
 ghost use Rattle.cl_eval.specs.Statements.{act_parts, acts_in, for_each, in_turn};
 ghost use Rattle.cl_eval.specs.Stage.{doing_on, meaning_on, played_on};
 ghost use Rattle.cl_eval.specs.Agrees.{Agrees, always, itself};
-ghost use Rattle.cl_eval.specs.Executed.{Decides, Executes, met_memory, outcome_of_exec};
+ghost use Rattle.cl_eval.specs.Executed.{Executes, met_memory, outcome_of_exec};
 
 use crate::effects::{Effects, Lines, reply};
 use crate::metering::{Meter, Stop};
 use crate::programs::{Program, Stage, assign, frame_of, is_true, list_of, value_of};
 use crate::slot_table::Slots;
+use crate::types::Types;
 use crate::variables::{Env, Scope};
 use cl_outside::{Ledger, Steps};
-use cl_syntax::{Act, ActKind, Acts, Binding, TypeSpec};
-use cl_value::{Held, Text, Value};
-
-/// The types of an application.
-pub trait Types {
-    // whether a value is a member of a type
-    ghost holds: { Self → Data → TypeSpecTree → Bool };
-
-    /// Whether a value is a member of a type, as far as there is memory to find it.
-    fn member(&self, value: &Value, spec: &TypeSpec) -> Held
-        ensures { Decides result (holds self.now (data_of value.now) spec.now) };
-}
+use cl_syntax::{Act, ActKind, Acts, Binding};
+use cl_value::{Text, Value};
 
 /// What the statements of a command come to.
 #[derive(Drop)]

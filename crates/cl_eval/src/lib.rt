@@ -18,15 +18,17 @@ mod records;
 mod slot_table;
 mod texts;
 mod traversal;
+mod types;
 mod variables;
 
 pub use bindings::evaluate_bindings;
 pub use effects::{Effects, Lines};
 pub use evaluating::{Evaluated, eval};
 pub use evaluation::{Context, Standpoint, evaluate, evaluate_each, evaluate_list, evaluate_test};
-pub use execution::{Executed, Types, exec};
+pub use execution::{Executed, exec};
 pub use laws::{limits_can_be_wider, names_alone_matter, quotient_is_rounded_down};
 pub use metering::{Limits, Meter, Stop};
 pub use programs::Program;
 pub use slot_table::Slots;
+pub use types::Types;
 pub use variables::{Env, Scope};

@@ -144,11 +144,3 @@ module _ (g : Ground) (failed : Bool) (w to : World) (old new : Progress) (taken
       → faults_old ≡ old.faults → faults_new ≡ new.faults
       → EndsAs g (streams left_old faults_old taken_old x h) (streams left_new faults_new taken_new y j) begun last how
   EndsAs-served how s left_old left_new faults_old faults_new a b c d = rw (a, b, c, d) (served how s)
-
--- the same on a ground that is equal
-pub EndsAs-same : (a b : Ground) (old : ℕ → Streams) (new : Streams) (begun opened last : Wire) (failed : Bool) (how : End) (from : ℕ) → a ≡ b
-    → ((spent : ℕ) (wire : Wire) → from ≡ spent + opening_cost a → OpensOn a failed wire opened → EndsAs a (old spent) new wire last how)
-    → (spent : ℕ) → from ≡ spent + opening_cost b → OpensOn b failed begun opened → EndsAs b (old spent) new begun last how
-EndsAs-same a b old new begun opened last failed how from e f =
-    subst (λ (x : Ground). (spent : ℕ) → from ≡ spent + opening_cost x → OpensOn x failed begun opened → EndsAs x (old spent) new begun last how) e
-    (λ spent. f spent begun)

@@ -8,6 +8,7 @@ use Rattle.cl_gesture.specs.Lines.{ended, pieces, held_from}
 use Rattle.cl_gesture.proofs.Cutting.{pieces-further}
 use Rattle.cl_invocation.specs.Words.{Invocation, run, check, invocation_of}
 use Rattle.cl_load.specs.Application.{IsApplication, IsRefusal}
+use Rattle.cl_load.specs.Types.{Bounds}
 use Rattle.cl_load.proofs.OneOutcome.{one_outcome}
 use Rattle.cl_outside.specs.Causes.{Rose}
 use Rattle.cl_session.specs.declared.serving.End.{End}
@@ -59,52 +60,52 @@ apart : (app : App) (refusal : ℕ × ℕ) (a b : Result App (ℕ × ℕ)) → a
 apart app refusal a b x y same = cc
 
 -- a text that has a refusal declares no application
-not_both : (text : List ℕ) (app : App) (number at : ℕ) → IsApplication text app → IsRefusal text number at → ⊥
-not_both text app number at is refusal =
-    apart app (number, at) (Ok app) (Err (number, at)) refl refl (one_outcome text (Ok app) (Err (number, at)) is refusal)
+not_both : (bounds : Bounds) (text : List ℕ) (app : App) (number at : ℕ) → IsApplication bounds text app → IsRefusal bounds text number at → ⊥
+not_both bounds text app number at is refusal =
+    apart app (number, at) (Ok app) (Err (number, at)) refl refl (one_outcome bounds text (Ok app) (Err (number, at)) is refusal)
 
-none_declared : (file : Option (Option (List ℕ))) (text : List ℕ) (number at : ℕ) → IsTextOf file text → IsRefusal text number at
-    → DeclaresApplication file → ⊥
-none_declared None text number at of refusal d = d
-none_declared (Some None) text number at of refusal d = d
-none_declared (Some (Some bytes)) text number at of refusal d =
-    let P : List ℕ → Type 0 = λ xs. IsApplication xs d.0 in not_both text d.0 number at (subst P (sym of) d.1) refusal
+none_declared : (bounds : Bounds) (file : Option (Option (List ℕ))) (text : List ℕ) (number at : ℕ) → IsTextOf file text → IsRefusal bounds text number at
+    → DeclaresApplication bounds file → ⊥
+none_declared bounds None text number at of refusal d = d
+none_declared bounds (Some None) text number at of refusal d = d
+none_declared bounds (Some (Some bytes)) text number at of refusal d =
+    let P : List ℕ → Type 0 = λ xs. IsApplication bounds xs d.0 in not_both bounds text d.0 number at (subst P (sym of) d.1) refusal
 
-some_declared : (file : Option (Option (List ℕ))) (text : List ℕ) (app : App) (number at : ℕ) → IsTextOf file text → IsApplication text app
-    → HasRefusal file number at → ⊥
-some_declared None text app number at of is d = d
-some_declared (Some None) text app number at of is d = d
-some_declared (Some (Some bytes)) text app number at of is d =
-    let P : List ℕ → Type 0 = λ xs. IsApplication xs app in not_both (first_bytes bytes) app number at (subst P of is) d
+some_declared : (bounds : Bounds) (file : Option (Option (List ℕ))) (text : List ℕ) (app : App) (number at : ℕ) → IsTextOf file text → IsApplication bounds text app
+    → HasRefusal bounds file number at → ⊥
+some_declared bounds None text app number at of is d = d
+some_declared bounds (Some None) text app number at of is d = d
+some_declared bounds (Some (Some bytes)) text app number at of is d =
+    let P : List ℕ → Type 0 = λ xs. IsApplication bounds xs app in not_both bounds (first_bytes bytes) app number at (subst P of is) d
 
 -- a text that is refused declares no application
-pub refused_declares : (words : List (List ℕ)) (place : Placed) (old new : Streams) (name : List ℕ)
-    → Refuses words place old new → Names words name → DeclaresApplication (place.file name) → ⊥
-refused_declares words place old new name said is d =
+pub refused_declares : (bounds : Bounds) (words : List (List ℕ)) (place : Placed) (old new : Streams) (name : List ℕ)
+    → Refuses bounds words place old new → Names words name → DeclaresApplication bounds (place.file name) → ⊥
+refused_declares bounds words place old new name said is d =
     let r = said.refused in
     let same : name ≡ r.name = one_name words name r.name is r.command in
-    let P : List ℕ → Type 0 = λ n. DeclaresApplication (place.file n) in
-    none_declared (place.file r.name) r.text said.number said.at r.of_file r.refusal (subst P same d)
+    let P : List ℕ → Type 0 = λ n. DeclaresApplication bounds (place.file n) in
+    none_declared bounds (place.file r.name) r.text said.number said.at r.of_file r.refusal (subst P same d)
 
 -- a text that was opened is not refused
-pub opened_declares : (words : List (List ℕ)) (place : Placed) (wire : Option (List ℕ)) (g : Ground) (name : List ℕ) (number at : ℕ)
-    → Opens words place wire g → Names words name → HasRefusal (place.file name) number at → ⊥
-opened_declares words place wire g name number at o is d =
+pub opened_declares : (bounds : Bounds) (words : List (List ℕ)) (place : Placed) (wire : Option (List ℕ)) (g : Ground) (name : List ℕ) (number at : ℕ)
+    → Opens bounds words place wire g → Names words name → HasRefusal bounds (place.file name) number at → ⊥
+opened_declares bounds words place wire g name number at o is d =
     let same : name ≡ o.name = one_name words name o.name is (run_named words o.name wire o.budget o.command) in
-    let P : List ℕ → Type 0 = λ n. HasRefusal (place.file n) number at in
-    some_declared (place.file o.name) o.text g.app number at o.of_file o.declared (subst P same d)
+    let P : List ℕ → Type 0 = λ n. HasRefusal bounds (place.file n) number at in
+    some_declared bounds (place.file o.name) o.text g.app number at o.of_file o.declared (subst P same d)
 
 -- nor is one that was loaded
-pub loaded_declares : (words : List (List ℕ)) (place : Placed) (name : List ℕ) (number at : ℕ)
-    → IsLoaded words place → Names words name → HasRefusal (place.file name) number at → ⊥
-loaded_declares words place name number at o is d =
+pub loaded_declares : (bounds : Bounds) (words : List (List ℕ)) (place : Placed) (name : List ℕ) (number at : ℕ)
+    → IsLoaded bounds words place → Names words name → HasRefusal bounds (place.file name) number at → ⊥
+loaded_declares bounds words place name number at o is d =
     let same : name ≡ o.name = one_name words name o.name is (check_named words o.name o.command) in
-    let P : List ℕ → Type 0 = λ n. HasRefusal (place.file n) number at in
-    some_declared (place.file o.name) o.text o.app number at o.of_file o.declared (subst P same d)
+    let P : List ℕ → Type 0 = λ n. HasRefusal bounds (place.file n) number at in
+    some_declared bounds (place.file o.name) o.text o.app number at o.of_file o.declared (subst P same d)
 
 -- an application that is checked is not opened
-pub opened_checked : (words : List (List ℕ)) (place : Placed) (wire : Option (List ℕ)) (g : Ground) (name : List ℕ) → Opens words place wire g → IsCheck words name → ⊥
-opened_checked words place wire g name o is = not_checked words o.name name wire o.budget o.command is
+pub opened_checked : (bounds : Bounds) (words : List (List ℕ)) (place : Placed) (wire : Option (List ℕ)) (g : Ground) (name : List ℕ) → Opens bounds words place wire g → IsCheck words name → ⊥
+opened_checked bounds words place wire g name o is = not_checked words o.name name wire o.budget o.command is
 
 -- ---- the gestures
 
@@ -120,14 +121,14 @@ more_lines (Some bytes) (Some rest) read (byte ∷ further) c whole lines more f
     omega (arith, pieces-further read byte (further ++ rest) whole, lines, small)
 
 -- a further byte behind a million lines is a line more
-pub limit_passed : (words : List (List ℕ)) (p q : Placed) (old new : Streams) (how : End) → how ≡ end.TooMany
-    → Serves words p q old new how → HasFewLines old.left → ⊥
-limit_passed words p q old new end.TooMany e s few =
+pub limit_passed : (bounds : Bounds) (words : List (List ℕ)) (p q : Placed) (old new : Streams) (how : End) → how ≡ end.TooMany
+    → Serves bounds words p q old new how → HasFewLines old.left → ⊥
+limit_passed bounds words p q old new end.TooMany e s few =
     let r : ReadToLimit s.g old new s.device_old s.device_new = s.went in
     more_lines old.left new.left r.read r.further r.consumed r.whole r.lines r.more few
-limit_passed words p q old new end.Done e s few = cc
-limit_passed words p q old new end.ReadFault e s few = cc
-limit_passed words p q old new end.OutputFault e s few = cc
+limit_passed bounds words p q old new end.Done e s few = cc
+limit_passed bounds words p q old new end.ReadFault e s few = cc
+limit_passed bounds words p q old new end.OutputFault e s few = cc
 
 few_lines : (left_old left_new : Option (List ℕ)) (read : List ℕ) → Consumes left_old left_new read → IsAtEnd left_new
     → length (pieces read) ≤ 1000000 → HasManyLines left_old → ⊥
@@ -140,10 +141,10 @@ few_lines (Some bytes) (Some rest) read c at_end few many =
     omega (arith, few, long)
 
 -- gestures that were read to their end are at most a million lines
-pub end_reached : (words : List (List ℕ)) (p q : Placed) (old new : Streams) (how : End) → how ≡ end.Done
-    → Serves words p q old new how → HasManyLines old.left → ⊥
-end_reached words p q old new end.Done e s many =
+pub end_reached : (bounds : Bounds) (words : List (List ℕ)) (p q : Placed) (old new : Streams) (how : End) → how ≡ end.Done
+    → Serves bounds words p q old new how → HasManyLines old.left → ⊥
+end_reached bounds words p q old new end.Done e s many =
     let r : ReadToEnd s.g old new s.device_old s.device_new = s.went in few_lines old.left new.left r.read r.consumed r.at_end r.few many
-end_reached words p q old new end.TooMany e s many = cc
-end_reached words p q old new end.ReadFault e s many = cc
-end_reached words p q old new end.OutputFault e s many = cc
+end_reached bounds words p q old new end.TooMany e s many = cc
+end_reached bounds words p q old new end.ReadFault e s many = cc
+end_reached bounds words p q old new end.OutputFault e s many = cc

@@ -2,16 +2,17 @@
 use Rattle.std.specs.Prelude.{◌≡◌, ◌≢◌, ◌≤◌, ◌⊎◌, ℕ, Bool, true, List, Option, None, Some}
 use Rattle.cl_application.specs.declared.applications.App.{App}
 use Rattle.cl_eval.specs.declared.metering.Limits.{Limits}
-use Rattle.cl_frame.specs.Ground.{Ground, ground}
+use Rattle.cl_frame.specs.Ground.{Ground}
 use Rattle.cl_frame.specs.Sending.{Wire}
 use Rattle.cl_forms.specs.declared.refusals.LoadRefusal.{LoadRefusal}
 use Rattle.cl_forms.specs.declared.refusals.LoadRefusal.TheVariants as refusal
 use Rattle.cl_load.specs.Application.{IsApplication, IsRefusal}
+use Rattle.cl_load.specs.Types.{Bounds}
 use Rattle.cl_outside.specs.Causes.{Rose}
 use Rattle.cl_invocation.specs.Words.{Invocation, run, check}
 use Rattle.cl_session.specs.declared.serving.End.{End}
 use Rattle.cl_program.specs.Command.{loads_line, refusal_line}
-use Rattle.cl_program.specs.Run.{EndsAs, RanOut, SaysCut, SaysWhole}
+use Rattle.cl_program.specs.Run.{EndsAs, RanOut, SaysCut, SaysWhole, ground_in}
 use Rattle.cl_program.specs.Surroundings.{Placed, Streams, UsesDevice}
 use Rattle.cl_program.specs.declared.running.How.{How}
 use Rattle.cl_program.specs.declared.running.How.TheVariants as how
@@ -59,44 +60,44 @@ RanOn wire g place_old place_new old new how.WireFault =
 RanOn wire g place_old place_new old new how.Memory = (new ≡ old) ⊎ RanOut g old new
 RanOn wire g place_old place_new old new (how.Ended end) = Went wire g place_old place_new old new end
 
--- ---- a text that was read
+-- ---- a text that was read, with host types of these bounds
 
 -- this number and this offset are those of its refusal, and its line was said so
-abbrev pub RefusesText : (text : List ℕ) → (said : List ℕ → Type 0) → Type 0
-RefusesText text said = (number : ℕ) × (at : ℕ) × IsRefusal text number at × said (refusal_line number at)
+abbrev pub RefusesText : Bounds → (text : List ℕ) → (said : List ℕ → Type 0) → Type 0
+RefusesText bounds text said = (number : ℕ) × (at : ℕ) × IsRefusal bounds text number at × said (refusal_line number at)
 
 -- it declares an application, of which this holds on its ground
-abbrev pub OfApplication : (text : List ℕ) → (limits : Limits) → (Ground → Type 0) → Type 0
-OfApplication text limits P = (app : App) × IsApplication text app × P (ground app limits)
+abbrev pub OfApplication : Bounds → (text : List ℕ) → (limits : Limits) → (Ground → Type 0) → Type 0
+OfApplication bounds text limits P = (app : App) × IsApplication bounds text app × P (ground_in bounds app limits)
 
 -- a run of a text
-abbrev pub RanText : (text : List ℕ) → (wire : Option (List ℕ)) → Limits → (place_old place_new : Placed) → (old new : Streams) → How → Type 0
-RanText text wire limits place_old place_new old new how.Usage = ⊥
-RanText text wire limits place_old place_new old new how.UsageCut = ⊥
-RanText text wire limits place_old place_new old new how.AppFault = ⊥
-RanText text wire limits place_old place_new old new how.Refused = RefusesText text (SaysWhole old new)
-RanText text wire limits place_old place_new old new how.RefusalCut = RefusesText text (SaysCut old new)
-RanText text wire limits place_old place_new old new how.Loads = ⊥
-RanText text wire limits place_old place_new old new how.LoadsCut = ⊥
-RanText text wire limits place_old place_new old new how.WireFault = OfApplication text limits (λ g. RanOn wire g place_old place_new old new how.WireFault)
-RanText text wire limits place_old place_new old new how.Memory = (new ≡ old) ⊎ OfApplication text limits (λ g. RanOut g old new)
-RanText text wire limits place_old place_new old new (how.Ended end) = OfApplication text limits (λ g. Went wire g place_old place_new old new end)
+abbrev pub RanText : Bounds → (text : List ℕ) → (wire : Option (List ℕ)) → Limits → (place_old place_new : Placed) → (old new : Streams) → How → Type 0
+RanText bounds text wire limits place_old place_new old new how.Usage = ⊥
+RanText bounds text wire limits place_old place_new old new how.UsageCut = ⊥
+RanText bounds text wire limits place_old place_new old new how.AppFault = ⊥
+RanText bounds text wire limits place_old place_new old new how.Refused = RefusesText bounds text (SaysWhole old new)
+RanText bounds text wire limits place_old place_new old new how.RefusalCut = RefusesText bounds text (SaysCut old new)
+RanText bounds text wire limits place_old place_new old new how.Loads = ⊥
+RanText bounds text wire limits place_old place_new old new how.LoadsCut = ⊥
+RanText bounds text wire limits place_old place_new old new how.WireFault = OfApplication bounds text limits (λ g. RanOn wire g place_old place_new old new how.WireFault)
+RanText bounds text wire limits place_old place_new old new how.Memory = (new ≡ old) ⊎ OfApplication bounds text limits (λ g. RanOut g old new)
+RanText bounds text wire limits place_old place_new old new (how.Ended end) = OfApplication bounds text limits (λ g. Went wire g place_old place_new old new end)
 
 -- a text that declares an application, or has a refusal; nothing is said where memory was wanting
-abbrev pub Judges : (text : List ℕ) → Option LoadRefusal → Type 0
-Judges text None = (app : App) × IsApplication text app
-Judges text (Some (refusal.Refused number at)) = IsRefusal text number at
-Judges text (Some refusal.Memory) = Unit {0}
+abbrev pub Judges : Bounds → (text : List ℕ) → Option LoadRefusal → Type 0
+Judges bounds text None = (app : App) × IsApplication bounds text app
+Judges bounds text (Some (refusal.Refused number at)) = IsRefusal bounds text number at
+Judges bounds text (Some refusal.Memory) = Unit {0}
 
 -- a check of a text
-abbrev pub Checked : (text : List ℕ) → (old new : Streams) → How → Type 0
-Checked text old new how.Usage = ⊥
-Checked text old new how.UsageCut = ⊥
-Checked text old new how.AppFault = ⊥
-Checked text old new how.Refused = RefusesText text (SaysWhole old new)
-Checked text old new how.RefusalCut = RefusesText text (SaysCut old new)
-Checked text old new how.Loads = (app : App) × IsApplication text app × SaysWhole old new loads_line
-Checked text old new how.LoadsCut = (app : App) × IsApplication text app × SaysCut old new loads_line
-Checked text old new how.WireFault = ⊥
-Checked text old new how.Memory = new ≡ old
-Checked text old new (how.Ended end) = ⊥
+abbrev pub Checked : Bounds → (text : List ℕ) → (old new : Streams) → How → Type 0
+Checked bounds text old new how.Usage = ⊥
+Checked bounds text old new how.UsageCut = ⊥
+Checked bounds text old new how.AppFault = ⊥
+Checked bounds text old new how.Refused = RefusesText bounds text (SaysWhole old new)
+Checked bounds text old new how.RefusalCut = RefusesText bounds text (SaysCut old new)
+Checked bounds text old new how.Loads = (app : App) × IsApplication bounds text app × SaysWhole old new loads_line
+Checked bounds text old new how.LoadsCut = (app : App) × IsApplication bounds text app × SaysCut old new loads_line
+Checked bounds text old new how.WireFault = ⊥
+Checked bounds text old new how.Memory = new ≡ old
+Checked bounds text old new (how.Ended end) = ⊥

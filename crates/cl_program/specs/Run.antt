@@ -11,6 +11,7 @@ use Rattle.cl_gesture.specs.Lines.{Piece, pieces, ended, held_from}
 use Rattle.cl_gesture.specs.Next.{most_lines}
 use Rattle.cl_load.specs.Application.{IsApplication, IsRefusal}
 use Rattle.cl_load.specs.Opening.{opening_slots}
+use Rattle.cl_load.specs.Types.{Bounds, holds_in, types_in}
 use Rattle.cl_outside.specs.Writing.{Says}
 use Rattle.cl_session.specs.Session.{Fits, cost_of_panes, world_of}
 use Rattle.cl_session.specs.Transcript.{IsTranscript, Meters, RoseIf, meters}
@@ -61,32 +62,36 @@ pub record IsTranscriptOf (g : Ground) (ps : List Piece) (bytes : List ℕ) (spe
 
 -- ---- the application
 
--- the words run an application of this text, which declares it, on this ground
-pub record Opens (words : List (List ℕ)) (place : Placed) (wire : Option (List ℕ)) (g : Ground) : Type 0 where
+-- an application with its types on host types of these bounds, within limits
+abbrev pub ground_in : Bounds → App → Limits → Ground
+ground_in bounds app limits = ground app (holds_in (types_in bounds app) app) limits
+
+-- the words run an application of this text, which declares it on host types of these bounds; this ground is it with its types
+pub record Opens (bounds : Bounds) (words : List (List ℕ)) (place : Placed) (wire : Option (List ℕ)) (g : Ground) : Type 0 where
   pub name : List ℕ
   pub budget : Option ℕ
   pub command : IsRun words name wire budget
-  pub limits : g.limits ≡ limits_of budget
   pub text : List ℕ
   pub of_file : IsTextOf (place.file name) text
-  pub declared : IsApplication text g.app
+  pub declared : IsApplication bounds text g.app
+  pub stands : g ≡ ground_in bounds g.app (limits_of budget)
 
 -- the words name a file, and its text has this refusal at this offset
-pub record IsRefused (words : List (List ℕ)) (place : Placed) (number at : ℕ) : Type 0 where
+pub record IsRefused (bounds : Bounds) (words : List (List ℕ)) (place : Placed) (number at : ℕ) : Type 0 where
   pub name : List ℕ
   pub command : Names words name
   pub text : List ℕ
   pub of_file : IsTextOf (place.file name) text
-  pub refusal : IsRefusal text number at
+  pub refusal : IsRefusal bounds text number at
 
 -- the words check a file, and its text declares an application
-pub record IsLoaded (words : List (List ℕ)) (place : Placed) : Type 0 where
+pub record IsLoaded (bounds : Bounds) (words : List (List ℕ)) (place : Placed) : Type 0 where
   pub name : List ℕ
   pub command : IsCheck words name
   pub text : List ℕ
   pub of_file : IsTextOf (place.file name) text
   pub app : App
-  pub declared : IsApplication text app
+  pub declared : IsApplication bounds text app
 
 -- the words name a file, with which the place failed
 pub record AppFaultRose (words : List (List ℕ)) (old new : Placed) : Type 0 where
@@ -162,10 +167,10 @@ EndsAs g old new device_old device_new end.TooMany = ReadToLimit g old new devic
 EndsAs g old new device_old device_new end.OutputFault = WrittenToFault g old new device_old device_new
 
 -- an application was opened, and its gestures went so
-pub record Serves (words : List (List ℕ)) (place_old place_new : Placed) (old new : Streams) (how : End) : Type 0 where
+pub record Serves (bounds : Bounds) (words : List (List ℕ)) (place_old place_new : Placed) (old new : Streams) (how : End) : Type 0 where
   pub g : Ground
   pub wire : Option (List ℕ)
-  pub opened : Opens words place_old wire g
+  pub opened : Opens bounds words place_old wire g
   pub device_old : Wire
   pub device_new : Wire
   pub uses : UsesDevice wire place_old place_new device_old device_new
@@ -185,10 +190,10 @@ pub record RanOut (g : Ground) (old new : Streams) : Type 0 where
   pub at_most : new.spent ≤ old.spent + opening_cost g
 
 -- the same, of the application that the words open
-pub record RanOutServing (words : List (List ℕ)) (place : Placed) (old new : Streams) : Type 0 where
+pub record RanOutServing (bounds : Bounds) (words : List (List ℕ)) (place : Placed) (old new : Streams) : Type 0 where
   pub g : Ground
   pub wire : Option (List ℕ)
-  pub opened : Opens words place wire g
+  pub opened : Opens bounds words place wire g
   pub ran_out : RanOut g old new
 
 -- the line was written whole; or the output failed behind its first bytes
@@ -199,43 +204,43 @@ abbrev pub SaysCut : Streams → Streams → List ℕ → Type 0
 SaysCut old new line = IsUnread old new × Says false old.taken new.taken line old.output_faults new.output_faults
 
 -- the text that the words name is refused, and the line of its refusal was written whole
-pub record Refuses (words : List (List ℕ)) (place : Placed) (old new : Streams) : Type 0 where
+pub record Refuses (bounds : Bounds) (words : List (List ℕ)) (place : Placed) (old new : Streams) : Type 0 where
   pub number : ℕ
   pub at : ℕ
-  pub refused : IsRefused words place number at
+  pub refused : IsRefused bounds words place number at
   pub said : SaysWhole old new (refusal_line number at)
 
 -- the text that the words name is refused, and the output failed in the line of its refusal
-pub record RefusesCut (words : List (List ℕ)) (place : Placed) (old new : Streams) : Type 0 where
+pub record RefusesCut (bounds : Bounds) (words : List (List ℕ)) (place : Placed) (old new : Streams) : Type 0 where
   pub number : ℕ
   pub at : ℕ
-  pub refused : IsRefused words place number at
+  pub refused : IsRefused bounds words place number at
   pub said : SaysCut old new (refusal_line number at)
 
 -- the wire that the words name could not be made: the application loads, and nothing was read or written
-pub record MakesNoWire (words : List (List ℕ)) (old_place new_place : Placed) (old new : Streams) : Type 0 where
+pub record MakesNoWire (bounds : Bounds) (words : List (List ℕ)) (old_place new_place : Placed) (old new : Streams) : Type 0 where
   pub g : Ground
   pub wire : List ℕ
-  pub opened : Opens words old_place (Some wire) g
+  pub opened : Opens bounds words old_place (Some wire) g
   pub rose : Rose old_place.making_faults new_place.making_faults
   pub same : new ≡ old
 
 -- want of memory before the first gesture: the ledger stays, or the opening of an application met it
-abbrev pub RanOutOfMemory : List (List ℕ) → Placed → Streams → Streams → Type 0
-RanOutOfMemory words place old new = (new ≡ old) ⊎ RanOutServing words place old new
+abbrev pub RanOutOfMemory : Bounds → List (List ℕ) → Placed → Streams → Streams → Type 0
+RanOutOfMemory bounds words place old new = (new ≡ old) ⊎ RanOutServing bounds words place old new
 
--- a run of these words
-abbrev pub Ran : List (List ℕ) → (place_old place_new : Placed) → (old new : Streams) → How → Type 0
-Ran words place_old place_new old new how.Usage = IsNoCommand words × SaysWhole old new usage_line
-Ran words place_old place_new old new how.UsageCut = IsNoCommand words × SaysCut old new usage_line
-Ran words place_old place_new old new how.AppFault = AppFaultRose words place_old place_new × (new ≡ old)
-Ran words place_old place_new old new how.Refused = Refuses words place_old old new
-Ran words place_old place_new old new how.RefusalCut = RefusesCut words place_old old new
-Ran words place_old place_new old new how.Loads = IsLoaded words place_old × SaysWhole old new loads_line
-Ran words place_old place_new old new how.LoadsCut = IsLoaded words place_old × SaysCut old new loads_line
-Ran words place_old place_new old new how.WireFault = MakesNoWire words place_old place_new old new
-Ran words place_old place_new old new how.Memory = RanOutOfMemory words place_old old new
-Ran words place_old place_new old new (how.Ended end) = Serves words place_old place_new old new end
+-- a run of these words, with host types of these bounds
+abbrev pub Ran : Bounds → List (List ℕ) → (place_old place_new : Placed) → (old new : Streams) → How → Type 0
+Ran bounds words place_old place_new old new how.Usage = IsNoCommand words × SaysWhole old new usage_line
+Ran bounds words place_old place_new old new how.UsageCut = IsNoCommand words × SaysCut old new usage_line
+Ran bounds words place_old place_new old new how.AppFault = AppFaultRose words place_old place_new × (new ≡ old)
+Ran bounds words place_old place_new old new how.Refused = Refuses bounds words place_old old new
+Ran bounds words place_old place_new old new how.RefusalCut = RefusesCut bounds words place_old old new
+Ran bounds words place_old place_new old new how.Loads = IsLoaded bounds words place_old × SaysWhole old new loads_line
+Ran bounds words place_old place_new old new how.LoadsCut = IsLoaded bounds words place_old × SaysCut old new loads_line
+Ran bounds words place_old place_new old new how.WireFault = MakesNoWire bounds words place_old place_new old new
+Ran bounds words place_old place_new old new how.Memory = RanOutOfMemory bounds words place_old old new
+Ran bounds words place_old place_new old new (how.Ended end) = Serves bounds words place_old place_new old new end
 
 -- a run of an application on a device
 abbrev pub RanLoaded : Ground → (old new : Streams) → (device_old device_new : Wire) → How → Type 0
@@ -252,13 +257,8 @@ RanLoaded g old new device_old device_new (how.Ended end) = EndsAs g old new dev
 
 -- ---- a frame that was just opened
 
--- what it was opened on
-abbrev pub ground_of : Opening → Ground
-ground_of o = ground o.loaded.app o.limits
-
--- it is the opening of its application, and its device is broken where the screen is stale
-pub record IsOpening (o : Opening) (broken : Bool) : Type 0 where
-  pub depth : o.limits.depth ≤ 512
-  pub world : world_of o.session o.slots ≡ opening_world (ground_of o) o.session.frame.screen.stale
-  pub fits : Fits (ground_of o) o.slots o.session
+-- it is the opening of an application, and its device is broken where the screen is stale
+pub record IsOpening (g : Ground) (o : Opening) (broken : Bool) : Type 0 where
+  pub world : world_of o.session o.slots ≡ opening_world g o.session.frame.screen.stale
+  pub fits : Fits g o.slots o.session
   pub breaks : o.session.frame.screen.stale ≡ true → broken ≡ true

@@ -4,6 +4,7 @@ use Rattle.cl_application.specs.declared.applications.App.{App}
 use Rattle.cl_gesture.specs.Lines.{pieces}
 use Rattle.cl_gesture.specs.Next.{most_lines}
 use Rattle.cl_load.specs.Application.{IsApplication, IsRefusal}
+use Rattle.cl_load.specs.Types.{Bounds}
 use Rattle.cl_session.specs.declared.serving.End.TheVariants as end
 use Rattle.cl_program.specs.Texts.{first_bytes}
 use Rattle.cl_program.specs.Run.{Ran}
@@ -28,22 +29,22 @@ status_of (how.Ended end.TooMany) = 8
 status_of (how.Ended end.OutputFault) = 5
 
 -- a run ended with this status: in one of the ways that have it, and what that says holds
-pub record EndsWith (words : List (List ℕ)) (place_old place_new : Placed) (old new : Streams) (status : ℕ) : Type 0 where
+pub record EndsWith (bounds : Bounds) (words : List (List ℕ)) (place_old place_new : Placed) (old new : Streams) (status : ℕ) : Type 0 where
   pub how : How
   pub status_is : status ≡ status_of how
-  pub ran : Ran words place_old place_new old new how
+  pub ran : Ran bounds words place_old place_new old new how
 
--- a file that is told, whose text declares an application
-abbrev pub DeclaresApplication : Option (Option (List ℕ)) → Type 0
-DeclaresApplication None = ⊥
-DeclaresApplication (Some None) = ⊥
-DeclaresApplication (Some (Some bytes)) = (app : App) × IsApplication (first_bytes bytes) app
+-- a file that is told, whose text declares an application on host types of these bounds
+abbrev pub DeclaresApplication : Bounds → Option (Option (List ℕ)) → Type 0
+DeclaresApplication bounds None = ⊥
+DeclaresApplication bounds (Some None) = ⊥
+DeclaresApplication bounds (Some (Some bytes)) = (app : App) × IsApplication bounds (first_bytes bytes) app
 
--- a file that is told, whose text has this refusal at this offset
-abbrev pub HasRefusal : Option (Option (List ℕ)) → (number at : ℕ) → Type 0
-HasRefusal None number at = ⊥
-HasRefusal (Some None) number at = ⊥
-HasRefusal (Some (Some bytes)) number at = IsRefusal (first_bytes bytes) number at
+-- a file that is told, whose text has this refusal at this offset on host types of these bounds
+abbrev pub HasRefusal : Bounds → Option (Option (List ℕ)) → (number at : ℕ) → Type 0
+HasRefusal bounds None number at = ⊥
+HasRefusal bounds (Some None) number at = ⊥
+HasRefusal bounds (Some (Some bytes)) number at = IsRefusal bounds (first_bytes bytes) number at
 
 -- gestures that are told, of at most a million lines
 abbrev pub HasFewLines : Option (List ℕ) → Type 0

@@ -1,39 +1,46 @@
 //! The commands of the program: an application is run, or checked.
 ghost use Rattle.std.specs.Prelude.{◌≡◌, ◌≤◌, ℕ, List, Option, [], Some, None, map, option_map, true};
-ghost use Rattle.cl_frame.specs.Ground.{ground};
+ghost use Rattle.cl_application.specs.Panes.{IsPlaced};
+ghost use Rattle.cl_frame.specs.Ground.{ground, ground_of};
 ghost use Rattle.cl_frame.specs.Sending.{wire_of};
 ghost use Rattle.cl_invocation.specs.Words.{invocation_of};
+ghost use Rattle.cl_load.specs.Opening.{opening_slots};
+ghost use Rattle.cl_load.specs.Types.{holds_in};
 ghost use Rattle.cl_program.specs.Commands.{Checked, Judges, KeepsFiles, KeptBy, RanOn, RanText};
 ghost use Rattle.cl_program.specs.Run.{Ran, RanLoaded};
 ghost use Rattle.cl_program.specs.Surroundings.{placed, streams};
 
-use crate::running::{How, limits_of, run_loaded};
+use crate::running::{How, limits_of, run_program};
 use crate::saying::{say_loads, say_refusal, say_usage};
 use crate::texts::{TextRead, read_text};
-use cl_eval::Limits;
+use cl_eval::{Limits, Program, Slots, Types};
 use cl_invocation::{Invocation, read_words};
 use cl_load::{LoadRefusal, Loaded, load};
 use cl_outside::{Ledger, NullDevice, Opened, Place, PlaceSink, Sink, Source, Steps};
+use cl_ptext::{Hosts, TypeBook};
 use cl_raster::WireDevice;
 use std::alloc::Global;
 
-// How an application is run: the file that its wire goes to, and the limits of its displays and commands.
-#[derive(Clone, Copy)]
-struct Setting<'a> {
+// How an application is run: on these host types, with a file that its wire goes to, and within limits of its displays and
+// commands.
+#[derive(Drop)]
+struct Setting<'a, H> {
+    hosts: &'a H,
     wire: Option<&'a str>,
     limits: Limits,
 }
 
-/// Runs the program on these words.
-pub fn run_words<P: Place, G: Source, O: Sink, L: Ledger>(
+/// Runs the program on these words, with these host types.
+pub fn run_words<H: Hosts, P: Place, G: Source, O: Sink, L: Ledger>(
     alloc: Global,
     words: &[&str],
+    hosts: &H,
     place: &mut P,
     gestures: &mut G,
     out: &mut O,
     steps: &mut Steps<L>,
 ) -> How
-    ensures ran { Ran (map (λ w. w.now) words.now) (placed (P.file place.old)
+    ensures ran { Ran (H.bounds hosts.now) (map (λ w. w.now) words.now) (placed (P.file place.old)
         (P.app_faults place.old) (P.making_faults place.old)
         (wire_of (P.taken place.old) (P.writing_faults place.old) (P.tells place.old)))
         (placed (P.file place.new) (P.app_faults place.new) (P.making_faults place.new)
@@ -71,6 +78,7 @@ pub fn run_words<P: Place, G: Source, O: Sink, L: Ledger>(
             },
         ) => {
             let setting = Setting {
+                hosts,
                 wire,
                 limits: limits_of(budget),
             };
@@ -83,7 +91,7 @@ pub fn run_words<P: Place, G: Source, O: Sink, L: Ledger>(
             }
         }
         Some(Invocation::Check { application }) => match read_text(alloc, place, application) {
-            TextRead::Text(text) => check_text(alloc, text.as_slice(), out),
+            TextRead::Text(text) => check_text(alloc, text.as_slice(), hosts, out),
             TextRead::Failed => How::AppFault,
             TextRead::Memory => How::Memory,
         },
@@ -91,17 +99,18 @@ pub fn run_words<P: Place, G: Source, O: Sink, L: Ledger>(
 }
 
 // Runs the application of a text.
-fn run_text<P: Place, G: Source, O: Sink, L: Ledger>(
+fn run_text<H: Hosts, P: Place, G: Source, O: Sink, L: Ledger>(
     alloc: Global,
     text: &[u8],
-    setting: Setting<'_>,
+    setting: Setting<'_, H>,
     place: &mut P,
     gestures: &mut G,
     out: &mut O,
     steps: &mut Steps<L>,
 ) -> How
     requires depth { setting.limits.depth ≤ 512 }
-    ensures ran { RanText text.now (option_map (λ name. name.now) setting.entry.wire) setting.entry.limits
+    ensures ran { RanText (H.bounds setting.entry.hosts.now) text.now
+        (option_map (λ name. name.now) setting.entry.wire) setting.entry.limits
         (placed (P.file place.old) (P.app_faults place.old) (P.making_faults place.old)
         (wire_of (P.taken place.old) (P.writing_faults place.old) (P.tells place.old)))
         (placed (P.file place.new) (P.app_faults place.new) (P.making_faults place.new)
@@ -122,8 +131,8 @@ fn run_text<P: Place, G: Source, O: Sink, L: Ledger>(
     ensures out_later { O.faults out.old ≤ O.faults out.new }
     ensures steps_later { steps.old ≤ steps.new }
 {
-    match load(alloc, text) {
-        Ok(loaded) => run_on(alloc, loaded, setting, place, gestures, out, steps),
+    match load(alloc, text, setting.hosts) {
+        Ok(loaded) => run_application(alloc, loaded, setting, place, gestures, out, steps),
         Err(LoadRefusal::Refused(number, offset)) => {
             if say_refusal(out, number, offset) {
                 return How::Refused;
@@ -134,11 +143,11 @@ fn run_text<P: Place, G: Source, O: Sink, L: Ledger>(
     }
 }
 
-// Runs an application: on the file of its wire, or on a screen at which nobody looks.
-fn run_on<P: Place, G: Source, O: Sink, L: Ledger>(
+// Runs an application on its own types.
+fn run_application<H: Hosts, P: Place, G: Source, O: Sink, L: Ledger>(
     alloc: Global,
     loaded: Loaded,
-    setting: Setting<'_>,
+    setting: Setting<'_, H>,
     place: &mut P,
     gestures: &mut G,
     out: &mut O,
@@ -146,7 +155,7 @@ fn run_on<P: Place, G: Source, O: Sink, L: Ledger>(
 ) -> How
     requires depth { setting.limits.depth ≤ 512 }
     ensures ran { RanOn (option_map (λ name. name.now) setting.entry.wire)
-        (ground loaded.app setting.entry.limits) (placed (P.file place.old) (P.app_faults place.old)
+        (ground loaded.app (holds_in loaded.lattice loaded.app) setting.entry.limits) (placed (P.file place.old) (P.app_faults place.old)
         (P.making_faults place.old)
         (wire_of (P.taken place.old) (P.writing_faults place.old) (P.tells place.old)))
         (placed (P.file place.new) (P.app_faults place.new) (P.making_faults place.new)
@@ -167,39 +176,82 @@ fn run_on<P: Place, G: Source, O: Sink, L: Ledger>(
     ensures out_later { O.faults out.old ≤ O.faults out.new }
     ensures steps_later { steps.old ≤ steps.new }
 {
-    let Some(name) = setting.wire else {
-        let mut device = NullDevice::new();
-        return run_loaded(
-            alloc,
-            loaded,
-            setting.limits,
-            &mut device,
-            gestures,
-            out,
-            steps,
-        );
+    let Loaded {
+        app,
+        lattice,
+        slots,
+    } = loaded;
+    let types = TypeBook::new(alloc, &app, &lattice, setting.hosts);
+    let program = Program {
+        alloc,
+        app: &app,
+        types: &types,
+        limits: setting.limits,
     };
-    match place.make_sink(name) {
-        Opened::Done => run_on_wire(alloc, loaded, setting.limits, place, gestures, out, steps),
-        Opened::Failed => How::WireFault,
-        Opened::Memory => How::Memory,
-    }
+    run_on(&program, slots, setting.wire, place, gestures, out, steps)
 }
 
-// Runs an application on the sink that the place has just made.
-fn run_on_wire<P: Place, G: Source, O: Sink, L: Ledger>(
-    alloc: Global,
-    loaded: Loaded,
-    limits: Limits,
+// Runs a program: on the file of its wire, or on a screen at which nobody looks.
+fn run_on<T: Types, P: Place, G: Source, O: Sink, L: Ledger>(
+    program: &Program<'_, T>,
+    slots: Slots,
+    wire: Option<&str>,
     place: &mut P,
     gestures: &mut G,
     out: &mut O,
     steps: &mut Steps<L>,
 ) -> How
-    requires depth { limits.depth ≤ 512 }
+    requires depth { program.now.limits.depth ≤ 512 }
+    requires placed { IsPlaced program.now.app.now.frame }
+    requires opening { slots ≡ opening_slots program.now.app.now }
+    ensures ran { RanOn (option_map (λ name. name.now) wire)
+        (ground_of T.holds program.now) (placed (P.file place.old) (P.app_faults place.old)
+        (P.making_faults place.old)
+        (wire_of (P.taken place.old) (P.writing_faults place.old) (P.tells place.old)))
+        (placed (P.file place.new) (P.app_faults place.new) (P.making_faults place.new)
+        (wire_of (P.taken place.new) (P.writing_faults place.new) (P.tells place.new)))
+        (streams (G.left gestures.old) (G.faults gestures.old) (O.taken out.old) (O.faults out.old)
+        steps.old) (streams (G.left gestures.new) (G.faults gestures.new) (O.taken out.new)
+        (O.faults out.new) steps.new) result }
+    ensures keeps { (application : List ℕ) → KeepsFiles application
+        (option_map (λ name. name.now) wire) (P.by_name place.old)
+        (placed (P.file place.old) (P.app_faults place.old) (P.making_faults place.old)
+        (wire_of (P.taken place.old) (P.writing_faults place.old) (P.tells place.old)))
+        (placed (P.file place.new) (P.app_faults place.new) (P.making_faults place.new)
+        (wire_of (P.taken place.new) (P.writing_faults place.new) (P.tells place.new))) }
+    ensures place_lent { P.lent place.new ≡ P.lent place.old }
+    ensures lent { G.lent gestures.new ≡ G.lent gestures.old }
+    ensures later { G.faults gestures.old ≤ G.faults gestures.new }
+    ensures out_lent { O.lent out.new ≡ O.lent out.old }
+    ensures out_later { O.faults out.old ≤ O.faults out.new }
+    ensures steps_later { steps.old ≤ steps.new }
+{
+    let Some(name) = wire else {
+        let mut device = NullDevice::new();
+        return run_program(program, slots, &mut device, gestures, out, steps);
+    };
+    match place.make_sink(name) {
+        Opened::Done => run_on_wire(program, slots, place, gestures, out, steps),
+        Opened::Failed => How::WireFault,
+        Opened::Memory => How::Memory,
+    }
+}
+
+// Runs a program on the sink that the place has just made.
+fn run_on_wire<T: Types, P: Place, G: Source, O: Sink, L: Ledger>(
+    program: &Program<'_, T>,
+    slots: Slots,
+    place: &mut P,
+    gestures: &mut G,
+    out: &mut O,
+    steps: &mut Steps<L>,
+) -> How
+    requires depth { program.now.limits.depth ≤ 512 }
+    requires placed { IsPlaced program.now.app.now.frame }
+    requires opening { slots ≡ opening_slots program.now.app.now }
     requires made { P.made place.old ≡ true }
     requires unused { P.tells place.old ≡ true → P.taken place.old ≡ Some [] }
-    ensures ran { RanLoaded (ground loaded.app limits) (streams (G.left gestures.old)
+    ensures ran { RanLoaded (ground_of T.holds program.now) (streams (G.left gestures.old)
         (G.faults gestures.old) (O.taken out.old) (O.faults out.old) steps.old)
         (streams (G.left gestures.new) (G.faults gestures.new) (O.taken out.new) (O.faults out.new)
         steps.new) (wire_of (P.taken place.old) (P.writing_faults place.old) (P.tells place.old))
@@ -218,21 +270,22 @@ fn run_on_wire<P: Place, G: Source, O: Sink, L: Ledger>(
     ensures steps_later { steps.old ≤ steps.new }
 {
     let mut device = WireDevice::new(PlaceSink::new(place));
-    let how = run_loaded(alloc, loaded, limits, &mut device, gestures, out, steps);
+    let how = run_program(program, slots, &mut device, gestures, out, steps);
     let sink = device.sink;
     let _place = sink.place;
     how
 }
 
-// Says whether a text declares an application.
-fn check_text<O: Sink>(alloc: Global, text: &[u8], out: &mut O) -> How
-    ensures checked { (left : Option (List ℕ)) (faults spent : ℕ) → Checked text.now
+// Says whether a text declares an application on these host types.
+fn check_text<H: Hosts, O: Sink>(alloc: Global, text: &[u8], hosts: &H, out: &mut O) -> How
+    ensures checked { (left : Option (List ℕ)) (faults spent : ℕ)
+        → Checked (H.bounds hosts.now) text.now
         (streams left faults (O.taken out.old) (O.faults out.old) spent)
         (streams left faults (O.taken out.new) (O.faults out.new) spent) result }
     ensures lent { O.lent out.new ≡ O.lent out.old }
     ensures later { O.faults out.old ≤ O.faults out.new }
 {
-    match refusal_of(alloc, text) {
+    match refusal_of(alloc, text, hosts) {
         None => {
             if say_loads(out) {
                 return How::Loads;
@@ -250,10 +303,10 @@ fn check_text<O: Sink>(alloc: Global, text: &[u8], out: &mut O) -> How
 }
 
 // Why a text does not load, where it does not.
-fn refusal_of(alloc: Global, text: &[u8]) -> Option<LoadRefusal>
-    ensures { Judges text.now result }
+fn refusal_of<H: Hosts>(alloc: Global, text: &[u8], hosts: &H) -> Option<LoadRefusal>
+    ensures { Judges (H.bounds hosts.now) text.now result }
 {
-    match load(alloc, text) {
+    match load(alloc, text, hosts) {
         Ok(_) => return None,
         Err(refusal) => return Some(refusal),
     }

@@ -1,18 +1,18 @@
 //! The run of an application: its frame is opened on a device, and gestures are served.
 ghost use Rattle.std.specs.Prelude.{◌≡◌, ◌≤◌, ◌+◌, ℕ, [], IfOk, false};
-ghost use Rattle.cl_frame.specs.Ground.{ground};
+ghost use Rattle.cl_application.specs.Panes.{IsPlaced};
+ghost use Rattle.cl_frame.specs.Ground.{ground_of};
 ghost use Rattle.cl_frame.specs.Sending.{Wire, wire_of};
+ghost use Rattle.cl_load.specs.Opening.{opening_slots};
 ghost use Rattle.cl_redisplay.specs.Screens.{Agree};
-ghost use Rattle.cl_program.specs.Run.{EndsAs, IsOpening, OpensOn, RanLoaded, ground_of, limits_of, opening_cost};
+ghost use Rattle.cl_program.specs.Run.{EndsAs, IsOpening, OpensOn, RanLoaded, limits_of, opening_cost};
 ghost use Rattle.cl_program.specs.Surroundings.{streams};
 
-use cl_application::App;
-use cl_eval::{Limits, Program, Slots};
+use cl_eval::{Limits, Program, Slots, Types};
 use cl_gesture::{Ahead, Gestures};
-use cl_load::{Loaded, SlotTypes};
 use cl_outside::{Device, Ledger, LentSource, Sink, Source, Steps};
 use cl_session::{DEPTH, End, Session};
-use std::alloc::{AllocError, Global};
+use std::alloc::AllocError;
 
 /// How many forms a display or a command may enter, where the words give no budget.
 const BUDGET: u32 = 1_000_000;
@@ -42,12 +42,9 @@ pub enum How {
     Ended(End),
 }
 
-// An application whose frame is open, before the first gesture.
+// A session whose frame was just opened, with the slots.
 #[derive(Drop)]
 struct Opening {
-    alloc: Global,
-    loaded: Loaded,
-    limits: Limits,
     session: Session,
     slots: Slots,
 }
@@ -66,32 +63,20 @@ pub fn limits_of(budget: Option<u32>) -> Limits
     }
 }
 
-// What an application is run on.
-fn program(alloc: Global, app: &App, limits: Limits) -> Program<'_, SlotTypes>
-    ensures app { result.app.now ≡ app.now }
-    ensures limits { result.limits ≡ limits }
-{
-    Program {
-        alloc,
-        app,
-        types: &SlotTypes,
-        limits,
-    }
-}
-
-/// Runs an application within limits, on a device that is whole.
-pub fn run_loaded<D: Device, G: Source, O: Sink, L: Ledger>(
-    alloc: Global,
-    loaded: Loaded,
-    limits: Limits,
+/// Runs a program from the opening slots of its application, on a device that is whole.
+pub fn run_program<T: Types, D: Device, G: Source, O: Sink, L: Ledger>(
+    program: &Program<'_, T>,
+    slots: Slots,
     device: &mut D,
     gestures: &mut G,
     out: &mut O,
     steps: &mut Steps<L>,
 ) -> How
-    requires depth { limits.depth ≤ 512 }
+    requires depth { program.now.limits.depth ≤ 512 }
+    requires placed { IsPlaced program.now.app.now.frame }
+    requires opening { slots ≡ opening_slots program.now.app.now }
     requires whole { D.broken device.old ≡ false }
-    ensures ran { RanLoaded (ground loaded.app limits) (streams (G.left gestures.old)
+    ensures ran { RanLoaded (ground_of T.holds program.now) (streams (G.left gestures.old)
         (G.faults gestures.old) (O.taken out.old) (O.faults out.old) steps.old)
         (streams (G.left gestures.new) (G.faults gestures.new) (O.taken out.new) (O.faults out.new)
         steps.new) (wire_of (D.wire device.old) (D.faults device.old) (D.lent device.old).told)
@@ -104,71 +89,67 @@ pub fn run_loaded<D: Device, G: Source, O: Sink, L: Ledger>(
     ensures device_later { D.faults device.old ≤ D.faults device.new }
     ensures steps_later { steps.old ≤ steps.new }
 {
-    let Ok(room) = Ahead::new(alloc) else {
+    let Ok(room) = Ahead::new(program.alloc) else {
         return How::Memory;
     };
-    match open(alloc, loaded, limits, device, steps) {
-        Ok(mut opening) => How::Ended(opening.serve(room, device, gestures, out, steps)),
+    match open(program, slots, device, steps) {
+        Ok(mut opening) => How::Ended(opening.serve(program, room, device, gestures, out, steps)),
         Err(AllocError) => How::Memory,
     }
 }
 
 // Opens the frame of an application.
-fn open<D: Device, L: Ledger>(
-    alloc: Global,
-    loaded: Loaded,
-    limits: Limits,
+fn open<T: Types, D: Device, L: Ledger>(
+    program: &Program<'_, T>,
+    slots: Slots,
     device: &mut D,
     steps: &mut Steps<L>,
 ) -> Result<Opening, AllocError>
-    requires depth { limits.depth ≤ 512 }
+    requires depth { program.now.limits.depth ≤ 512 }
+    requires placed { IsPlaced program.now.app.now.frame }
+    requires opening { slots ≡ opening_slots program.now.app.now }
     requires whole { D.broken device.old ≡ false }
-    ensures same { IfOk result (λ o. ground_of o ≡ ground loaded.app limits) }
-    ensures opening { IfOk result (λ o. IsOpening o (D.broken device.new)) }
-    ensures opens { IfOk result (λ o. OpensOn (ground loaded.app limits) o.session.frame.screen.stale
+    ensures opening { IfOk result
+        (λ o. IsOpening (ground_of T.holds program.now) o (D.broken device.new)) }
+    ensures opens { IfOk result (λ o. OpensOn (ground_of T.holds program.now) o.session.frame.screen.stale
         (wire_of (D.wire device.old) (D.faults device.old) (D.lent device.old).told)
         (wire_of (D.wire device.new) (D.faults device.new) (D.lent device.new).told)) }
     ensures agree { IfOk result (λ o. Agree o.session.frame.screen.stale
         o.session.frame.screen.raster (D.broken device.new) (D.cleared device.new)
         (D.picture device.new)) }
     ensures ledger { IfOk result
-        (λ _. steps.new ≡ steps.old + opening_cost (ground loaded.app limits)) }
+        (λ _. steps.new ≡ steps.old + opening_cost (ground_of T.holds program.now)) }
     ensures later { steps.old ≤ steps.new }
-    ensures at_most { steps.new ≤ steps.old + opening_cost (ground loaded.app limits) }
+    ensures at_most { steps.new ≤ steps.old + opening_cost (ground_of T.holds program.now) }
     ensures lent { D.lent device.new ≡ D.lent device.old }
     ensures device_later { D.faults device.old ≤ D.faults device.new }
 {
-    let slots = loaded.slots.copy(alloc)?;
-    let session = Session::new(&program(alloc, &loaded.app, limits), &slots, device, steps)?;
-    Ok(Opening {
-        alloc,
-        loaded,
-        limits,
-        session,
-        slots,
-    })
+    let session = Session::new(program, &slots, device, steps)?;
+    Ok(Opening { session, slots })
 }
 
 impl Opening {
     // Serves the gestures.
-    fn serve<D: Device, G: Source, O: Sink, L: Ledger>(
+    fn serve<T: Types, D: Device, G: Source, O: Sink, L: Ledger>(
         &mut self,
+        program: &Program<'_, T>,
         room: Ahead,
         device: &mut D,
         gestures: &mut G,
         out: &mut O,
         steps: &mut Steps<L>,
     ) -> End
-        requires opening { IsOpening self.old (D.broken device.old) }
+        requires depth { program.now.limits.depth ≤ 512 }
+        requires opening { IsOpening (ground_of T.holds program.now) self.old (D.broken device.old) }
         requires agree { Agree self.old.session.frame.screen.stale
             self.old.session.frame.screen.raster (D.broken device.old) (D.cleared device.old)
             (D.picture device.old) }
         requires none_ahead { room ≡ [] }
         ensures ended { (spent : ℕ) (begun : Wire)
-            → steps.old ≡ spent + opening_cost (ground_of self.old)
-            → OpensOn (ground_of self.old) self.old.session.frame.screen.stale begun
+            → steps.old ≡ spent + opening_cost (ground_of T.holds program.now)
+            → OpensOn (ground_of T.holds program.now) self.old.session.frame.screen.stale begun
             (wire_of (D.wire device.old) (D.faults device.old) (D.lent device.old).told)
-            → EndsAs (ground_of self.old) (streams (G.left gestures.old) (G.faults gestures.old)
+            → EndsAs (ground_of T.holds program.now) (streams (G.left gestures.old) (G.faults gestures.old)
             (O.taken out.old) (O.faults out.old) spent)
             (streams (G.left gestures.new) (G.faults gestures.new) (O.taken out.new)
             (O.faults out.new) steps.new) begun
@@ -181,15 +162,10 @@ impl Opening {
         ensures device_later { D.faults device.old ≤ D.faults device.new }
         ensures steps_later { steps.old ≤ steps.new }
     {
-        let mut reader = Gestures::with_room(self.alloc, room, LentSource::new(gestures));
-        let end = self.session.serve(
-            &program(self.alloc, &self.loaded.app, self.limits),
-            &mut self.slots,
-            &mut reader,
-            out,
-            device,
-            steps,
-        );
+        let mut reader = Gestures::with_room(program.alloc, room, LentSource::new(gestures));
+        let end = self
+            .session
+            .serve(program, &mut self.slots, &mut reader, out, device, steps);
         let lent = reader.into_source();
         let _source = lent.source;
         end

@@ -11,6 +11,7 @@ ghost use Rattle.cl_program.specs.Surroundings.{placed, streams};
 use crate::commands::run_words;
 use crate::running::How;
 use cl_outside::{Ledger, Place, Sink, Source, Steps};
+use cl_ptext::Hosts;
 use cl_session::End;
 use std::alloc::Global;
 
@@ -18,7 +19,7 @@ use std::alloc::Global;
 #[derive(Drop)]
 pub struct Status(pub u8);
 
-/// Runs the program on the words that stand behind its name.
+/// Runs the program on the words that stand behind its name, with the host types that an application may use.
 ///
 /// The words `run APP [--wire NAME] [--budget N]` read the application from the place's file APP, to
 /// its end or to 1,048,577 bytes, load it, make the file NAME, open the frame with a budget of N forms
@@ -28,15 +29,16 @@ pub struct Status(pub u8);
 /// that is refused (1), a wire that cannot be made (6), want of memory (7), a fault of the gestures (4)
 /// or of the output (5), a byte behind 1,000,000 lines (8), the end of the gestures (0). Want of memory
 /// comes only before the first gesture. A fault of the wire changes no status.
-pub fn clim_main<P: Place, G: Source, O: Sink, L: Ledger>(
+pub fn clim_main<H: Hosts, P: Place, G: Source, O: Sink, L: Ledger>(
     alloc: Global,
     words: &[&str],
+    hosts: &H,
     place: &mut P,
     gestures: &mut G,
     out: &mut O,
     steps: &mut Steps<L>,
 ) -> Status
-    ensures ends { EndsWith (map (λ w. w.now) words.now) (placed (P.file place.old)
+    ensures ends { EndsWith (H.bounds hosts.now) (map (λ w. w.now) words.now) (placed (P.file place.old)
         (P.app_faults place.old) (P.making_faults place.old)
         (wire_of (P.taken place.old) (P.writing_faults place.old) (P.tells place.old)))
         (placed (P.file place.new) (P.app_faults place.new) (P.making_faults place.new)
@@ -55,11 +57,11 @@ pub fn clim_main<P: Place, G: Source, O: Sink, L: Ledger>(
         → (result.0 ≡ 2) ⊎ (result.0 ≡ 5) ⊎ (result.0 ≡ 7) }
     ensures refusal_due { (name : List ℕ) (number at : ℕ) → Names (map (λ w. w.now) words.now) name
         → (Rose (P.app_faults place.old name) (P.app_faults place.new name) → ⊥)
-        → HasRefusal (P.file place.old name) number at
+        → HasRefusal (H.bounds hosts.now) (P.file place.old name) number at
         → (result.0 ≡ 1) ⊎ (result.0 ≡ 5) ⊎ (result.0 ≡ 7) }
     ensures check_due { (name : List ℕ) → IsCheck (map (λ w. w.now) words.now) name
         → (Rose (P.app_faults place.old name) (P.app_faults place.new name) → ⊥)
-        → DeclaresApplication (P.file place.old name)
+        → DeclaresApplication (H.bounds hosts.now) (P.file place.old name)
         → (result.0 ≡ 0) ⊎ (result.0 ≡ 5) ⊎ (result.0 ≡ 7) }
     ensures complete { (name : List ℕ) (wire : Option (List ℕ)) (budget : Option ℕ)
         → IsRun (map (λ w. w.now) words.now) name wire budget
@@ -67,7 +69,7 @@ pub fn clim_main<P: Place, G: Source, O: Sink, L: Ledger>(
         → (Rose (P.making_faults place.old) (P.making_faults place.new) → ⊥)
         → (Rose (G.faults gestures.old) (G.faults gestures.new) → ⊥)
         → (Rose (O.faults out.old) (O.faults out.new) → ⊥)
-        → DeclaresApplication (P.file place.old name) → HasFewLines (G.left gestures.old)
+        → DeclaresApplication (H.bounds hosts.now) (P.file place.old name) → HasFewLines (G.left gestures.old)
         → (result.0 ≡ 0) ⊎ (result.0 ≡ 7) }
     ensures limit_due { (name : List ℕ) (wire : Option (List ℕ)) (budget : Option ℕ)
         → IsRun (map (λ w. w.now) words.now) name wire budget
@@ -75,7 +77,7 @@ pub fn clim_main<P: Place, G: Source, O: Sink, L: Ledger>(
         → (Rose (P.making_faults place.old) (P.making_faults place.new) → ⊥)
         → (Rose (G.faults gestures.old) (G.faults gestures.new) → ⊥)
         → (Rose (O.faults out.old) (O.faults out.new) → ⊥)
-        → DeclaresApplication (P.file place.old name) → HasManyLines (G.left gestures.old)
+        → DeclaresApplication (H.bounds hosts.now) (P.file place.old name) → HasManyLines (G.left gestures.old)
         → (result.0 ≡ 8) ⊎ (result.0 ≡ 7) }
 
     ensures place_lent { P.lent place.new ≡ P.lent place.old }
@@ -85,7 +87,7 @@ pub fn clim_main<P: Place, G: Source, O: Sink, L: Ledger>(
     ensures out_later { O.faults out.old ≤ O.faults out.new }
     ensures steps_later { steps.old ≤ steps.new }
 {
-    match run_words(alloc, words, place, gestures, out, steps) {
+    match run_words(alloc, words, hosts, place, gestures, out, steps) {
         How::Usage => Status(2),
         How::UsageCut => Status(5),
         How::AppFault => Status(3),

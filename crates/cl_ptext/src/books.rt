@@ -8,7 +8,7 @@ ghost use Rattle.cl_ptext.specs.Presenting.{expanded};
 use crate::hosts::Hosts;
 use crate::methods::predicate_value;
 use cl_application::App;
-use cl_eval::{Stop, Types};
+use cl_eval::Stop;
 use cl_lattice::{Bound, Lattice, Predicates};
 use cl_syntax::TypeSpec;
 use cl_value::{Held, Value, Values};
@@ -65,18 +65,5 @@ impl<H: Hosts> Predicates for TypeBook<'_, H> {
             Err(Stop::Trap(_)) => Held::No,
             Err(Stop::Memory) => Held::Memory,
         }
-    }
-}
-
-impl<H: Hosts> Types for TypeBook<'_, H> {
-    ghost use Rattle.std.specs.Prelude.{[]};
-    ghost use Rattle.cl_lattice.specs.Expansion.{expansion};
-    ghost use Rattle.cl_lattice.specs.Members.{is_member};
-    ghost use Rattle.cl_ptext.specs.Methods.{predicates_of};
-
-    ghost holds = { λ b d s. is_member b.lattice.now (predicates_of b.app.now) d (expansion b.lattice.now [] s) };
-
-    fn member(&self, value: &Value, spec: &TypeSpec) -> Held {
-        self.lattice.member(self.alloc, value, spec, self)
     }
 }

@@ -1,21 +1,15 @@
-//! Texts of values by their types, each by itself.
-ghost use Rattle.std.specs.Prelude.{◌≡◌, ◌≤◌, []};
-ghost use Rattle.cl_eval.specs.Evaluated.{Evaluates, met_memory};
-ghost use Rattle.cl_eval.specs.Outcome.{RisesBy, cost_of};
-ghost use Rattle.cl_lattice.specs.Expansion.{expansion};
-ghost use Rattle.cl_value.specs.Value.{data_of};
-ghost use Rattle.cl_ptext.specs.Presenting.{book_of};
-ghost use Rattle.cl_ptext.specs.Texts.{outcome_of_text};
+//! What the types of an application say of values: which are members, and the text of each by itself.
+ghost use Rattle.std.specs.Prelude.{◌≡◌};
 
 use crate::books::TypeBook;
 use crate::hosts::Hosts;
 use crate::putting::Writing;
 use crate::writing::Presenter;
-use cl_eval::{Context, Env, Evaluated, Limits, Meter, Scope, Slots, Standpoint, Stop};
+use cl_eval::{Context, Env, Evaluated, Limits, Meter, Scope, Slots, Standpoint, Stop, Types};
 use cl_lattice::Bound;
 use cl_outside::{Ledger, Steps};
 use cl_syntax::TypeSpec;
-use cl_value::{Text, Value};
+use cl_value::{Held, Text, Value};
 
 impl<'a, H: Hosts> TypeBook<'a, H> {
     // What present methods are evaluated in on these slots.
@@ -33,11 +27,28 @@ impl<'a, H: Hosts> TypeBook<'a, H> {
             budget,
         }
     }
+}
 
-    /// The text of a value by a type, on these slots, with its cost and its reach. Present methods alone enter forms: texts of
-    /// the standard types cost nothing. Of a value that is no member of the type it gives a text too, or the trap of a method.
+impl<H: Hosts> Types for TypeBook<'_, H> {
+    ghost use Rattle.std.specs.Prelude.{[]};
+    ghost use Rattle.cl_lattice.specs.Expansion.{expansion};
+    ghost use Rattle.cl_lattice.specs.Members.{is_member};
+    ghost use Rattle.cl_ptext.specs.Methods.{predicates_of};
+    ghost use Rattle.cl_ptext.specs.Presenting.{book_of};
+    ghost use Rattle.cl_ptext.specs.Texts.{outcome_of_text};
+
+    ghost holds = { λ b d s. is_member b.lattice.now (predicates_of b.app.now) d (expansion b.lattice.now [] s) };
+
+    ghost presents = { λ b limits slots s d. outcome_of_text (book_of H.entries b) limits slots (expansion b.lattice.now [] s) s d };
+
+    fn member(&self, value: &Value, spec: &TypeSpec) -> Held {
+        self.lattice.member(self.alloc, value, spec, self)
+    }
+
+    // Present methods alone enter forms: texts of the standard types cost nothing. Of a value that is no member of the type it
+    // gives a text too, or the trap of a method.
     #[tactic(auto, unfolding(crate::specs::Texts::outcome_of_text))]
-    pub fn text<'x, L: Ledger>(
+    fn text<'x, L: Ledger>(
         &'x self,
         value: &Value,
         spec: &TypeSpec,
@@ -45,11 +56,6 @@ impl<'a, H: Hosts> TypeBook<'a, H> {
         limits: Limits,
         steps: &mut Steps<L>,
     ) -> Evaluated
-        requires { limits.depth ≤ 512 }
-        ensures meaning { Evaluates result
-            (outcome_of_text (book_of H.entries self.now) limits slots.now (expansion self.now.lattice.now [] spec.now) spec.now (data_of value.now)) }
-        ensures ledger { RisesBy (met_memory result) steps.old steps.new
-            (cost_of (outcome_of_text (book_of H.entries self.now) limits slots.now (expansion self.now.lattice.now [] spec.now) spec.now (data_of value.now))) }
     {
         let context = self.context_on(slots, limits.budget);
         let nothing = Env::new(self.alloc);

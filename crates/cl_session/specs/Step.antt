@@ -10,7 +10,6 @@ use Rattle.cl_eval.specs.Outcome.{Outcome, Gives, RisesBy, Traps}
 use Rattle.cl_eval.specs.Slots.{Slots}
 use Rattle.cl_eval.specs.Executed.{outcome_of_exec}
 use Rattle.cl_eval.specs.declared.effects.Effects.{Effects}
-use Rattle.cl_load.specs.SlotTypes.{is_member}
 use Rattle.cl_record.specs.Lines.{item_line, lines_from}
 use Rattle.cl_redisplay.specs.Shown.{Shown, shown_ink_rows, shown_rows}
 use Rattle.cl_command.specs.declared.lines.Finished.{Finished}
@@ -85,7 +84,7 @@ run_command name w (Traps kind cost deepest) = refuse w cost (command_trap_line 
 
 -- what a command's statements come to, with no variables
 abbrev pub command_outcome : Ground → CommandDecl → Slots → Outcome Effects
-command_outcome g command slots = outcome_of_exec g.limits g.app is_member command.body [] slots
+command_outcome g command slots = outcome_of_exec g.limits g.app g.holds command.body [] slots
 
 -- the command in a place of the order, from 0, is run
 abbrev pub run_named : Ground → World → Option CommandDecl → Handled

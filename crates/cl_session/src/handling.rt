@@ -5,17 +5,16 @@ ghost use Rattle.cl_command.specs.Naming.{line_names};
 ghost use Rattle.cl_eval.specs.Outcome.{RisesBy};
 ghost use Rattle.cl_application.specs.Panes.{panes_of};
 ghost use Rattle.cl_frame.specs.Frames.{IsFrameOf, marks_of_frame};
-ghost use Rattle.cl_frame.specs.Ground.{ground};
+ghost use Rattle.cl_frame.specs.Ground.{ground_of};
 ghost use Rattle.cl_session.specs.Step.{command_outcome, command_trap_line, finish_line, handled, ok_lines, run_command, tell_history, type_text, which_after};
 ghost use Rattle.cl_session.specs.Handling.{HandlesTo, IsReply, ToldOf, after_of, handling_met, world_at};
 
 use crate::telling::{frame_lines, history_lines, ink_lines, place_of_pane};
 use cl_application::{App, CommandDecl};
 use cl_command::{Finished, Line, Pushed};
-use cl_eval::{Env, Executed, Lines, Program, Slots, exec};
+use cl_eval::{Env, Executed, Lines, Program, Slots, Types, exec};
 use cl_frame::{Frame, Which};
 use cl_gesture::Gesture;
-use cl_load::SlotTypes;
 use cl_outside::{Ledger, Steps};
 use cl_value::Text;
 use std::alloc::{AllocError, Global};
@@ -61,8 +60,8 @@ impl Handling {
 }
 
 /// Handles a gesture: its own replies, and what becomes of the slots and of the desk.
-pub fn handle<L: Ledger>(
-    program: &Program<'_, SlotTypes>,
+pub fn handle<T: Types, L: Ledger>(
+    program: &Program<'_, T>,
     gesture: &Gesture,
     frame: &Frame,
     slots: &mut Slots,
@@ -71,11 +70,11 @@ pub fn handle<L: Ledger>(
 ) -> Handling
     requires depth { program.now.limits.depth ≤ 512 }
     requires frame { IsFrameOf program.now.app.now frame.now }
-    ensures handles { HandlesTo (handled (ground program.now.app.now program.now.limits)
+    ensures handles { HandlesTo (handled (ground_of T.holds program.now)
         (world_at slots.old desk.old frame.now) gesture.now) frame.now result slots.old slots.new
         desk.old desk.new }
     ensures ledger { RisesBy (handling_met result) steps.old steps.new
-        (handled (ground program.now.app.now program.now.limits)
+        (handled (ground_of T.holds program.now)
         (world_at slots.old desk.old frame.now) gesture.now).cost }
 {
     let (alloc, app) = (program.alloc, program.app);
@@ -132,20 +131,20 @@ fn type_text(alloc: Global, text: &[u8], frame: &Frame, slots: &Slots, desk: &mu
     }
 }
 
-fn finish_line<L: Ledger>(
-    program: &Program<'_, SlotTypes>,
+fn finish_line<T: Types, L: Ledger>(
+    program: &Program<'_, T>,
     frame: &Frame,
     slots: &mut Slots,
     desk: &mut Desk,
     steps: &mut Steps<L>,
 ) -> Handling
     requires { program.now.limits.depth ≤ 512 }
-    ensures handles { HandlesTo (finish_line (ground program.now.app.now program.now.limits)
+    ensures handles { HandlesTo (finish_line (ground_of T.holds program.now)
         (world_at slots.old desk.old frame.now)
         (finish_of (line_names program.now.app.now.commands) desk.old.line)) frame.now result
         slots.old slots.new desk.old desk.new }
     ensures ledger { RisesBy (handling_met result) steps.old steps.new
-        (finish_line (ground program.now.app.now program.now.limits)
+        (finish_line (ground_of T.holds program.now)
         (world_at slots.old desk.old frame.now)
         (finish_of (line_names program.now.app.now.commands) desk.old.line)).cost }
 {
@@ -159,8 +158,8 @@ fn finish_line<L: Ledger>(
     }
 }
 
-fn run_command<L: Ledger>(
-    program: &Program<'_, SlotTypes>,
+fn run_command<T: Types, L: Ledger>(
+    program: &Program<'_, T>,
     command: &CommandDecl,
     frame: &Frame,
     slots: &mut Slots,
@@ -170,11 +169,11 @@ fn run_command<L: Ledger>(
     requires { program.now.limits.depth ≤ 512 }
     ensures handles { HandlesTo (run_command command.now.line_name
         (world_at slots.old desk.old frame.now)
-        (command_outcome (ground program.now.app.now program.now.limits) command.now slots.old))
+        (command_outcome (ground_of T.holds program.now) command.now slots.old))
         frame.now result slots.old slots.new desk.old desk.new }
     ensures ledger { RisesBy (handling_met result) steps.old steps.new
         (run_command command.now.line_name (world_at slots.old desk.old frame.now)
-        (command_outcome (ground program.now.app.now program.now.limits) command.now slots.old)).cost }
+        (command_outcome (ground_of T.holds program.now) command.now slots.old)).cost }
 {
     let env = Env::new(program.alloc);
     match exec(program, &command.body, &env, slots, steps) {

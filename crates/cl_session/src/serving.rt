@@ -1,6 +1,6 @@
 //! The serving of a stream of gestures.
 ghost use Rattle.std.specs.Prelude.{◌≡◌, ◌≤◌, Some, true};
-ghost use Rattle.cl_frame.specs.Ground.{ground};
+ghost use Rattle.cl_frame.specs.Ground.{ground_of};
 ghost use Rattle.cl_frame.specs.Sending.{wire_of};
 ghost use Rattle.cl_gesture.specs.declared.answers.Stop.TheVariants as stop;
 ghost use Rattle.cl_gesture.specs.Reader.{progress_of, source_of, stop_of};
@@ -12,9 +12,8 @@ ghost use Rattle.cl_session.specs.Turns.{IsSame, StaysAt, Turns, end_unless};
 
 use crate::sessions::Session;
 use crate::speaking::{say_bad, say_lost, say_replies};
-use cl_eval::{Program, Slots};
+use cl_eval::{Program, Slots, Types};
 use cl_gesture::{Gestures, Next};
-use cl_load::SlotTypes;
 use cl_outside::{Device, Ledger, Sink, Source, Steps};
 
 /// One turn reads at least one of at most a million lines, and the last one reads none.
@@ -37,9 +36,9 @@ impl Session {
     /// Handles the gestures of a stream, one after another, and writes the lines of each before the
     /// next is read. The run stops at the gesture in whose lines the sink fails. A reader that has
     /// stopped gives its end again.
-    pub fn serve<G: Source, O: Sink, D: Device, L: Ledger>(
+    pub fn serve<T: Types, G: Source, O: Sink, D: Device, L: Ledger>(
         &mut self,
-        program: &Program<'_, SlotTypes>,
+        program: &Program<'_, T>,
         slots: &mut Slots,
         gestures: &mut Gestures<G>,
         out: &mut O,
@@ -47,12 +46,12 @@ impl Session {
         steps: &mut Steps<L>,
     ) -> End
         requires depth { program.now.limits.depth ≤ 512 }
-        requires fits { Fits (ground program.now.app.now program.now.limits) slots.old self.old }
+        requires fits { Fits (ground_of T.holds program.now) slots.old self.old }
         requires agree { Agree self.old.frame.screen.stale self.old.frame.screen.raster
             (D.broken device.old) (D.cleared device.old) (D.picture device.old) }
         requires breaks { self.old.frame.screen.stale ≡ true → D.broken device.old ≡ true }
         ensures serves { stop_of gestures.old ≡ stop.Going
-            → ServesTo (ground program.now.app.now program.now.limits)
+            → ServesTo (ground_of T.holds program.now)
             (stand (world_of self.old slots.old) (meters steps.old (wire_of (D.wire device.old)
             (D.faults device.old) (D.lent device.old).told))
             (progress_of G.left G.faults gestures.old) (O.taken out.old) (O.faults out.old))
@@ -69,7 +68,7 @@ impl Session {
         ensures out_later { O.faults out.old ≤ O.faults out.new }
         ensures device_later { D.faults device.old ≤ D.faults device.new }
         ensures steps_later { steps.old ≤ steps.new }
-        ensures fits { Fits (ground program.now.app.now program.now.limits) slots.new self.new }
+        ensures fits { Fits (ground_of T.holds program.now) slots.new self.new }
         ensures agree { Agree self.new.frame.screen.stale self.new.frame.screen.raster
             (D.broken device.new) (D.cleared device.new) (D.picture device.new) }
         ensures breaks { self.new.frame.screen.stale ≡ true → D.broken device.new ≡ true }
@@ -84,9 +83,9 @@ impl Session {
     }
 
     // Answers the next line that is neither empty nor a comment; the end, where there is none.
-    fn turn<G: Source, O: Sink, D: Device, L: Ledger>(
+    fn turn<T: Types, G: Source, O: Sink, D: Device, L: Ledger>(
         &mut self,
-        program: &Program<'_, SlotTypes>,
+        program: &Program<'_, T>,
         slots: &mut Slots,
         gestures: &mut Gestures<G>,
         out: &mut O,
@@ -94,12 +93,12 @@ impl Session {
         steps: &mut Steps<L>,
     ) -> Option<End>
         requires depth { program.now.limits.depth ≤ 512 }
-        requires fits { Fits (ground program.now.app.now program.now.limits) slots.old self.old }
+        requires fits { Fits (ground_of T.holds program.now) slots.old self.old }
         requires agree { Agree self.old.frame.screen.stale self.old.frame.screen.raster
             (D.broken device.old) (D.cleared device.old) (D.picture device.old) }
         requires breaks { self.old.frame.screen.stale ≡ true → D.broken device.old ≡ true }
         ensures turns { stop_of gestures.old ≡ stop.Going
-            → Turns (ground program.now.app.now program.now.limits)
+            → Turns (ground_of T.holds program.now)
             (stand (world_of self.old slots.old) (meters steps.old (wire_of (D.wire device.old)
             (D.faults device.old) (D.lent device.old).told))
             (progress_of G.left G.faults gestures.old) (O.taken out.old) (O.faults out.old))
@@ -116,7 +115,7 @@ impl Session {
         ensures out_later { O.faults out.old ≤ O.faults out.new }
         ensures device_later { D.faults device.old ≤ D.faults device.new }
         ensures steps_later { steps.old ≤ steps.new }
-        ensures fits { Fits (ground program.now.app.now program.now.limits) slots.new self.new }
+        ensures fits { Fits (ground_of T.holds program.now) slots.new self.new }
         ensures agree { Agree self.new.frame.screen.stale self.new.frame.screen.raster
             (D.broken device.new) (D.cleared device.new) (D.picture device.new) }
         ensures breaks { self.new.frame.screen.stale ≡ true → D.broken device.new ≡ true }

@@ -1,7 +1,7 @@
 //! A session: an application with its slots, its command line and its panes.
 ghost use Rattle.std.specs.Prelude.{◌≡◌, ◌≤◌, ◌+◌, IfOk, true, false, not};
 ghost use Rattle.cl_application.specs.Panes.{IsPlaced};
-ghost use Rattle.cl_frame.specs.Ground.{ground};
+ghost use Rattle.cl_frame.specs.Ground.{ground_of};
 ghost use Rattle.cl_frame.specs.Sending.{SendsOn, ShowsPanes, frame_ops, wire_of};
 ghost use Rattle.cl_outside.specs.Operations.{mended, ops_bytes};
 ghost use Rattle.cl_redisplay.specs.Screens.{Agree};
@@ -15,10 +15,9 @@ ghost use Rattle.cl_session.specs.World.{opening};
 use crate::answers::Replies;
 use crate::handling::{Desk, Handling, handle};
 use cl_command::Line;
-use cl_eval::{Lines, Program, Slots};
+use cl_eval::{Lines, Program, Slots, Types};
 use cl_frame::{Frame, Which};
 use cl_gesture::Gesture;
-use cl_load::SlotTypes;
 use cl_outside::{Device, Ledger, Steps};
 use cl_redisplay::Painted;
 use std::alloc::{AllocError, Global};
@@ -37,8 +36,8 @@ impl Session {
     /// Opens the frame, settles all panes and redraws the screen in full, with no reply. A pane that
     /// meets want of memory here makes the whole call answer want of memory. The screen is stale
     /// afterwards exactly where the device failed here.
-    pub fn new<D: Device, L: Ledger>(
-        program: &Program<'_, SlotTypes>,
+    pub fn new<T: Types, D: Device, L: Ledger>(
+        program: &Program<'_, T>,
         slots: &Slots,
         device: &mut D,
         steps: &mut Steps<L>,
@@ -46,7 +45,7 @@ impl Session {
         requires depth { program.now.limits.depth ≤ 512 }
         requires placed { IsPlaced program.now.app.now.frame }
         ensures world { IfOk result (λ s. world_of s slots.now
-            ≡ opening (ground program.now.app.now program.now.limits) slots.now s.frame.screen.stale) }
+            ≡ opening (ground_of T.holds program.now) slots.now s.frame.screen.stale) }
         ensures failed { IfOk result
             (λ s. RoseIf s.frame.screen.stale (D.faults device.old) (D.faults device.new)) }
         ensures sent { IfOk result (λ s. SendsOn (not s.frame.screen.stale) (wire_of (D.wire device.old) (D.faults device.old) (D.lent device.old).told) (wire_of (D.wire device.new) (D.faults device.new) (D.lent device.new).told)
@@ -55,12 +54,12 @@ impl Session {
         ensures shows { IfOk result (λ s. s.frame.screen.stale ≡ false
             → ShowsPanes program.now.app.now (world_of s slots.now).panes (wire_of (D.wire device.new) (D.faults device.new) (D.lent device.new).told)) }
         ensures ledger { IfOk result (λ _. steps.new
-            ≡ steps.old + cost_of_panes (ground program.now.app.now program.now.limits) slots.now) }
+            ≡ steps.old + cost_of_panes (ground_of T.holds program.now) slots.now) }
         ensures later { steps.old ≤ steps.new }
         ensures at_most { steps.new
-            ≤ steps.old + cost_of_panes (ground program.now.app.now program.now.limits) slots.now }
+            ≤ steps.old + cost_of_panes (ground_of T.holds program.now) slots.now }
         ensures fits { IfOk result
-            (Fits (ground program.now.app.now program.now.limits) slots.now) }
+            (Fits (ground_of T.holds program.now) slots.now) }
         ensures agree { IfOk result (λ s. Agree s.frame.screen.stale s.frame.screen.raster
             (D.broken device.new) (D.cleared device.new) (D.picture device.new)) }
         ensures breaks { IfOk result
@@ -82,32 +81,32 @@ impl Session {
     /// Handles one gesture, and settles all panes where a command committed or where it is `force`,
     /// and else those that are blank for want of memory. A screen that was stale before is redrawn in
     /// full at the end. The own replies are made before anything changes.
-    pub fn step<D: Device, L: Ledger>(
+    pub fn step<T: Types, D: Device, L: Ledger>(
         &mut self,
-        program: &Program<'_, SlotTypes>,
+        program: &Program<'_, T>,
         gesture: &Gesture,
         slots: &mut Slots,
         device: &mut D,
         steps: &mut Steps<L>,
     ) -> Replies
         requires depth { program.now.limits.depth ≤ 512 }
-        requires fits { Fits (ground program.now.app.now program.now.limits) slots.old self.old }
+        requires fits { Fits (ground_of T.holds program.now) slots.old self.old }
         requires agree { Agree self.old.frame.screen.stale self.old.frame.screen.raster
             (D.broken device.old) (D.cleared device.old) (D.picture device.old) }
         requires breaks { self.old.frame.screen.stale ≡ true → D.broken device.old ≡ true }
-        ensures steps { StepsTo (ground program.now.app.now program.now.limits) self.old self.new
+        ensures steps { StepsTo (ground_of T.holds program.now) self.old self.new
             slots.old slots.new gesture.now result }
-        ensures ledger { Spends (ground program.now.app.now program.now.limits)
+        ensures ledger { Spends (ground_of T.holds program.now)
             (world_of self.old slots.old) gesture.now (met_of self.new.frame result) steps.old
             steps.new }
         ensures failed { RoseIf result.wire (D.faults device.old) (D.faults device.new) }
         ensures sent { SendsOn (not result.wire) (wire_of (D.wire device.old) (D.faults device.old) (D.lent device.old).told) (wire_of (D.wire device.new) (D.faults device.new) (D.lent device.new).told)
-            (gesture_bytes (ground program.now.app.now program.now.limits)
+            (gesture_bytes (ground_of T.holds program.now)
             (world_of self.old slots.old) gesture.now (met_of self.new.frame result)) }
         ensures shows { result.wire ≡ false → ShowsPanes program.now.app.now
             (world_of self.new slots.new).panes (wire_of (D.wire device.new) (D.faults device.new) (D.lent device.new).told) }
         ensures later { steps.old ≤ steps.new }
-        ensures fits { Fits (ground program.now.app.now program.now.limits) slots.new self.new }
+        ensures fits { Fits (ground_of T.holds program.now) slots.new self.new }
         ensures agree { Agree self.new.frame.screen.stale self.new.frame.screen.raster
             (D.broken device.new) (D.cleared device.new) (D.picture device.new) }
         ensures breaks { self.new.frame.screen.stale ≡ true → D.broken device.new ≡ true }

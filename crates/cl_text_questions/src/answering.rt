@@ -1,7 +1,7 @@
 //! Answers to questions on texts.
 use crate::questions::Question;
 use crate::subjects::Subject;
-use cl_eval::{Evaluated, Limits};
+use cl_eval::{Evaluated, Limits, Types};
 use cl_host::HostType;
 use cl_outside::own_steps;
 use cl_print::{put_plain, put_value};

@@ -5,6 +5,7 @@ ghost use Rattle.cl_outside.specs.Memory.{AllPositive};
 use crate::settings::Setting;
 use cl_outside::{MemPlace, MemSink, MemSource, own_steps};
 use cl_program::{Status, clim_main};
+use cl_ptext::HostTypes;
 use std::alloc::{AllocError, Global};
 
 /// How many bytes more than are wanted the output takes at most: more of them differ anyway.
@@ -45,9 +46,11 @@ impl Outside {
 
     fn run(&mut self, alloc: Global, words: &[&str]) -> Result<Ran, AllocError> {
         let mut steps = own_steps();
+        let hosts = HostTypes { types: &[] };
         let Status(status) = clim_main(
             alloc,
             words,
+            &hosts,
             &mut self.place,
             &mut self.source,
             &mut self.out,

@@ -12,15 +12,35 @@ ghost use Rattle.cl_program.specs.Commands.{KeptBy};
 ghost use Rattle.cl_program.specs.Statuses.{DeclaresApplication, EndsWith, HasFewLines, HasManyLines, HasRefusal};
 ghost use Rattle.cl_program.specs.Surroundings.{placed, streams};
 
+use cl_host::{month_number, weekday_number};
 use cl_outside::{FilePlace, Place, ReaderSource, Sink, Source, WriterSink, own_steps};
 use cl_program::{Status, clim_main};
+use cl_ptext::{HostTypes, Hosts};
+use shipped::host_types;
 use std::alloc::{AllocError, Global};
 use std::process::ExitCode;
 use std::{env, io};
 
+mod shipped;
+
 /// Ends with the status of a run on the words behind the program's name, over the system's files,
-/// standard input and standard output. A word that is not UTF-8 makes the words no command.
+/// standard input and standard output, with the host types `weekday` and `month`.
 fn main(rt: HostRuntime) -> ExitCode {
+    let alloc = rt.alloc();
+    let Ok(day) = Box::new(alloc, |text: &[u8]| weekday_number(text)) else {
+        return exit_code(Status(7));
+    };
+    let Ok(month) = Box::new(alloc, |text: &[u8]| month_number(text)) else {
+        return exit_code(Status(7));
+    };
+    let Ok(types) = host_types(alloc, day, month) else {
+        return exit_code(Status(7));
+    };
+    start(rt, &HostTypes { types: &types })
+}
+
+// Ends with the status of a run on the words behind the program's name. A word that is not UTF-8 makes the words no command.
+fn start<H: Hosts>(rt: HostRuntime, hosts: &H) -> ExitCode {
     let mut words = Vec::new(rt.alloc());
     match env::args(&rt) {
         Ok(args) => {
@@ -43,18 +63,26 @@ fn main(rt: HostRuntime) -> ExitCode {
     let mut gestures = ReaderSource::new(rt.stdin());
     let mut out = WriterSink::new(rt.stdout());
     let mut place = FilePlace::new(rt);
-    run(alloc, texts.as_slice(), &mut place, &mut gestures, &mut out)
+    run(
+        alloc,
+        texts.as_slice(),
+        hosts,
+        &mut place,
+        &mut gestures,
+        &mut out,
+    )
 }
 
 // Ends with the status of a run on these words.
-fn run<P: Place, G: Source, O: Sink>(
+fn run<H: Hosts, P: Place, G: Source, O: Sink>(
     alloc: Global,
     words: &[&str],
+    hosts: &H,
     place: &mut P,
     gestures: &mut G,
     out: &mut O,
 ) -> ExitCode
-    ensures ends { (spent : ℕ) × EndsWith (map (λ w. w.now) words.now) (placed (P.file place.old)
+    ensures ends { (spent : ℕ) × EndsWith (H.bounds hosts.now) (map (λ w. w.now) words.now) (placed (P.file place.old)
         (P.app_faults place.old) (P.making_faults place.old)
         (wire_of (P.taken place.old) (P.writing_faults place.old) (P.tells place.old)))
         (placed (P.file place.new) (P.app_faults place.new) (P.making_faults place.new)
@@ -73,11 +101,11 @@ fn run<P: Place, G: Source, O: Sink>(
         → (exit_status result ≡ 2) ⊎ (exit_status result ≡ 5) ⊎ (exit_status result ≡ 7) }
     ensures refusal_due { (name : List ℕ) (number at : ℕ) → Names (map (λ w. w.now) words.now) name
         → (Rose (P.app_faults place.old name) (P.app_faults place.new name) → ⊥)
-        → HasRefusal (P.file place.old name) number at
+        → HasRefusal (H.bounds hosts.now) (P.file place.old name) number at
         → (exit_status result ≡ 1) ⊎ (exit_status result ≡ 5) ⊎ (exit_status result ≡ 7) }
     ensures check_due { (name : List ℕ) → IsCheck (map (λ w. w.now) words.now) name
         → (Rose (P.app_faults place.old name) (P.app_faults place.new name) → ⊥)
-        → DeclaresApplication (P.file place.old name)
+        → DeclaresApplication (H.bounds hosts.now) (P.file place.old name)
         → (exit_status result ≡ 0) ⊎ (exit_status result ≡ 5) ⊎ (exit_status result ≡ 7) }
     ensures complete { (name : List ℕ) (wire : Option (List ℕ)) (budget : Option ℕ)
         → IsRun (map (λ w. w.now) words.now) name wire budget
@@ -85,7 +113,7 @@ fn run<P: Place, G: Source, O: Sink>(
         → (Rose (P.making_faults place.old) (P.making_faults place.new) → ⊥)
         → (Rose (G.faults gestures.old) (G.faults gestures.new) → ⊥)
         → (Rose (O.faults out.old) (O.faults out.new) → ⊥)
-        → DeclaresApplication (P.file place.old name) → HasFewLines (G.left gestures.old)
+        → DeclaresApplication (H.bounds hosts.now) (P.file place.old name) → HasFewLines (G.left gestures.old)
         → (exit_status result ≡ 0) ⊎ (exit_status result ≡ 7) }
     ensures limit_due { (name : List ℕ) (wire : Option (List ℕ)) (budget : Option ℕ)
         → IsRun (map (λ w. w.now) words.now) name wire budget
@@ -93,7 +121,7 @@ fn run<P: Place, G: Source, O: Sink>(
         → (Rose (P.making_faults place.old) (P.making_faults place.new) → ⊥)
         → (Rose (G.faults gestures.old) (G.faults gestures.new) → ⊥)
         → (Rose (O.faults out.old) (O.faults out.new) → ⊥)
-        → DeclaresApplication (P.file place.old name) → HasManyLines (G.left gestures.old)
+        → DeclaresApplication (H.bounds hosts.now) (P.file place.old name) → HasManyLines (G.left gestures.old)
         → (exit_status result ≡ 8) ⊎ (exit_status result ≡ 7) }
 
     ensures place_lent { P.lent place.new ≡ P.lent place.old }
@@ -101,7 +129,7 @@ fn run<P: Place, G: Source, O: Sink>(
     ensures out_lent { O.lent out.new ≡ O.lent out.old }
 {
     let mut steps = own_steps();
-    exit_code(clim_main(alloc, words, place, gestures, out, &mut steps))
+    exit_code(clim_main(alloc, words, hosts, place, gestures, out, &mut steps))
 }
 
 // The words as texts.

@@ -1,18 +1,18 @@
 use Rattle.std.proofs.Common.{◌∙◌, ap, arith, refl, subst, sym, option_map, Option, List, ℕ}
 use Rattle.cl_outside.specs.Place.{IsTold}
 use denote.Bor.{Bor}
-use Rattle.cl_frame.specs.Ground.{ground}
+use Rattle.cl_frame.specs.Ground.{ground_of}
 use Rattle.cl_program.proofs.CommandLemmas.{KeepsFiles-made, RanOn-none, RanOn-wire, none_by, told_other}
 use Rattle.cl_program.proofs.commands.run_on.Goals as goal
 
 pub returns-in_default-clause-ran : goal.returns-in_default-clause-ran
 returns-in_default-clause-ran g c =
-    RanOn-none _ (ground c.args.loaded.app c.args.setting.limits) _ _ _ _ _ _ c.run_loaded.result
-    (none_by (λ (name : Bor (List ℕ)). name.now) c.args.setting.wire c.in_default.not-Some) refl refl refl c.run_loaded.ensures.ran
+    RanOn-none _ (ground_of g.T.Types.holds c.args.program.now) _ _ _ _ _ _ c.run_program.result
+    (none_by (λ (name : Bor (List ℕ)). name.now) c.args.wire c.in_default.not-Some) refl refl refl c.run_program.ensures.ran
 
 pub returns-in-Done-clause-ran : goal.returns-in-Done-clause-ran
 returns-in-Done-clause-ran g c =
-    RanOn-wire _ c.in-Some.name.now (ground c.args.loaded.app c.args.setting.limits) _ _ _ _ _ c.run_on_wire.result
+    RanOn-wire _ c.in-Some.name.now (ground_of g.T.Types.holds c.args.program.now) _ _ _ _ _ c.run_on_wire.result
     (ap (option_map (λ (name : Bor (List ℕ)). name.now)) c.in-Some.is)
     (record {
       faults = c.in-Done.ensures.writing;

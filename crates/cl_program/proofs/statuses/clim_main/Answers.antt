@@ -53,15 +53,15 @@ returns-in-Refused-clause-usage_due g c = λ none.
 
 pub returns-in-Refused-clause-check_due : goal.returns-in-Refused-clause-check_due
 returns-in-Refused-clause-check_due g c = λ name run place_fault declares.
-    absurd (refused_declares (map (λ (w : Bor (List ℕ)). w.now) c.args.words.now) _ _ _ name c.in-Refused.ensures.ran (check_named (map (λ (w : Bor (List ℕ)). w.now) c.args.words.now) name run) declares)
+    absurd (refused_declares _ (map (λ (w : Bor (List ℕ)). w.now) c.args.words.now) _ _ _ name c.in-Refused.ensures.ran (check_named (map (λ (w : Bor (List ℕ)). w.now) c.args.words.now) name run) declares)
 
 pub returns-in-Refused-clause-complete : goal.returns-in-Refused-clause-complete
 returns-in-Refused-clause-complete g c = λ name wire budget run place_fault making_fault gesture_fault output_fault declares few.
-    absurd (refused_declares (map (λ (w : Bor (List ℕ)). w.now) c.args.words.now) _ _ _ name c.in-Refused.ensures.ran (run_named (map (λ (w : Bor (List ℕ)). w.now) c.args.words.now) name wire budget run) declares)
+    absurd (refused_declares _ (map (λ (w : Bor (List ℕ)). w.now) c.args.words.now) _ _ _ name c.in-Refused.ensures.ran (run_named (map (λ (w : Bor (List ℕ)). w.now) c.args.words.now) name wire budget run) declares)
 
 pub returns-in-Refused-clause-limit_due : goal.returns-in-Refused-clause-limit_due
 returns-in-Refused-clause-limit_due g c = λ name wire budget run place_fault making_fault gesture_fault output_fault declares many.
-    absurd (refused_declares (map (λ (w : Bor (List ℕ)). w.now) c.args.words.now) _ _ _ name c.in-Refused.ensures.ran (run_named (map (λ (w : Bor (List ℕ)). w.now) c.args.words.now) name wire budget run) declares)
+    absurd (refused_declares _ (map (λ (w : Bor (List ℕ)). w.now) c.args.words.now) _ _ _ name c.in-Refused.ensures.ran (run_named (map (λ (w : Bor (List ℕ)). w.now) c.args.words.now) name wire budget run) declares)
 
 pub returns-in-Loads-clause-usage_due : goal.returns-in-Loads-clause-usage_due
 returns-in-Loads-clause-usage_due g c = λ none.
@@ -69,7 +69,7 @@ returns-in-Loads-clause-usage_due g c = λ none.
 
 pub returns-in-Loads-clause-refusal_due : goal.returns-in-Loads-clause-refusal_due
 returns-in-Loads-clause-refusal_due g c = λ name number at run place_fault declares.
-    absurd (loaded_declares (map (λ (w : Bor (List ℕ)). w.now) c.args.words.now) _ name number at c.in-Loads.ensures.ran.0 run declares)
+    absurd (loaded_declares _ (map (λ (w : Bor (List ℕ)). w.now) c.args.words.now) _ name number at c.in-Loads.ensures.ran.0 run declares)
 
 pub returns-in-Loads-clause-limit_due : goal.returns-in-Loads-clause-limit_due
 returns-in-Loads-clause-limit_due g c = λ name wire budget run place_fault making_fault gesture_fault output_fault declares many.
@@ -89,11 +89,11 @@ returns-in-WireFault-clause-usage_due g c = λ none.
 
 pub returns-in-WireFault-clause-refusal_due : goal.returns-in-WireFault-clause-refusal_due
 returns-in-WireFault-clause-refusal_due g c = λ name number at run place_fault declares.
-    absurd (opened_declares (map (λ (w : Bor (List ℕ)). w.now) c.args.words.now) _ _ _ name number at c.in-WireFault.ensures.ran.opened run declares)
+    absurd (opened_declares _ (map (λ (w : Bor (List ℕ)). w.now) c.args.words.now) _ _ _ name number at c.in-WireFault.ensures.ran.opened run declares)
 
 pub returns-in-WireFault-clause-check_due : goal.returns-in-WireFault-clause-check_due
 returns-in-WireFault-clause-check_due g c = λ name run place_fault declares.
-    absurd (opened_checked (map (λ (w : Bor (List ℕ)). w.now) c.args.words.now) _ _ _ name c.in-WireFault.ensures.ran.opened run)
+    absurd (opened_checked _ (map (λ (w : Bor (List ℕ)). w.now) c.args.words.now) _ _ _ name c.in-WireFault.ensures.ran.opened run)
 
 pub returns-in-Ended-Done-clause-usage_due : goal.returns-in-Ended-Done-clause-usage_due
 returns-in-Ended-Done-clause-usage_due g c = λ none.
@@ -101,7 +101,7 @@ returns-in-Ended-Done-clause-usage_due g c = λ none.
 
 pub returns-in-Ended-Done-clause-refusal_due : goal.returns-in-Ended-Done-clause-refusal_due
 returns-in-Ended-Done-clause-refusal_due g c = λ name number at run place_fault declares.
-    absurd (opened_declares (map (λ (w : Bor (List ℕ)). w.now) c.args.words.now) _ _ _ name number at c.in-Ended-Done.ensures.ran.opened run declares)
+    absurd (opened_declares _ (map (λ (w : Bor (List ℕ)). w.now) c.args.words.now) _ _ _ name number at c.in-Ended-Done.ensures.ran.opened run declares)
 
 pub returns-in-Ended-ReadFault-clause-usage_due : goal.returns-in-Ended-ReadFault-clause-usage_due
 returns-in-Ended-ReadFault-clause-usage_due g c = λ none.
@@ -109,11 +109,11 @@ returns-in-Ended-ReadFault-clause-usage_due g c = λ none.
 
 pub returns-in-Ended-ReadFault-clause-refusal_due : goal.returns-in-Ended-ReadFault-clause-refusal_due
 returns-in-Ended-ReadFault-clause-refusal_due g c = λ name number at run place_fault declares.
-    absurd (opened_declares (map (λ (w : Bor (List ℕ)). w.now) c.args.words.now) _ _ _ name number at c.in-Ended-ReadFault.ensures.ran.opened run declares)
+    absurd (opened_declares _ (map (λ (w : Bor (List ℕ)). w.now) c.args.words.now) _ _ _ name number at c.in-Ended-ReadFault.ensures.ran.opened run declares)
 
 pub returns-in-Ended-ReadFault-clause-check_due : goal.returns-in-Ended-ReadFault-clause-check_due
 returns-in-Ended-ReadFault-clause-check_due g c = λ name run place_fault declares.
-    absurd (opened_checked (map (λ (w : Bor (List ℕ)). w.now) c.args.words.now) _ _ _ name c.in-Ended-ReadFault.ensures.ran.opened run)
+    absurd (opened_checked _ (map (λ (w : Bor (List ℕ)). w.now) c.args.words.now) _ _ _ name c.in-Ended-ReadFault.ensures.ran.opened run)
 
 pub returns-in-Ended-TooMany-clause-usage_due : goal.returns-in-Ended-TooMany-clause-usage_due
 returns-in-Ended-TooMany-clause-usage_due g c = λ none.
@@ -121,16 +121,16 @@ returns-in-Ended-TooMany-clause-usage_due g c = λ none.
 
 pub returns-in-Ended-TooMany-clause-refusal_due : goal.returns-in-Ended-TooMany-clause-refusal_due
 returns-in-Ended-TooMany-clause-refusal_due g c = λ name number at run place_fault declares.
-    absurd (opened_declares (map (λ (w : Bor (List ℕ)). w.now) c.args.words.now) _ _ _ name number at c.in-Ended-TooMany.ensures.ran.opened run declares)
+    absurd (opened_declares _ (map (λ (w : Bor (List ℕ)). w.now) c.args.words.now) _ _ _ name number at c.in-Ended-TooMany.ensures.ran.opened run declares)
 
 pub returns-in-Ended-TooMany-clause-check_due : goal.returns-in-Ended-TooMany-clause-check_due
 returns-in-Ended-TooMany-clause-check_due g c = λ name run place_fault declares.
-    absurd (opened_checked (map (λ (w : Bor (List ℕ)). w.now) c.args.words.now) _ _ _ name c.in-Ended-TooMany.ensures.ran.opened run)
+    absurd (opened_checked _ (map (λ (w : Bor (List ℕ)). w.now) c.args.words.now) _ _ _ name c.in-Ended-TooMany.ensures.ran.opened run)
 
 pub returns-in-Ended-Done-clause-limit_due : goal.returns-in-Ended-Done-clause-limit_due
 returns-in-Ended-Done-clause-limit_due g c = λ name wire budget run place_fault making_fault gesture_fault output_fault declares many.
-    absurd (end_reached (map (λ (w : Bor (List ℕ)). w.now) c.args.words.now) _ _ _ _ c.in-Ended-Done.field-0 c.in-Ended-Done.field-0-is c.in-Ended-Done.ensures.ran many)
+    absurd (end_reached _ (map (λ (w : Bor (List ℕ)). w.now) c.args.words.now) _ _ _ _ c.in-Ended-Done.field-0 c.in-Ended-Done.field-0-is c.in-Ended-Done.ensures.ran many)
 
 pub returns-in-Ended-TooMany-clause-complete : goal.returns-in-Ended-TooMany-clause-complete
 returns-in-Ended-TooMany-clause-complete g c = λ name wire budget run place_fault making_fault gesture_fault output_fault declares few.
-    absurd (limit_passed (map (λ (w : Bor (List ℕ)). w.now) c.args.words.now) _ _ _ _ c.in-Ended-TooMany.field-0 c.in-Ended-TooMany.field-0-is c.in-Ended-TooMany.ensures.ran few)
+    absurd (limit_passed _ (map (λ (w : Bor (List ℕ)). w.now) c.args.words.now) _ _ _ _ c.in-Ended-TooMany.field-0 c.in-Ended-TooMany.field-0-is c.in-Ended-TooMany.ensures.ran few)
