@@ -16,4 +16,4 @@ host_names x (h ∷ hs) = if bytes_eq x h.0 then h.1 else host_names x hs
 -- the least and the greatest number of the first host type of a name; none where there is no such host type
 abbrev pub bounds_of : List ℕ → List (List ℕ × ℤ × ℤ) → Option (ℤ × ℤ)
 bounds_of x [] = None
-bounds_of x (h ∷ hs) = if bytes_eq x h.0 then Some h.1 else bounds_of x hs
+bounds_of x (h ∷ hs) = if bytes_eq x h.0 then Some (h.1, h.2) else bounds_of x hs

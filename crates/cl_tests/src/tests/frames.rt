@@ -5,12 +5,12 @@ ghost use Rattle.cl_application.specs.Panes.{IsPlaced};
 use super::saying::put_bytes;
 use super::showing::shows;
 use cl_application::App;
-use cl_eval::{Limits, Program, Slots};
+use cl_eval::{Limits, Program, Slots, Types};
 use cl_frame::{Frame, PaneReport, Which};
 use cl_gesture::Gesture;
-use cl_load::{SlotTypes, load};
+use cl_load::load;
 use cl_outside::{MemDevice, own_steps};
-use cl_ptext::HostTypes;
+use cl_ptext::{HostTypes, TypeBook};
 use cl_redisplay::Painted;
 use cl_session::{DEPTH, Session};
 use cl_value::Text;
@@ -26,14 +26,14 @@ const TWO: &[u8] = b"(define-application-frame two (:size 7 2) (:slots (n intege
 ";
 
 /// The application with the limits of a run.
-fn program(alloc: Global, app: &App) -> Program<'_, SlotTypes>
+fn program<'a, T: Types>(alloc: Global, app: &'a App, types: &'a T) -> Program<'a, T>
     ensures app { result.app.now ≡ app.now }
     ensures depth { result.limits.depth ≤ 512 }
 {
     Program {
         alloc,
         app,
-        types: &SlotTypes,
+        types,
         limits: Limits {
             budget: 1_000_000,
             depth: DEPTH,
@@ -69,10 +69,15 @@ fn put_state(said: &mut String, failed: bool, shown: bool, frame: &Frame) -> Res
 }
 
 /// A frame is settled, redrawn, settled again, which fails at the first span of the second pane, and settled where it is blank.
-fn frame_states(alloc: Global, app: &App, slots: &Slots) -> Result<String, Fail>
+fn frame_states<T: Types>(
+    alloc: Global,
+    app: &App,
+    types: &T,
+    slots: &Slots,
+) -> Result<String, Fail>
     requires { IsPlaced app.now.frame }
 {
-    let program = program(alloc, app);
+    let program = program(alloc, app, types);
     let mut said = String::new(alloc);
     let mut steps = own_steps();
     let mut device = MemDevice::new(alloc, [8].to_vec(alloc)?)?;
@@ -118,16 +123,22 @@ done, shown, quiet|quiet|3clq3  |
 fn a_frame_is_settled_and_sent(rt: HostRuntime) -> Result<(), Fail> {
     let hosts = HostTypes { types: &[] };
     let loaded = load(rt.alloc(), TWO, &hosts)?;
-    let said = frame_states(rt.alloc(), &loaded.app, &loaded.slots)?;
+    let types = TypeBook::new(rt.alloc(), &loaded.app, &loaded.lattice, &hosts);
+    let said = frame_states(rt.alloc(), &loaded.app, &types, &loaded.slots)?;
     assert_eq!(rt; said.as_str(), FRAME_STATES);
     Ok(())
 }
 
 /// A session is opened; its panes are shown anew, which fails at a span of the redraw; a command is typed, and runs.
-fn session_states(alloc: Global, app: &App, slots: &mut Slots) -> Result<String, Fail>
+fn session_states<T: Types>(
+    alloc: Global,
+    app: &App,
+    types: &T,
+    slots: &mut Slots,
+) -> Result<String, Fail>
     requires { IsPlaced app.now.frame }
 {
-    let program = program(alloc, app);
+    let program = program(alloc, app, types);
     let mut said = String::new(alloc);
     let mut steps = own_steps();
     let mut device = MemDevice::new(alloc, [8].to_vec(alloc)?)?;
@@ -179,8 +190,9 @@ done, shown, drawn 2 erased 2|trap 3|0cltra |
 fn a_session_redraws_behind_a_fault(rt: HostRuntime) -> Result<(), Fail> {
     let hosts = HostTypes { types: &[] };
     let loaded = load(rt.alloc(), TWO, &hosts)?;
+    let types = TypeBook::new(rt.alloc(), &loaded.app, &loaded.lattice, &hosts);
     let mut slots = loaded.slots.copy(rt.alloc())?;
-    let said = session_states(rt.alloc(), &loaded.app, &mut slots)?;
+    let said = session_states(rt.alloc(), &loaded.app, &types, &mut slots)?;
     assert_eq!(rt; said.as_str(), SESSION_STATES);
     Ok(())
 }
