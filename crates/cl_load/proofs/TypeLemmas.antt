@@ -116,8 +116,7 @@ world_is bounds s types declared hosts commands no_types no_hosts bounded typed 
 pub types_built : (bounds : Bounds) (s : Declarations) (notes : Notes) (w v : World) → v ≡ declared_types bounds s → w ≡ v → NoRing w
     → All (λ p. fits w p.spec ≡ true) notes.specifiers → AllFit w → BuildsTypes (Ok w) bounds s notes
 types_built bounds s notes w v world same ringless fit all =
-    let is : w ≡ declared_types bounds s = same ∙ world in
-    (
+    let is : w ≡ declared_types bounds s = same ∙ world in (
       is,
       subst (λ (u : World). IsFirst (StandsOnRing u) offset_of (user_types s) None) is (none_on_ring w (user_types s) ringless),
       subst (λ (u : World). IsFirstLarge u notes.specifiers (user_types s) None) is (all_small w notes.specifiers (user_types s) fit all),
@@ -129,7 +128,7 @@ types_ring bounds s notes types at v world none first =
     inl (
       refl,
       subst (λ (u : World). IsFirst (StandsOnRing u) offset_of (user_types s) (Some at)) world
-      (subst (λ (ts : List (List ℕ × TypeDecl)). IsFirst (StandsOnRing v) offset_of ts (Some at)) none first),
+          (subst (λ (ts : List (List ℕ × TypeDecl)). IsFirst (StandsOnRing v) offset_of ts (Some at)) none first),
     )
 
 pub types_large : (bounds : Bounds) (s : Declarations) (notes : Notes) (types : List (List ℕ × TypeDecl)) (at : ℕ) (v : World) → v ≡ declared_types bounds s → types ≡ []
@@ -139,5 +138,5 @@ types_large bounds s notes types at v world none ringless first =
       refl,
       subst (λ (u : World). IsFirst (StandsOnRing u) offset_of (user_types s) None) world (none_on_ring v (user_types s) ringless),
       subst (λ (u : World). IsFirstLarge u notes.specifiers (user_types s) (Some at)) world
-      (subst (λ (ts : List (List ℕ × TypeDecl)). IsFirstLarge v notes.specifiers ts (Some at)) none first),
+          (subst (λ (ts : List (List ℕ × TypeDecl)). IsFirstLarge v notes.specifiers ts (Some at)) none first),
     )
