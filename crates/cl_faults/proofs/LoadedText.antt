@@ -1,5 +1,5 @@
 -- What a text that loads has, and what is told of one that does not.
-use Rattle.std.proofs.Common.{◌≡◌, ℕ, List, [], ◌∷◌, length, inr, refl, sym, ap, arith, ◌∙◌}
+use Rattle.std.proofs.Common.{◌≡◌, ◌++◌, ℕ, List, [], ◌∷◌, length, inr, refl, sym, ap, arith, ◌∙◌}
 use Rattle.std.specs.Prelude.{Option, Some, None, Result, Ok, Err}
 use Rattle.std.proofs.Math.Path.{subst}
 use Rattle.cl_application.specs.declared.applications.App.{App}
@@ -20,7 +20,8 @@ use Rattle.cl_declaration_grammar.specs.Texts.{TextUnnamed}
 use Rattle.cl_declaration_grammar.proofs.TextVerdicts.{text_told, text_refused, text_noted}
 use Rattle.cl_load.specs.Application.{AreForms, data_of, IsApplication, IsRefusal}
 use Rattle.cl_load.specs.Outcome.{IsVerdict, Settled, Comes, parse}
-use Rattle.cl_load.specs.Refusals.{numbered, first_fault, app_in, frame_faults}
+use Rattle.cl_load.specs.Refusals.{numbered, first_fault, app_in, form_faults, frame_faults, type_faults}
+use Rattle.cl_load.specs.Types.{Bounds}
 use Rattle.cl_faults.specs.Loaded.{DataBlame, DataUnnamed, IsDeclared, IsFirstUnnamed}
 
 data_lie : (bytes : List ℕ) (forms : List Tree) → AreForms bytes forms → LieInText (datums_of (data_of forms))
@@ -60,14 +61,12 @@ Reads ds s notes = (parse ds nothing_noted ≡ Ok (s, notes)) × (notes.unknown 
 abbrev Read : List Datum → Type 0
 Read ds = (s : Declarations) × (notes : Notes) × Reads ds s notes
 
-outcome_read : (size : ℕ) (ds : List Datum) (app : App) (r : Result (Declarations × Notes) Fault) → parse ds nothing_noted ≡ r → Comes size ds r (Ok app)
-    → Read ds
-outcome_read size ds app (Err fault) e h = absurd (no_error h)
-outcome_read size ds app (Ok x) e h = (
-  x.0,
-  x.1,
-  (e, none_noted (first_past ds) (first_twice (outers_of ds)) x.1.unknown (frame_faults size x.0 h.reading) (app_in x.0 x.0.frames) app h.verdict),
-)
+outcome_read : (bounds : Bounds) (size : ℕ) (ds : List Datum) (app : App) (r : Result (Declarations × Notes) Fault) → parse ds nothing_noted ≡ r
+    → Comes bounds size ds r (Ok app) → Read ds
+outcome_read bounds size ds app (Err fault) e h = absurd (no_error h)
+outcome_read bounds size ds app (Ok x) e h =
+    let more : List (Option Fault) = type_faults h.ring h.large ++ frame_faults bounds size x.0 h.reading in
+    (x.0, x.1, (e, none_noted (first_past ds) (first_twice (outers_of ds)) x.1.unknown more (app_in x.0 x.0.frames) app h.verdict))
 
 module _ (bytes : List ℕ) (forms : List Tree) (r : AreForms bytes forms) where
   abbrev ds : List Datum
@@ -90,12 +89,12 @@ module _ (bytes : List ℕ) (forms : List Tree) (r : AreForms bytes forms) where
 
   -- ---- what does not load
 
-  pub blame_refused : (number at : ℕ) → IsFirst (DataBlame ds) number at → IsRefusal bytes number at
-  blame_refused number at i =
+  pub blame_refused : (bounds : Bounds) (number at : ℕ) → IsFirst (DataBlame ds) number at → IsRefusal bounds bytes number at
+  blame_refused bounds number at i =
       inr (record {
         forms = forms;
         read = r;
-        comes = subst (λ o. Comes (length bytes) ds o (Err (number, at))) (sym ((text_told w ds nothing_noted (data_lie bytes forms r) number at).1 i)) refl;
+        comes = subst (λ o. Comes bounds (length bytes) ds o (Err (number, at))) (sym ((text_told w ds nothing_noted (data_lie bytes forms r) number at).1 i)) refl;
       })
 
   -- nothing is blamed, so something is read
@@ -111,29 +110,36 @@ module _ (bytes : List ℕ) (forms : List Tree) (r : AreForms bytes forms) where
   least_noted at i (Some first) h =
       let e : first ≡ at = omega (arith, h.1 at i.unnamed, i.least first h.0) in ap Some e
 
-  settled : (at : ℕ) (s : Declarations) (notes : Notes) → IsFirstUnnamed ds at → notes.unknown ≡ Some at
-      → Settled (length bytes) ds s notes (Err (8, at))
-  settled at s notes i e = record {
-    reading = None;
-    found = λ f. absurd (none_some (sym f ∙ told (first_past ds) (first_twice (outers_of ds)) notes.unknown at [] i.bounded i.once e));
-    verdict = subst (λ f. IsVerdict f (app_in s s.frames) (Err (8, at)))
-        (sym (told (first_past ds) (first_twice (outers_of ds)) notes.unknown at (frame_faults (length bytes) s None) i.bounded i.once e)) refl;
-  }
+  settled : (bounds : Bounds) (at : ℕ) (s : Declarations) (notes : Notes) → IsFirstUnnamed ds at → notes.unknown ≡ Some at
+      → Settled bounds (length bytes) ds s notes (Err (8, at))
+  settled bounds at s notes i e =
+      let some : first_fault (form_faults ds notes) ≡ None → ⊥ =
+      λ f. none_some (sym f ∙ told (first_past ds) (first_twice (outers_of ds)) notes.unknown at [] i.bounded i.once e) in
+      record {
+        ring = None;
+        ring_found = λ f. absurd (some f);
+        large = None;
+        large_found = λ f no. absurd (some f);
+        reading = None;
+        reading_found = λ f no small. absurd (some f);
+        verdict = subst (λ f. IsVerdict f (app_in s s.frames) (Err (8, at)))
+            (sym (told (first_past ds) (first_twice (outers_of ds)) notes.unknown at (type_faults None None ++ frame_faults bounds (length bytes) s None) i.bounded i.once e)) refl;
+      }
 
-  noted_refused : (at : ℕ) → IsFirstUnnamed ds at → (x : Declarations × Notes) → parse ds nothing_noted ≡ Ok x → IsRefusal bytes 8 at
-  noted_refused at i x e =
+  noted_refused : (bounds : Bounds) (at : ℕ) → IsFirstUnnamed ds at → (x : Declarations × Notes) → parse ds nothing_noted ≡ Ok x → IsRefusal bounds bytes 8 at
+  noted_refused bounds at i x e =
       inr (record {
         forms = forms;
         read = r;
-        comes = subst (λ o. Comes (length bytes) ds o (Err (8, at))) (sym e)
-            (settled at x.0 x.1 i (least_noted at i x.1.unknown (text_noted w ds nothing_noted (data_lie bytes forms r) x.1 x.0 e)));
+        comes = subst (λ o. Comes bounds (length bytes) ds o (Err (8, at))) (sym e)
+            (settled bounds at x.0 x.1 i (least_noted at i x.1.unknown (text_noted w ds nothing_noted (data_lie bytes forms r) x.1 x.0 e)));
       })
 
-  pub unnamed_refused : (at : ℕ) → IsFirstUnnamed ds at → IsRefusal bytes 8 at
-  unnamed_refused at i =
+  pub unnamed_refused : (bounds : Bounds) (at : ℕ) → IsFirstUnnamed ds at → IsRefusal bounds bytes 8 at
+  unnamed_refused bounds at i =
       let x : (x : Declarations × Notes) × (parse ds nothing_noted ≡ Ok x) = unblamed_read i.blameless (parse ds nothing_noted) refl in
-      noted_refused at i x.0 x.1
+      noted_refused bounds at i x.0 x.1
 
-pub loaded_declared : (bytes : List ℕ) (app : App) → IsApplication bytes app → IsDeclared bytes
-loaded_declared bytes app h =
-    read_declared bytes h.forms h.read (outcome_read (length bytes) (data_of h.forms) app (parse (data_of h.forms) nothing_noted) refl h.comes)
+pub loaded_declared : (bounds : Bounds) (bytes : List ℕ) (app : App) → IsApplication bounds bytes app → IsDeclared bytes
+loaded_declared bounds bytes app h =
+    read_declared bytes h.forms h.read (outcome_read bounds (length bytes) (data_of h.forms) app (parse (data_of h.forms) nothing_noted) refl h.comes)

@@ -8,6 +8,7 @@ ghost use Rattle.cl_words.specs.declared.signatures.Signatures.{Signatures};
 ghost use Rattle.cl_declare.specs.Declarations.{parse_declaration, parse_declarations};
 ghost use Rattle.cl_declare.specs.declared.declarations.Declarations.{Declarations};
 ghost use Rattle.cl_load.specs.Application.{AreForms, IsApplication, IsRefusal, data_of};
+ghost use Rattle.cl_load.specs.Types.{Bounds};
 ghost use Rattle.cl_application.specs.declared.applications.App.{App};
 ghost use Rattle.cl_text_grammar.specs.FormBlames.{IsFirst};
 ghost use Rattle.cl_faults.specs.Faults.{StandsIn, AreInOrder, IsLeastFault};
@@ -40,21 +41,23 @@ pub fn first_fault_of_a_text_has_least_offset()
         → IsLeastFault w (data_of forms) n o }
 {}
 
-/// In a text that loads no form is to blame, and each name is declared: no call has a wrong count, and no name is without its
+/// In a text that loads, on whatever host types, no form is to blame, and each name is declared: no call has a wrong count, and no name is without its
 /// declaration.
 pub fn what_loads_is_declared()
-    ensures { (bytes : List ℕ) (app : App) → IsApplication bytes app → IsDeclared bytes }
+    ensures { (bounds : Bounds) (bytes : List ℕ) (app : App) → IsApplication bounds bytes app
+        → IsDeclared bytes }
 {}
 
-/// The first form of a text that is to blame is its refusal.
+/// The first form of a text that is to blame is its refusal, on whatever host types.
 pub fn first_blame_of_a_text_is_its_refusal()
-    ensures { (bytes : List ℕ) (forms : List Tree) (number at : ℕ) → AreForms bytes forms
-        → IsFirst (DataBlame (data_of forms)) number at → IsRefusal bytes number at }
+    ensures { (bounds : Bounds) (bytes : List ℕ) (forms : List Tree) (number at : ℕ)
+        → AreForms bytes forms → IsFirst (DataBlame (data_of forms)) number at
+        → IsRefusal bounds bytes number at }
 {}
 
 /// The first name of a text that is not declared is its refusal, by 8, where nothing in the text is to blame, past a limit or
 /// declared twice.
 pub fn first_unnamed_of_a_text_is_its_refusal()
-    ensures { (bytes : List ℕ) (forms : List Tree) (at : ℕ) → AreForms bytes forms
-        → IsFirstUnnamed (data_of forms) at → IsRefusal bytes 8 at }
+    ensures { (bounds : Bounds) (bytes : List ℕ) (forms : List Tree) (at : ℕ) → AreForms bytes forms
+        → IsFirstUnnamed (data_of forms) at → IsRefusal bounds bytes 8 at }
 {}

@@ -1,5 +1,5 @@
 -- What the data of a text come to, by the answers of the steps.
-use Rattle.std.proofs.Common.{◌≡◌, ◌++◌, ℕ, List, [], ◌∷◌, refl, sym, subst}
+use Rattle.std.proofs.Common.{◌≡◌, ◌++◌, inl, inr, ℕ, List, [], ◌∷◌, refl, sym, subst}
 use Rattle.std.specs.Prelude.{Option, Some, None, Result, Ok, Err}
 use Rattle.cl_application.specs.declared.applications.App.{App}
 use Rattle.cl_expressions.specs.Load.{Fault, Notes, nothing_noted}
@@ -10,8 +10,10 @@ use Rattle.cl_declare.specs.declared.declarations.Declarations.{Declarations}
 use Rattle.cl_load.specs.Answers.{Passes}
 use Rattle.cl_load.specs.Loads.{Concludes}
 use Rattle.cl_load.specs.Outcome.{Comes, IsVerdict, Settled, parse}
-use Rattle.cl_load.specs.Refusals.{app_in, first_fault, form_faults, frame_faults}
-use Rattle.cl_load.specs.Settling.{FrameSettled, Settles}
+use Rattle.cl_lattice.specs.World.{World}
+use Rattle.cl_load.specs.Refusals.{app_in, first_fault, form_faults, frame_faults, type_faults}
+use Rattle.cl_load.specs.Settling.{BuildsTypes, FrameSettled, Settles}
+use Rattle.cl_load.specs.Types.{Bounds, FindsLarge, FindsRing}
 use Rattle.cl_load.specs.declared.application.Opened.{Opened}
 
 -- what the first faults leave to the others
@@ -20,7 +22,7 @@ first_none [] ys h = refl
 first_none (None ∷ xs) ys h = first_none xs ys h
 first_none (Some f ∷ xs) ys h = cc
 
-pub first_some : (xs ys : List (Option Fault)) (fault : Fault) → first_fault xs ≡ Some fault → first_fault (xs ++ ys) ≡ Some fault
+first_some : (xs ys : List (Option Fault)) (fault : Fault) → first_fault xs ≡ Some fault → first_fault (xs ++ ys) ≡ Some fault
 first_some [] ys fault h = cc
 first_some (None ∷ xs) ys fault h = first_some xs ys fault h
 first_some (Some f ∷ xs) ys fault h = h
@@ -29,29 +31,79 @@ differ : (fault : Fault) (x : Option Fault) → x ≡ Some fault → x ≡ None 
 differ fault x p q = cc
 
 -- a fault of the forms comes before those of the frame
-pub refused_forms : (B : Type 0) (e : LoadRefusal) (size : ℕ) (ds : List Datum) (s : Declarations) (notes : Notes)
-    → parse ds nothing_noted ≡ Ok (s, notes) → Passes {B = B} (Err e) (first_fault (form_faults ds notes)) → Concludes (Err e) size ds
-refused_forms B (Refused number at) size ds s notes p h =
-    subst (λ r. Comes size ds r (Err (number, at))) (sym p) (record {
+pub refused_forms : (B : Type 0) (e : LoadRefusal) (bounds : Bounds) (size : ℕ) (ds : List Datum) (s : Declarations) (notes : Notes)
+    → parse ds nothing_noted ≡ Ok (s, notes) → Passes {B = B} (Err e) (first_fault (form_faults ds notes)) → Concludes (Err e) bounds size ds
+refused_forms B (Refused number at) bounds size ds s notes p h =
+    let none_is : first_fault (form_faults ds notes) ≡ None → ⊥ = differ (number, at) (first_fault (form_faults ds notes)) h in
+    subst (λ r. Comes bounds size ds r (Err (number, at))) (sym p) (record {
+      ring = None;
+      ring_found = λ none. absurd (none_is none);
+      large = None;
+      large_found = λ none no. absurd (none_is none);
       reading = None;
-      found = λ none. absurd (differ (number, at) (first_fault (form_faults ds notes)) h none);
-      verdict = rw (first_some (form_faults ds notes) (frame_faults size s None) (number, at) h) refl;
+      reading_found = λ none no small. absurd (none_is none);
+      verdict = rw (first_some (form_faults ds notes) (type_faults None None ++ frame_faults bounds size s None) (number, at) h) refl;
     })
-refused_forms B Memory size ds s notes p h = tt
+refused_forms B Memory bounds size ds s notes p h = tt
 
-settled_so : (size : ℕ) (ds : List Datum) (s : Declarations) (notes : Notes) (o : Result App Fault) → first_fault (form_faults ds notes) ≡ None
-    → FrameSettled size s o → Settled size ds s notes o
-settled_so size ds s notes o none f = record {
-  reading = f.reading;
-  found = λ none. f.found;
-  verdict =
-      subst (λ first. IsVerdict first (app_in s s.frames) o) (sym (first_none (form_faults ds notes) (frame_faults size s f.reading) none)) f.verdict;
+-- where the forms have none, a ring of types is told
+ring_so : (bounds : Bounds) (size : ℕ) (ds : List Datum) (s : Declarations) (notes : Notes) (at : ℕ) → first_fault (form_faults ds notes) ≡ None
+    → FindsRing bounds s (Some at) → Settled bounds size ds s notes (Err (9, at))
+ring_so bounds size ds s notes at none ring = record {
+  ring = Some at;
+  ring_found = λ none. ring;
+  large = None;
+  large_found = λ none no. cc;
+  reading = None;
+  reading_found = λ none no small. cc;
+  verdict = rw (first_none (form_faults ds notes) (type_faults (Some at) None ++ frame_faults bounds size s None) none) refl;
 }
 
--- where the forms have none, the frame decides
-pub settled_forms : (r : Result Opened LoadRefusal) (size : ℕ) (ds : List Datum) (s : Declarations) (notes : Notes) → parse ds nothing_noted ≡ Ok (s, notes)
-    → first_fault (form_faults ds notes) ≡ None → Settles r size s → Concludes r size ds
-settled_forms (Ok opened) size ds s notes p none f = subst (λ r. Comes size ds r (Ok opened.app)) (sym p) (settled_so size ds s notes (Ok opened.app) none f)
-settled_forms (Err (Refused number at)) size ds s notes p none f =
-    subst (λ r. Comes size ds r (Err (number, at))) (sym p) (settled_so size ds s notes (Err (number, at)) none f)
-settled_forms (Err Memory) size ds s notes p none f = tt
+-- where there is none, a type past the limits
+large_so : (bounds : Bounds) (size : ℕ) (ds : List Datum) (s : Declarations) (notes : Notes) (at : ℕ) → first_fault (form_faults ds notes) ≡ None
+    → FindsRing bounds s None → FindsLarge bounds s notes (Some at) → Settled bounds size ds s notes (Err (13, at))
+large_so bounds size ds s notes at none ring large = record {
+  ring = None;
+  ring_found = λ none. ring;
+  large = Some at;
+  large_found = λ none no. large;
+  reading = None;
+  reading_found = λ none no small. cc;
+  verdict = rw (first_none (form_faults ds notes) (type_faults None (Some at) ++ frame_faults bounds size s None) none) refl;
+}
+
+refused_so : (bounds : Bounds) (size : ℕ) (ds : List Datum) (s : Declarations) (notes : Notes) (number at : ℕ) → first_fault (form_faults ds notes) ≡ None
+    → BuildsTypes (Err (Refused number at)) bounds s notes → Settled bounds size ds s notes (Err (number, at))
+refused_so bounds size ds s notes number at none (inl ring) =
+    subst (λ (n : ℕ). Settled bounds size ds s notes (Err (n, at))) (sym ring.0) (ring_so bounds size ds s notes at none ring.1)
+refused_so bounds size ds s notes number at none (inr large) =
+    subst (λ (n : ℕ). Settled bounds size ds s notes (Err (n, at))) (sym large.0) (large_so bounds size ds s notes at none large.1 large.2)
+
+pub refused_types : (e : LoadRefusal) (bounds : Bounds) (size : ℕ) (ds : List Datum) (s : Declarations) (notes : Notes) → parse ds nothing_noted ≡ Ok (s, notes)
+    → first_fault (form_faults ds notes) ≡ None → BuildsTypes (Err e) bounds s notes → Concludes (Err e) bounds size ds
+refused_types (Refused number at) bounds size ds s notes p none h =
+    subst (λ r. Comes bounds size ds r (Err (number, at))) (sym p) (refused_so bounds size ds s notes number at none h)
+refused_types Memory bounds size ds s notes p none h = tt
+
+settled_so : (bounds : Bounds) (size : ℕ) (ds : List Datum) (s : Declarations) (notes : Notes) (o : Result App Fault) → first_fault (form_faults ds notes) ≡ None
+    → FindsRing bounds s None → FindsLarge bounds s notes None → FrameSettled bounds size s o → Settled bounds size ds s notes o
+settled_so bounds size ds s notes o none ring large f = record {
+  ring = None;
+  ring_found = λ none. ring;
+  large = None;
+  large_found = λ none no. large;
+  reading = f.reading;
+  reading_found = λ none no small. f.found;
+  verdict =
+      subst (λ first. IsVerdict first (app_in s s.frames) o)
+      (sym (first_none (form_faults ds notes) (type_faults None None ++ frame_faults bounds size s f.reading) none)) f.verdict;
+}
+
+-- where the types have none either, the frame decides
+pub settled_forms : (r : Result Opened LoadRefusal) (bounds : Bounds) (size : ℕ) (ds : List Datum) (s : Declarations) (notes : Notes) (w : World) → parse ds nothing_noted ≡ Ok (s, notes)
+    → first_fault (form_faults ds notes) ≡ None → BuildsTypes (Ok w) bounds s notes → Settles r bounds size s → Concludes r bounds size ds
+settled_forms (Ok opened) bounds size ds s notes w p none types f =
+    (subst (λ r. Comes bounds size ds r (Ok opened.app)) (sym p) (settled_so bounds size ds s notes (Ok opened.app) none types.1 types.2 f.0), f.1)
+settled_forms (Err (Refused number at)) bounds size ds s notes w p none types f =
+    subst (λ r. Comes bounds size ds r (Err (number, at))) (sym p) (settled_so bounds size ds s notes (Err (number, at)) none types.1 types.2 f)
+settled_forms (Err Memory) bounds size ds s notes w p none types f = tt

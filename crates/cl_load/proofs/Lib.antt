@@ -3,4 +3,5 @@ pub mod OpeningLemmas
 pub mod PlacingLemmas
 pub mod SettlingLemmas
 pub mod ConcludeLemmas
+pub mod TypeLemmas
 pub mod OneOutcome

@@ -1,5 +1,5 @@
 -- A text has one outcome: it declares one application, or it has one first refusal.
-use Rattle.std.proofs.Common.{◌≡◌, inl, inr, List, ℕ, [], ◌∷◌, length, subst, refl, sym, ap, ◌∙◌, arith}
+use Rattle.std.proofs.Common.{◌≡◌, ◌++◌, inl, inr, List, ℕ, [], ◌∷◌, length, subst, refl, sym, ap, ◌∙◌, arith}
 use Rattle.std.specs.Prelude.{Result, Ok, Err}
 use Rattle.cl_sexp.specs.declared.Token.{Token}
 use Rattle.cl_sexp.specs.Tokens.{tokens_of}
@@ -16,8 +16,9 @@ use Rattle.cl_eval.specs.Uses.{Functions}
 use Rattle.cl_load.specs.Application.{AreForms, IsUnreadable, ComesTo, HasOutcome, data_of}
 use Rattle.cl_load.specs.Outcome.{Comes, IsVerdict, Outcome, Settled, parse}
 use Rattle.cl_load.specs.Readings.{Finds, IsFirstReading, NoneReads}
-use Rattle.cl_load.specs.Refusals.{app_in, faults, first_fault, form_faults, frame_faults}
-use Rattle.cl_load.proofs.ConcludeLemmas.{first_some}
+use Rattle.cl_load.specs.Refusals.{app_in, faults, first_fault, form_faults, frame_faults, numbered, type_faults}
+use Rattle.cl_load.specs.Types.{Bounds}
+use Rattle.cl_load.proofs.TypeLemmas.{large_once, ring_once}
 
 -- trees in a row
 abbrev parse_in : Trees → List Tree
@@ -73,42 +74,53 @@ verdict_once None app (Ok a) (Ok b) x y = same_app app a b x y
 verdict_once None app (Ok a) (Err g) x y = absurd y
 verdict_once None app (Err f) b x y = absurd x
 
--- where the forms have a fault, it is the first, whatever reads a slot
-faulty_once : (length : ℕ) (ds : List Datum) (s : Declarations) (notes : Notes) (fault : Fault) (a b : Result App Fault) → first_fault (form_faults ds notes) ≡ Some fault
-    → Settled length ds s notes a → Settled length ds s notes b → a ≡ b
-faulty_once length ds s notes fault a b h x y =
-    verdict_once (Some fault) (app_in s s.frames) a b
-    (subst (λ first. IsVerdict first (app_in s s.frames) a) (first_some (form_faults ds notes) (frame_faults length s x.reading) fault h) x.verdict)
-    (subst (λ first. IsVerdict first (app_in s s.frames) b) (first_some (form_faults ds notes) (frame_faults length s y.reading) fault h) y.verdict)
+-- the same is the first of two rows where their first parts are the same, and have a fault or more of the same behind them
+first_by : (xs ys zs : List (Option Fault)) → (first_fault xs ≡ None → first_fault ys ≡ first_fault zs) → first_fault (xs ++ ys) ≡ first_fault (xs ++ zs)
+first_by [] ys zs h = h refl
+first_by (None ∷ xs) ys zs h = first_by xs ys zs h
+first_by (Some f ∷ xs) ys zs h = refl
 
-clear_once : (length : ℕ) (ds : List Datum) (s : Declarations) (notes : Notes) (a b : Result App Fault) → first_fault (form_faults ds notes) ≡ None
-    → Settled length ds s notes a → Settled length ds s notes b → a ≡ b
-clear_once length ds s notes a b h x y =
-    verdict_once (first_fault (faults length ds s notes y.reading)) (app_in s s.frames) a b
-    (subst (λ reading. IsVerdict (first_fault (faults length ds s notes reading)) (app_in s s.frames) a)
-    (found_once s.functions s.frames x.reading y.reading (x.found h) (y.found h)) x.verdict)
-    y.verdict
+numbered_same : (n : ℕ) (r : Option ℕ) (ys zs : List (Option Fault)) → (r ≡ None → first_fault ys ≡ first_fault zs)
+    → first_fault (numbered n r ∷ ys) ≡ first_fault (numbered n r ∷ zs)
+numbered_same n None ys zs h = h refl
+numbered_same n (Some at) ys zs h = refl
 
-settled_once : (length : ℕ) (ds : List Datum) (s : Declarations) (notes : Notes) (a b : Result App Fault) → Settled length ds s notes a → Settled length ds s notes b → a ≡ b
-settled_once length ds s notes a b x y = by (first_fault (form_faults ds notes)) refl
-  where
-    by : (first : Option Fault) → first_fault (form_faults ds notes) ≡ first → a ≡ b
-    by (Some fault) h = faulty_once length ds s notes fault a b h x y
-    by None h = clear_once length ds s notes a b h x y
+numbered_by : (n : ℕ) (r q : Option ℕ) (ys zs : List (Option Fault)) → r ≡ q → (r ≡ None → first_fault ys ≡ first_fault zs)
+    → first_fault (numbered n r ∷ ys) ≡ first_fault (numbered n q ∷ zs)
+numbered_by n r q ys zs e h = subst (λ (p : Option ℕ). first_fault (numbered n r ∷ ys) ≡ first_fault (numbered n p ∷ zs)) e (numbered_same n r ys zs h)
 
-comes_once : (length : ℕ) (ds : List Datum) (r : Result (Declarations × Notes) Fault) (a b : Result App Fault) → Comes length ds r a → Comes length ds r b → a ≡ b
-comes_once length ds (Err fault) a b x y = x ∙ sym y
-comes_once length ds (Ok r) a b x y = settled_once length ds r.0 r.1 a b x y
+-- one fault is the first
+faults_once : (bounds : Bounds) (length : ℕ) (ds : List Datum) (s : Declarations) (notes : Notes) (a b : Result App Fault) (x : Settled bounds length ds s notes a) (y : Settled bounds length ds s notes b)
+    → first_fault (faults bounds length ds s notes x.ring x.large x.reading) ≡ first_fault (faults bounds length ds s notes y.ring y.large y.reading)
+faults_once bounds length ds s notes a b x y =
+    first_by (form_faults ds notes) (type_faults x.ring x.large ++ frame_faults bounds length s x.reading) (type_faults y.ring y.large ++ frame_faults bounds length s y.reading) λ clear.
+    let ring : x.ring ≡ y.ring = ring_once bounds s x.ring y.ring (x.ring_found clear) (y.ring_found clear) in
+    numbered_by 9 x.ring y.ring _ _ ring λ no.
+    let none : y.ring ≡ None = sym ring ∙ no in
+    let large : x.large ≡ y.large = large_once bounds s notes x.large y.large (x.large_found clear no) (y.large_found clear none) in
+    numbered_by 13 x.large y.large _ _ large λ small.
+    numbered_by 10 x.reading y.reading _ _
+    (found_once s.functions s.frames x.reading y.reading (x.reading_found clear no small) (y.reading_found clear none (sym large ∙ small))) (λ free. refl)
 
-come_once : (bytes : List ℕ) (a b : Result App (ℕ × ℕ)) → ComesTo bytes a → ComesTo bytes b → a ≡ b
-come_once bytes a b x y =
+settled_once : (bounds : Bounds) (length : ℕ) (ds : List Datum) (s : Declarations) (notes : Notes) (a b : Result App Fault) → Settled bounds length ds s notes a → Settled bounds length ds s notes b → a ≡ b
+settled_once bounds length ds s notes a b x y =
+    verdict_once (first_fault (faults bounds length ds s notes y.ring y.large y.reading)) (app_in s s.frames) a b
+    (subst (λ first. IsVerdict first (app_in s s.frames) a) (faults_once bounds length ds s notes a b x y) x.verdict) y.verdict
+
+comes_once : (bounds : Bounds) (length : ℕ) (ds : List Datum) (r : Result (Declarations × Notes) Fault) (a b : Result App Fault) → Comes bounds length ds r a → Comes bounds length ds r b → a ≡ b
+comes_once bounds length ds (Err fault) a b x y = x ∙ sym y
+comes_once bounds length ds (Ok r) a b x y = settled_once bounds length ds r.0 r.1 a b x y
+
+come_once : (bounds : Bounds) (bytes : List ℕ) (a b : Result App (ℕ × ℕ)) → ComesTo bounds bytes a → ComesTo bounds bytes b → a ≡ b
+come_once bounds bytes a b x y =
     let same : x.forms ≡ y.forms = same_forms bytes x.forms y.forms x.read y.read in
-    comes_once (length bytes) (data_of y.forms) (parse (data_of y.forms) nothing_noted) a b (subst (λ (fs : List Tree). Outcome (length bytes) (data_of fs) a) same x.comes) y.comes
+    comes_once bounds (length bytes) (data_of y.forms) (parse (data_of y.forms) nothing_noted) a b
+    (subst (λ (fs : List Tree). Outcome bounds (length bytes) (data_of fs) a) same x.comes) y.comes
 
 -- what has forms is readable
-readable : (bytes : List ℕ) (number at : ℕ) (a : Result App (ℕ × ℕ)) → IsUnreadable bytes number at → ComesTo bytes a → ⊥
-readable bytes number at a (inl x) y = omega (arith, x.long, y.read.short)
-readable bytes number at a (inr x) y = no_tokens (tokens_of bytes) y.read.tokens (number, at) y.read.read x.fault
+readable : (bounds : Bounds) (bytes : List ℕ) (number at : ℕ) (a : Result App (ℕ × ℕ)) → IsUnreadable bytes number at → ComesTo bounds bytes a → ⊥
+readable bounds bytes number at a (inl x) y = omega (arith, x.long, y.read.short)
+readable bounds bytes number at a (inr x) y = no_tokens (tokens_of bytes) y.read.tokens (number, at) y.read.read x.fault
 
 unread_once : (bytes : List ℕ) (m j n k : ℕ) → IsUnreadable bytes m j → IsUnreadable bytes n k → ◌≡◌ {A = ℕ × ℕ} (m, j) (n, k)
 unread_once bytes m j n k (inl x) (inl y) = rw (x.refused.0, x.refused.1, y.refused.0, y.refused.1) refl
@@ -116,13 +128,13 @@ unread_once bytes m j n k (inl x) (inr y) = absurd (omega (arith, x.long, y.shor
 unread_once bytes m j n k (inr x) (inl y) = absurd (omega (arith, y.long, x.short))
 unread_once bytes m j n k (inr x) (inr y) = same_fault (tokens_of bytes) (m, j) (n, k) x.fault y.fault
 
-pub one_outcome : (bytes : List ℕ) (a b : Result App (ℕ × ℕ)) → HasOutcome bytes a → HasOutcome bytes b → a ≡ b
-one_outcome bytes (Ok a) (Ok b) x y = come_once bytes (Ok a) (Ok b) x y
-one_outcome bytes (Ok a) (Err (n, k)) x (inl y) = absurd (readable bytes n k (Ok a) y x)
-one_outcome bytes (Ok a) (Err (n, k)) x (inr y) = come_once bytes (Ok a) (Err (n, k)) x y
-one_outcome bytes (Err (m, j)) (Ok b) (inl x) y = absurd (readable bytes m j (Ok b) x y)
-one_outcome bytes (Err (m, j)) (Ok b) (inr x) y = come_once bytes (Err (m, j)) (Ok b) x y
-one_outcome bytes (Err (m, j)) (Err (n, k)) (inl x) (inl y) = ap (λ fault. Err fault) (unread_once bytes m j n k x y)
-one_outcome bytes (Err (m, j)) (Err (n, k)) (inl x) (inr y) = absurd (readable bytes m j (Err (n, k)) x y)
-one_outcome bytes (Err (m, j)) (Err (n, k)) (inr x) (inl y) = absurd (readable bytes n k (Err (m, j)) y x)
-one_outcome bytes (Err (m, j)) (Err (n, k)) (inr x) (inr y) = come_once bytes (Err (m, j)) (Err (n, k)) x y
+pub one_outcome : (bounds : Bounds) (bytes : List ℕ) (a b : Result App (ℕ × ℕ)) → HasOutcome bounds bytes a → HasOutcome bounds bytes b → a ≡ b
+one_outcome bounds bytes (Ok a) (Ok b) x y = come_once bounds bytes (Ok a) (Ok b) x y
+one_outcome bounds bytes (Ok a) (Err (n, k)) x (inl y) = absurd (readable bounds bytes n k (Ok a) y x)
+one_outcome bounds bytes (Ok a) (Err (n, k)) x (inr y) = come_once bounds bytes (Ok a) (Err (n, k)) x y
+one_outcome bounds bytes (Err (m, j)) (Ok b) (inl x) y = absurd (readable bounds bytes m j (Ok b) x y)
+one_outcome bounds bytes (Err (m, j)) (Ok b) (inr x) y = come_once bounds bytes (Err (m, j)) (Ok b) x y
+one_outcome bounds bytes (Err (m, j)) (Err (n, k)) (inl x) (inl y) = ap (λ fault. Err fault) (unread_once bytes m j n k x y)
+one_outcome bounds bytes (Err (m, j)) (Err (n, k)) (inl x) (inr y) = absurd (readable bounds bytes m j (Err (n, k)) x y)
+one_outcome bounds bytes (Err (m, j)) (Err (n, k)) (inr x) (inl y) = absurd (readable bounds bytes n k (Err (m, j)) y x)
+one_outcome bounds bytes (Err (m, j)) (Err (n, k)) (inr x) (inr y) = come_once bounds bytes (Err (m, j)) (Err (n, k)) x y

@@ -1,4 +1,4 @@
--- What a text is: an application, or its first refusal.
+-- What a text is on the host types that are handed in: an application, or its first refusal.
 use Rattle.std.specs.Prelude.{◌≡◌, ◌≤◌, ◌<◌, ◌⊎◌, ℕ, List, length, Result, Ok, Err}
 use Rattle.cl_sexp.specs.declared.Token.{Token}
 use Rattle.cl_sexp.specs.Tokens.{tokens_of}
@@ -8,7 +8,9 @@ use Rattle.cl_forms.specs.Grouped.{grouped}
 use Rattle.cl_forms.specs.Tree.{Tree, trees_of, spelled_all}
 use Rattle.cl_forms.specs.Spelled.{lexemes}
 use Rattle.cl_forms.specs.declared.grouping.Waiting.TheVariants.{Nothing}
+use Rattle.cl_lattice.specs.World.{World}
 use Rattle.cl_load.specs.Outcome.{Outcome}
+use Rattle.cl_load.specs.Types.{Bounds, types_in}
 
 -- the forms of a text: the text has tokens, and these spell the forms
 pub record AreForms (bytes : List ℕ) (forms : List Tree) : Type 0 where
@@ -32,26 +34,26 @@ abbrev pub data_of : List Tree → List Datum
 data_of forms = grouped Nothing (trees_of forms)
 
 -- the data of the text come to this
-pub record ComesTo (bytes : List ℕ) (o : Result App (ℕ × ℕ)) : Type 0 where
+pub record ComesTo (bounds : Bounds) (bytes : List ℕ) (o : Result App (ℕ × ℕ)) : Type 0 where
   pub forms : List Tree
   pub read : AreForms bytes forms
-  pub comes : Outcome (length bytes) (data_of forms) o
+  pub comes : Outcome bounds (length bytes) (data_of forms) o
 
 abbrev pub IsUnreadable : List ℕ → (number at : ℕ) → Type 0
 IsUnreadable bytes number at = IsTooLong bytes number at ⊎ IsUnread bytes number at
 
 -- an application of a text is what its data come to
-abbrev pub HasOutcome : List ℕ → Result App (ℕ × ℕ) → Type 0
-HasOutcome bytes (Ok app) = ComesTo bytes (Ok app)
-HasOutcome bytes (Err (number, at)) = IsUnreadable bytes number at ⊎ ComesTo bytes (Err (number, at))
+abbrev pub HasOutcome : Bounds → List ℕ → Result App (ℕ × ℕ) → Type 0
+HasOutcome bounds bytes (Ok app) = ComesTo bounds bytes (Ok app)
+HasOutcome bounds bytes (Err (number, at)) = IsUnreadable bytes number at ⊎ ComesTo bounds bytes (Err (number, at))
 
-abbrev pub IsApplication : List ℕ → App → Type 0
-IsApplication bytes app = HasOutcome bytes (Ok app)
+abbrev pub IsApplication : Bounds → List ℕ → App → Type 0
+IsApplication bounds bytes app = HasOutcome bounds bytes (Ok app)
 
 -- the first refusal of a text, and its offset
-abbrev pub IsRefusal : List ℕ → (number at : ℕ) → Type 0
-IsRefusal bytes number at = HasOutcome bytes (Err (number, at))
+abbrev pub IsRefusal : Bounds → List ℕ → (number at : ℕ) → Type 0
+IsRefusal bounds bytes number at = HasOutcome bounds bytes (Err (number, at))
 
--- an application of some text: it cannot be that no text declares it
-abbrev pub IsOfText : App → Type 0
-IsOfText app = ((bytes : List ℕ) → IsApplication bytes app → ⊥) → ⊥
+-- an application of some text with its types: it cannot be that on no host types a text declares it, and these are its types
+abbrev pub IsOfText : App → World → Type 0
+IsOfText app w = ((bounds : Bounds) (bytes : List ℕ) → IsApplication bounds bytes app → w ≡ types_in bounds app → ⊥) → ⊥

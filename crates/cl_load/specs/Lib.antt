@@ -1,4 +1,4 @@
-pub mod SlotTypes
+pub mod Types
 pub mod Opening
 pub mod Placing
 pub mod Apart

@@ -10,7 +10,6 @@ use Rattle.cl_eval.specs.declared.metering.Limits.{Limits}
 use Rattle.cl_eval.specs.Evaluated.{outcome_of_eval}
 use Rattle.cl_eval.specs.Outcome.{Outcome, Gives, Traps}
 use Rattle.cl_eval.specs.Slots.{Slots, put}
-use Rattle.cl_load.specs.SlotTypes.{is_member}
 use Rattle.cl_forms.specs.declared.refusals.LoadRefusal.{LoadRefusal}
 use Rattle.cl_forms.specs.declared.refusals.LoadRefusal.TheVariants.{Refused, Memory}
 
@@ -27,15 +26,19 @@ abbrev pub value_in : Outcome Data → Data
 value_in (Gives d cost deepest) = d
 value_in (Traps kind cost deepest) = null
 
+-- whether a value is a member of a type
+abbrev pub Holds : Type 0
+Holds = Data → TypeSpecTree → Bool
+
 -- a value that is a member of the type
-abbrev pub is_fit : Outcome Data → TypeSpecTree → Bool
-is_fit (Gives d cost deepest) spec = is_member d spec
-is_fit (Traps kind cost deepest) spec = false
+abbrev pub is_fit : Holds → Outcome Data → TypeSpecTree → Bool
+is_fit holds (Gives d cost deepest) spec = holds d spec
+is_fit holds (Traps kind cost deepest) spec = false
 
 -- the offset of the first opening value that traps or is no member of its slot's type
-abbrev pub first_unfit : App → List (List ℕ × SlotDecl) → Option ℕ
-first_unfit app [] = None
-first_unfit app (s ∷ more) = if is_fit (opening_of app s.1) s.1.spec then first_unfit app more else Some s.1.opening_at
+abbrev pub first_unfit : Holds → App → List (List ℕ × SlotDecl) → Option ℕ
+first_unfit holds app [] = None
+first_unfit holds app (s ∷ more) = if is_fit holds (opening_of app s.1) s.1.spec then first_unfit holds app more else Some s.1.opening_at
 
 -- each slot with its opening value, beside those that stand
 abbrev pub opened : App → List (List ℕ × SlotDecl) → Slots → Slots
@@ -48,19 +51,19 @@ opening_slots app = opened app app.frame.slots []
 -- ---- what the program answers
 
 -- the value, where it is a member of the slot's type
-abbrev pub IsMemberOf : Result Value LoadRefusal → Data → SlotDecl → Type 0
-IsMemberOf (Ok v) d slot = (data_of v ≡ d) × (is_member d slot.spec ≡ true)
-IsMemberOf (Err (Refused number at)) d slot = (number ≡ 12) × (at ≡ slot.opening_at) × (is_member d slot.spec ≡ false)
-IsMemberOf (Err Memory) d slot = Unit {0}
+abbrev pub IsMemberOf : Result Value LoadRefusal → Holds → Data → SlotDecl → Type 0
+IsMemberOf (Ok v) holds d slot = (data_of v ≡ d) × (holds d slot.spec ≡ true)
+IsMemberOf (Err (Refused number at)) holds d slot = (number ≡ 12) × (at ≡ slot.opening_at) × (holds d slot.spec ≡ false)
+IsMemberOf (Err Memory) holds d slot = Unit {0}
 
 -- the value of one slot
-abbrev pub OpensValue : Result Value LoadRefusal → Outcome Data → SlotDecl → Type 0
-OpensValue (Ok v) o d = (data_of v ≡ value_in o) × (is_fit o d.spec ≡ true)
-OpensValue (Err (Refused number at)) o d = (number ≡ 12) × (at ≡ d.opening_at) × (is_fit o d.spec ≡ false)
-OpensValue (Err Memory) o d = Unit {0}
+abbrev pub OpensValue : Result Value LoadRefusal → Holds → Outcome Data → SlotDecl → Type 0
+OpensValue (Ok v) holds o d = (data_of v ≡ value_in o) × (is_fit holds o d.spec ≡ true)
+OpensValue (Err (Refused number at)) holds o d = (number ≡ 12) × (at ≡ d.opening_at) × (is_fit holds o d.spec ≡ false)
+OpensValue (Err Memory) holds o d = Unit {0}
 
 -- the slots
-abbrev pub OpensSlots : Result Slots LoadRefusal → App → Type 0
-OpensSlots (Ok slots) app = (first_unfit app app.frame.slots ≡ None) × (slots ≡ opening_slots app)
-OpensSlots (Err (Refused number at)) app = (number ≡ 12) × (first_unfit app app.frame.slots ≡ Some at)
-OpensSlots (Err Memory) app = Unit {0}
+abbrev pub OpensSlots : Result Slots LoadRefusal → Holds → App → Type 0
+OpensSlots (Ok slots) holds app = (first_unfit holds app app.frame.slots ≡ None) × (slots ≡ opening_slots app)
+OpensSlots (Err (Refused number at)) holds app = (number ≡ 12) × (first_unfit holds app app.frame.slots ≡ Some at)
+OpensSlots (Err Memory) holds app = Unit {0}

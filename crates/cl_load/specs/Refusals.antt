@@ -11,6 +11,7 @@ use Rattle.cl_phases.specs.Limits.{first_past}
 use Rattle.cl_phases.specs.Twice.{first_twice}
 use Rattle.cl_load.specs.Opening.{first_unfit}
 use Rattle.cl_load.specs.Placing.{place_frame}
+use Rattle.cl_load.specs.Types.{Bounds, holds_in, host_types, types_in, user_types}
 
 -- a fault of this number, where there is an offset for it
 abbrev pub numbered : ℕ → Option ℕ → Option Fault
@@ -38,9 +39,9 @@ abbrev pub no_place : List FrameForm → Option Fault
 no_place [] = None
 no_place (f ∷ more) = fault_in (place_frame f)
 
--- no text declares types or methods of types yet
+-- no text declares methods of types yet
 abbrev pub app_of : Declarations → FrameDecl → App
-app_of s f = record { records = s.records; types = []; hosts = []; present_methods = []; accept_methods = []; functions = s.functions; displays = s.displays; commands = s.commands; frame = f }
+app_of s f = record { records = s.records; types = user_types s; hosts = host_types s; present_methods = []; accept_methods = []; functions = s.functions; displays = s.displays; commands = s.commands; frame = f }
 
 abbrev pub app_placed : Declarations → Result FrameDecl Fault → Option App
 app_placed s (Ok f) = Some (app_of s f)
@@ -52,20 +53,24 @@ app_in s [] = None
 app_in s (f ∷ more) = app_placed s (place_frame f)
 
 -- an opening value that traps or is no member of its type
-abbrev pub unfit : Option App → Option ℕ
-unfit None = None
-unfit (Some app) = first_unfit app app.frame.slots
+abbrev pub unfit : Bounds → Option App → Option ℕ
+unfit bounds None = None
+unfit bounds (Some app) = first_unfit (holds_in (types_in bounds app) app) app app.frame.slots
 
 -- what is past a limit; what is declared twice or reserved; the first name that is not declared
 abbrev pub form_faults : List Datum → Notes → List (Option Fault)
 form_faults ds notes =
     numbered 13 (first_past ds) ∷ numbered 7 (first_twice (outers_of ds)) ∷ numbered 8 notes.unknown ∷ []
 
+-- a ring of user types; a type whose expansion is past a limit
+abbrev pub type_faults : (ring large : Option ℕ) → List (Option Fault)
+type_faults ring large = numbered 9 ring ∷ numbered 13 large ∷ []
+
 -- an opening value that reads a slot; no frame or two; no place for it; an opening value that is not fit
-abbrev pub frame_faults : ℕ → Declarations → Option ℕ → List (Option Fault)
-frame_faults length s reading =
-    numbered 10 reading ∷ numbered 14 (frame_missed length s.frames) ∷ no_place s.frames ∷ numbered 12 (unfit (app_in s s.frames)) ∷ []
+abbrev pub frame_faults : Bounds → ℕ → Declarations → (reading : Option ℕ) → List (Option Fault)
+frame_faults bounds length s reading =
+    numbered 10 reading ∷ numbered 14 (frame_missed length s.frames) ∷ no_place s.frames ∷ numbered 12 (unfit bounds (app_in s s.frames)) ∷ []
 
 -- all of them
-abbrev pub faults : ℕ → List Datum → Declarations → Notes → Option ℕ → List (Option Fault)
-faults length ds s notes reading = form_faults ds notes ++ frame_faults length s reading
+abbrev pub faults : Bounds → ℕ → List Datum → Declarations → Notes → (ring large reading : Option ℕ) → List (Option Fault)
+faults bounds length ds s notes ring large reading = form_faults ds notes ++ type_faults ring large ++ frame_faults bounds length s reading

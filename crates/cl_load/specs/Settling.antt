@@ -1,27 +1,29 @@
 -- What the last steps of the load answer. Out of memory answers nothing.
-use Rattle.std.specs.Prelude.{◌≡◌, ℕ, List, [], ◌∷◌, Option, Some, None, Result, Ok, Err}
+use Rattle.std.specs.Prelude.{◌≡◌, ◌⊎◌, ℕ, List, [], ◌∷◌, Option, Some, None, Result, Ok, Err}
 use Rattle.cl_application.specs.declared.applications.App.{App}
-use Rattle.cl_expressions.specs.Load.{Fault}
+use Rattle.cl_expressions.specs.Load.{Fault, Notes}
 use Rattle.cl_forms.specs.declared.refusals.LoadRefusal.{LoadRefusal}
 use Rattle.cl_forms.specs.declared.refusals.LoadRefusal.TheVariants.{Refused, Memory}
 use Rattle.cl_declare.specs.declared.declarations.Declarations.{Declarations}
 use Rattle.cl_declare.specs.declared.frames.FrameForm.{FrameForm}
+use Rattle.cl_lattice.specs.World.{World}
 use Rattle.cl_load.specs.Opening.{first_unfit}
 use Rattle.cl_load.specs.Outcome.{IsVerdict}
 use Rattle.cl_load.specs.Readings.{Finds}
 use Rattle.cl_load.specs.Refusals.{app_in, first_fault, frame_faults, frame_missed, numbered}
+use Rattle.cl_load.specs.Types.{Bounds, FindsLarge, FindsRing, declared_types, holds_in, types_in}
 use Rattle.cl_load.specs.declared.application.Opened.{Opened}
 
 -- what the frame of declarations comes to
-pub record FrameSettled (length : ℕ) (s : Declarations) (o : Result App Fault) : Type 0 where
+pub record FrameSettled (bounds : Bounds) (length : ℕ) (s : Declarations) (o : Result App Fault) : Type 0 where
   pub reading : Option ℕ
   pub found : Finds s.functions s.frames reading
-  pub verdict : IsVerdict (first_fault (frame_faults length s reading)) (app_in s s.frames) o
+  pub verdict : IsVerdict (first_fault (frame_faults bounds length s reading)) (app_in s s.frames) o
 
-abbrev pub Settles : Result Opened LoadRefusal → ℕ → Declarations → Type 0
-Settles (Ok opened) length s = FrameSettled length s (Ok opened.app)
-Settles (Err (Refused number at)) length s = FrameSettled length s (Err (number, at))
-Settles (Err Memory) length s = Unit {0}
+abbrev pub Settles : Result Opened LoadRefusal → Bounds → ℕ → Declarations → Type 0
+Settles (Ok opened) bounds length s = FrameSettled bounds length s (Ok opened.app) × (opened.lattice ≡ types_in bounds opened.app)
+Settles (Err (Refused number at)) bounds length s = FrameSettled bounds length s (Err (number, at))
+Settles (Err Memory) bounds length s = Unit {0}
 
 -- the one frame
 abbrev pub TakesFrame : Result FrameForm LoadRefusal → ℕ → List FrameForm → Type 0
@@ -29,7 +31,15 @@ TakesFrame (Ok f) length frames = frames ≡ f ∷ []
 TakesFrame (Err (Refused number at)) length frames = numbered 14 (frame_missed length frames) ≡ Some (number, at)
 TakesFrame (Err Memory) length frames = Unit {0}
 
-abbrev pub Opens : Result Opened LoadRefusal → App → Type 0
-Opens (Ok opened) app = (opened.app ≡ app) × (first_unfit app app.frame.slots ≡ None)
-Opens (Err (Refused number at)) app = numbered 12 (first_unfit app app.frame.slots) ≡ Some (number, at)
-Opens (Err Memory) app = Unit {0}
+-- the application with its types
+abbrev pub Opens : Result Opened LoadRefusal → App → World → Type 0
+Opens (Ok opened) app w = (opened.app ≡ app) × (opened.lattice ≡ w) × (first_unfit (holds_in w app) app app.frame.slots ≡ None)
+Opens (Err (Refused number at)) app w = numbered 12 (first_unfit (holds_in w app) app app.frame.slots) ≡ Some (number, at)
+Opens (Err Memory) app w = Unit {0}
+
+-- the lattice of the types that are declared, or what is wrong with them: a ring, or else a type past the limits
+abbrev pub BuildsTypes : Result World LoadRefusal → Bounds → Declarations → Notes → Type 0
+BuildsTypes (Ok w) bounds s notes = (w ≡ declared_types bounds s) × FindsRing bounds s None × FindsLarge bounds s notes None
+BuildsTypes (Err (Refused number at)) bounds s notes =
+    ((number ≡ 9) × FindsRing bounds s (Some at)) ⊎ ((number ≡ 13) × FindsRing bounds s None × FindsLarge bounds s notes (Some at))
+BuildsTypes (Err Memory) bounds s notes = Unit {0}

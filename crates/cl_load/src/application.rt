@@ -8,22 +8,25 @@ ghost use Rattle.cl_load.specs.Opening.{opening_slots};
 
 use cl_application::App;
 use cl_eval::Slots;
+use cl_lattice::Lattice;
 
-/// An application that loads, with its opening slots: no refusal of its text applies to it. Its frame is at
-/// most 512 cells wide and 256 cells high, and its panes lie in it, each apart from the others.
+/// An application that loads, with its types and its opening slots: no refusal of its text applies to it. Its
+/// frame is at most 512 cells wide and 256 cells high, and its panes lie in it, each apart from the others.
 #[derive(Drop)]
 pub struct Loaded {
     pub app: App,
+    pub lattice: Lattice,
     pub slots: Slots,
-    pub ghost of_text: { IsOfText app },
+    pub ghost of_text: { IsOfText app lattice },
     pub ghost placed: { IsPlaced app.frame } by { Prim.hlevel (props, LieApart-prop) },
     pub ghost opening: { slots ≡ opening_slots app },
 }
 
-/// An application on its device with its opening slots, whose text is not told.
+/// An application on its device with its types and its opening slots, whose text is not told.
 #[derive(Drop)]
 pub struct Opened {
     pub app: App,
+    pub lattice: Lattice,
     pub slots: Slots,
     pub ghost placed: { IsPlaced app.frame } by { Prim.hlevel (props, LieApart-prop) },
     pub ghost opening: { slots ≡ opening_slots app },

@@ -9,10 +9,9 @@ mod opening;
 mod placing;
 mod readings;
 mod settling;
-mod slot_types;
+mod types;
 
 pub use application::Loaded;
 pub use cl_forms::LoadRefusal;
 pub use laws::one_outcome;
 pub use loading::load;
-pub use slot_types::{SlotTypes, is_member};

@@ -8,9 +8,11 @@ ghost use Rattle.cl_load.specs.Outcome.{parse};
 use crate::application::{Loaded, Opened};
 use crate::faults::pass_forms;
 use crate::settling::settle;
+use crate::types::build_types;
 use cl_declare::{Declarations, parse_declarations};
 use cl_expressions::{Notes, Reader, Scope};
 use cl_forms::{Datum, Forms, LoadRefusal, all_forms, data_in, outers_of};
+use cl_ptext::Hosts;
 use cl_sexp::{ReadRefusal, read_forms};
 use cl_words::signatures_of;
 use std::alloc::Global;
@@ -18,17 +20,18 @@ use std::alloc::Global;
 /// The most bytes that a text may have.
 const LONGEST: usize = 1_048_576;
 
-/// The application that a text of our own application language declares, with its opening slots, or
-/// the first of its refusals: 13 for the whole text, the first of 1 to 4, the first of 0, 5 and 6, 13,
-/// 7, 8, 10, 14, 15 and 12, in this order.
-pub fn load(alloc: Global, text: &[u8]) -> Result<Loaded, LoadRefusal>
-    ensures { Loads text.now result }
+/// The application that a text of our own application language declares on these host types, with its
+/// types and its opening slots, or the first of its refusals: 13 for the whole text, the first of 1 to 4,
+/// the first of 0, 5 and 6, 13, 7, 8, 9, 13 for expanded types, 10, 14, 15 and 12, in this order.
+pub fn load<H: Hosts>(alloc: Global, text: &[u8], hosts: &H) -> Result<Loaded, LoadRefusal>
+    ensures { Loads (H.bounds hosts.now) text.now result }
 {
     let forms = read(alloc, text)?;
     let data = data_in(alloc, forms.as_slice())?;
-    let opened = conclude(alloc, text.len() as u32, data.as_slice())?;
+    let opened = conclude(alloc, text.len() as u32, data.as_slice(), hosts)?;
     Ok(Loaded {
         app: opened.app,
+        lattice: opened.lattice,
         slots: opened.slots,
     })
 }
@@ -48,13 +51,19 @@ fn read(alloc: Global, text: &[u8]) -> Result<Forms, LoadRefusal>
 }
 
 /// What the data of a text of this length come to.
-fn conclude(alloc: Global, length: u32, forms: &[Datum]) -> Result<Opened, LoadRefusal>
-    ensures { Concludes result length (map datum_of forms.now) }
+fn conclude<H: Hosts>(
+    alloc: Global,
+    length: u32,
+    forms: &[Datum],
+    hosts: &H,
+) -> Result<Opened, LoadRefusal>
+    ensures { Concludes result (H.bounds hosts.now) length (map datum_of forms.now) }
 {
     let mut notes = Notes::new(alloc);
     let declarations = parse(alloc, forms, &mut notes)?;
     pass_forms(alloc, forms, &notes)?;
-    settle(alloc, length, declarations)
+    let lattice = build_types(alloc, hosts, &declarations, &notes)?;
+    settle(alloc, length, hosts, declarations, lattice)
 }
 
 /// What the data of a text declare, and what is noted while they are read; or the first of refusals

@@ -2,7 +2,9 @@
 ghost use Rattle.std.specs.Prelude.{◌≡◌};
 ghost use Rattle.cl_application.specs.Panes.{IsPlaced};
 ghost use Rattle.cl_load.specs.Refusals.{app_of};
+ghost use Rattle.cl_load.specs.Opening.{OpensSlots};
 ghost use Rattle.cl_load.specs.Settling.{Opens, Settles, TakesFrame};
+ghost use Rattle.cl_load.specs.Types.{declared_types, holds_in};
 
 use crate::application::Opened;
 use crate::faults::pass;
@@ -11,14 +13,24 @@ use crate::placing::place_frame;
 use crate::readings::first_reading;
 use cl_application::{App, FrameDecl};
 use cl_declare::{Declarations, FrameForm, FrameForms};
+use cl_eval::Slots;
 use cl_forms::LoadRefusal;
+use cl_lattice::Lattice;
+use cl_ptext::{Hosts, TypeBook};
 use cl_table::Table;
 use std::alloc::Global;
 
-/// The application of declarations in a text of this length, with its opening slots; or the first of
-/// refusals 10, 14, 15 and 12.
-pub fn settle(alloc: Global, length: u32, declarations: Declarations) -> Result<Opened, LoadRefusal>
-    ensures { Settles result length declarations }
+/// The application of declarations in a text of this length, with its types and its opening slots; or the
+/// first of refusals 10, 14, 15 and 12.
+pub fn settle<H: Hosts>(
+    alloc: Global,
+    length: u32,
+    hosts: &H,
+    declarations: Declarations,
+    lattice: Lattice,
+) -> Result<Opened, LoadRefusal>
+    requires { lattice ≡ declared_types (H.bounds hosts.now) declarations }
+    ensures { Settles result (H.bounds hosts.now) length declarations }
 {
     let reading = first_reading(
         alloc,
@@ -29,7 +41,7 @@ pub fn settle(alloc: Global, length: u32, declarations: Declarations) -> Result<
     let mut declarations = declarations;
     let frame = take_frame(length, &mut declarations.frames)?;
     let frame = place_frame(alloc, frame)?;
-    open(alloc, app_of(alloc, declarations, frame))
+    open(alloc, hosts, app_of(alloc, declarations, frame), lattice)
 }
 
 /// The one frame.
@@ -63,11 +75,33 @@ fn app_of(alloc: Global, declarations: Declarations, frame: FrameDecl) -> App
     }
 }
 
-/// The application with its opening slots, or refusal 12.
-fn open(alloc: Global, app: App) -> Result<Opened, LoadRefusal>
+/// The application with its types and its opening slots, or refusal 12.
+fn open<H: Hosts>(
+    alloc: Global,
+    hosts: &H,
+    app: App,
+    lattice: Lattice,
+) -> Result<Opened, LoadRefusal>
     requires { IsPlaced app.frame }
-    ensures { Opens result app }
+    ensures { Opens result app lattice }
 {
-    let slots = opening_slots(alloc, &app)?;
-    Ok(Opened { app, slots })
+    let slots = slots_by_types(alloc, hosts, &app, &lattice)?;
+    Ok(Opened {
+        app,
+        lattice,
+        slots,
+    })
+}
+
+/// The opening slots, whose values are members by the types of the application.
+fn slots_by_types<H: Hosts>(
+    alloc: Global,
+    hosts: &H,
+    app: &App,
+    lattice: &Lattice,
+) -> Result<Slots, LoadRefusal>
+    ensures { OpensSlots result (holds_in lattice.now app.now) app.now }
+{
+    let types = TypeBook::new(alloc, app, lattice, hosts);
+    opening_slots(alloc, app, &types)
 }

@@ -17,5 +17,4 @@ mod region;
 mod saying;
 mod sexp;
 mod showing;
-mod slot_types;
 mod value;

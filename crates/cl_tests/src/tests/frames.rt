@@ -10,6 +10,7 @@ use cl_frame::{Frame, PaneReport, Which};
 use cl_gesture::Gesture;
 use cl_load::{SlotTypes, load};
 use cl_outside::{MemDevice, own_steps};
+use cl_ptext::HostTypes;
 use cl_redisplay::Painted;
 use cl_session::{DEPTH, Session};
 use cl_value::Text;
@@ -115,7 +116,8 @@ done, shown, quiet|quiet|3clq3  |
 
 #[test]
 fn a_frame_is_settled_and_sent(rt: HostRuntime) -> Result<(), Fail> {
-    let loaded = load(rt.alloc(), TWO)?;
+    let hosts = HostTypes { types: &[] };
+    let loaded = load(rt.alloc(), TWO, &hosts)?;
     let said = frame_states(rt.alloc(), &loaded.app, &loaded.slots)?;
     assert_eq!(rt; said.as_str(), FRAME_STATES);
     Ok(())
@@ -175,7 +177,8 @@ done, shown, drawn 2 erased 2|trap 3|0cltra |
 
 #[test]
 fn a_session_redraws_behind_a_fault(rt: HostRuntime) -> Result<(), Fail> {
-    let loaded = load(rt.alloc(), TWO)?;
+    let hosts = HostTypes { types: &[] };
+    let loaded = load(rt.alloc(), TWO, &hosts)?;
     let mut slots = loaded.slots.copy(rt.alloc())?;
     let said = session_states(rt.alloc(), &loaded.app, &mut slots)?;
     assert_eq!(rt; said.as_str(), SESSION_STATES);

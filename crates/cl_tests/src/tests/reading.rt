@@ -5,6 +5,7 @@ use cl_eval::Env;
 use cl_expressions::{Notes, Reader, Scope, parse_expression};
 use cl_forms::{Datum, Datums, Form, all_forms, data_in, outers_of};
 use cl_load::{Loaded, load};
+use cl_ptext::HostTypes;
 use cl_sexp::read_forms;
 use cl_syntax::{Acts, Expr, Shapes};
 use cl_value::{Text, Value};
@@ -44,7 +45,8 @@ fn data_behind(alloc: Global, text: &str) -> Result<Datums, Fail> {
 
 /// What the tests declare, with the opening slots: `count` is 5, and `word` is "so".
 pub fn loaded(alloc: Global) -> Result<Loaded, Fail> {
-    Ok(load(alloc, DECLARED.as_bytes())?)
+    let hosts = HostTypes { types: &[] };
+    Ok(load(alloc, DECLARED.as_bytes(), &hosts)?)
 }
 
 /// The variable `v` is 7, and `w` is "vw".

@@ -2,4 +2,4 @@ use Rattle.cl_faults.proofs.LoadedText.{unnamed_refused}
 use Rattle.cl_faults.proofs.laws.first_unnamed_of_a_text_is_its_refusal.Goals as goal
 
 pub returns : goal.returns
-returns c bytes forms at read first = unnamed_refused bytes forms read at first
+returns c bounds bytes forms at read first = unnamed_refused bytes forms read bounds at first

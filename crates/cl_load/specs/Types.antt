@@ -1,0 +1,69 @@
+-- The types of an application on the host types that are handed in, and what is wrong with those that declarations have.
+use Rattle.std.specs.Prelude.{ℕ, ℤ, pos, Bool, List, [], Option, Some, None, map}
+use Rattle.cl_value.specs.Data.{Data}
+use Rattle.cl_syntax.specs.TypeSpecTree.{TypeSpecTree}
+use Rattle.cl_syntax.specs.declared.type_decls.CommandType.{CommandType}
+use Rattle.cl_syntax.specs.declared.type_decls.HostBound.{HostBound}
+use Rattle.cl_syntax.specs.declared.type_decls.TypeDecl.{TypeDecl}
+use Rattle.cl_application.specs.declared.applications.App.{App}
+use Rattle.cl_application.specs.declared.declarations.CommandDecl.{CommandDecl}
+use Rattle.cl_application.specs.declared.declarations.HostDecl.{HostDecl}
+use Rattle.cl_expressions.specs.Load.{Notes}
+use Rattle.cl_declare.specs.declared.declarations.Declarations.{Declarations}
+use Rattle.cl_lattice.specs.Expansion.{expansion}
+use Rattle.cl_lattice.specs.Firsts.{IsFirst, IsFirstLarge, StandsOnRing, offset_of}
+use Rattle.cl_lattice.specs.Members.{is_member}
+use Rattle.cl_lattice.specs.World.{World, world_with}
+use Rattle.cl_ptext.specs.Methods.{predicates_of}
+
+-- the least and the greatest number of a host type, by its name; None where there is no such host type
+abbrev pub Bounds : Type 0
+Bounds = List ℕ → Option (ℤ × ℤ)
+
+-- a host type of the text with its bounds: 0 and 0 where it has none, as in no application that loads
+abbrev pub bound_with : HostDecl → Option (ℤ × ℤ) → HostBound
+bound_with h None = record { name = h.name; low = pos 0; high = pos 0; at = h.at }
+bound_with h (Some b) = record { name = h.name; low = b.0; high = b.1; at = h.at }
+
+abbrev pub host_bound : Bounds → HostDecl → HostBound
+host_bound bounds h = bound_with h (bounds h.name)
+
+abbrev pub host_bounds : Bounds → List (List ℕ × HostDecl) → List (List ℕ × HostBound)
+host_bounds bounds hosts = map (λ e. (e.0, host_bound bounds e.1)) hosts
+
+-- a command with the types of its arguments, of which it has none yet
+abbrev pub command_type : CommandDecl → CommandType
+command_type c = record { name = c.name; args = []; at = c.at }
+
+abbrev pub command_types : List (List ℕ × CommandDecl) → List (List ℕ × CommandType)
+command_types commands = map (λ e. (e.0, command_type e.1)) commands
+
+-- the types of an application
+abbrev pub types_in : Bounds → App → World
+types_in bounds app = world_with app.records app.types (host_bounds bounds app.hosts) (command_types app.commands)
+
+-- whether a value is a member of a type, by the types and the predicates of an application
+abbrev pub holds_in : World → App → Data → TypeSpecTree → Bool
+holds_in w app d s = is_member w (predicates_of app) d (expansion w [] s)
+
+-- ---- declarations
+
+-- no text declares user types yet
+abbrev pub user_types : Declarations → List (List ℕ × TypeDecl)
+user_types s = []
+
+-- and none declares host types
+abbrev pub host_types : Declarations → List (List ℕ × HostDecl)
+host_types s = []
+
+-- the types that are declared
+abbrev pub declared_types : Bounds → Declarations → World
+declared_types bounds s = world_with s.records (user_types s) (host_bounds bounds (host_types s)) (command_types s.commands)
+
+-- the offset of the first declaration of a user type on a ring
+abbrev pub FindsRing : Bounds → Declarations → Option ℕ → Type 0
+FindsRing bounds s ring = IsFirst (StandsOnRing (declared_types bounds s)) offset_of (user_types s) ring
+
+-- the offset of the first specifier whose expansion is past the limits; if there is none, of the first user type that inherits from one
+abbrev pub FindsLarge : Bounds → Declarations → Notes → Option ℕ → Type 0
+FindsLarge bounds s notes large = IsFirstLarge (declared_types bounds s) notes.specifiers (user_types s) large
