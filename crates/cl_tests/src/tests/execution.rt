@@ -2,8 +2,9 @@
 use super::reading::{loaded, statements, variables};
 use super::saying::put_bytes;
 use cl_eval::{Executed, Limits, Lines, Program, exec};
-use cl_load::{Loaded, SlotTypes};
+use cl_load::Loaded;
 use cl_outside::own_steps;
+use cl_ptext::{HostTypes, TypeBook};
 use cl_syntax::Acts;
 use cl_value::Value;
 use std::alloc::Global;
@@ -17,10 +18,12 @@ const LIMITS: Limits = Limits {
 /// What a body comes to in an application, in words.
 fn come_to_loaded(alloc: Global, body: &Acts, loaded: &Loaded) -> Result<String, Fail> {
     let env = variables(alloc)?;
+    let hosts = HostTypes { types: &[] };
+    let types = TypeBook::new(alloc, &loaded.app, &loaded.lattice, &hosts);
     let program = Program {
         alloc,
         app: &loaded.app,
-        types: &SlotTypes,
+        types: &types,
         limits: LIMITS,
     };
     let mut steps = own_steps();

@@ -5,12 +5,12 @@ ghost use Rattle.cl_application.specs.Panes.{IsPlaced};
 use super::saying::put_bytes;
 use super::showing::shows;
 use cl_application::App;
-use cl_eval::{Limits, Program, Slots};
+use cl_eval::{Limits, Program, Slots, Types};
 use cl_frame::{Frame, PaneReport, Which};
 use cl_gesture::Gesture;
-use cl_load::{SlotTypes, load};
+use cl_load::load;
 use cl_outside::{MemDevice, own_steps};
-use cl_ptext::HostTypes;
+use cl_ptext::{HostTypes, TypeBook};
 use cl_redisplay::Painted;
 use cl_session::{DEPTH, Session};
 use cl_value::Text;
@@ -25,15 +25,15 @@ const TWO: &[u8] = b"(define-application-frame two (:size 7 2) (:slots (n intege
 (define-command com-clear () (setf (slot n) 0))
 ";
 
-/// The application with the limits of a run.
-fn program(alloc: Global, app: &App) -> Program<'_, SlotTypes>
+/// The application with its types and the limits of a run.
+fn program<'p, T: Types>(alloc: Global, app: &'p App, types: &'p T) -> Program<'p, T>
     ensures app { result.app.now ≡ app.now }
     ensures depth { result.limits.depth ≤ 512 }
 {
     Program {
         alloc,
         app,
-        types: &SlotTypes,
+        types,
         limits: Limits {
             budget: 1_000_000,
             depth: DEPTH,
@@ -69,15 +69,19 @@ fn put_state(said: &mut String, failed: bool, shown: bool, frame: &Frame) -> Res
 }
 
 /// A frame is settled, redrawn, settled again, which fails at the first span of the second pane, and settled where it is blank.
-fn frame_states(alloc: Global, app: &App, slots: &Slots) -> Result<String, Fail>
-    requires { IsPlaced app.now.frame }
+fn frame_states<T: Types>(
+    alloc: Global,
+    program: &Program<'_, T>,
+    slots: &Slots,
+) -> Result<String, Fail>
+    requires placed { IsPlaced program.now.app.now.frame }
+    requires depth { program.now.limits.depth ≤ 512 }
 {
-    let program = program(alloc, app);
     let mut said = String::new(alloc);
     let mut steps = own_steps();
     let mut device = MemDevice::new(alloc, [8].to_vec(alloc)?)?;
-    let mut frame = Frame::open(alloc, app)?;
-    let painted = frame.settle(&program, Which::All, slots, &mut device, &mut steps);
+    let mut frame = Frame::open(alloc, program.app)?;
+    let painted = frame.settle(program, Which::All, slots, &mut device, &mut steps);
     put_state(
         &mut said,
         painted == Painted::DeviceFault,
@@ -91,14 +95,14 @@ fn frame_states(alloc: Global, app: &App, slots: &Slots) -> Result<String, Fail>
         shows(&device, &frame.screen),
         &frame,
     )?;
-    let painted = frame.update(&program, Which::All, slots, &mut device, &mut steps);
+    let painted = frame.update(program, Which::All, slots, &mut device, &mut steps);
     put_state(
         &mut said,
         painted == Painted::DeviceFault,
         shows(&device, &frame.screen),
         &frame,
     )?;
-    let painted = frame.update(&program, Which::Blank, slots, &mut device, &mut steps);
+    let painted = frame.update(program, Which::Blank, slots, &mut device, &mut steps);
     put_state(
         &mut said,
         painted == Painted::DeviceFault,
@@ -118,21 +122,27 @@ done, shown, quiet|quiet|3clq3  |
 fn a_frame_is_settled_and_sent(rt: HostRuntime) -> Result<(), Fail> {
     let hosts = HostTypes { types: &[] };
     let loaded = load(rt.alloc(), TWO, &hosts)?;
-    let said = frame_states(rt.alloc(), &loaded.app, &loaded.slots)?;
+    let types = TypeBook::new(rt.alloc(), &loaded.app, &loaded.lattice, &hosts);
+    let program = program(rt.alloc(), &loaded.app, &types);
+    let said = frame_states(rt.alloc(), &program, &loaded.slots)?;
     assert_eq!(rt; said.as_str(), FRAME_STATES);
     Ok(())
 }
 
 /// A session is opened; its panes are shown anew, which fails at a span of the redraw; a command is typed, and runs.
-fn session_states(alloc: Global, app: &App, slots: &mut Slots) -> Result<String, Fail>
-    requires { IsPlaced app.now.frame }
+fn session_states<T: Types>(
+    alloc: Global,
+    program: &Program<'_, T>,
+    slots: &mut Slots,
+) -> Result<String, Fail>
+    requires placed { IsPlaced program.now.app.now.frame }
+    requires depth { program.now.limits.depth ≤ 512 }
 {
-    let program = program(alloc, app);
     let mut said = String::new(alloc);
     let mut steps = own_steps();
     let mut device = MemDevice::new(alloc, [8].to_vec(alloc)?)?;
     let typed = Gesture::Type(Text::from_slice(alloc, b"clear")?);
-    let mut session = Session::new(&program, slots, &mut device, &mut steps)?;
+    let mut session = Session::new(program, slots, &mut device, &mut steps)?;
     put_state(
         &mut said,
         false,
@@ -140,7 +150,7 @@ fn session_states(alloc: Global, app: &App, slots: &mut Slots) -> Result<String,
         &session.frame,
     )?;
     let wire = session
-        .step(&program, &Gesture::Force, slots, &mut device, &mut steps)
+        .step(program, &Gesture::Force, slots, &mut device, &mut steps)
         .wire;
     put_state(
         &mut said,
@@ -149,7 +159,7 @@ fn session_states(alloc: Global, app: &App, slots: &mut Slots) -> Result<String,
         &session.frame,
     )?;
     let wire = session
-        .step(&program, &typed, slots, &mut device, &mut steps)
+        .step(program, &typed, slots, &mut device, &mut steps)
         .wire;
     put_state(
         &mut said,
@@ -158,7 +168,7 @@ fn session_states(alloc: Global, app: &App, slots: &mut Slots) -> Result<String,
         &session.frame,
     )?;
     let wire = session
-        .step(&program, &Gesture::Return, slots, &mut device, &mut steps)
+        .step(program, &Gesture::Return, slots, &mut device, &mut steps)
         .wire;
     put_state(
         &mut said,
@@ -180,7 +190,9 @@ fn a_session_redraws_behind_a_fault(rt: HostRuntime) -> Result<(), Fail> {
     let hosts = HostTypes { types: &[] };
     let loaded = load(rt.alloc(), TWO, &hosts)?;
     let mut slots = loaded.slots.copy(rt.alloc())?;
-    let said = session_states(rt.alloc(), &loaded.app, &mut slots)?;
+    let types = TypeBook::new(rt.alloc(), &loaded.app, &loaded.lattice, &hosts);
+    let program = program(rt.alloc(), &loaded.app, &types);
+    let said = session_states(rt.alloc(), &program, &mut slots)?;
     assert_eq!(rt; said.as_str(), SESSION_STATES);
     Ok(())
 }
