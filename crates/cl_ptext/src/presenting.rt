@@ -55,8 +55,7 @@ impl<H: Hosts> Types for TypeBook<'_, H> {
         slots: &'x Slots,
         limits: Limits,
         steps: &mut Steps<L>,
-    ) -> Evaluated
-    {
+    ) -> Evaluated {
         let context = self.context_on(slots, limits.budget);
         let nothing = Env::new(self.alloc);
         let scope = Scope::Given(&nothing);

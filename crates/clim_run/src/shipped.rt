@@ -11,7 +11,11 @@ use std::alloc::{AllocError, Global};
 type NameReader = Box<dyn Fn(&[u8]) -> Option<i64>>;
 
 /// The days of a week and the months of a year, by readers of their names.
-pub fn host_types(alloc: Global, day: NameReader, month: NameReader) -> Result<[HostType; 2], AllocError>
+pub fn host_types(
+    alloc: Global,
+    day: NameReader,
+    month: NameReader,
+) -> Result<[HostType; 2], AllocError>
     requires day_may_be_read { (text : _) → length text.now ≤ 64 → pre day text }
     requires month_may_be_read { (text : _) → length text.now ≤ 64 → pre month text }
     requires reads_days { (text : _) (answer : _) → length text.now ≤ 64 → post day text answer
