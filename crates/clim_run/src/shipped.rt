@@ -1,5 +1,5 @@
 //! The host types that the program hands in.
-ghost use Rattle.std.specs.Prelude.{◌≡◌, ◌≤◌, ◌∷◌, [], IfOk, codes, length, map};
+ghost use Rattle.std.specs.Prelude.{◌≡◌, ◌≤◌, ◌∷◌, [], IfOk, codes, length, map, pos};
 ghost use Rattle.cl_host.specs.Names.{first_named};
 ghost use Rattle.cl_host.specs.Shipped.{month_entries, weekday_entries};
 
@@ -23,6 +23,8 @@ pub fn host_types(
     requires reads_months { (text : _) (answer : _) → length text.now ≤ 64 → post month text answer
         → answer ≡ first_named text.now month_entries }
     ensures names { IfOk result (λ types. map (λ t. t.name) types ≡ codes "weekday" ∷ codes "month" ∷ []) }
+    ensures bounds { IfOk result
+        (λ types. map (λ t. (t.low, t.high)) types ≡ (pos 0, pos 6) ∷ (pos 1, pos 12) ∷ []) }
     ensures entries { IfOk result
         (λ types. map (λ t. t.names.items) types ≡ weekday_entries ∷ month_entries ∷ []) }
 {
@@ -35,6 +37,7 @@ fn weekday(alloc: Global, read: NameReader) -> Result<HostType, AllocError>
     requires reads { (text : _) (answer : _) → length text.now ≤ 64 → post read text answer
         → answer ≡ first_named text.now weekday_entries }
     ensures name { IfOk result (λ t. t.name ≡ codes "weekday") }
+    ensures bounds { IfOk result (λ t. (t.low ≡ pos 0) × (t.high ≡ pos 6)) }
     ensures names { IfOk result (λ t. t.names.items ≡ weekday_entries) }
 {
     let name = Text::from_slice(alloc, b"weekday")?;
@@ -48,6 +51,7 @@ fn month_of_year(alloc: Global, read: NameReader) -> Result<HostType, AllocError
     requires reads { (text : _) (answer : _) → length text.now ≤ 64 → post read text answer
         → answer ≡ first_named text.now month_entries }
     ensures name { IfOk result (λ t. t.name ≡ codes "month") }
+    ensures bounds { IfOk result (λ t. (t.low ≡ pos 1) × (t.high ≡ pos 12)) }
     ensures names { IfOk result (λ t. t.names.items ≡ month_entries) }
 {
     let name = Text::from_slice(alloc, b"month")?;
