@@ -30,7 +30,10 @@ first_some (Some f ∷ xs) ys fault h = h
 differ : (fault : Fault) (x : Option Fault) → x ≡ Some fault → x ≡ None → ⊥
 differ fault x p q = cc
 
--- a fault of the forms comes before those of the frame
+some_none : (at : ℕ) → ◌≡◌ {A = Option ℕ} (Some at) None → ⊥
+some_none at h = cc
+
+-- a fault of the forms comes before those of the types and of the frame
 pub refused_forms : (B : Type 0) (e : LoadRefusal) (bounds : Bounds) (size : ℕ) (ds : List Datum) (s : Declarations) (notes : Notes)
     → parse ds nothing_noted ≡ Ok (s, notes) → Passes {B = B} (Err e) (first_fault (form_faults ds notes)) → Concludes (Err e) bounds size ds
 refused_forms B (Refused number at) bounds size ds s notes p h =
@@ -53,9 +56,9 @@ ring_so bounds size ds s notes at none ring = record {
   ring = Some at;
   ring_found = λ none. ring;
   large = None;
-  large_found = λ none no. cc;
+  large_found = λ none no. absurd (some_none at no);
   reading = None;
-  reading_found = λ none no small. cc;
+  reading_found = λ none no small. absurd (some_none at no);
   verdict = rw (first_none (form_faults ds notes) (type_faults (Some at) None ++ frame_faults bounds size s None) none) refl;
 }
 
@@ -68,7 +71,7 @@ large_so bounds size ds s notes at none ring large = record {
   large = Some at;
   large_found = λ none no. large;
   reading = None;
-  reading_found = λ none no small. cc;
+  reading_found = λ none no small. absurd (some_none at small);
   verdict = rw (first_none (form_faults ds notes) (type_faults None (Some at) ++ frame_faults bounds size s None) none) refl;
 }
 

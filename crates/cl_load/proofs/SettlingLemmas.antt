@@ -10,6 +10,7 @@ use Rattle.cl_declare.specs.declared.declarations.Declarations.{Declarations}
 use Rattle.cl_declare.specs.declared.frames.FrameForm.{FrameForm}
 use Rattle.cl_load.specs.Answers.{Makes, Passes}
 use Rattle.cl_lattice.specs.World.{World}
+use Rattle.cl_eval.specs.Slots.{Slots}
 use Rattle.cl_load.specs.Opening.{OpensSlots, first_unfit}
 use Rattle.cl_load.specs.Placing.{place_frame}
 use Rattle.cl_load.specs.Readings.{Finds}
@@ -55,3 +56,7 @@ opens (Err Memory) bounds size s w reading f d types found none one placed o = t
 pub opens_refused : (e : LoadRefusal) (app : App) (w : World) → OpensSlots (Err e) (holds_in w app) app → Opens (Err e) app w
 opens_refused (Refused number at) app w h = rw (h.0, h.1) refl
 opens_refused Memory app w h = tt
+
+-- the slots by the membership of a book on an application and its types
+pub slots_held : (r : Result Slots LoadRefusal) (a b : App) (v w : World) → a ≡ b → v ≡ w → OpensSlots r (holds_in v a) b → OpensSlots r (holds_in w b) b
+slots_held r a b v w app types h = subst (λ (c : App). OpensSlots r (holds_in w c) b) app (subst (λ (u : World). OpensSlots r (holds_in u a) b) types h)

@@ -1,24 +1,28 @@
 -- What a lattice that is built, or refused, says of the types that are declared.
 use Rattle.std.proofs.Common.{◌≡◌, inl, inr, ℕ, ℤ, Bool, true, false, List, [], ◌∷◌, refl, sym, ap, ◌∙◌, subst}
-use Rattle.std.specs.Prelude.{All, not, Option, Some, None}
+use Rattle.std.specs.Prelude.{All, not, Option, Some, None, Ok, Err}
 use Rattle.std.proofs.lemmas.List.Elements.{All-head, All-tail}
 use Rattle.cl_syntax.specs.TypeSpecTree.{TypeSpecTree}
 use Rattle.cl_syntax.specs.StandardTypes.{standard_named}
+use Rattle.cl_syntax.specs.declared.type_decls.CommandType.{CommandType}
+use Rattle.cl_syntax.specs.declared.type_decls.HostBound.{HostBound}
 use Rattle.cl_syntax.specs.declared.type_decls.PlacedSpec.{PlacedSpec}
 use Rattle.cl_syntax.specs.declared.type_decls.TypeDecl.{TypeDecl}
 use Rattle.cl_syntax.specs.declared.type_names.StandardType.{StandardType}
 use Rattle.cl_application.specs.declared.declarations.HostDecl.{HostDecl}
 use Rattle.cl_expressions.specs.Load.{Notes}
+use Rattle.cl_forms.specs.declared.refusals.LoadRefusal.TheVariants.{Refused}
 use Rattle.cl_declare.specs.declared.declarations.Declarations.{Declarations}
 use Rattle.cl_lattice.specs.Building.{NoRing}
 use Rattle.cl_lattice.specs.Firsts.{IsFirst, IsFirstLarge, InheritsTooMuch, IsTooLarge, StandsOnRing, is_past, offset_of}
 use Rattle.cl_lattice.specs.Laws.{AllFit}
 use Rattle.cl_lattice.specs.RingSearch.{inherited}
 use Rattle.cl_lattice.specs.Sizes.{fits, inherited_by}
-use Rattle.cl_lattice.specs.World.{World, kind_named}
+use Rattle.cl_lattice.specs.World.{World, kind_named, world_with}
 use Rattle.cl_lattice.specs.declared.declared_types.TypeKind.{TypeKind}
 use Rattle.cl_lattice.specs.declared.declared_types.TypeKind.TheVariants as kind
-use Rattle.cl_load.specs.Types.{Bounds, FindsLarge, FindsRing, bound_with, declared_types, host_bound, user_types}
+use Rattle.cl_load.specs.Settling.{BuildsTypes}
+use Rattle.cl_load.specs.Types.{Bounds, FindsLarge, FindsRing, bound_with, command_types, declared_types, host_bound, host_bounds, user_types}
 
 -- ---- there is one first
 
@@ -65,8 +69,8 @@ large_once bounds s notes r q x y = first_large_once (declared_types bounds s) n
 -- ---- in a lattice none is found
 
 pub none_on_ring : (w : World) (types : List (List ℕ × TypeDecl)) → NoRing w → IsFirst (StandsOnRing w) offset_of types None
-none_on_ring w [] no = tt
-none_on_ring w (e ∷ types) no = (no e.1.name, none_on_ring w types no)
+none_on_ring w [] ringless = tt
+none_on_ring w (e ∷ types) ringless = (ringless e.1.name, none_on_ring w types ringless)
 
 none_large : (w : World) (specs : List PlacedSpec) → All (λ p. fits w p.spec ≡ true) specs → IsFirst (IsTooLarge w) at_of specs None
 none_large w [] fit = tt
@@ -100,3 +104,40 @@ bound_name bounds h = by (bounds h.name)
     by : (b : Option (ℤ × ℤ)) → (bound_with h b).name ≡ h.name
     by None = refl
     by (Some b) = refl
+
+-- ---- what building answers
+
+-- the world of the declarations, by the tables that are made of them
+pub world_is : (bounds : Bounds) (s : Declarations) (types : List (List ℕ × TypeDecl)) (declared : List (List ℕ × HostDecl)) (hosts : List (List ℕ × HostBound))
+    (commands : List (List ℕ × CommandType)) → types ≡ [] → declared ≡ [] → hosts ≡ host_bounds bounds declared → commands ≡ command_types s.commands
+    → world_with s.records types hosts commands ≡ declared_types bounds s
+world_is bounds s types declared hosts commands no_types no_hosts bounded typed = rw (typed, bounded, no_types, no_hosts) refl
+
+pub types_built : (bounds : Bounds) (s : Declarations) (notes : Notes) (w v : World) → v ≡ declared_types bounds s → w ≡ v → NoRing w
+    → All (λ p. fits w p.spec ≡ true) notes.specifiers → AllFit w → BuildsTypes (Ok w) bounds s notes
+types_built bounds s notes w v world same ringless fit all =
+    let is : w ≡ declared_types bounds s = same ∙ world in
+    (
+      is,
+      subst (λ (u : World). IsFirst (StandsOnRing u) offset_of (user_types s) None) is (none_on_ring w (user_types s) ringless),
+      subst (λ (u : World). IsFirstLarge u notes.specifiers (user_types s) None) is (all_small w notes.specifiers (user_types s) fit all),
+    )
+
+pub types_ring : (bounds : Bounds) (s : Declarations) (notes : Notes) (types : List (List ℕ × TypeDecl)) (at : ℕ) (v : World) → v ≡ declared_types bounds s → types ≡ []
+    → IsFirst (StandsOnRing v) offset_of types (Some at) → BuildsTypes (Err (Refused 9 at)) bounds s notes
+types_ring bounds s notes types at v world none first =
+    inl (
+      refl,
+      subst (λ (u : World). IsFirst (StandsOnRing u) offset_of (user_types s) (Some at)) world
+      (subst (λ (ts : List (List ℕ × TypeDecl)). IsFirst (StandsOnRing v) offset_of ts (Some at)) none first),
+    )
+
+pub types_large : (bounds : Bounds) (s : Declarations) (notes : Notes) (types : List (List ℕ × TypeDecl)) (at : ℕ) (v : World) → v ≡ declared_types bounds s → types ≡ []
+    → NoRing v → IsFirstLarge v notes.specifiers types (Some at) → BuildsTypes (Err (Refused 13 at)) bounds s notes
+types_large bounds s notes types at v world none ringless first =
+    inr (
+      refl,
+      subst (λ (u : World). IsFirst (StandsOnRing u) offset_of (user_types s) None) world (none_on_ring v (user_types s) ringless),
+      subst (λ (u : World). IsFirstLarge u notes.specifiers (user_types s) (Some at)) world
+      (subst (λ (ts : List (List ℕ × TypeDecl)). IsFirstLarge v notes.specifiers ts (Some at)) none first),
+    )

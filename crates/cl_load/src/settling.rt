@@ -94,6 +94,7 @@ fn open<H: Hosts>(
 }
 
 /// The opening slots, whose values are members by the types of the application.
+#[tactic(auto, using(crate::proofs::SettlingLemmas::slots_held))]
 fn slots_by_types<H: Hosts>(
     alloc: Global,
     hosts: &H,

@@ -15,6 +15,7 @@ use cl_syntax::{
 use std::alloc::{AllocError, Global};
 
 /// The lattice of the types that are declared, on these host types; or the first of refusals 9 and 13, in this order.
+#[tactic(auto, using(crate::proofs::TypeLemmas::types_built, crate::proofs::TypeLemmas::types_large, crate::proofs::TypeLemmas::types_ring, crate::proofs::TypeLemmas::world_is))]
 pub fn build_types<H: Hosts>(
     alloc: Global,
     hosts: &H,

@@ -25,8 +25,8 @@ const TWO: &[u8] = b"(define-application-frame two (:size 7 2) (:slots (n intege
 (define-command com-clear () (setf (slot n) 0))
 ";
 
-/// The application with its types and the limits of a run.
-fn program<'p, T: Types>(alloc: Global, app: &'p App, types: &'p T) -> Program<'p, T>
+/// The application with the limits of a run.
+fn program<'a, T: Types>(alloc: Global, app: &'a App, types: &'a T) -> Program<'a, T>
     ensures app { result.app.now ≡ app.now }
     ensures depth { result.limits.depth ≤ 512 }
 {
@@ -71,17 +71,18 @@ fn put_state(said: &mut String, failed: bool, shown: bool, frame: &Frame) -> Res
 /// A frame is settled, redrawn, settled again, which fails at the first span of the second pane, and settled where it is blank.
 fn frame_states<T: Types>(
     alloc: Global,
-    program: &Program<'_, T>,
+    app: &App,
+    types: &T,
     slots: &Slots,
 ) -> Result<String, Fail>
-    requires placed { IsPlaced program.now.app.now.frame }
-    requires depth { program.now.limits.depth ≤ 512 }
+    requires { IsPlaced app.now.frame }
 {
+    let program = program(alloc, app, types);
     let mut said = String::new(alloc);
     let mut steps = own_steps();
     let mut device = MemDevice::new(alloc, [8].to_vec(alloc)?)?;
-    let mut frame = Frame::open(alloc, program.app)?;
-    let painted = frame.settle(program, Which::All, slots, &mut device, &mut steps);
+    let mut frame = Frame::open(alloc, app)?;
+    let painted = frame.settle(&program, Which::All, slots, &mut device, &mut steps);
     put_state(
         &mut said,
         painted == Painted::DeviceFault,
@@ -95,14 +96,14 @@ fn frame_states<T: Types>(
         shows(&device, &frame.screen),
         &frame,
     )?;
-    let painted = frame.update(program, Which::All, slots, &mut device, &mut steps);
+    let painted = frame.update(&program, Which::All, slots, &mut device, &mut steps);
     put_state(
         &mut said,
         painted == Painted::DeviceFault,
         shows(&device, &frame.screen),
         &frame,
     )?;
-    let painted = frame.update(program, Which::Blank, slots, &mut device, &mut steps);
+    let painted = frame.update(&program, Which::Blank, slots, &mut device, &mut steps);
     put_state(
         &mut said,
         painted == Painted::DeviceFault,
@@ -123,8 +124,7 @@ fn a_frame_is_settled_and_sent(rt: HostRuntime) -> Result<(), Fail> {
     let hosts = HostTypes { types: &[] };
     let loaded = load(rt.alloc(), TWO, &hosts)?;
     let types = TypeBook::new(rt.alloc(), &loaded.app, &loaded.lattice, &hosts);
-    let program = program(rt.alloc(), &loaded.app, &types);
-    let said = frame_states(rt.alloc(), &program, &loaded.slots)?;
+    let said = frame_states(rt.alloc(), &loaded.app, &types, &loaded.slots)?;
     assert_eq!(rt; said.as_str(), FRAME_STATES);
     Ok(())
 }
@@ -132,17 +132,18 @@ fn a_frame_is_settled_and_sent(rt: HostRuntime) -> Result<(), Fail> {
 /// A session is opened; its panes are shown anew, which fails at a span of the redraw; a command is typed, and runs.
 fn session_states<T: Types>(
     alloc: Global,
-    program: &Program<'_, T>,
+    app: &App,
+    types: &T,
     slots: &mut Slots,
 ) -> Result<String, Fail>
-    requires placed { IsPlaced program.now.app.now.frame }
-    requires depth { program.now.limits.depth ≤ 512 }
+    requires { IsPlaced app.now.frame }
 {
+    let program = program(alloc, app, types);
     let mut said = String::new(alloc);
     let mut steps = own_steps();
     let mut device = MemDevice::new(alloc, [8].to_vec(alloc)?)?;
     let typed = Gesture::Type(Text::from_slice(alloc, b"clear")?);
-    let mut session = Session::new(program, slots, &mut device, &mut steps)?;
+    let mut session = Session::new(&program, slots, &mut device, &mut steps)?;
     put_state(
         &mut said,
         false,
@@ -150,7 +151,7 @@ fn session_states<T: Types>(
         &session.frame,
     )?;
     let wire = session
-        .step(program, &Gesture::Force, slots, &mut device, &mut steps)
+        .step(&program, &Gesture::Force, slots, &mut device, &mut steps)
         .wire;
     put_state(
         &mut said,
@@ -159,7 +160,7 @@ fn session_states<T: Types>(
         &session.frame,
     )?;
     let wire = session
-        .step(program, &typed, slots, &mut device, &mut steps)
+        .step(&program, &typed, slots, &mut device, &mut steps)
         .wire;
     put_state(
         &mut said,
@@ -168,7 +169,7 @@ fn session_states<T: Types>(
         &session.frame,
     )?;
     let wire = session
-        .step(program, &Gesture::Return, slots, &mut device, &mut steps)
+        .step(&program, &Gesture::Return, slots, &mut device, &mut steps)
         .wire;
     put_state(
         &mut said,
@@ -189,10 +190,9 @@ done, shown, drawn 2 erased 2|trap 3|0cltra |
 fn a_session_redraws_behind_a_fault(rt: HostRuntime) -> Result<(), Fail> {
     let hosts = HostTypes { types: &[] };
     let loaded = load(rt.alloc(), TWO, &hosts)?;
-    let mut slots = loaded.slots.copy(rt.alloc())?;
     let types = TypeBook::new(rt.alloc(), &loaded.app, &loaded.lattice, &hosts);
-    let program = program(rt.alloc(), &loaded.app, &types);
-    let said = session_states(rt.alloc(), &program, &mut slots)?;
+    let mut slots = loaded.slots.copy(rt.alloc())?;
+    let said = session_states(rt.alloc(), &loaded.app, &types, &mut slots)?;
     assert_eq!(rt; said.as_str(), SESSION_STATES);
     Ok(())
 }
