@@ -14,7 +14,7 @@ use std::alloc::{AllocError, Global};
 
 /// What constants a type takes.
 #[derive(Clone, Copy)]
-pub(crate) enum Wanted {
+pub enum Wanted {
     /// Numbers, and `*` for no bound.
     NumberOrStar,
     Number,
