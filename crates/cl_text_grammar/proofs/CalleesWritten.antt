@@ -10,7 +10,7 @@ use Rattle.cl_forms.specs.Naming.{name_in, are_names}
 use Rattle.cl_forms.specs.declared.keys.Key.{Key}
 use Rattle.cl_words.specs.declared.signatures.Signatures.{Signatures}
 use Rattle.cl_expressions.specs.Load.{give}
-use Rattle.cl_declare.specs.Names.{names_of, is_list, is_name_list, variables_in}
+use Rattle.cl_declare.specs.Names.{is_list, is_name_list, variables_in}
 use Rattle.cl_declare.specs.Callees.{parse_record, parse_function, parse_display}
 use Rattle.cl_declare.specs.Commands.{CommandHead, command_keys, head_of, command_head, parse_headed, parse_command}
 use Rattle.cl_grammar.specs.Heads.{CallsNames}
@@ -20,27 +20,12 @@ use Rattle.cl_grammar.proofs.Written.{expression_ends}
 use Rattle.cl_text_grammar.specs.Displays.{CallsDisplays}
 use Rattle.cl_text_grammar.specs.WritesShapes.{WritesShapes}
 use Rattle.cl_text_grammar.specs.WritesActs.{WritesActs}
-use Rattle.cl_text_grammar.specs.WritesDeclarations.{WritesNames, no_name, one_name, WritesNameList, a_name_list, WritesCommandName, alone}
+use Rattle.cl_text_grammar.specs.WritesDeclarations.{WritesCommandName, alone}
 use Rattle.cl_text_grammar.specs.WritesDeclarations.{in_parentheses, of_record, of_function, of_display, of_command, WritesDeclared, a_record}
 use Rattle.cl_text_grammar.specs.WritesDeclarations.{a_function, a_display, a_command}
+use Rattle.cl_text_grammar.proofs.NamesWritten.{names_written, name_list_written}
 use Rattle.cl_text_grammar.proofs.ShapesWritten.{shapes_end}
 use Rattle.cl_text_grammar.proofs.ActsWritten.{acts_end}
-
--- ---- names
-
-names_written : (ds : List Datum) → are_names ds ≡ true → WritesNames (names_of ds) ds
-names_written [] e = no_name
-names_written (d ∷ ds) e =
-    let parts : (is_some (name_in d) ≡ true) × (are_names ds ≡ true) = both_parts (is_some (name_in d)) (are_names ds) e in
-    one_name (name_is d parts.0) (names_written ds parts.1)
-
-name_list_written : (d : Datum) → is_name_list d ≡ true → WritesNameList (names_of (parts_of d)) d
-name_list_written (list ds at) e = a_name_list (names_written (in_order ds) e)
-name_list_written (number z at) e = absurd (false_true e)
-name_list_written (literal s at) e = absurd (false_true e)
-name_list_written (word s at) e = absurd (false_true e)
-name_list_written (quoted s at name_at) e = absurd (false_true e)
-name_list_written (stray at) e = absurd (false_true e)
 
 -- ---- the head of a command
 

@@ -150,7 +150,7 @@ module _ (w : Signatures) (names : CallsNames w) where
 
   slot_ends : (d : Datum) (slots : SlotTable) → is_slot (parts_of d) ≡ true → Ends (SlotRead d slots) (parse_slot w (offset d) (parts_of d) slots)
   slot_ends (list (item n (item t (item e none))) at) slots l =
-      binds (type_ends w t) λ s i. binds (expression_ends w names e []) λ v j.
+      binds (type_ends w [] t) λ s i. binds (expression_ends w names e []) λ v j.
       gives (record { slot = _; added = refl; written = λ ss ds k. one_slot (name_is n l) i j k })
   slot_ends (list none at) slots l = absurd (false_true l)
   slot_ends (list (item n none) at) slots l = absurd (false_true l)

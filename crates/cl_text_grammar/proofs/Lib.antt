@@ -4,6 +4,8 @@ pub mod FormParts
 pub mod FormsWritten
 pub mod ShapesWritten
 pub mod ActsWritten
+pub mod NamesWritten
+pub mod ArgumentsWritten
 pub mod TypesWritten
 pub mod CalleesWritten
 pub mod KeyWords

@@ -4,6 +4,7 @@ pub mod WritesActs
 pub mod FormSights
 pub mod FormBlames
 pub mod FormUnnamed
+pub mod WritesNames
 pub mod WritesTypes
 pub mod WritesFrames
 pub mod WritesDeclarations

@@ -22,16 +22,8 @@ use Rattle.cl_declare.specs.Declarations.{nothing_declared}
 use Rattle.cl_grammar.specs.Writes.{Writes}
 use Rattle.cl_text_grammar.specs.WritesShapes.{WritesShapes}
 use Rattle.cl_text_grammar.specs.WritesActs.{WritesActs}
+use Rattle.cl_text_grammar.specs.WritesNames.{WritesNames, WritesNameList}
 use Rattle.cl_text_grammar.specs.WritesFrames.{WritesSections, slots_of}
-
--- names write data, one each
-pub data WritesNames : Names → List Datum → Type 0 where
-  no_name : WritesNames [] []
-  one_name : {x : List ℕ} {xs : Names} {n : Datum} {ds : List Datum} → name_in n ≡ Some x → WritesNames xs ds → WritesNames (x ∷ xs) (n ∷ ds)
-
--- names write a list of them
-pub data WritesNameList : Names → Datum → Type 0 where
-  a_name_list : {xs : Names} {ds : Datums} {at : ℕ} → WritesNames xs (in_order ds) → WritesNameList xs (list ds at)
 
 -- the name of a command writes a datum
 pub data WritesCommandName : List ℕ → Datum → Type 0 where

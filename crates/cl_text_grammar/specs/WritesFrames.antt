@@ -20,7 +20,7 @@ pub data WritesSlots (w : Signatures) : List SlotDecl → List Datum → Type 0 
   no_slot : WritesSlots w [] []
   -- (NAME TYPE E)
   one_slot : {x : List ℕ} {s : TypeSpecTree} {v : ExprTree} {others : List SlotDecl} {n t e : Datum} {at : ℕ} {ds : List Datum} → name_in n ≡ Some x
-      → WritesType w s t → Writes v e → WritesSlots w others ds
+      → WritesType w [] s t → Writes v e → WritesSlots w others ds
       → WritesSlots w (record { name = x; spec = s; opening = v; opening_at = offset e; at = at } ∷ others) (list (item n (item t (item e none))) at ∷ ds)
 
 -- slots behind others: of two of one name the first counts
