@@ -38,6 +38,25 @@ placed_stand : (P : ℕ → Type 0) (place : ℕ) (ps : Names) (at : ℕ) (r : R
 placed_stand P place ps at (Ok x) h = tt
 placed_stand P place ps at (Err fault) h = h
 
+one_or : (P : ℕ → Type 0) (b : Bool) (at : ℕ) (o : Option ℕ) → P at → IfSome o P → IfSome (if b then Some at else o) P
+one_or P true at o h k = h
+one_or P false at o h k = k
+
+stray_covered : (P : ℕ → Type 0) (ds : List Datum) → CoversEach P ds → IfSome (first_stray ds) P
+stray_covered P [] c = tt
+stray_covered P (d ∷ ds) c = one_or P (is_stray d) (offset d) (first_stray ds) (covers_offset d c.0) (stray_covered P ds c.1)
+
+-- ---- the specifiers among the arguments
+
+-- the faults of each stand at offsets of which P holds
+abbrev EachFaults : (P : ℕ → Type 0) → Signatures → Names → Datums → Type 0
+EachFaults P w ps none = Unit {0}
+EachFaults P w ps (item d ds) = FaultsAt P (parse_type w ps d) × EachFaults P w ps ds
+
+shapes_read : (w : Signatures) (ps : Names) (ds : Datums) → shapes (type_subs w ps ds) ≡ in_order ds
+shapes_read w ps none = refl
+shapes_read w ps (item d ds) = ap (λ es. d ∷ es) (shapes_read w ps ds)
+
 module _ {P : ℕ → Type 0} where
   placed_faults : (ps : Names) (at : ℕ) (m : Load TypeSpecTree) → FaultsAt P m → FaultsAt P (placed ps at m)
   placed_faults ps at m h = record {
@@ -48,21 +67,13 @@ module _ {P : ℕ → Type 0} where
 
   -- ---- constants
 
-  stray_covered : (ds : List Datum) → CoversEach P ds → IfSome (first_stray ds) P
-  stray_covered [] c = tt
-  stray_covered (d ∷ ds) c = by (is_stray d)
-    where
-      by : (b : Bool) → IfSome (if b then Some (offset d) else first_stray ds) P
-      by true = covers_offset d c.0
-      by false = stray_covered ds c.1
-
   told_faults : {A : Type 0} (x : A) (o : Option ℕ) → IfSome o P → FaultsAt P (elim o [ None ↦ give x | Some at ↦ refuse 6 at ])
   told_faults x None h = gives
   told_faults x (Some at) h = refuses h
 
   constants_faults : (ps : Names) (kind : Wanted) (at : ℕ) (ds : List Datum) → P at → CoversEach P ds → FaultsAt P (parse_constants ps kind at ds)
   constants_faults ps kind at ds h c =
-      chooses (may_all_stand ps kind ds) (told_faults (arguments_in ps ds) (first_stray ds) (stray_covered ds c)) (refuses h)
+      chooses (may_all_stand ps kind ds) (told_faults (arguments_in ps ds) (first_stray ds) (stray_covered P ds c)) (refuses h)
 
   at_most_faults : (most : ℕ) (ps : Names) (kind : Wanted) (at : ℕ) (ds : List Datum) → P at → CoversEach P ds
       → FaultsAt P (parse_at_most most ps kind at ds)
@@ -75,18 +86,10 @@ module _ {P : ℕ → Type 0} where
   -- ---- rows, where the faults of the specifiers among the arguments stand in them
 
   module _ (w : Signatures) (ps : Names) where
-    abbrev EachFaults : Datums → Type 0
-    EachFaults none = Unit {0}
-    EachFaults (item d ds) = FaultsAt P (parse_type w ps d) × EachFaults ds
-
-    shapes_read : (ds : Datums) → shapes (type_subs w ps ds) ≡ in_order ds
-    shapes_read none = refl
-    shapes_read (item d ds) = ap (λ es. d ∷ es) (shapes_read ds)
-
     by_shapes : {A : Type 0} (m : List Datum → Load A) (ds : Datums) → FaultsAt P (m (in_order ds)) → FaultsAt P (m (shapes (type_subs w ps ds)))
-    by_shapes m ds h = subst (λ es. FaultsAt P (m es)) (sym (shapes_read ds)) h
+    by_shapes m ds h = subst (λ es. FaultsAt P (m es)) (sym (shapes_read w ps ds)) h
 
-    each_faults : (ds : Datums) → EachFaults ds → FaultsAt P (parse_each_type (type_subs w ps ds))
+    each_faults : (ds : Datums) → EachFaults P w ps ds → FaultsAt P (parse_each_type (type_subs w ps ds))
     each_faults none e = gives
     each_faults (item d ds) e = binds e.0 λ t. binds (each_faults ds e.1) λ ts. gives
 
@@ -95,13 +98,13 @@ module _ {P : ℕ → Type 0} where
     token_faults at None d h e = refuses h
     token_faults at (Some xs) d h e = binds e λ t. gives
 
-    tokens_faults : (at : ℕ) (ds : Datums) → P at → EachFaults ds → FaultsAt P (parse_tokens_and_type at (type_subs w ps ds))
+    tokens_faults : (at : ℕ) (ds : Datums) → P at → EachFaults P w ps ds → FaultsAt P (parse_tokens_and_type at (type_subs w ps ds))
     tokens_faults at none h e = refuses h
     tokens_faults at (item n none) h e = refuses h
     tokens_faults at (item n (item d none)) h e = token_faults at (tokens_in n) d h e.1.0
     tokens_faults at (item n (item d (item c ds))) h e = refuses h
 
-    arguments_faults : (t : Takes) (at : ℕ) (ds : Datums) → P at → CoversEach P (in_order ds) → EachFaults ds
+    arguments_faults : (t : Takes) (at : ℕ) (ds : Datums) → P at → CoversEach P (in_order ds) → EachFaults P w ps ds
         → FaultsAt P (parse_arguments ps t at (type_subs w ps ds))
     arguments_faults takes.Nothing at ds h c e = by_shapes (parse_nothing at) ds (nothing_faults at (in_order ds) h)
     arguments_faults takes.Bounds at ds h c e =
@@ -112,17 +115,17 @@ module _ {P : ℕ → Type 0} where
     arguments_faults takes.SomeTypes at ds h c e = chooses (length (type_subs w ps ds) == 0) (refuses h) (each_faults ds e)
     arguments_faults takes.TokensAndType at ds h c e = tokens_faults at ds h e
 
-    known_faults : (o : Option Takes) (x : List ℕ) (name_at at : ℕ) (ds : Datums) → P at → CoversEach P (in_order ds) → EachFaults ds
+    known_faults : (o : Option Takes) (x : List ℕ) (name_at at : ℕ) (ds : Datums) → P at → CoversEach P (in_order ds) → EachFaults P w ps ds
         → FaultsAt P (parse_known ps o x name_at at (type_subs w ps ds))
     known_faults None x name_at at ds h c e = notes_then false name_at (plain_type x)
     known_faults (Some t) x name_at at ds h c e = binds (arguments_faults t at ds h c e) λ ts. gives
 
-    found_faults : (o : Option (List ℕ)) (name_at at : ℕ) (ds : Datums) → P at → CoversEach P (in_order ds) → EachFaults ds
+    found_faults : (o : Option (List ℕ)) (name_at at : ℕ) (ds : Datums) → P at → CoversEach P (in_order ds) → EachFaults P w ps ds
         → FaultsAt {A = TypeSpecTree} P (elim o [ None ↦ refuse 6 at | Some x ↦ parse_named w ps x name_at at (type_subs w ps ds) ])
     found_faults None name_at at ds h c e = refuses h
     found_faults (Some x) name_at at ds h c e = known_faults (takes_named w x) x name_at at ds h c e
 
-    headed_faults : (at : ℕ) (d : Datum) (ds : Datums) → P at → CoversEach P (in_order ds) → EachFaults ds
+    headed_faults : (at : ℕ) (d : Datum) (ds : Datums) → P at → CoversEach P (in_order ds) → EachFaults P w ps ds
         → FaultsAt P (parse_headed w ps at d (type_subs w ps ds))
     headed_faults at d ds h c e = found_faults (name_in d) (offset d) at ds h c e
 
@@ -132,7 +135,7 @@ module _ {P : ℕ → Type 0} where
 
     -- ---- specifiers
 
-    first_faults : (at : ℕ) (d : Datum) (more : Datums) → P at → FaultsAt P (parse_inner w ps at d) → CoversEach P (in_order more) → EachFaults more
+    first_faults : (at : ℕ) (d : Datum) (more : Datums) → P at → FaultsAt P (parse_inner w ps at d) → CoversEach P (in_order more) → EachFaults P w ps more
         → FaultsAt P (parse_first w ps at d (parse_inner w ps at d) (type_subs w ps more))
     first_faults at (list es inner_at) more h i c e = optioned_faults at (options_in (shapes (type_subs w ps more))) (parse_inner w ps at (list es inner_at)) h i
     first_faults at (word x name_at) more h i c e = headed_faults at (word x name_at) more h c e
@@ -167,7 +170,7 @@ module _ {P : ℕ → Type 0} where
       parts_faults at none h c = refuses h
       parts_faults at (item d more) h c = headed_faults at d more h (covers_order more (λ o s. c o (inr s))) (types_faults more (λ o s. c o (inr s)))
 
-      types_faults : (ds : Datums) → CoversAll P ds → EachFaults ds
+      types_faults : (ds : Datums) → CoversAll P ds → EachFaults P w ps ds
       types_faults none c = tt
       types_faults (item d ds) c = (specifier_faults d (λ o s. c o (inl s)), types_faults ds (λ o s. c o (inr s)))
 
