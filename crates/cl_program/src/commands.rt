@@ -181,7 +181,8 @@ fn run_application<H: Hosts, P: Place, G: Source, O: Sink, L: Ledger>(
         lattice,
         slots,
     } = loaded;
-    let types = TypeBook::new(alloc, &app, &lattice, setting.hosts);
+    let hosts = setting.hosts;
+    let types = TypeBook::new(alloc, &app, &lattice, hosts);
     let program = Program {
         alloc,
         app: &app,
@@ -204,7 +205,7 @@ fn run_on<T: Types, P: Place, G: Source, O: Sink, L: Ledger>(
     requires depth { program.now.limits.depth ≤ 512 }
     requires placed { IsPlaced program.now.app.now.frame }
     requires opening { slots ≡ opening_slots program.now.app.now }
-    ensures ran { RanOn (option_map (λ name. name.now) wire)
+    ensures ran { RanOn (option_map (λ name. name.now) wire.entry)
         (ground_of T.holds program.now) (placed (P.file place.old) (P.app_faults place.old)
         (P.making_faults place.old)
         (wire_of (P.taken place.old) (P.writing_faults place.old) (P.tells place.old)))
@@ -214,7 +215,7 @@ fn run_on<T: Types, P: Place, G: Source, O: Sink, L: Ledger>(
         steps.old) (streams (G.left gestures.new) (G.faults gestures.new) (O.taken out.new)
         (O.faults out.new) steps.new) result }
     ensures keeps { (application : List ℕ) → KeepsFiles application
-        (option_map (λ name. name.now) wire) (P.by_name place.old)
+        (option_map (λ name. name.now) wire.entry) (P.by_name place.old)
         (placed (P.file place.old) (P.app_faults place.old) (P.making_faults place.old)
         (wire_of (P.taken place.old) (P.writing_faults place.old) (P.tells place.old)))
         (placed (P.file place.new) (P.app_faults place.new) (P.making_faults place.new)
