@@ -21,11 +21,10 @@ use cl_ptext::{Hosts, TypeBook};
 use cl_raster::WireDevice;
 use std::alloc::Global;
 
-// How an application is run: on these host types, with a file that its wire goes to, and within limits of its displays and
-// commands.
-#[derive(Drop)]
-struct Setting<'a, H> {
-    hosts: &'a H,
+// How an application is run: with this memory, a file that its wire goes to, and limits of its displays and commands.
+#[derive(Clone, Copy)]
+struct Setting<'a> {
+    alloc: Global,
     wire: Option<&'a str>,
     limits: Limits,
 }
@@ -78,13 +77,13 @@ pub fn run_words<H: Hosts, P: Place, G: Source, O: Sink, L: Ledger>(
             },
         ) => {
             let setting = Setting {
-                hosts,
+                alloc,
                 wire,
                 limits: limits_of(budget),
             };
             match read_text(alloc, place, application) {
                 TextRead::Text(text) => {
-                    run_text(alloc, text.as_slice(), setting, place, gestures, out, steps)
+                    run_text(text.as_slice(), hosts, setting, place, gestures, out, steps)
                 }
                 TextRead::Failed => How::AppFault,
                 TextRead::Memory => How::Memory,
@@ -100,16 +99,16 @@ pub fn run_words<H: Hosts, P: Place, G: Source, O: Sink, L: Ledger>(
 
 // Runs the application of a text.
 fn run_text<H: Hosts, P: Place, G: Source, O: Sink, L: Ledger>(
-    alloc: Global,
     text: &[u8],
-    setting: Setting<'_, H>,
+    hosts: &H,
+    setting: Setting<'_>,
     place: &mut P,
     gestures: &mut G,
     out: &mut O,
     steps: &mut Steps<L>,
 ) -> How
     requires depth { setting.limits.depth ≤ 512 }
-    ensures ran { RanText (H.bounds setting.entry.hosts.now) text.now
+    ensures ran { RanText (H.bounds hosts.now) text.now
         (option_map (λ name. name.now) setting.entry.wire) setting.entry.limits
         (placed (P.file place.old) (P.app_faults place.old) (P.making_faults place.old)
         (wire_of (P.taken place.old) (P.writing_faults place.old) (P.tells place.old)))
@@ -131,8 +130,8 @@ fn run_text<H: Hosts, P: Place, G: Source, O: Sink, L: Ledger>(
     ensures out_later { O.faults out.old ≤ O.faults out.new }
     ensures steps_later { steps.old ≤ steps.new }
 {
-    match load(alloc, text, setting.hosts) {
-        Ok(loaded) => run_application(alloc, loaded, setting, place, gestures, out, steps),
+    match load(setting.alloc, text, hosts) {
+        Ok(loaded) => run_application(loaded, hosts, setting, place, gestures, out, steps),
         Err(LoadRefusal::Refused(number, offset)) => {
             if say_refusal(out, number, offset) {
                 return How::Refused;
@@ -145,9 +144,9 @@ fn run_text<H: Hosts, P: Place, G: Source, O: Sink, L: Ledger>(
 
 // Runs an application on its own types.
 fn run_application<H: Hosts, P: Place, G: Source, O: Sink, L: Ledger>(
-    alloc: Global,
     loaded: Loaded,
-    setting: Setting<'_, H>,
+    hosts: &H,
+    setting: Setting<'_>,
     place: &mut P,
     gestures: &mut G,
     out: &mut O,
@@ -181,10 +180,9 @@ fn run_application<H: Hosts, P: Place, G: Source, O: Sink, L: Ledger>(
         lattice,
         slots,
     } = loaded;
-    let hosts = setting.hosts;
-    let types = TypeBook::new(alloc, &app, &lattice, hosts);
+    let types = TypeBook::new(setting.alloc, &app, &lattice, hosts);
     let program = Program {
-        alloc,
+        alloc: setting.alloc,
         app: &app,
         types: &types,
         limits: setting.limits,
