@@ -175,25 +175,64 @@ fn run_application<H: Hosts, P: Place, G: Source, O: Sink, L: Ledger>(
     ensures out_later { O.faults out.old ≤ O.faults out.new }
     ensures steps_later { steps.old ≤ steps.new }
 {
-    let Loaded {
-        app,
-        lattice,
-        slots,
-    } = loaded;
-    let types = TypeBook::new(setting.alloc, &app, &lattice, hosts);
+    let types = TypeBook::new(setting.alloc, &loaded.app, &loaded.lattice, hosts);
+    run_types(&loaded, &types, setting, place, gestures, out, steps)
+}
+
+// Runs an application on these types.
+fn run_types<'a, T: Types, P: Place, G: Source, O: Sink, L: Ledger>(
+    loaded: &'a Loaded,
+    types: &'a T,
+    setting: Setting<'_>,
+    place: &mut P,
+    gestures: &mut G,
+    out: &mut O,
+    steps: &mut Steps<L>,
+) -> How
+    requires depth { setting.limits.depth ≤ 512 }
+    ensures ran { RanOn (option_map (λ name. name.now) setting.entry.wire)
+        (ground loaded.now.app (T.holds types.now) setting.entry.limits) (placed (P.file place.old) (P.app_faults place.old)
+        (P.making_faults place.old)
+        (wire_of (P.taken place.old) (P.writing_faults place.old) (P.tells place.old)))
+        (placed (P.file place.new) (P.app_faults place.new) (P.making_faults place.new)
+        (wire_of (P.taken place.new) (P.writing_faults place.new) (P.tells place.new)))
+        (streams (G.left gestures.old) (G.faults gestures.old) (O.taken out.old) (O.faults out.old)
+        steps.old) (streams (G.left gestures.new) (G.faults gestures.new) (O.taken out.new)
+        (O.faults out.new) steps.new) result }
+    ensures keeps { (application : List ℕ) → KeepsFiles application
+        (option_map (λ name. name.now) setting.entry.wire) (P.by_name place.old)
+        (placed (P.file place.old) (P.app_faults place.old) (P.making_faults place.old)
+        (wire_of (P.taken place.old) (P.writing_faults place.old) (P.tells place.old)))
+        (placed (P.file place.new) (P.app_faults place.new) (P.making_faults place.new)
+        (wire_of (P.taken place.new) (P.writing_faults place.new) (P.tells place.new))) }
+    ensures place_lent { P.lent place.new ≡ P.lent place.old }
+    ensures lent { G.lent gestures.new ≡ G.lent gestures.old }
+    ensures later { G.faults gestures.old ≤ G.faults gestures.new }
+    ensures out_lent { O.lent out.new ≡ O.lent out.old }
+    ensures out_later { O.faults out.old ≤ O.faults out.new }
+    ensures steps_later { steps.old ≤ steps.new }
+{
     let program = Program {
         alloc: setting.alloc,
-        app: &app,
-        types: &types,
+        app: &loaded.app,
+        types,
         limits: setting.limits,
     };
-    run_on(&program, slots, setting.wire, place, gestures, out, steps)
+    run_on(
+        &program,
+        &loaded.slots,
+        setting.wire,
+        place,
+        gestures,
+        out,
+        steps,
+    )
 }
 
 // Runs a program: on the file of its wire, or on a screen at which nobody looks.
 fn run_on<T: Types, P: Place, G: Source, O: Sink, L: Ledger>(
     program: &Program<'_, T>,
-    slots: Slots,
+    slots: &Slots,
     wire: Option<&str>,
     place: &mut P,
     gestures: &mut G,
@@ -202,7 +241,7 @@ fn run_on<T: Types, P: Place, G: Source, O: Sink, L: Ledger>(
 ) -> How
     requires depth { program.now.limits.depth ≤ 512 }
     requires placed { IsPlaced program.now.app.now.frame }
-    requires opening { slots ≡ opening_slots program.now.app.now }
+    requires opening { slots.now ≡ opening_slots program.now.app.now }
     ensures ran { RanOn (option_map (λ name. name.now) wire.entry)
         (ground_of T.holds program.now) (placed (P.file place.old) (P.app_faults place.old)
         (P.making_faults place.old)
@@ -239,7 +278,7 @@ fn run_on<T: Types, P: Place, G: Source, O: Sink, L: Ledger>(
 // Runs a program on the sink that the place has just made.
 fn run_on_wire<T: Types, P: Place, G: Source, O: Sink, L: Ledger>(
     program: &Program<'_, T>,
-    slots: Slots,
+    slots: &Slots,
     place: &mut P,
     gestures: &mut G,
     out: &mut O,
@@ -247,7 +286,7 @@ fn run_on_wire<T: Types, P: Place, G: Source, O: Sink, L: Ledger>(
 ) -> How
     requires depth { program.now.limits.depth ≤ 512 }
     requires placed { IsPlaced program.now.app.now.frame }
-    requires opening { slots ≡ opening_slots program.now.app.now }
+    requires opening { slots.now ≡ opening_slots program.now.app.now }
     requires made { P.made place.old ≡ true }
     requires unused { P.tells place.old ≡ true → P.taken place.old ≡ Some [] }
     ensures ran { RanLoaded (ground_of T.holds program.now) (streams (G.left gestures.old)

@@ -66,7 +66,7 @@ pub fn limits_of(budget: Option<u32>) -> Limits
 /// Runs a program from the opening slots of its application, on a device that is whole.
 pub fn run_program<T: Types, D: Device, G: Source, O: Sink, L: Ledger>(
     program: &Program<'_, T>,
-    slots: Slots,
+    slots: &Slots,
     device: &mut D,
     gestures: &mut G,
     out: &mut O,
@@ -74,7 +74,7 @@ pub fn run_program<T: Types, D: Device, G: Source, O: Sink, L: Ledger>(
 ) -> How
     requires depth { program.now.limits.depth ≤ 512 }
     requires placed { IsPlaced program.now.app.now.frame }
-    requires opening { slots ≡ opening_slots program.now.app.now }
+    requires opening { slots.now ≡ opening_slots program.now.app.now }
     requires whole { D.broken device.old ≡ false }
     ensures ran { RanLoaded (ground_of T.holds program.now) (streams (G.left gestures.old)
         (G.faults gestures.old) (O.taken out.old) (O.faults out.old) steps.old)
@@ -101,13 +101,13 @@ pub fn run_program<T: Types, D: Device, G: Source, O: Sink, L: Ledger>(
 // Opens the frame of an application.
 fn open<T: Types, D: Device, L: Ledger>(
     program: &Program<'_, T>,
-    slots: Slots,
+    slots: &Slots,
     device: &mut D,
     steps: &mut Steps<L>,
 ) -> Result<Opening, AllocError>
     requires depth { program.now.limits.depth ≤ 512 }
     requires placed { IsPlaced program.now.app.now.frame }
-    requires opening { slots ≡ opening_slots program.now.app.now }
+    requires opening { slots.now ≡ opening_slots program.now.app.now }
     requires whole { D.broken device.old ≡ false }
     ensures opening { IfOk result
         (λ o. IsOpening (ground_of T.holds program.now) o (D.broken device.new)) }
@@ -124,6 +124,7 @@ fn open<T: Types, D: Device, L: Ledger>(
     ensures lent { D.lent device.new ≡ D.lent device.old }
     ensures device_later { D.faults device.old ≤ D.faults device.new }
 {
+    let slots = slots.copy(program.alloc)?;
     let session = Session::new(program, &slots, device, steps)?;
     Ok(Opening { session, slots })
 }

@@ -1,7 +1,8 @@
 //! Statements that no application has: the slot `count` that they leave, what they reply, and their cost, worked out by hand.
 use super::reading::{loaded, statements, variables};
 use super::saying::put_bytes;
-use cl_eval::{Executed, Limits, Lines, Program, exec};
+use cl_application::App;
+use cl_eval::{Executed, Limits, Lines, Program, Slots, Types, exec};
 use cl_load::Loaded;
 use cl_outside::own_steps;
 use cl_ptext::{HostTypes, TypeBook};
@@ -15,20 +16,31 @@ const LIMITS: Limits = Limits {
     depth: 512,
 };
 
-/// What a body comes to in an application, in words.
-fn come_to_loaded(alloc: Global, body: &Acts, loaded: &Loaded) -> Result<String, Fail> {
+/// What a body comes to by these types, in words.
+fn come_to_by<'a, T: Types>(
+    alloc: Global,
+    body: &Acts,
+    app: &'a App,
+    types: &'a T,
+    slots: &Slots,
+) -> Result<String, Fail> {
     let env = variables(alloc)?;
-    let hosts = HostTypes { types: &[] };
-    let types = TypeBook::new(alloc, &loaded.app, &loaded.lattice, &hosts);
     let program = Program {
         alloc,
-        app: &loaded.app,
-        types: &types,
+        app,
+        types,
         limits: LIMITS,
     };
     let mut steps = own_steps();
-    let outcome = exec(&program, body, &env, &loaded.slots, &mut steps);
+    let outcome = exec(&program, body, &env, slots, &mut steps);
     words(alloc, &outcome)
+}
+
+/// What a body comes to in an application, in words.
+fn come_to_loaded(alloc: Global, body: &Acts, loaded: &Loaded) -> Result<String, Fail> {
+    let hosts = HostTypes { types: &[] };
+    let types = TypeBook::new(alloc, &loaded.app, &loaded.lattice, &hosts);
+    come_to_by(alloc, body, &loaded.app, &types, &loaded.slots)
 }
 
 fn come_to(alloc: Global, body: &Acts) -> Result<String, Fail> {
