@@ -23,8 +23,8 @@ pub fn host_types(
     requires reads_months { (text : _) (answer : _) → length text.now ≤ 64 → post month text answer
         → answer ≡ first_named text.now month_entries }
     ensures names { IfOk result (λ types. map (λ t. t.name) types ≡ codes "weekday" ∷ codes "month" ∷ []) }
-    ensures bounds { IfOk result
-        (λ types. map (λ t. (t.low, t.high)) types ≡ (pos 0, pos 6) ∷ (pos 1, pos 12) ∷ []) }
+    ensures least { IfOk result (λ types. map (λ t. t.low) types ≡ pos 0 ∷ pos 1 ∷ []) }
+    ensures greatest { IfOk result (λ types. map (λ t. t.high) types ≡ pos 6 ∷ pos 12 ∷ []) }
     ensures entries { IfOk result
         (λ types. map (λ t. t.names.items) types ≡ weekday_entries ∷ month_entries ∷ []) }
 {
