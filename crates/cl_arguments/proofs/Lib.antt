@@ -1,0 +1,4 @@
+pub mod InParts
+pub mod SameProbes
+pub mod SearchLemmas
+pub mod NextLemmas

@@ -1,0 +1,4 @@
+pub mod Kinds
+pub mod Probes
+pub mod Misfits
+pub mod ProbeSearch
