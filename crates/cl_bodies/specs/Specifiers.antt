@@ -1,16 +1,18 @@
 -- The type that a datum is: `NAME`, `(NAME ARGUMENT ...)` or `((NAME ARGUMENT ...) KEY VALUE ...)`. A specifier says first what makes it wrong by
 -- itself, at its own offset; then those in it are read from left to right.
-use Rattle.std.specs.Prelude.{ℕ, false, ◌==◌, nat_le, if◌then◌else◌, List, [], ◌∷◌, length, map, Option, Some, None}
+use Rattle.std.specs.Prelude.{ℕ, false, ◌==◌, nat_le, if◌then◌else◌, List, [], ◌∷◌, length, map, Option, Some, None, option_map}
 use Rattle.cl_syntax.specs.StandardTypes.{standard_named}
 use Rattle.cl_syntax.specs.TypeSpecTree.{TypeSpecTree, specifier, TypeArgTree, Spec, Names as Tokens, arg_trees_of, no_options, plain_type}
 use Rattle.cl_syntax.specs.declared.type_names.StandardType.{StandardType}
 use Rattle.cl_syntax.specs.declared.type_names.StandardType.TheVariants as standard
 use Rattle.cl_syntax.specs.declared.type_specs.TypeOptions.{TypeOptions}
 use Rattle.cl_forms.specs.Datum.{Datum, Datums, number, literal, word, quoted, stray, list, none, item, offset}
-use Rattle.cl_forms.specs.Naming.{name_in}
+use Rattle.cl_forms.specs.Naming.{fits, name_in}
 use Rattle.cl_expressions.specs.Load.{Load, ◌>>=◌, give, refuse, noted, placed}
 use Rattle.cl_expressions.specs.Scopes.{Names}
-use Rattle.cl_words.specs.Signatures.{record_in}
+use Rattle.cl_words.specs.Signatures.{type_in}
+use Rattle.cl_words.specs.declared.signatures.TypeHead.{TypeHead}
+use Rattle.cl_words.specs.declared.signatures.TypeKind.TheVariants as type
 use Rattle.cl_words.specs.declared.signatures.Signatures.{Signatures}
 use Rattle.cl_bodies.specs.TypeArguments.{arguments_in, first_stray, may_all_stand, options_in, tokens_in}
 use Rattle.cl_bodies.specs.declared.specifiers.Takes.{Takes}
@@ -43,13 +45,13 @@ takes_of standard.TokenOrType = takes.TokensAndType
 takes_of standard.BlankArea = takes.Nothing
 takes_of standard.Command = takes.Nothing
 
--- a record takes nothing; None where no type has the name
-abbrev pub takes_declared : Option (Option ℕ) → Option Takes
-takes_declared None = None
-takes_declared (Some fields) = Some takes.Nothing
+-- a record and a host type take nothing, a user type what is given for its parameters
+abbrev pub takes_declared : TypeHead → Takes
+takes_declared t = elim t.kind [ type.Record ↦ takes.Nothing | type.Host ↦ takes.Nothing | type.User ↦ takes.Given t.count ]
 
+-- None where no type has the name
 abbrev pub takes_named : Signatures → List ℕ → Option Takes
-takes_named w x = elim (standard_named x) [ None ↦ takes_declared (record_in w x) | Some t ↦ Some (takes_of t) ]
+takes_named w x = elim (standard_named x) [ None ↦ option_map takes_declared (type_in w x) | Some t ↦ Some (takes_of t) ]
 
 -- ---- rows
 
@@ -64,6 +66,10 @@ parse_constants ps kind at ds =
 -- the same, and at most so many
 abbrev pub parse_at_most : ℕ → Names → Wanted → ℕ → List Datum → Load (List TypeArgTree)
 parse_at_most most ps kind at ds = if nat_le (length ds) most then parse_constants ps kind at ds else refuse 6 at
+
+-- as many as are asked for, each a constant or `*`
+abbrev pub parse_given : Option ℕ → Names → ℕ → List Datum → Load (List TypeArgTree)
+parse_given count ps at ds = if fits count (length ds) then parse_constants ps wanted.ConstantOrStar at ds else refuse 6 at
 
 -- all arguments are specifiers
 abbrev pub parse_each_type : List TypeSub → Load (List TypeArgTree)
@@ -95,6 +101,7 @@ parse_arguments ps takes.Nothing at subs = parse_nothing at (shapes subs)
 parse_arguments ps takes.Bounds at subs = parse_at_most 2 ps wanted.NumberOrStar at (shapes subs)
 parse_arguments ps takes.Length at subs = parse_at_most 1 ps wanted.Number at (shapes subs)
 parse_arguments ps takes.Constants at subs = parse_constants ps wanted.Constant at (shapes subs)
+parse_arguments ps (takes.Given count) at subs = parse_given count ps at (shapes subs)
 parse_arguments ps takes.OneType at subs = parse_one_type at subs
 parse_arguments ps takes.SomeTypes at subs = parse_some_types at subs
 parse_arguments ps takes.TokensAndType at subs = parse_tokens_and_type at subs

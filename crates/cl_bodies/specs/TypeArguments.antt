@@ -68,6 +68,11 @@ is_wanted wanted.Constant Any = false
 is_wanted wanted.Constant (Param x) = true
 is_wanted wanted.Constant (Spec s) = false
 is_wanted wanted.Constant (Tokens xs) = false
+is_wanted wanted.ConstantOrStar (Constant d) = true
+is_wanted wanted.ConstantOrStar Any = true
+is_wanted wanted.ConstantOrStar (Param x) = true
+is_wanted wanted.ConstantOrStar (Spec s) = false
+is_wanted wanted.ConstantOrStar (Tokens xs) = false
 
 abbrev pub is_stray : Datum → Bool
 is_stray (datum.number z at) = false

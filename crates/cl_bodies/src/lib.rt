@@ -17,3 +17,4 @@ pub use display_forms::{parse_shape, parse_shapes};
 pub use planned_keys::no_keys;
 pub use specifiers::parse_type;
 pub use statements::{parse_act, parse_acts};
+pub use type_options::text_behind;

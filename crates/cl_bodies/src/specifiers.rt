@@ -3,14 +3,14 @@ ghost use Rattle.std.specs.Prelude.{◌≡◌, IfOk, map};
 ghost use Rattle.cl_forms.specs.Datum.{datums_of};
 ghost use Rattle.cl_forms.specs.DatumView.{datum_of};
 ghost use Rattle.cl_expressions.specs.Load.{Gives, itself};
-ghost use Rattle.cl_bodies.specs.Specifiers.{parse_arguments, parse_first, parse_headed, parse_inner, parse_listed, parse_named, parse_optioned, parse_parts, parse_type, takes_named, takes_of, type_subs, with_options};
+ghost use Rattle.cl_bodies.specs.Specifiers.{parse_arguments, parse_first, parse_headed, parse_inner, parse_listed, parse_named, parse_optioned, parse_parts, parse_type, takes_declared, takes_named, takes_of, type_subs, with_options};
 ghost use Rattle.cl_bodies.specs.TypeArguments.{options_in};
 ghost use Rattle.cl_bodies.specs.TypeViews.{args_of, parse_specifier};
 
 use crate::type_arguments::Wanted;
 use crate::type_options::options_in;
 use crate::type_rows::{
-    parse_at_most, parse_constants, parse_nothing, parse_one_type, parse_some_types,
+    parse_at_most, parse_constants, parse_given, parse_nothing, parse_one_type, parse_some_types,
     parse_tokens_and_type,
 };
 use cl_expressions::{Notes, Reader};
@@ -18,6 +18,7 @@ use cl_forms::{Datum, LoadRefusal, name_in};
 use cl_syntax::{StandardType, TypeArg, TypeArgs, TypeOptions, TypeSpec, standard_named};
 use cl_table::Names;
 use cl_value::Text;
+use cl_words::{TypeHead, TypeKind};
 use std::alloc::{AllocError, Global};
 
 /// What stands behind the name of a type.
@@ -29,6 +30,8 @@ pub enum Takes {
     /// At most one number.
     Length,
     Constants,
+    /// As many constants as there are parameters, where these can be counted, or `*` for each.
+    Given(Option<usize>),
     OneType,
     SomeTypes,
     TokensAndType,
@@ -56,14 +59,25 @@ fn takes_of(standard: StandardType) -> Takes
     }
 }
 
+// What a type takes that is no standard one.
+fn takes_declared(head: &TypeHead) -> Takes
+    ensures { result ≡ takes_declared head.now }
+{
+    match head.kind {
+        TypeKind::Record => Takes::Nothing,
+        TypeKind::Host => Takes::Nothing,
+        TypeKind::User => Takes::Given(head.count),
+    }
+}
+
 // What the type of a name takes; `None` where no type has it.
 fn takes_named(reader: &Reader, name: &[u8]) -> Option<Takes>
     ensures { result ≡ takes_named reader.now.signatures.now name.now }
 {
     match standard_named(name) {
         Some(standard) => Some(takes_of(standard)),
-        None => match reader.signatures.record_fields(name) {
-            Some(_) => Some(Takes::Nothing),
+        None => match reader.signatures.type_head(name) {
+            Some(head) => Some(takes_declared(head)),
             None => None,
         },
     }
@@ -284,6 +298,7 @@ fn parse_arguments(
         Takes::Bounds => parse_at_most(alloc, 2, parameters, Wanted::NumberOrStar, at, parts),
         Takes::Length => parse_at_most(alloc, 1, parameters, Wanted::Number, at, parts),
         Takes::Constants => parse_constants(alloc, parameters, Wanted::Constant, at, parts),
+        Takes::Given(count) => parse_given(alloc, count, parameters, at, parts),
         Takes::OneType => parse_one_type(reader, parameters, at, parts, notes),
         Takes::SomeTypes => parse_some_types(reader, parameters, at, parts, notes),
         Takes::TokensAndType => parse_tokens_and_type(reader, parameters, at, parts, notes),

@@ -19,6 +19,8 @@ pub enum Wanted {
     NumberOrStar,
     Number,
     Constant,
+    /// Constants, and `*`.
+    ConstantOrStar,
 }
 
 // The constant that a word is; a key is none.
@@ -87,26 +89,31 @@ fn is_wanted(wanted: Wanted, arg: &TypeArg) -> bool
             Wanted::NumberOrStar => is_number(value),
             Wanted::Number => is_number(value),
             Wanted::Constant => true,
+            Wanted::ConstantOrStar => true,
         },
         TypeArg::Any => match wanted {
             Wanted::NumberOrStar => true,
             Wanted::Number => false,
             Wanted::Constant => false,
+            Wanted::ConstantOrStar => true,
         },
         TypeArg::Param(_) => match wanted {
             Wanted::NumberOrStar => true,
             Wanted::Number => true,
             Wanted::Constant => true,
+            Wanted::ConstantOrStar => true,
         },
         TypeArg::Spec(_) => match wanted {
             Wanted::NumberOrStar => false,
             Wanted::Number => false,
             Wanted::Constant => false,
+            Wanted::ConstantOrStar => false,
         },
         TypeArg::Names(_) => match wanted {
             Wanted::NumberOrStar => false,
             Wanted::Number => false,
             Wanted::Constant => false,
+            Wanted::ConstantOrStar => false,
         },
     }
 }

@@ -36,8 +36,8 @@ fn separator_in(bytes: &[u8]) -> Option<u8>
     }
 }
 
-// The text behind a key, where the key stands; `None` where something else stands behind it.
-fn text_behind<'a>(values: Option<&'a [Datum]>) -> Option<Option<&'a Text>>
+/// The text behind a key, where the key stands; `None` where something else stands behind it.
+pub fn text_behind<'a>(values: Option<&'a [Datum]>) -> Option<Option<&'a Text>>
     ensures { option_map (λ o. option_map (λ t. t.now) o) result
         ≡ text_behind (option_map (λ v. map datum_of v.now) values.entry) }
 {

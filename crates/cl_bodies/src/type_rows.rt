@@ -3,13 +3,13 @@ ghost use Rattle.std.specs.Prelude.{◌≡◌, map};
 ghost use Rattle.cl_forms.specs.Datum.{datums_of};
 ghost use Rattle.cl_forms.specs.DatumView.{datum_of};
 ghost use Rattle.cl_expressions.specs.Load.{Gives, Notes as Noted};
-ghost use Rattle.cl_bodies.specs.Specifiers.{parse_at_most, parse_constants, parse_each_type, parse_nothing, parse_one_type, parse_some_types, parse_tokens_and_type, type_subs};
+ghost use Rattle.cl_bodies.specs.Specifiers.{parse_at_most, parse_constants, parse_each_type, parse_given, parse_nothing, parse_one_type, parse_some_types, parse_tokens_and_type, type_subs};
 ghost use Rattle.cl_bodies.specs.TypeViews.{args_of};
 
 use crate::specifiers::parse_type;
 use crate::type_arguments::{Wanted, arguments_in, first_stray, may_all_stand, tokens_in};
 use cl_expressions::{Notes, Reader};
-use cl_forms::{Datum, LoadRefusal};
+use cl_forms::{Datum, LoadRefusal, fits};
 use cl_syntax::TypeArg;
 use cl_table::Names;
 use std::alloc::Global;
@@ -62,6 +62,22 @@ pub(crate) fn parse_at_most(
         return Err(LoadRefusal::Refused(6, at));
     }
     parse_constants(alloc, parameters, wanted, at, parts)
+}
+
+/// As many constants as are asked for, or `*` for each.
+pub(crate) fn parse_given(
+    alloc: Global,
+    count: Option<usize>,
+    parameters: &Names,
+    at: u32,
+    parts: &[Datum],
+) -> Result<Vec<TypeArg>, LoadRefusal>
+    ensures { (n : Noted) → Gives args_of result n (parse_given count parameters.now at (map datum_of parts.now) n) }
+{
+    if !fits(count, parts.len()) {
+        return Err(LoadRefusal::Refused(6, at));
+    }
+    parse_constants(alloc, parameters, Wanted::ConstantOrStar, at, parts)
 }
 
 /// One specifier.

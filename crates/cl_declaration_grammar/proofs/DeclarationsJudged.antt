@@ -5,33 +5,68 @@ use Rattle.std.specs.Str.{bytes_eq}
 use Rattle.cl_table.specs.Names.{named}
 use Rattle.cl_forms.specs.Datum.{Datum, number, literal, word, quoted, stray, list, parts_of, offset}
 use Rattle.cl_forms.specs.Naming.{are_names, name_in}
-use Rattle.cl_forms.specs.Outer.{kind_or, kind_named, outer_listed, outer_in}
-use Rattle.cl_forms.specs.declared.outer.DeclarationKind.TheVariants.{Record, Function, Display, Command, Frame}
+use Rattle.cl_forms.specs.Outer.{declared_or, kind_or, kind_named, outer_listed, outer_in}
+use Rattle.cl_forms.specs.declared.outer.DeclarationKind.{DeclarationKind}
+use Rattle.cl_forms.specs.declared.outer.DeclarationKind.TheVariants.{Record, PresentationType, HostType, PresentMethod, AcceptMethod, Function, Display, Command, Frame}
 use Rattle.cl_forms.specs.declared.outer.OuterKind.{OuterKind}
 use Rattle.cl_forms.specs.declared.outer.OuterKind.TheVariants.{Planned, Unknown}
 use Rattle.cl_words.specs.declared.signatures.Signatures.{Signatures}
+use Rattle.cl_syntax.specs.ExprTree.{ExprTree}
+use Rattle.cl_application.specs.declared.declarations.MethodDecl.{MethodDecl}
+use Rattle.cl_expressions.specs.Expressions.{parse_expression}
+use Rattle.cl_expressions.specs.Load.{◌>>=◌, give}
 use Rattle.cl_declare.specs.Callees.{parse_record, parse_function, parse_display}
 use Rattle.cl_declare.specs.Commands.{CommandHead, command_head, no_arguments, parse_headed, parse_command}
+use Rattle.cl_declare.specs.Methods.{parse_named_method, parse_method}
+use Rattle.cl_declare.specs.Types.{parse_host_type}
+use Rattle.cl_declare.specs.TypeShapes.{name_alone}
 use Rattle.cl_declare.specs.Declarations.{parse_kind, parse_declaration, parse_each_declaration}
 use Rattle.cl_declare.specs.Names.{is_list, is_name_list, variables_in}
 use Rattle.cl_declare.specs.declared.declarations.Declarations.{Declarations}
+use Rattle.cl_grammar.specs.Sights.{expression}
 use Rattle.cl_grammar.proofs.Judging.{Any}
 use Rattle.cl_text_grammar.specs.FormSights.{forms_seen}
-use Rattle.cl_declaration_grammar.specs.Parts.{acts, planned_keys, planned_parts}
-use Rattle.cl_declaration_grammar.specs.Declarations.{Row, record_seen, function_seen, display_seen, headed_seen, command_seen, planned_seen, rows}
-use Rattle.cl_declaration_grammar.specs.Declarations.{row_seen, listed_seen, declaration_seen}
+use Rattle.cl_declaration_grammar.specs.Parts.{method_name, expressions, acts, planned_keys, planned_parts}
+use Rattle.cl_declaration_grammar.specs.Declarations.{Row, record_seen, host_type_seen, method_named_seen, method_seen, function_seen, display_seen, headed_seen}
+use Rattle.cl_declaration_grammar.specs.Declarations.{command_seen, planned_seen, rows, row_seen, listed_seen, declaration_seen}
+use Rattle.cl_declaration_grammar.specs.UserTypes.{user_type_seen}
 use Rattle.cl_declaration_grammar.specs.Frames.{frame_seen}
 use Rattle.cl_declaration_grammar.specs.Texts.{text_seen}
 use Rattle.cl_declaration_grammar.proofs.Judging.{Judges, joined, then_given, ended, refused_first}
-use Rattle.cl_declaration_grammar.proofs.PartsJudged.{expression_part, shapes_part, acts_part}
+use Rattle.cl_declaration_grammar.proofs.PartsJudged.{expression_part, method_name_judged, shapes_part, acts_part}
 use Rattle.cl_declaration_grammar.proofs.TypesJudged.{chosen, is_wrong, keys_judged}
 use Rattle.cl_declaration_grammar.proofs.FramesJudged.{frame_judged}
+use Rattle.cl_declaration_grammar.proofs.UserTypesJudged.{user_type_judged}
 
 module _ (w : Signatures) where
   record_judged : (at h : ℕ) (ds : List Datum) → Judges w (record_seen at h ds) Any (parse_record at ds)
   record_judged at h (n ∷ f ∷ fs) = chosen w (are_names (n ∷ f ∷ fs)) (ended w) (is_wrong w at)
   record_judged at h [] = is_wrong w at
   record_judged at h (n ∷ []) = is_wrong w at
+
+  host_type_judged : (at h : ℕ) (ds : List Datum) → Judges w (host_type_seen at h ds) Any (parse_host_type at ds)
+  host_type_judged at h (n ∷ []) = chosen w (is_some (name_in n)) (ended w) (is_wrong w at)
+  host_type_judged at h [] = is_wrong w at
+  host_type_judged at h (n ∷ d ∷ ds) = is_wrong w at
+
+  abbrev method_of : List ℕ → List ℕ → ℕ → ExprTree → MethodDecl
+  method_of x p at t = record { name = x; parameter = p; body = t; at = at }
+
+  method_named_judged : (at name_at : ℕ) (x p : Option (List ℕ)) (e : Datum)
+      → Judges w (method_named_seen at name_at x p e) Any (parse_named_method w at name_at x p e)
+  method_named_judged at name_at (Some x) (Some p) e =
+      joined w (method_name x name_at ∷ []) (expressions (expression (p ∷ []) e ∷ []) ∷ [])
+      {f = λ u. parse_expression w e (p ∷ []) >>= λ t. give (method_of x p at t)} (method_name_judged w x name_at) λ u i.
+      then_given w (method_of x p at) (expression_part w e (p ∷ []))
+  method_named_judged at name_at (Some x) None e = is_wrong w at
+  method_named_judged at name_at None p e = is_wrong w at
+
+  method_judged : (at h : ℕ) (ds : List Datum) → Judges w (method_seen at h ds) Any (parse_method w at ds)
+  method_judged at h (n ∷ ps ∷ e ∷ []) = method_named_judged at (offset n) (name_in n) (name_alone (parts_of ps)) e
+  method_judged at h [] = is_wrong w at
+  method_judged at h (n ∷ []) = is_wrong w at
+  method_judged at h (n ∷ ps ∷ []) = is_wrong w at
+  method_judged at h (n ∷ ps ∷ e ∷ d ∷ ds) = is_wrong w at
 
   function_judged : (at h : ℕ) (ds : List Datum) → Judges w (function_seen at h ds) Any (parse_function w at ds)
   function_judged at h (n ∷ ps ∷ e ∷ []) =
@@ -73,44 +108,52 @@ module _ (w : Signatures) where
     Answers row kind = Judges w (row_seen row at h ds) Any (parse_kind w kind at ds s)
 
     -- heads of declarations that are not built yet, or of none
-    planned_answers : (a b c d e f g i j : Bool)
+    planned_answers : (a b c d e : Bool)
         → Answers
         (if a then Some planned_seen else (if b then Some planned_seen else (if c then Some planned_seen else (if d then Some planned_seen
-        else (if e then Some planned_seen else (if f then Some planned_seen else (if g then Some planned_seen else (if i then Some planned_seen
-        else (if j then Some planned_seen else None)))))))))
-        (if (a || b || c || d) || (e || f || g || i || j) then Planned h else Unknown h)
-    planned_answers true b c d e f g i j = refused_first w 0 h []
-    planned_answers false true c d e f g i j = refused_first w 0 h []
-    planned_answers false false true d e f g i j = refused_first w 0 h []
-    planned_answers false false false true e f g i j = refused_first w 0 h []
-    planned_answers false false false false true f g i j = refused_first w 0 h []
-    planned_answers false false false false false true g i j = refused_first w 0 h []
-    planned_answers false false false false false false true i j = refused_first w 0 h []
-    planned_answers false false false false false false false true j = refused_first w 0 h []
-    planned_answers false false false false false false false false true = refused_first w 0 h []
-    planned_answers false false false false false false false false false = refused_first w 5 h []
+        else (if e then Some planned_seen else None)))))
+        (if a || b || c || d || e then Planned h else Unknown h)
+    planned_answers true b c d e = refused_first w 0 h []
+    planned_answers false true c d e = refused_first w 0 h []
+    planned_answers false false true d e = refused_first w 0 h []
+    planned_answers false false false true e = refused_first w 0 h []
+    planned_answers false false false false true = refused_first w 0 h []
+    planned_answers false false false false false = refused_first w 5 h []
 
-    declared_answers : (a b c d e : Bool) (row : Option Row) (kind : OuterKind) → Answers row kind
+    declared_answers : (a b c d : Bool) (row : Option Row) (kind : OuterKind) → Answers row kind
         → Answers
-        (if a then Some record_seen else (if b then Some function_seen else (if c then Some display_seen else (if d then Some command_seen
-        else (if e then Some (λ at h parts. frame_seen w at parts) else row)))))
-        (kind_or (if a then Some Record else (if b then Some Function else (if c then Some Display else (if d then Some Command
-        else (if e then Some Frame else None))))) kind)
-    declared_answers true b c d e row kind k = then_given w _ (record_judged at h ds)
-    declared_answers false true c d e row kind k = then_given w _ (function_judged at h ds)
-    declared_answers false false true d e row kind k = then_given w _ (display_judged at h ds)
-    declared_answers false false false true e row kind k = then_given w _ (command_judged at h ds)
-    declared_answers false false false false true row kind k = then_given w _ (frame_judged w at ds)
-    declared_answers false false false false false row kind k = k
+        (if a then Some function_seen else (if b then Some display_seen else (if c then Some command_seen
+        else (if d then Some (λ at h parts. frame_seen w at parts) else row))))
+        (kind_or (if a then Some Function else (if b then Some Display else (if c then Some Command else (if d then Some Frame else None)))) kind)
+    declared_answers true b c d row kind k = then_given w _ (function_judged at h ds)
+    declared_answers false true c d row kind k = then_given w _ (display_judged at h ds)
+    declared_answers false false true d row kind k = then_given w _ (command_judged at h ds)
+    declared_answers false false false true row kind k = then_given w _ (frame_judged w at ds)
+    declared_answers false false false false row kind k = k
+
+    -- heads of declarations of types and of their methods
+    type_answers : (a b c d e : Bool) (row : Option Row) (declared : Option DeclarationKind) (kind : OuterKind) → Answers row (kind_or declared kind)
+        → Answers
+        (if a then Some record_seen else (if b then Some (λ at h parts. user_type_seen w at parts) else (if c then Some host_type_seen
+        else (if d then Some method_seen else (if e then Some method_seen else row)))))
+        (kind_or (declared_or (if a then Some Record else (if b then Some PresentationType else (if c then Some HostType
+        else (if d then Some PresentMethod else (if e then Some AcceptMethod else None))))) declared) kind)
+    type_answers true b c d e row declared kind k = then_given w _ (record_judged at h ds)
+    type_answers false true c d e row declared kind k = then_given w _ (user_type_judged w at ds)
+    type_answers false false true d e row declared kind k = then_given w _ (host_type_judged at h ds)
+    type_answers false false false true e row declared kind k = then_given w _ (method_judged at h ds)
+    type_answers false false false false true row declared kind k = then_given w _ (method_judged at h ds)
+    type_answers false false false false false row declared kind k = k
 
     word_answers : (x : List ℕ) → Answers (named x (rows w)) (kind_named x h)
     word_answers x =
-        declared_answers (bytes_eq x (codes "define-record")) (bytes_eq x (codes "define-function")) (bytes_eq x (codes "define-display"))
+        type_answers (bytes_eq x (codes "define-record")) (bytes_eq x (codes "define-presentation-type")) (bytes_eq x (codes "define-host-type"))
+        (bytes_eq x (codes "define-present-method")) (bytes_eq x (codes "define-accept-method")) _ _ _
+        (declared_answers (bytes_eq x (codes "define-function")) (bytes_eq x (codes "define-display"))
         (bytes_eq x (codes "define-command")) (bytes_eq x (codes "define-application-frame")) _ _
-        (planned_answers (bytes_eq x (codes "define-host-type")) (bytes_eq x (codes "define-presentation-type"))
-        (bytes_eq x (codes "define-present-method")) (bytes_eq x (codes "define-accept-method")) (bytes_eq x (codes "define-command-table"))
-        (bytes_eq x (codes "define-presentation-translator")) (bytes_eq x (codes "define-presentation-to-command-translator"))
-        (bytes_eq x (codes "define-drag-and-drop-translator")) (bytes_eq x (codes "define-dialog")))
+        (planned_answers (bytes_eq x (codes "define-command-table")) (bytes_eq x (codes "define-presentation-translator"))
+        (bytes_eq x (codes "define-presentation-to-command-translator")) (bytes_eq x (codes "define-drag-and-drop-translator"))
+        (bytes_eq x (codes "define-dialog"))))
 
   listed_judged : (at : ℕ) (ds : List Datum) (s : Declarations) → Judges w (listed_seen w at ds) Any (parse_declaration w (outer_listed at ds) s)
   listed_judged at [] s = is_wrong w at

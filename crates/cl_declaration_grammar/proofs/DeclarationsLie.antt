@@ -13,21 +13,24 @@ use Rattle.cl_words.specs.declared.signatures.Signatures.{Signatures}
 use Rattle.cl_declare.specs.Commands.{CommandHead, command_keys, head_of, listed_head, command_head}
 use Rattle.cl_declare.specs.Frames.{frame_keys, frame_shape}
 use Rattle.cl_declare.specs.Names.{is_list, is_name_list, variables_in}
+use Rattle.cl_declare.specs.TypeShapes.{name_alone}
 use Rattle.cl_grammar.specs.Lies.{Lies}
 use Rattle.cl_grammar.specs.Sights.{expression}
 use Rattle.cl_grammar.proofs.Bounds.{Within}
 use Rattle.cl_grammar.proofs.Lying.{LieList, list_lies, own_lies, datum_rises, datum_earlier}
 use Rattle.cl_text_grammar.specs.FormSights.{forms_seen}
 use Rattle.cl_text_grammar.proofs.FormsLie.{forms_lie}
-use Rattle.cl_declaration_grammar.specs.Parts.{refused, type_name, display_name, expressions, shapes, acts, wrong, planned, planned_keys, planned_parts}
+use Rattle.cl_declaration_grammar.specs.Parts.{refused, display_name, expressions, shapes, acts, wrong, planned, planned_keys, planned_parts}
 use Rattle.cl_declaration_grammar.specs.Types.{type_seen}
 use Rattle.cl_declaration_grammar.specs.Frames.{slot_seen, slots_seen, pane_display_seen, pane_seen, panes_seen, section_seen, sections_seen}
 use Rattle.cl_declaration_grammar.specs.Frames.{keyed_frame_seen, frame_seen}
-use Rattle.cl_declaration_grammar.specs.Declarations.{Row, record_seen, function_seen, display_seen, command_seen, headed_seen, planned_seen, rows, row_seen}
-use Rattle.cl_declaration_grammar.specs.Declarations.{listed_seen, declaration_seen}
+use Rattle.cl_declaration_grammar.specs.Declarations.{Row, record_seen, host_type_seen, method_named_seen, method_seen, function_seen, display_seen, command_seen}
+use Rattle.cl_declaration_grammar.specs.Declarations.{headed_seen, planned_seen, rows, row_seen, listed_seen, declaration_seen}
+use Rattle.cl_declaration_grammar.specs.UserTypes.{user_type_seen}
 use Rattle.cl_declaration_grammar.specs.Texts.{text_seen}
-use Rattle.cl_declaration_grammar.proofs.PartsLie.{LieParts, parts_earlier, parts_later, parts_joined, one_lies, when_lies, list_rises, planned_lie}
+use Rattle.cl_declaration_grammar.proofs.PartsLie.{LieParts, parts_earlier, parts_joined, one_lies, when_lies, list_rises, planned_lie}
 use Rattle.cl_declaration_grammar.proofs.TypesLie.{type_lies}
+use Rattle.cl_declaration_grammar.proofs.UserTypesLie.{user_type_lies}
 use Rattle.cl_declaration_grammar.proofs.KeysLie.{LieKey, LieKeys, list_earlier, planned_keys_lie, sections_lie, pairs_lie}
 
 head_lies : (name : Option (List ℕ)) (ks : Option (List Keyed)) (from to : ℕ) → IfSome ks (λ s. LieKeys from s to)
@@ -100,6 +103,8 @@ module _ (w : Signatures) where
   section_lies key.Size at ds from to h = omega (arith, h.0.0, h.0.1)
   section_lies key.Name at ds from to h = omega (arith, h.0.0, h.0.1)
   section_lies key.Keystroke at ds from to h = omega (arith, h.0.0, h.0.1)
+  section_lies key.InheritFrom at ds from to h = omega (arith, h.0.0, h.0.1)
+  section_lies key.Satisfies at ds from to h = omega (arith, h.0.0, h.0.1)
   section_lies key.Description at ds from to h = omega (arith, h.0.0, h.0.1)
   section_lies key.Separator at ds from to h = omega (arith, h.0.0, h.0.1)
 
@@ -130,6 +135,29 @@ module _ (w : Signatures) where
   record_lies at h (n ∷ f ∷ fs) from to a b k = when_lies (are_names (n ∷ f ∷ fs)) [] (wrong at) from to (omega (arith, a.0, a.1)) (one_lies (refused 6 at) from to a)
   record_lies at h [] from to a b k = one_lies (refused 6 at) from to a
   record_lies at h (n ∷ []) from to a b k = one_lies (refused 6 at) from to a
+
+  type_row_lies : LieRow (λ at h ds. user_type_seen w at ds)
+  type_row_lies at h ds from to a b k = user_type_lies w at ds from to a k
+
+  host_type_lies : LieRow host_type_seen
+  host_type_lies at h (n ∷ []) from to a b k = when_lies (is_some (name_in n)) [] (wrong at) from to (omega (arith, a.0, a.1)) (one_lies (refused 6 at) from to a)
+  host_type_lies at h [] from to a b k = one_lies (refused 6 at) from to a
+  host_type_lies at h (n ∷ d ∷ ds) from to a b k = one_lies (refused 6 at) from to a
+
+  method_named_lies : (at name_at : ℕ) (x p : Option (List ℕ)) (e : Datum) (from middle next to : ℕ) → Within from at to → Within from name_at middle
+      → Lies middle e next → next ≤ to → LieParts from (method_named_seen at name_at x p e) to
+  method_named_lies at name_at (Some x) (Some p) e from middle next to a n h i = (middle, n, (to, (next, h, i), omega arith))
+  method_named_lies at name_at (Some x) None e from middle next to a n h i = one_lies (refused 6 at) from to a
+  method_named_lies at name_at None p e from middle next to a n h i = one_lies (refused 6 at) from to a
+
+  method_lies : LieRow method_seen
+  method_lies at h (n ∷ ps ∷ e ∷ []) from to a b k =
+      method_named_lies at (offset n) (name_in n) (name_alone (parts_of ps)) e from k.0 k.2.2.0 to a (own_lies n from k.0 k.1)
+      (datum_earlier e k.0 k.2.0 k.2.2.0 (datum_rises ps k.0 k.2.0 k.2.1) k.2.2.1) k.2.2.2
+  method_lies at h [] from to a b k = one_lies (refused 6 at) from to a
+  method_lies at h (n ∷ []) from to a b k = one_lies (refused 6 at) from to a
+  method_lies at h (n ∷ ps ∷ []) from to a b k = one_lies (refused 6 at) from to a
+  method_lies at h (n ∷ ps ∷ e ∷ d ∷ ds) from to a b k = one_lies (refused 6 at) from to a
 
   function_lies : LieRow function_seen
   function_lies at h (n ∷ ps ∷ e ∷ []) from to a b k =
@@ -207,23 +235,20 @@ module _ (w : Signatures) where
       (rows_lie x (rows w) (
         record_lies,
         (
-          function_lies,
+          type_row_lies,
           (
-            display_lies,
+            host_type_lies,
             (
-              command_lies,
+              method_lies,
               (
-                frame_lies,
+                method_lies,
                 (
-                  planned_row_lies,
+                  function_lies,
                   (
-                    planned_row_lies,
+                    display_lies,
                     (
-                      planned_row_lies,
-                      (
-                        planned_row_lies,
-                        (planned_row_lies, (planned_row_lies, (planned_row_lies, (planned_row_lies, (planned_row_lies, tt))))),
-                      ),
+                      command_lies,
+                      (frame_lies, (planned_row_lies, (planned_row_lies, (planned_row_lies, (planned_row_lies, (planned_row_lies, tt)))))),
                     ),
                   ),
                 ),

@@ -61,6 +61,8 @@ module _ (w : Signatures) where
   section_judged key.Size at ds slots = ended w
   section_judged key.Name at ds slots = ended w
   section_judged key.Keystroke at ds slots = ended w
+  section_judged key.InheritFrom at ds slots = ended w
+  section_judged key.Satisfies at ds slots = ended w
   section_judged key.Description at ds slots = ended w
   section_judged key.Separator at ds slots = ended w
 

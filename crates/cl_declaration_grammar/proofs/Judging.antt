@@ -7,7 +7,7 @@ use Rattle.cl_grammar.proofs.Judging.{Any, Verdict, Joins, both_judged, given_ju
 use Rattle.cl_text_grammar.specs.FormSights.{shape_seen, act_seen}
 use Rattle.cl_text_grammar.proofs.FormsLie.{shapes_lie, acts_lie}
 use Rattle.cl_text_grammar.proofs.FormBounds.{any_within, any_unnamed_within, any_number}
-use Rattle.cl_declaration_grammar.specs.Parts.{Part, refused, type_name, display_name, expressions, shapes, acts, SomeOf, PartBlames, PartUnnamed}
+use Rattle.cl_declaration_grammar.specs.Parts.{Part, refused, type_name, method_name, function_name, display_name, expressions, shapes, acts, SomeOf, PartBlames, PartUnnamed}
 use Rattle.cl_declaration_grammar.proofs.PartsLie.{LiePart, LieParts, LieApart, part_rises, parts_rise, parts_split}
 
 -- ---- one of some parts
@@ -46,6 +46,8 @@ module _ (w : Signatures) where
   part_blamed_within : (p : Part) (n o from to : ℕ) → LiePart from p to → PartBlames w n o p → Within from o to
   part_blamed_within (refused number at) n o from to h b = there from at to o h b.1
   part_blamed_within (type_name x at) n o from to h b = absurd b
+  part_blamed_within (method_name x at) n o from to h b = absurd b
+  part_blamed_within (function_name x at) n o from to h b = absurd b
   part_blamed_within (display_name x at) n o from to h b = absurd b
   part_blamed_within (expressions qs) n o from to h b = blames_any_within b from to h
   part_blamed_within (shapes fs) n o from to h b = any_within (shape_seen w) w (shapes_lie w) b from to h
@@ -54,6 +56,8 @@ module _ (w : Signatures) where
   part_missing_within : (p : Part) (o from to : ℕ) → LiePart from p to → PartUnnamed w o p → Within from o to
   part_missing_within (refused number at) o from to h b = absurd b
   part_missing_within (type_name x at) o from to h b = there from at to o h b.1
+  part_missing_within (method_name x at) o from to h b = there from at to o h b.1
+  part_missing_within (function_name x at) o from to h b = there from at to o h b.1
   part_missing_within (display_name x at) o from to h b = there from at to o h b.1
   part_missing_within (expressions qs) o from to h b = unnamed_any_within b from to h
   part_missing_within (shapes fs) o from to h b = any_unnamed_within (shape_seen w) w (shapes_lie w) b from to h
@@ -78,6 +82,8 @@ module _ (w : Signatures) where
   part_number : (p : Part) (n k o from to : ℕ) → LiePart from p to → PartBlames w n o p → PartBlames w k o p → n ≡ k
   part_number (refused number at) n k o from to h a b = omega (arith, a.0, b.0)
   part_number (type_name x at) n k o from to h a b = absurd a
+  part_number (method_name x at) n k o from to h a b = absurd a
+  part_number (function_name x at) n k o from to h a b = absurd a
   part_number (display_name x at) n k o from to h a b = absurd a
   part_number (expressions qs) n k o from to h a b = any_one_number a k from to h b
   part_number (shapes fs) n k o from to h a b = any_number (shape_seen w) w (shapes_lie w) a k from to h b

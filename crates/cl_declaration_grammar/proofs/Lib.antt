@@ -1,10 +1,12 @@
 pub mod PartsLie
 pub mod KeysLie
-pub mod DeclarationsLie
 pub mod Judging
 pub mod PartsJudged
 pub mod TypesJudged
 pub mod TypesLie
+pub mod UserTypesLie
+pub mod DeclarationsLie
+pub mod UserTypesJudged
 pub mod FramesJudged
 pub mod DeclarationsJudged
 pub mod TextVerdicts

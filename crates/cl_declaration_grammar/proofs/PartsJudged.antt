@@ -1,10 +1,10 @@
 -- The readings of names, expressions and bodies answer to the part that they are.
-use Rattle.std.proofs.Common.{◌≡◌, ℕ, ◌⊎◌, inl, inr, false, List, [], ◌∷◌, refl, sym, ◌∙◌}
+use Rattle.std.proofs.Common.{◌≡◌, ℕ, ◌⊎◌, inl, inr, Bool, true, false, List, [], ◌∷◌, refl, sym, ◌∙◌}
 use Rattle.std.specs.Prelude.{Result, Option, Some, None, is_some}
 use Rattle.std.proofs.Math.Path.{subst}
 use Rattle.cl_forms.specs.Datum.{Datum, datums_of, in_order}
 use Rattle.cl_forms.proofs.Data.{data_in_order}
-use Rattle.cl_words.specs.Signatures.{display_in}
+use Rattle.cl_words.specs.Signatures.{display_in, function_in, type_in}
 use Rattle.cl_words.specs.declared.signatures.Signatures.{Signatures}
 use Rattle.cl_expressions.specs.Load.{Load, Notes, Fault, noted}
 use Rattle.cl_expressions.specs.Scopes.{Names}
@@ -12,13 +12,14 @@ use Rattle.cl_expressions.specs.Expressions.{parse_expression}
 use Rattle.cl_bodies.specs.DisplayForms.{parse_shapes}
 use Rattle.cl_bodies.specs.Specifiers.{takes_named}
 use Rattle.cl_bodies.specs.Statements.{parse_acts}
+use Rattle.cl_declare.specs.Methods.{may_have_methods}
 use Rattle.cl_grammar.specs.Sights.{expression}
 use Rattle.cl_grammar.proofs.Judging.{Any, Verdict, noted_none, noted_one, verdict_same}
 use Rattle.cl_grammar.proofs.Judged.{expression_judged}
 use Rattle.cl_text_grammar.specs.FormSights.{forms_seen}
 use Rattle.cl_text_grammar.proofs.ActsJudged.{acts_judged}
 use Rattle.cl_text_grammar.proofs.ShapesJudged.{shapes_judged}
-use Rattle.cl_declaration_grammar.specs.Parts.{Part, type_name, display_name, expressions, shapes, acts, PartBlames, PartUnnamed}
+use Rattle.cl_declaration_grammar.specs.Parts.{Part, type_name, method_name, function_name, display_name, expressions, shapes, acts, PartBlames, PartUnnamed}
 use Rattle.cl_declaration_grammar.proofs.PartsLie.{LiePart}
 use Rattle.cl_declaration_grammar.proofs.Judging.{Judges, Blamed, Missing}
 
@@ -65,6 +66,29 @@ module _ (w : Signatures) where
   pub display_name_judged : (x : List ℕ) (at : ℕ) → Judges w (display_name x at ∷ []) Any (noted (is_some (display_in w x)) at)
   display_name_judged x at =
       part_judged (display_name x at) Any (noted (is_some (display_in w x)) at) λ from to lie u. display_known (display_in w x) x at refl u
+
+  function_known : (o : Option (Option ℕ)) (x : List ℕ) (at : ℕ) → function_in w x ≡ o → (u : Notes)
+      → Verdict {A = Unit {0}} (λ n o. PartBlames w n o (function_name x at)) (λ o. PartUnnamed w o (function_name x at)) Any u (noted (is_some o) at u)
+  function_known None x at e u = (tt, λ n o b. b, noted_one (λ o. PartUnnamed w o (function_name x at)) u.unknown at (e, refl) (λ o b. b.1))
+  function_known (Some count) x at e u =
+      (tt, λ n o b. b, noted_none (λ o. PartUnnamed w o (function_name x at)) u.unknown (λ o b. none_some (sym e ∙ b.0)))
+
+  pub function_name_judged : (x : List ℕ) (at : ℕ) → Judges w (function_name x at ∷ []) Any (noted (is_some (function_in w x)) at)
+  function_name_judged x at =
+      part_judged (function_name x at) Any (noted (is_some (function_in w x)) at) λ from to lie u. function_known (function_in w x) x at refl u
+
+  true_false : ◌≡◌ {A = Bool} true false → ⊥
+  true_false e = cc
+
+  method_known : (b : Bool) (x : List ℕ) (at : ℕ) → may_have_methods (type_in w x) ≡ b → (u : Notes)
+      → Verdict {A = Unit {0}} (λ n o. PartBlames w n o (method_name x at)) (λ o. PartUnnamed w o (method_name x at)) Any u (noted b at u)
+  method_known false x at e u = (tt, λ n o b. b, noted_one (λ o. PartUnnamed w o (method_name x at)) u.unknown at (e, refl) (λ o b. b.1))
+  method_known true x at e u =
+      (tt, λ n o b. b, noted_none (λ o. PartUnnamed w o (method_name x at)) u.unknown (λ o b. true_false (sym e ∙ b.0)))
+
+  pub method_name_judged : (x : List ℕ) (at : ℕ) → Judges w (method_name x at ∷ []) Any (noted (may_have_methods (type_in w x)) at)
+  method_name_judged x at =
+      part_judged (method_name x at) Any (noted (may_have_methods (type_in w x)) at) λ from to lie u. method_known (may_have_methods (type_in w x)) x at refl u
 
   -- ---- bodies
 

@@ -1,18 +1,18 @@
 -- The readings of types answer to what is looked at of them.
-use Rattle.std.proofs.Common.{◌≡◌, ℕ, Bool, true, false, ◌==◌, if◌then◌else◌, List, [], ◌∷◌, ◌++◌, length, refl, sym, ap, suc}
+use Rattle.std.proofs.Common.{◌≡◌, ℕ, Bool, true, false, ◌==◌, if◌then◌else◌, List, [], ◌∷◌, length, refl, sym, ap, suc}
 use Rattle.std.specs.Prelude.{Option, Some, None, Result, Ok, Err, nat_le}
 use Rattle.std.proofs.Math.Path.{subst}
-use Rattle.cl_syntax.specs.TypeSpecTree.{TypeArgTree, TypeSpecTree, plain_type, specifier, Spec, Names as Tokens, arg_trees_of, no_options}
+use Rattle.cl_syntax.specs.TypeSpecTree.{TypeSpecTree, plain_type, specifier, Spec, Names as Tokens, arg_trees_of, no_options}
 use Rattle.cl_syntax.specs.declared.type_specs.TypeOptions.{TypeOptions}
 use Rattle.cl_forms.specs.Datum.{Datum, Datums, number, literal, word, quoted, stray, list, none, item, in_order, offset}
 use Rattle.cl_forms.specs.Keys.{Keyed}
-use Rattle.cl_forms.specs.Naming.{name_in}
+use Rattle.cl_forms.specs.Naming.{fits, name_in}
 use Rattle.cl_words.specs.declared.signatures.Signatures.{Signatures}
-use Rattle.cl_expressions.specs.Load.{Load, Fault, Notes, after, give, refuse, placed, with_specifier, ◌>>=◌}
+use Rattle.cl_expressions.specs.Load.{Load, Fault, Notes, after, give, refuse, placed, with_specifier}
 use Rattle.cl_expressions.specs.Scopes.{Names}
 use Rattle.cl_bodies.specs.PlannedKeys.{no_keys}
 use Rattle.cl_bodies.specs.TypeArguments.{arguments_in, first_stray, is_stray, may_all_stand, options_in, tokens_in}
-use Rattle.cl_bodies.specs.Specifiers.{TypeSub, parse_arguments, parse_at_most, parse_constants, parse_each_type, parse_first, parse_headed, parse_inner}
+use Rattle.cl_bodies.specs.Specifiers.{parse_arguments, parse_at_most, parse_constants, parse_each_type, parse_first, parse_given, parse_headed, parse_inner}
 use Rattle.cl_bodies.specs.Specifiers.{parse_known, parse_listed, parse_named, parse_nothing, parse_one_type, parse_optioned, parse_parts, parse_some_types}
 use Rattle.cl_bodies.specs.Specifiers.{parse_token_type, parse_tokens_and_type, parse_type, shapes, takes_named, type_subs, with_options}
 use Rattle.cl_bodies.specs.declared.specifiers.Takes.{Takes}
@@ -20,8 +20,8 @@ use Rattle.cl_bodies.specs.declared.specifiers.Takes.TheVariants as takes
 use Rattle.cl_bodies.specs.declared.type_arguments.Wanted.{Wanted}
 use Rattle.cl_bodies.specs.declared.type_arguments.Wanted.TheVariants as wanted
 use Rattle.cl_grammar.proofs.Judging.{Any, Verdict}
-use Rattle.cl_declaration_grammar.specs.Parts.{Part, refused, type_name, wrong, planned_keys}
-use Rattle.cl_declaration_grammar.specs.Types.{Sighted, arguments_seen, at_most_seen, constants_seen, each_type_seen, first_type_seen, headed_type_seen}
+use Rattle.cl_declaration_grammar.specs.Parts.{Part, refused, wrong, planned_keys}
+use Rattle.cl_declaration_grammar.specs.Types.{arguments_seen, at_most_seen, constants_seen, each_type_seen, first_type_seen, given_seen, headed_type_seen}
 use Rattle.cl_declaration_grammar.specs.Types.{inner_type_seen, known_type_seen, listed_type_seen, nothing_seen, one_type_seen, optioned_type_seen}
 use Rattle.cl_declaration_grammar.specs.Types.{shapes_sighted, some_types_seen, strays_seen, tokens_and_type_seen, type_parts_seen, type_seen, types_seen}
 use Rattle.cl_declaration_grammar.proofs.Judging.{Blamed, Judges, Missing, joined, then_given, ended, refused_first}
@@ -62,6 +62,9 @@ module _ (w : Signatures) where
   at_most_judged : (most : ℕ) (ps : Names) (kind : Wanted) (at : ℕ) (ds : List Datum)
       → Judges w (at_most_seen most ps kind at ds) Any (parse_at_most most ps kind at ds)
   at_most_judged most ps kind at ds = chosen (nat_le (length ds) most) (constants_judged ps kind at ds) (is_wrong at)
+
+  given_judged : (count : Option ℕ) (ps : Names) (at : ℕ) (ds : List Datum) → Judges w (given_seen count ps at ds) Any (parse_given count ps at ds)
+  given_judged count ps at ds = chosen (fits count (length ds)) (constants_judged ps wanted.ConstantOrStar at ds) (is_wrong at)
 
   nothing_judged : (at : ℕ) (ds : List Datum) → Judges w (nothing_seen at ds) Any (parse_nothing at ds)
   nothing_judged at [] = ended w
@@ -142,6 +145,7 @@ module _ (w : Signatures) where
         by_shapes (at_most_seen 1 ps wanted.Number at) (parse_at_most 1 ps wanted.Number at) (at_most_judged 1 ps wanted.Number at) ds
     arguments_judged takes.Constants at ds h =
         by_shapes (constants_seen ps wanted.Constant at) (parse_constants ps wanted.Constant at) (constants_judged ps wanted.Constant at) ds
+    arguments_judged (takes.Given count) at ds h = by_shapes (given_seen count ps at) (parse_given count ps at) (given_judged count ps at) ds
     arguments_judged takes.OneType at ds h = one_judged at ds h
     arguments_judged takes.SomeTypes at ds h = some_judged at ds h
     arguments_judged takes.TokensAndType at ds h = tokens_judged at ds h

@@ -1,10 +1,10 @@
 -- What is looked at of types lies in them.
-use Rattle.std.proofs.Common.{◌≡◌, ℕ, ◌+◌, ◌≤◌, ◌==◌, List, [], ◌∷◌, ◌++◌, length, sym, arith}
+use Rattle.std.proofs.Common.{ℕ, ◌+◌, ◌≤◌, ◌==◌, List, [], ◌∷◌, length, sym, arith}
 use Rattle.std.specs.Prelude.{Option, Some, None, nat_le}
 use Rattle.std.proofs.Math.Path.{subst}
 use Rattle.cl_syntax.specs.declared.type_specs.TypeOptions.{TypeOptions}
 use Rattle.cl_forms.specs.Datum.{Datum, Datums, number, literal, word, quoted, stray, list, none, item, in_order, offset}
-use Rattle.cl_forms.specs.Naming.{name_in}
+use Rattle.cl_forms.specs.Naming.{fits, name_in}
 use Rattle.cl_words.specs.declared.signatures.Signatures.{Signatures}
 use Rattle.cl_expressions.specs.Scopes.{Names}
 use Rattle.cl_bodies.specs.TypeArguments.{is_stray, may_all_stand, options_in, tokens_in}
@@ -17,9 +17,9 @@ use Rattle.cl_grammar.specs.Lies.{Lies, LieAll}
 use Rattle.cl_grammar.proofs.Bounds.{Within}
 use Rattle.cl_grammar.proofs.Lying.{LieList, list_lies, own_lies, datum_rises, datum_earlier}
 use Rattle.cl_declaration_grammar.specs.Parts.{Part, refused, type_name, wrong}
-use Rattle.cl_declaration_grammar.specs.Types.{Sighted, arguments_seen, at_most_seen, constants_seen, each_type_seen, first_type_seen, headed_type_seen}
-use Rattle.cl_declaration_grammar.specs.Types.{inner_type_seen, known_type_seen, listed_type_seen, nothing_seen, one_type_seen, optioned_type_seen}
-use Rattle.cl_declaration_grammar.specs.Types.{shapes_sighted, some_types_seen, strays_seen, tokens_and_type_seen, type_parts_seen, type_seen, types_seen}
+use Rattle.cl_declaration_grammar.specs.Types.{arguments_seen, at_most_seen, constants_seen, each_type_seen, first_type_seen, given_seen, headed_type_seen}
+use Rattle.cl_declaration_grammar.specs.Types.{inner_type_seen, known_type_seen, listed_type_seen, nothing_seen, optioned_type_seen}
+use Rattle.cl_declaration_grammar.specs.Types.{shapes_sighted, strays_seen, tokens_and_type_seen, type_parts_seen, type_seen, types_seen}
 use Rattle.cl_declaration_grammar.proofs.PartsLie.{LieParts, parts_earlier, parts_later, parts_joined, one_lies, when_lies}
 use Rattle.cl_declaration_grammar.proofs.TypesJudged.{shapes_looked_at}
 
@@ -51,6 +51,12 @@ at_most_lie : (most : ℕ) (ps : Names) (kind : Wanted) (at : ℕ) (ds : List Da
 at_most_lie most ps kind at ds from to h k =
     when_lies (nat_le (length ds) most) (constants_seen ps kind at ds) (wrong at) from to (constants_lie ps kind at ds from to h k)
     (one_lies (refused 6 at) from to h)
+
+given_lies : (count : Option ℕ) (ps : Names) (at : ℕ) (ds : List Datum) (from to : ℕ) → Within from at to → LieList from ds to
+    → LieParts from (given_seen count ps at ds) to
+given_lies count ps at ds from to h k =
+    when_lies (fits count (length ds)) (constants_seen ps wanted.ConstantOrStar at ds) (wrong at) from to
+    (constants_lie ps wanted.ConstantOrStar at ds from to h k) (one_lies (refused 6 at) from to h)
 
 nothing_lies : (at : ℕ) (ds : List Datum) (from to : ℕ) → Within from at to → LieList from ds to → LieParts from (nothing_seen at ds) to
 nothing_lies at [] from to h k = k
@@ -97,6 +103,8 @@ module _ (w : Signatures) (ps : Names) where
       by_shapes (at_most_seen 1 ps wanted.Number at) ds from to (at_most_lie 1 ps wanted.Number at (in_order ds) from to h (list_lies ds from to k))
   arguments_lie takes.Constants at ds e from to h k =
       by_shapes (constants_seen ps wanted.Constant at) ds from to (constants_lie ps wanted.Constant at (in_order ds) from to h (list_lies ds from to k))
+  arguments_lie (takes.Given count) at ds e from to h k =
+      by_shapes (given_seen count ps at) ds from to (given_lies count ps at (in_order ds) from to h (list_lies ds from to k))
   arguments_lie takes.OneType at ds e from to h k =
       when_lies (length (types_seen w ps ds) == 1) (each_type_seen (types_seen w ps ds)) (wrong at) from to (each_lies ds e from to k) (one_lies (refused 6 at) from to h)
   arguments_lie takes.SomeTypes at ds e from to h k =

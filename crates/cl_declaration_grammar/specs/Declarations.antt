@@ -6,10 +6,12 @@ use Rattle.cl_forms.specs.Naming.{are_names, name_in}
 use Rattle.cl_words.specs.declared.signatures.Signatures.{Signatures}
 use Rattle.cl_declare.specs.Commands.{CommandHead, command_head}
 use Rattle.cl_declare.specs.Names.{is_list, is_name_list, variables_in}
+use Rattle.cl_declare.specs.TypeShapes.{name_alone}
 use Rattle.cl_grammar.specs.Sights.{expression}
 use Rattle.cl_text_grammar.specs.FormSights.{forms_seen}
-use Rattle.cl_declaration_grammar.specs.Parts.{Part, refused, expressions, shapes, acts, wrong, planned, planned_keys, planned_parts}
+use Rattle.cl_declaration_grammar.specs.Parts.{Part, refused, method_name, expressions, shapes, acts, wrong, planned, planned_keys, planned_parts}
 use Rattle.cl_declaration_grammar.specs.Frames.{frame_seen}
+use Rattle.cl_declaration_grammar.specs.UserTypes.{user_type_seen}
 
 -- what is looked at of a declaration, by its offset, the offset of its head, and its parts
 abbrev pub Row : Type 0
@@ -19,6 +21,22 @@ Row = ℕ → ℕ → List Datum → List Part
 abbrev pub record_seen : Row
 record_seen at h (n ∷ f ∷ fs) = if are_names (n ∷ f ∷ fs) then [] else wrong at
 record_seen at h parts = wrong at
+
+-- `(define-host-type NAME)`
+abbrev pub host_type_seen : Row
+host_type_seen at h (n ∷ []) = if is_some (name_in n) then [] else wrong at
+host_type_seen at h parts = wrong at
+
+-- the name of a type, and a body that sees the parameter
+abbrev pub method_named_seen : ℕ → ℕ → Option (List ℕ) → Option (List ℕ) → Datum → List Part
+method_named_seen at name_at (Some x) (Some p) e = method_name x name_at ∷ expressions (expression (p ∷ []) e ∷ []) ∷ []
+method_named_seen at name_at (Some x) None e = wrong at
+method_named_seen at name_at None parameter e = wrong at
+
+-- `(define-present-method NAME (PARAMETER) BODY)`, or the same of `define-accept-method`
+abbrev pub method_seen : Row
+method_seen at h (n ∷ ps ∷ e ∷ []) = method_named_seen at (offset n) (name_in n) (name_alone (parts_of ps)) e
+method_seen at h parts = wrong at
 
 -- `(define-function NAME (PARAMETER ...) BODY)`: the body sees the parameters
 abbrev pub function_seen : Row
@@ -49,14 +67,14 @@ planned_seen at h parts = planned h ∷ []
 abbrev pub rows : Signatures → List (List ℕ × Row)
 rows w =
     (codes "define-record", record_seen)
+    ∷ (codes "define-presentation-type", λ at h parts. user_type_seen w at parts)
+    ∷ (codes "define-host-type", host_type_seen)
+    ∷ (codes "define-present-method", method_seen)
+    ∷ (codes "define-accept-method", method_seen)
     ∷ (codes "define-function", function_seen)
     ∷ (codes "define-display", display_seen)
     ∷ (codes "define-command", command_seen)
     ∷ (codes "define-application-frame", λ at h parts. frame_seen w at parts)
-    ∷ (codes "define-host-type", planned_seen)
-    ∷ (codes "define-presentation-type", planned_seen)
-    ∷ (codes "define-present-method", planned_seen)
-    ∷ (codes "define-accept-method", planned_seen)
     ∷ (codes "define-command-table", planned_seen)
     ∷ (codes "define-presentation-translator", planned_seen)
     ∷ (codes "define-presentation-to-command-translator", planned_seen)

@@ -42,6 +42,8 @@ section_seen w k = elim k.key [
   | key.Size ↦ []
   | key.Name ↦ []
   | key.Keystroke ↦ []
+  | key.InheritFrom ↦ []
+  | key.Satisfies ↦ []
   | key.Description ↦ []
   | key.Separator ↦ []
 ]

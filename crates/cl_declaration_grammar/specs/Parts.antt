@@ -1,10 +1,11 @@
 -- The parts of a text that are looked at, in the order of the text: which of them is to blame, and which name is not declared.
-use Rattle.std.specs.Prelude.{◌≡◌, ◌⊎◌, ℕ, List, [], ◌∷◌, None}
+use Rattle.std.specs.Prelude.{◌≡◌, ◌⊎◌, ℕ, false, List, [], ◌∷◌, None}
 use Rattle.cl_forms.specs.Datum.{Datum, offset}
 use Rattle.cl_forms.specs.Keys.{Keyed}
-use Rattle.cl_words.specs.Signatures.{display_in}
+use Rattle.cl_words.specs.Signatures.{display_in, function_in, type_in}
 use Rattle.cl_words.specs.declared.signatures.Signatures.{Signatures}
 use Rattle.cl_bodies.specs.Specifiers.{takes_named}
+use Rattle.cl_declare.specs.Methods.{may_have_methods}
 use Rattle.cl_grammar.specs.Sights.{Seen}
 use Rattle.cl_grammar.specs.Blames.{BlamesAny}
 use Rattle.cl_grammar.specs.Unnamed.{UnnamedAny}
@@ -18,6 +19,10 @@ pub data Part : Type 0 where
   refused : ℕ → ℕ → Part
   -- the name of a type, with its offset
   type_name : List ℕ → ℕ → Part
+  -- the name of a type that a method is for, with its offset
+  method_name : List ℕ → ℕ → Part
+  -- the name of a function, with its offset
+  function_name : List ℕ → ℕ → Part
   -- the name of a display, with its offset
   display_name : List ℕ → ℕ → Part
   -- expressions
@@ -36,6 +41,8 @@ SomeOf P (p ∷ ps) = P p ⊎ SomeOf P ps
 abbrev pub PartBlames : Signatures → ℕ → ℕ → Part → Type 0
 PartBlames w n o (refused number at) = (n ≡ number) × (o ≡ at)
 PartBlames w n o (type_name x at) = ⊥
+PartBlames w n o (method_name x at) = ⊥
+PartBlames w n o (function_name x at) = ⊥
 PartBlames w n o (display_name x at) = ⊥
 PartBlames w n o (expressions qs) = BlamesAny w qs n o
 PartBlames w n o (shapes fs) = FormBlamesAny (shape_seen w) w fs n o
@@ -45,6 +52,8 @@ PartBlames w n o (acts fs) = FormBlamesAny act_seen w fs n o
 abbrev pub PartUnnamed : Signatures → ℕ → Part → Type 0
 PartUnnamed w o (refused number at) = ⊥
 PartUnnamed w o (type_name x at) = (takes_named w x ≡ None) × (o ≡ at)
+PartUnnamed w o (method_name x at) = (may_have_methods (type_in w x) ≡ false) × (o ≡ at)
+PartUnnamed w o (function_name x at) = (function_in w x ≡ None) × (o ≡ at)
 PartUnnamed w o (display_name x at) = (display_in w x ≡ None) × (o ≡ at)
 PartUnnamed w o (expressions qs) = UnnamedAny w qs o
 PartUnnamed w o (shapes fs) = FormUnnamedAny (shape_seen w) w fs o

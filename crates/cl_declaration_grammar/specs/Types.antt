@@ -3,7 +3,7 @@
 use Rattle.std.specs.Prelude.{ℕ, ◌==◌, nat_le, if◌then◌else◌, List, [], ◌∷◌, ◌++◌, length, map, Option, Some, None}
 use Rattle.cl_syntax.specs.declared.type_specs.TypeOptions.{TypeOptions}
 use Rattle.cl_forms.specs.Datum.{Datum, Datums, number, literal, word, quoted, stray, list, none, item, offset}
-use Rattle.cl_forms.specs.Naming.{name_in}
+use Rattle.cl_forms.specs.Naming.{fits, name_in}
 use Rattle.cl_words.specs.declared.signatures.Signatures.{Signatures}
 use Rattle.cl_expressions.specs.Scopes.{Names}
 use Rattle.cl_bodies.specs.TypeArguments.{is_stray, may_all_stand, options_in, tokens_in}
@@ -36,6 +36,10 @@ constants_seen ps kind at ds = if may_all_stand ps kind ds then strays_seen ds e
 abbrev pub at_most_seen : ℕ → Names → Wanted → ℕ → List Datum → List Part
 at_most_seen most ps kind at ds = if nat_le (length ds) most then constants_seen ps kind at ds else wrong at
 
+-- as many as are asked for, each a constant or `*`
+abbrev pub given_seen : Option ℕ → Names → ℕ → List Datum → List Part
+given_seen count ps at ds = if fits count (length ds) then constants_seen ps wanted.ConstantOrStar at ds else wrong at
+
 abbrev pub nothing_seen : ℕ → List Datum → List Part
 nothing_seen at [] = []
 nothing_seen at (d ∷ ds) = wrong at
@@ -62,6 +66,7 @@ arguments_seen ps takes.Nothing at ss = nothing_seen at (shapes_sighted ss)
 arguments_seen ps takes.Bounds at ss = at_most_seen 2 ps wanted.NumberOrStar at (shapes_sighted ss)
 arguments_seen ps takes.Length at ss = at_most_seen 1 ps wanted.Number at (shapes_sighted ss)
 arguments_seen ps takes.Constants at ss = constants_seen ps wanted.Constant at (shapes_sighted ss)
+arguments_seen ps (takes.Given count) at ss = given_seen count ps at (shapes_sighted ss)
 arguments_seen ps takes.OneType at ss = one_type_seen at ss
 arguments_seen ps takes.SomeTypes at ss = some_types_seen at ss
 arguments_seen ps takes.TokensAndType at ss = tokens_and_type_seen at ss

@@ -6,6 +6,8 @@ use Rattle.cl_expressions.specs.Load.{Notes}
 use Rattle.cl_forms.specs.declared.datum.Datum.{Datum}
 use Rattle.cl_words.specs.declared.signatures.Signatures.{Signatures}
 use Rattle.cl_declare.specs.Callees.{parse_function}
+use Rattle.cl_declare.specs.Methods.{parse_method}
+use Rattle.cl_declare.specs.Types.{parse_host_type}
 use Rattle.cl_declare.specs.Frames.{size_in, is_slot, pane_listed}
 use Rattle.cl_declare.specs.Sections.{SlotTable, parse_slot, note_pane}
 
@@ -56,3 +58,15 @@ note_counts w (a ∷ b ∷ c ∷ d ∷ []) n h = refl
 note_counts w (a ∷ b ∷ c ∷ d ∷ e ∷ []) n h = refl
 note_counts w (a ∷ b ∷ c ∷ d ∷ e ∷ f ∷ []) n h = absurd (h refl)
 note_counts w (a ∷ b ∷ c ∷ d ∷ e ∷ f ∷ g ∷ ds) n h = refl
+
+pub host_type_counts : (at : ℕ) (ds : List Datum) (n : Notes) → (length ds ≡ 1 → ⊥) → parse_host_type at (map datum_of ds) n ≡ Err (6, at)
+host_type_counts at [] n h = refl
+host_type_counts at (a ∷ []) n h = absurd (h refl)
+host_type_counts at (a ∷ b ∷ ds) n h = refl
+
+pub method_counts : (w : Signatures) (at : ℕ) (ds : List Datum) (n : Notes) → (length ds ≡ 3 → ⊥) → parse_method w at (map datum_of ds) n ≡ Err (6, at)
+method_counts w at [] n h = refl
+method_counts w at (a ∷ []) n h = refl
+method_counts w at (a ∷ b ∷ []) n h = refl
+method_counts w at (a ∷ b ∷ c ∷ []) n h = absurd (h refl)
+method_counts w at (a ∷ b ∷ c ∷ d ∷ ds) n h = refl

@@ -5,19 +5,25 @@ use Rattle.cl_table.specs.Names.{with_first}
 use Rattle.cl_forms.specs.Datum.{Datum}
 use Rattle.cl_forms.specs.Outer.{Outer}
 use Rattle.cl_forms.specs.declared.outer.DeclarationKind.{DeclarationKind}
-use Rattle.cl_forms.specs.declared.outer.DeclarationKind.TheVariants.{Record, Function, Display, Command, Frame}
+use Rattle.cl_forms.specs.declared.outer.DeclarationKind.TheVariants.{Record, PresentationType, HostType, PresentMethod, AcceptMethod, Function, Display, Command, Frame}
 use Rattle.cl_forms.specs.declared.outer.OuterKind.{OuterKind}
 use Rattle.cl_forms.specs.declared.outer.OuterKind.TheVariants.{Declared, Planned, Unknown, Headless}
 use Rattle.cl_words.specs.declared.signatures.Signatures.{Signatures}
 use Rattle.cl_expressions.specs.Load.{Load, ◌>>=◌, give, refuse}
 use Rattle.cl_declare.specs.Callees.{parse_record, parse_function, parse_display}
 use Rattle.cl_declare.specs.Commands.{parse_command}
+use Rattle.cl_declare.specs.Methods.{parse_method}
 use Rattle.cl_declare.specs.Sections.{parse_frame}
+use Rattle.cl_declare.specs.Types.{parse_host_type, parse_user_type}
 use Rattle.cl_declare.specs.declared.declarations.Declarations.{Declarations}
 
 -- behind what was declared before
 abbrev pub parse_declared : Signatures → DeclarationKind → ℕ → List Datum → Declarations → Load Declarations
 parse_declared w Record at parts s = parse_record at parts >>= λ d. give (record s { records = with_first (λ e. e.name) s.records d })
+parse_declared w PresentationType at parts s = parse_user_type w at parts >>= λ d. give (record s { types = with_first (λ e. e.name) s.types d })
+parse_declared w HostType at parts s = parse_host_type at parts >>= λ d. give (record s { hosts = with_first (λ e. e.name) s.hosts d })
+parse_declared w PresentMethod at parts s = parse_method w at parts >>= λ d. give (record s { present_methods = with_first (λ e. e.name) s.present_methods d })
+parse_declared w AcceptMethod at parts s = parse_method w at parts >>= λ d. give (record s { accept_methods = with_first (λ e. e.name) s.accept_methods d })
 parse_declared w Function at parts s = parse_function w at parts >>= λ d. give (record s { functions = with_first (λ e. e.name) s.functions d })
 parse_declared w Display at parts s = parse_display w at parts >>= λ d. give (record s { displays = with_first (λ e. e.name) s.displays d })
 parse_declared w Command at parts s = parse_command w at parts >>= λ d. give (record s { commands = with_first (λ e. e.name) s.commands d })
@@ -38,7 +44,7 @@ parse_each_declaration w [] s = give s
 parse_each_declaration w (o ∷ os) s = parse_declaration w o s >>= λ t. parse_each_declaration w os t
 
 abbrev pub nothing_declared : Declarations
-nothing_declared = record { records = []; functions = []; displays = []; commands = []; frames = [] }
+nothing_declared = record { records = []; types = []; hosts = []; present_methods = []; accept_methods = []; functions = []; displays = []; commands = []; frames = [] }
 
 -- what the outermost forms of a text declare
 abbrev pub parse_declarations : Signatures → List Outer → Load Declarations

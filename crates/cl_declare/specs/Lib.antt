@@ -1,5 +1,8 @@
 pub mod Names
 pub mod Callees
+pub mod TypeShapes
+pub mod Types
+pub mod Methods
 pub mod Commands
 pub mod CommandView
 pub mod Frames

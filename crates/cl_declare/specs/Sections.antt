@@ -50,6 +50,8 @@ parse_section w k slots = elim k.key [
   | key.Size ↦ give slots
   | key.Name ↦ give slots
   | key.Keystroke ↦ give slots
+  | key.InheritFrom ↦ give slots
+  | key.Satisfies ↦ give slots
   | key.Description ↦ give slots
   | key.Separator ↦ give slots
 ]

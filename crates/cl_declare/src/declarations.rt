@@ -9,16 +9,22 @@ ghost use Rattle.cl_expressions.specs.Leaves.{Leaves};
 use crate::callees::{parse_display, parse_function, parse_record};
 use crate::commands::parse_command;
 use crate::in_order::FrameForms;
+use crate::methods::parse_method;
 use crate::sections::parse_frame;
-use cl_application::{Commands, Displays, Functions};
+use crate::types::{parse_host_type, parse_user_type};
+use cl_application::{Commands, Displays, Functions, HostDecls, Methods};
 use cl_expressions::{Notes, Reader};
 use cl_forms::{Datum, DeclarationKind, LoadRefusal, Outer, OuterKind};
-use cl_syntax::Records;
+use cl_syntax::{Records, UserTypes};
 
 /// What a text declares: tables by name, of two of one name the first, and all frames in their order.
 #[derive(Drop)]
 pub struct Declarations {
     pub records: Records,
+    pub types: UserTypes,
+    pub hosts: HostDecls,
+    pub present_methods: Methods,
+    pub accept_methods: Methods,
     pub functions: Functions,
     pub displays: Displays,
     pub commands: Commands,
@@ -37,6 +43,10 @@ pub fn parse_declarations(
 {
     let mut declarations = Declarations {
         records: Records::new(reader.alloc),
+        types: UserTypes::new(reader.alloc),
+        hosts: HostDecls::new(reader.alloc),
+        present_methods: Methods::new(reader.alloc),
+        accept_methods: Methods::new(reader.alloc),
         functions: Functions::new(reader.alloc),
         displays: Displays::new(reader.alloc),
         commands: Commands::new(reader.alloc),
@@ -84,6 +94,22 @@ fn parse_declared(
         DeclarationKind::Record => {
             let record = parse_record(reader.alloc, at, parts)?;
             declarations.records.add_first(record)?
+        }
+        DeclarationKind::PresentationType => {
+            let user_type = parse_user_type(reader, at, parts, notes)?;
+            declarations.types.add_first(user_type)?
+        }
+        DeclarationKind::HostType => {
+            let host_type = parse_host_type(reader.alloc, at, parts)?;
+            declarations.hosts.add_first(host_type)?
+        }
+        DeclarationKind::PresentMethod => {
+            let method = parse_method(reader, at, parts, notes)?;
+            declarations.present_methods.add_first(method)?
+        }
+        DeclarationKind::AcceptMethod => {
+            let method = parse_method(reader, at, parts, notes)?;
+            declarations.accept_methods.add_first(method)?
         }
         DeclarationKind::Function => {
             let function = parse_function(reader, at, parts, notes)?;

@@ -1,5 +1,5 @@
-//! What the declarations of an application text say: records, functions, displays, commands and
-//! frames, with their exact refusals. Begin with `specs/Declarations.antt`.
+//! What the declarations of an application text say: types and their methods, functions, displays, commands
+//! and frames, with their exact refusals. Begin with `specs/Declarations.antt`.
 #![tactic(auto)]
 
 mod callees;
@@ -7,9 +7,12 @@ mod commands;
 mod declarations;
 mod frames;
 mod in_order;
+mod methods;
 mod names;
 mod pane_forms;
 mod sections;
+mod type_shapes;
+mod types;
 
 pub use declarations::{Declarations, parse_declarations};
 pub use frames::FrameForm;

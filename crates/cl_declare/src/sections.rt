@@ -82,6 +82,8 @@ fn parse_section(
         Key::Size => Ok(()),
         Key::Name => Ok(()),
         Key::Keystroke => Ok(()),
+        Key::InheritFrom => Ok(()),
+        Key::Satisfies => Ok(()),
         Key::Description => Ok(()),
         Key::Separator => Ok(()),
     }

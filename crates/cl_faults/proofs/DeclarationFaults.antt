@@ -7,7 +7,7 @@ use Rattle.cl_forms.specs.Keys.{Keyed, keyed_pairs}
 use Rattle.cl_forms.specs.Naming.{are_names, name_in}
 use Rattle.cl_forms.specs.Outer.{declaration_named, is_planned, kind_or, kind_named, outer_listed, outer_in}
 use Rattle.cl_forms.specs.declared.outer.DeclarationKind.{DeclarationKind}
-use Rattle.cl_forms.specs.declared.outer.DeclarationKind.TheVariants.{Record, Function, Display, Command, Frame}
+use Rattle.cl_forms.specs.declared.outer.DeclarationKind.TheVariants.{Record, PresentationType, HostType, PresentMethod, AcceptMethod, Function, Display, Command, Frame}
 use Rattle.cl_forms.specs.declared.outer.OuterKind.{OuterKind}
 use Rattle.cl_forms.specs.declared.outer.OuterKind.TheVariants.{Planned, Unknown}
 use Rattle.cl_words.specs.declared.signatures.Signatures.{Signatures}
@@ -23,6 +23,7 @@ use Rattle.cl_faults.proofs.DisplayFaults.{shapes_faults}
 use Rattle.cl_faults.proofs.StatementFaults.{acts_faults}
 use Rattle.cl_faults.proofs.KeyFaults.{CoversKeys, pairs_covered, keys_faults}
 use Rattle.cl_faults.proofs.FrameFaults.{frame_faults}
+use Rattle.cl_faults.proofs.UserTypeFaults.{user_type_faults, host_type_faults, method_faults}
 
 -- ---- the keys of a command
 
@@ -92,6 +93,10 @@ module _ {P : ℕ → Type 0} where
   declared_faults : (w : Signatures) (kind : DeclarationKind) (at : ℕ) (ds : List Datum) (s : Declarations) → P at → CoversEach P ds
       → FaultsAt P (parse_declared w kind at ds s)
   declared_faults w Record at ds s h c = binds (record_faults at ds h) λ d. gives
+  declared_faults w PresentationType at ds s h c = binds (user_type_faults w at ds h c) λ d. gives
+  declared_faults w HostType at ds s h c = binds (host_type_faults at ds h) λ d. gives
+  declared_faults w PresentMethod at ds s h c = binds (method_faults w at ds h c) λ d. gives
+  declared_faults w AcceptMethod at ds s h c = binds (method_faults w at ds h c) λ d. gives
   declared_faults w Function at ds s h c = binds (function_faults w at ds h c) λ d. gives
   declared_faults w Display at ds s h c = binds (display_faults w at ds h c) λ d. gives
   declared_faults w Command at ds s h c = binds (command_faults w at ds h c) λ d. gives

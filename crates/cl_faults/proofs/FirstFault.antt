@@ -5,7 +5,7 @@ use Rattle.std.proofs.lemmas.List.Elements.{All-nil, All-cons, All-contains, All
 use Rattle.cl_forms.specs.Datum.{Datum}
 use Rattle.cl_forms.specs.Outer.{outer_in, outers_of}
 use Rattle.cl_forms.specs.declared.outer.DeclarationKind.{DeclarationKind}
-use Rattle.cl_forms.specs.declared.outer.DeclarationKind.TheVariants.{Record, Function, Display, Command, Frame}
+use Rattle.cl_forms.specs.declared.outer.DeclarationKind.TheVariants.{Record, PresentationType, HostType, PresentMethod, AcceptMethod, Function, Display, Command, Frame}
 use Rattle.cl_forms.specs.declared.outer.OuterKind.{OuterKind}
 use Rattle.cl_forms.specs.declared.outer.OuterKind.TheVariants.{Declared, Planned, Unknown, Headless}
 use Rattle.cl_expressions.specs.Load.{Load, Notes, Fault, after, ◌>>=◌, give}
@@ -17,6 +17,7 @@ use Rattle.cl_faults.proofs.FaultLemmas.{FaultsAt, outcome}
 use Rattle.cl_faults.proofs.DataFaults.{CoversEach}
 use Rattle.cl_faults.proofs.DeclarationFaults.{record_faults, function_faults, display_faults, command_faults, declaration_faults}
 use Rattle.cl_faults.proofs.FrameFaults.{frame_faults}
+use Rattle.cl_faults.proofs.UserTypeFaults.{user_type_faults, host_type_faults, method_faults}
 
 -- what a form comes to, and what forms come to, behind what was declared before
 abbrev read : Signatures → Datum → Declarations → Load Declarations
@@ -72,6 +73,10 @@ row_same {m} f g h = λ u v. given_same f g (m u) (m v) (h.steady u v)
 declared_same : (w : Signatures) (kind : DeclarationKind) (at : ℕ) (ds : List Datum) (s t : Declarations)
     → SameFault (parse_declared w kind at ds s) (parse_declared w kind at ds t)
 declared_same w Record at ds s t = row_same _ _ (record_faults at ds tt)
+declared_same w PresentationType at ds s t = row_same _ _ (user_type_faults w at ds tt (anywhere ds))
+declared_same w HostType at ds s t = row_same _ _ (host_type_faults at ds tt)
+declared_same w PresentMethod at ds s t = row_same _ _ (method_faults w at ds tt (anywhere ds))
+declared_same w AcceptMethod at ds s t = row_same _ _ (method_faults w at ds tt (anywhere ds))
 declared_same w Function at ds s t = row_same _ _ (function_faults w at ds tt (anywhere ds))
 declared_same w Display at ds s t = row_same _ _ (display_faults w at ds tt (anywhere ds))
 declared_same w Command at ds s t = row_same _ _ (command_faults w at ds tt (anywhere ds))

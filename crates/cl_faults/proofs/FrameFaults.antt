@@ -10,7 +10,8 @@ use Rattle.cl_forms.specs.declared.keys.Key.TheVariants as key
 use Rattle.cl_words.specs.Signatures.{display_in}
 use Rattle.cl_words.specs.declared.signatures.Signatures.{Signatures}
 use Rattle.cl_declare.specs.Frames.{frame_keys, frame_shape}
-use Rattle.cl_declare.specs.Sections.{SlotTable, parse_slot, parse_slots, note_display, note_pane, note_panes, parse_section, parse_sections, parse_shaped, parse_keyed, parse_frame}
+use Rattle.cl_declare.specs.Sections.{SlotTable, parse_slot, parse_slots, note_display, note_pane, note_panes, parse_section, parse_sections}
+use Rattle.cl_declare.specs.Sections.{parse_shaped, parse_keyed, parse_frame}
 use Rattle.cl_declare.specs.declared.frames.FrameShape.{FrameShape}
 use Rattle.cl_faults.proofs.FaultLemmas.{FaultsAt, gives, refuses, notes, binds}
 use Rattle.cl_faults.proofs.ExpressionFaults.{expr_faults}
@@ -20,7 +21,7 @@ use Rattle.cl_faults.proofs.TypeFaults.{type_faults}
 
 module _ {P : ℕ → Type 0} where
   slot_faults : (w : Signatures) (at : ℕ) (ds : List Datum) (slots : SlotTable) → CoversEach P ds → FaultsAt P (parse_slot w at ds slots)
-  slot_faults w at (n ∷ t ∷ e ∷ []) slots c = binds (type_faults w t c.1.0) λ s. binds (expr_faults w e [] c.1.1.0) λ v. gives
+  slot_faults w at (n ∷ t ∷ e ∷ []) slots c = binds (type_faults w [] t c.1.0) λ s. binds (expr_faults w e [] c.1.1.0) λ v. gives
   slot_faults w at ds slots c = gives
 
   slots_faults : (w : Signatures) (ds : List Datum) (slots : SlotTable) → CoversEach P ds → FaultsAt P (parse_slots w ds slots)
@@ -48,6 +49,8 @@ module _ {P : ℕ → Type 0} where
   section_faults w key.Size at ds slots h c = gives
   section_faults w key.Name at ds slots h c = gives
   section_faults w key.Keystroke at ds slots h c = gives
+  section_faults w key.InheritFrom at ds slots h c = gives
+  section_faults w key.Satisfies at ds slots h c = gives
   section_faults w key.Description at ds slots h c = gives
   section_faults w key.Separator at ds slots h c = gives
 

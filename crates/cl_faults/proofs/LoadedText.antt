@@ -65,7 +65,7 @@ outcome_read : (bounds : Bounds) (size : ℕ) (ds : List Datum) (app : App) (r :
     → Comes bounds size ds r (Ok app) → Read ds
 outcome_read bounds size ds app (Err fault) e h = absurd (no_error h)
 outcome_read bounds size ds app (Ok x) e h =
-    let more : List (Option Fault) = type_faults h.ring h.large ++ frame_faults bounds size x.0 h.reading in
+    let more : List (Option Fault) = type_faults h.ring h.misfit h.large ++ frame_faults bounds size x.0 h.reading in
     (x.0, x.1, (e, none_noted (first_past ds) (first_twice (outers_of ds)) x.1.unknown more (app_in x.0 x.0.frames) app h.verdict))
 
 module _ (bytes : List ℕ) (forms : List Tree) (r : AreForms bytes forms) where
@@ -118,12 +118,15 @@ module _ (bytes : List ℕ) (forms : List Tree) (r : AreForms bytes forms) where
       record {
         ring = None;
         ring_found = λ f. absurd (some f);
+        misfit = None;
+        misfit_found = λ f no. absurd (some f);
         large = None;
-        large_found = λ f no. absurd (some f);
+        large_found = λ f no fits. absurd (some f);
         reading = None;
-        reading_found = λ f no small. absurd (some f);
+        reading_found = λ f no fits small. absurd (some f);
         verdict = subst (λ f. IsVerdict f (app_in s s.frames) (Err (8, at)))
-            (sym (told (first_past ds) (first_twice (outers_of ds)) notes.unknown at (type_faults None None ++ frame_faults bounds (length bytes) s None) i.bounded i.once e)) refl;
+            (sym (told (first_past ds) (first_twice (outers_of ds)) notes.unknown at
+            (type_faults None None None ++ frame_faults bounds (length bytes) s None) i.bounded i.once e)) refl;
       }
 
   noted_refused : (bounds : Bounds) (at : ℕ) → IsFirstUnnamed ds at → (x : Declarations × Notes) → parse ds nothing_noted ≡ Ok x → IsRefusal bounds bytes 8 at

@@ -1,19 +1,19 @@
--- The faults of a slot's type stand in it, or at the form that asks for it.
+-- The faults of a type stand in it, or at the form that asks for it.
 use Rattle.std.proofs.Common.{◌≡◌, inl, inr, ℕ, Bool, true, false, ◌==◌, if◌then◌else◌, List, [], ◌∷◌, length, refl, sym, ap}
 use Rattle.std.specs.Prelude.{Option, Some, None, Result, Ok, Err, nat_le}
 use Rattle.std.specs.Option.{IfSome}
 use Rattle.std.specs.Result.{IfErr}
 use Rattle.std.proofs.Math.Path.{subst}
-use Rattle.cl_syntax.specs.TypeSpecTree.{TypeArgTree, TypeSpecTree, plain_type}
+use Rattle.cl_syntax.specs.TypeSpecTree.{TypeSpecTree, plain_type}
 use Rattle.cl_syntax.specs.declared.type_specs.TypeOptions.{TypeOptions}
 use Rattle.cl_forms.specs.Datum.{Datum, Datums, number, literal, word, quoted, stray, list, none, item, in_order, offset}
-use Rattle.cl_forms.specs.Naming.{name_in}
+use Rattle.cl_forms.specs.Naming.{fits, name_in}
 use Rattle.cl_words.specs.declared.signatures.Signatures.{Signatures}
 use Rattle.cl_expressions.specs.Load.{Load, Fault, Notes, after, give, refuse, placed, with_specifier}
 use Rattle.cl_expressions.specs.Scopes.{Names}
 use Rattle.cl_bodies.specs.TypeArguments.{arguments_in, first_stray, is_stray, may_all_stand, options_in, tokens_in}
-use Rattle.cl_bodies.specs.Specifiers.{parse_arguments, parse_at_most, parse_constants, parse_each_type, parse_first, parse_headed, parse_inner, parse_known}
-use Rattle.cl_bodies.specs.Specifiers.{parse_listed, parse_named, parse_nothing, parse_one_type, parse_optioned, parse_parts, parse_some_types}
+use Rattle.cl_bodies.specs.Specifiers.{parse_arguments, parse_at_most, parse_constants, parse_each_type, parse_first, parse_given, parse_headed, parse_inner}
+use Rattle.cl_bodies.specs.Specifiers.{parse_known, parse_listed, parse_named, parse_nothing, parse_optioned, parse_parts}
 use Rattle.cl_bodies.specs.Specifiers.{parse_token_type, parse_tokens_and_type, parse_type, shapes, takes_named, type_subs}
 use Rattle.cl_bodies.specs.declared.specifiers.Takes.{Takes}
 use Rattle.cl_bodies.specs.declared.specifiers.Takes.TheVariants as takes
@@ -79,6 +79,9 @@ module _ {P : ℕ → Type 0} where
       → FaultsAt P (parse_at_most most ps kind at ds)
   at_most_faults most ps kind at ds h c = chooses (nat_le (length ds) most) (constants_faults ps kind at ds h c) (refuses h)
 
+  given_faults : (count : Option ℕ) (ps : Names) (at : ℕ) (ds : List Datum) → P at → CoversEach P ds → FaultsAt P (parse_given count ps at ds)
+  given_faults count ps at ds h c = chooses (fits count (length ds)) (constants_faults ps wanted.ConstantOrStar at ds h c) (refuses h)
+
   nothing_faults : (at : ℕ) (ds : List Datum) → P at → FaultsAt P (parse_nothing at ds)
   nothing_faults at [] h = gives
   nothing_faults at (d ∷ ds) h = refuses h
@@ -111,6 +114,7 @@ module _ {P : ℕ → Type 0} where
         by_shapes (parse_at_most 2 ps wanted.NumberOrStar at) ds (at_most_faults 2 ps wanted.NumberOrStar at (in_order ds) h c)
     arguments_faults takes.Length at ds h c e = by_shapes (parse_at_most 1 ps wanted.Number at) ds (at_most_faults 1 ps wanted.Number at (in_order ds) h c)
     arguments_faults takes.Constants at ds h c e = by_shapes (parse_constants ps wanted.Constant at) ds (constants_faults ps wanted.Constant at (in_order ds) h c)
+    arguments_faults (takes.Given count) at ds h c e = by_shapes (parse_given count ps at) ds (given_faults count ps at (in_order ds) h c)
     arguments_faults takes.OneType at ds h c e = chooses (length (type_subs w ps ds) == 1) (each_faults ds e) (refuses h)
     arguments_faults takes.SomeTypes at ds h c e = chooses (length (type_subs w ps ds) == 0) (refuses h) (each_faults ds e)
     arguments_faults takes.TokensAndType at ds h c e = tokens_faults at ds h e
@@ -174,5 +178,5 @@ module _ {P : ℕ → Type 0} where
       types_faults none c = tt
       types_faults (item d ds) c = (specifier_faults d (λ o s. c o (inl s)), types_faults ds (λ o s. c o (inr s)))
 
-  pub type_faults : (w : Signatures) (d : Datum) → Covers P d → FaultsAt P (parse_type w [] d)
-  type_faults w d c = specifier_faults w [] d c
+  pub type_faults : (w : Signatures) (ps : Names) (d : Datum) → Covers P d → FaultsAt P (parse_type w ps d)
+  type_faults w ps d c = specifier_faults w ps d c

@@ -6,7 +6,7 @@ use denote.Enum.Bare.{sameb}
 use Rattle.cl_forms.specs.Datum.{Datum, offset, parts_of}
 use Rattle.cl_forms.specs.Naming.{symbol_of}
 use Rattle.cl_forms.specs.declared.keys.Key.{Key}
-use Rattle.cl_forms.specs.declared.keys.Key.TheVariants.{Size, Slots, Panes, CommandTable, Name, Keystroke, Description, Separator}
+use Rattle.cl_forms.specs.declared.keys.Key.TheVariants.{Size, Slots, Panes, CommandTable, Name, Keystroke, InheritFrom, Satisfies, Description, Separator}
 use Rattle.cl_forms.specs.contracts.keys.Key.{the_type}
 
 -- a key with its offset and what stands behind it
@@ -15,16 +15,30 @@ pub record Keyed : Type 0 where
   pub at : ℕ
   pub values : List Datum
 
-abbrev pub key_named : List ℕ → Option Key
-key_named word =
+-- the keys that begin the sections of a frame
+abbrev pub section_key : List ℕ → Option Key
+section_key word =
     if bytes_eq word (codes ":size") then Some Size
     else (if bytes_eq word (codes ":slots") then Some Slots
     else (if bytes_eq word (codes ":panes") then Some Panes
-    else (if bytes_eq word (codes ":command-table") then Some CommandTable
-    else (if bytes_eq word (codes ":name") then Some Name
+    else (if bytes_eq word (codes ":command-table") then Some CommandTable else None)))
+
+-- the keys with one value
+abbrev pub value_key : List ℕ → Option Key
+value_key word =
+    if bytes_eq word (codes ":name") then Some Name
     else (if bytes_eq word (codes ":keystroke") then Some Keystroke
+    else (if bytes_eq word (codes ":inherit-from") then Some InheritFrom
+    else (if bytes_eq word (codes ":satisfies") then Some Satisfies
     else (if bytes_eq word (codes ":description") then Some Description
-    else (if bytes_eq word (codes ":separator") then Some Separator else None)))))))
+    else (if bytes_eq word (codes ":separator") then Some Separator else None)))))
+
+abbrev pub key_or : Option Key → Option Key → Option Key
+key_or (Some key) other = Some key
+key_or None other = other
+
+abbrev pub key_named : List ℕ → Option Key
+key_named word = key_or (section_key word) (value_key word)
 
 abbrev pub same_key : Key → Key → Bool
 same_key a b = sameb the_type a b

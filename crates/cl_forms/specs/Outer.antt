@@ -4,7 +4,7 @@ use Rattle.std.specs.Str.{bytes_eq}
 use Rattle.cl_forms.specs.Datum.{Datum, number, literal, word, quoted, stray, list, in_order, offset, parts_of}
 use Rattle.cl_forms.specs.Naming.{name_in}
 use Rattle.cl_forms.specs.declared.outer.DeclarationKind.{DeclarationKind}
-use Rattle.cl_forms.specs.declared.outer.DeclarationKind.TheVariants.{Record, Function, Display, Command, Frame}
+use Rattle.cl_forms.specs.declared.outer.DeclarationKind.TheVariants.{Record, PresentationType, HostType, PresentMethod, AcceptMethod, Function, Display, Command, Frame}
 use Rattle.cl_forms.specs.declared.outer.OuterKind.{OuterKind}
 use Rattle.cl_forms.specs.declared.outer.OuterKind.TheVariants.{Declared, Planned, Unknown, Headless}
 
@@ -17,28 +17,35 @@ pub record Outer : Type 0 where
 
 -- ---- heads
 
-abbrev pub declaration_named : List ℕ → Option DeclarationKind
-declaration_named x =
+-- what declares something of presentation types
+abbrev pub type_declared : List ℕ → Option DeclarationKind
+type_declared x =
     if bytes_eq x (codes "define-record") then Some Record
-    else (if bytes_eq x (codes "define-function") then Some Function
+    else (if bytes_eq x (codes "define-presentation-type") then Some PresentationType
+    else (if bytes_eq x (codes "define-host-type") then Some HostType
+    else (if bytes_eq x (codes "define-present-method") then Some PresentMethod
+    else (if bytes_eq x (codes "define-accept-method") then Some AcceptMethod else None))))
+
+abbrev pub declared_by : List ℕ → Option DeclarationKind
+declared_by x =
+    if bytes_eq x (codes "define-function") then Some Function
     else (if bytes_eq x (codes "define-display") then Some Display
     else (if bytes_eq x (codes "define-command") then Some Command
-    else (if bytes_eq x (codes "define-application-frame") then Some Frame else None))))
+    else (if bytes_eq x (codes "define-application-frame") then Some Frame else None)))
 
-abbrev pub is_type_declaration : List ℕ → Bool
-is_type_declaration x =
-    bytes_eq x (codes "define-host-type") || bytes_eq x (codes "define-presentation-type")
-    || bytes_eq x (codes "define-present-method") || bytes_eq x (codes "define-accept-method")
+abbrev pub declared_or : Option DeclarationKind → Option DeclarationKind → Option DeclarationKind
+declared_or (Some kind) other = Some kind
+declared_or None other = other
 
-abbrev pub is_table_declaration : List ℕ → Bool
-is_table_declaration x =
-    bytes_eq x (codes "define-command-table") || bytes_eq x (codes "define-presentation-translator")
-    || bytes_eq x (codes "define-presentation-to-command-translator") || bytes_eq x (codes "define-drag-and-drop-translator")
-    || bytes_eq x (codes "define-dialog")
+abbrev pub declaration_named : List ℕ → Option DeclarationKind
+declaration_named x = declared_or (type_declared x) (declared_by x)
 
 -- declarations that are not built yet
 abbrev pub is_planned : List ℕ → Bool
-is_planned x = is_type_declaration x || is_table_declaration x
+is_planned x =
+    bytes_eq x (codes "define-command-table") || bytes_eq x (codes "define-presentation-translator")
+    || bytes_eq x (codes "define-presentation-to-command-translator") || bytes_eq x (codes "define-drag-and-drop-translator")
+    || bytes_eq x (codes "define-dialog")
 
 abbrev pub kind_or : Option DeclarationKind → OuterKind → OuterKind
 kind_or (Some kind) other = Declared kind
@@ -75,6 +82,10 @@ command_name (d ∷ ds) = first_or_itself d
 abbrev pub outer_name : OuterKind → List Datum → Option Datum
 outer_name (Declared Command) ds = command_name ds
 outer_name (Declared Record) ds = first_of ds
+outer_name (Declared PresentationType) ds = first_of ds
+outer_name (Declared HostType) ds = first_of ds
+outer_name (Declared PresentMethod) ds = first_of ds
+outer_name (Declared AcceptMethod) ds = first_of ds
 outer_name (Declared Function) ds = first_of ds
 outer_name (Declared Display) ds = first_of ds
 outer_name (Declared Frame) ds = first_of ds

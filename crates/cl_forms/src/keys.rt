@@ -3,7 +3,7 @@ ghost use Rattle.std.specs.Prelude.{◌≡◌, ◌++◌, ◌∷◌, [], IfOk, ma
 ghost use Rattle.std.specs.List.{list_any};
 ghost use Rattle.cl_forms.specs.DatumView.{datum_of};
 ghost use Rattle.cl_forms.specs.KeyedView.{keyed_of};
-ghost use Rattle.cl_forms.specs.Keys.{key_named, same_key, is_among, key_in, has_key, is_key, values_behind, section_values, section_of, section_in, pair_in, keyed_sections, keyed_pairs, values_of};
+ghost use Rattle.cl_forms.specs.Keys.{key_named, section_key, value_key, same_key, is_among, key_in, has_key, is_key, values_behind, section_values, section_of, section_in, pair_in, keyed_sections, keyed_pairs, values_of};
 
 use crate::datum::Datum;
 use crate::naming::symbol_of;
@@ -18,6 +18,8 @@ pub enum Key {
     CommandTable,
     Name,
     Keystroke,
+    InheritFrom,
+    Satisfies,
     Description,
     Separator,
 }
@@ -35,6 +37,16 @@ pub struct Keyed<'a> {
 pub fn key_named(word: &[u8]) -> Option<Key>
     ensures { result ≡ key_named word.now }
 {
+    if let Some(key) = section_key(word) {
+        return Some(key);
+    }
+    value_key(word)
+}
+
+/// The key that a word is, if it begins a section of a frame.
+fn section_key(word: &[u8]) -> Option<Key>
+    ensures { result ≡ section_key word.now }
+{
     if word == b":size".as_slice() {
         Some(Key::Size)
     } else if word == b":slots".as_slice() {
@@ -43,10 +55,23 @@ pub fn key_named(word: &[u8]) -> Option<Key>
         Some(Key::Panes)
     } else if word == b":command-table".as_slice() {
         Some(Key::CommandTable)
-    } else if word == b":name".as_slice() {
+    } else {
+        None
+    }
+}
+
+/// The key that a word is, if one value stands behind it.
+fn value_key(word: &[u8]) -> Option<Key>
+    ensures { result ≡ value_key word.now }
+{
+    if word == b":name".as_slice() {
         Some(Key::Name)
     } else if word == b":keystroke".as_slice() {
         Some(Key::Keystroke)
+    } else if word == b":inherit-from".as_slice() {
+        Some(Key::InheritFrom)
+    } else if word == b":satisfies".as_slice() {
+        Some(Key::Satisfies)
     } else if word == b":description".as_slice() {
         Some(Key::Description)
     } else if word == b":separator".as_slice() {

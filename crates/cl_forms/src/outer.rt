@@ -2,7 +2,7 @@
 ghost use Rattle.std.specs.Prelude.{◌≡◌, ◌++◌, ◌∷◌, IfOk, map, option_map};
 ghost use Rattle.cl_forms.specs.DatumView.{datum_of};
 ghost use Rattle.cl_forms.specs.OuterView.{outer_of};
-ghost use Rattle.cl_forms.specs.Outer.{declaration_named, is_type_declaration, is_table_declaration, is_planned, kind_named, first_of, behind_first, command_name, first_or_itself, outer_name, declared_name, behind_name, headless, outer_headed, outer_listed, outer_in, outers_of};
+ghost use Rattle.cl_forms.specs.Outer.{declaration_named, type_declared, declared_by, is_planned, kind_named, first_of, behind_first, command_name, first_or_itself, outer_name, declared_name, behind_name, headless, outer_headed, outer_listed, outer_in, outers_of};
 
 use crate::datum::Datum;
 use crate::naming::name_in;
@@ -13,6 +13,10 @@ use std::alloc::{AllocError, Global};
 #[derive(Clone, Copy)]
 pub enum DeclarationKind {
     Record,
+    PresentationType,
+    HostType,
+    PresentMethod,
+    AcceptMethod,
     Function,
     Display,
     Command,
@@ -141,9 +145,35 @@ fn kind_named(word: &[u8], at: u32) -> OuterKind
 fn declaration_named(word: &[u8]) -> Option<DeclarationKind>
     ensures { result ≡ declaration_named word.now }
 {
+    if let Some(kind) = type_declared(word) {
+        return Some(kind);
+    }
+    declared_by(word)
+}
+
+/// What declares something of presentation types.
+fn type_declared(word: &[u8]) -> Option<DeclarationKind>
+    ensures { result ≡ type_declared word.now }
+{
     if word == b"define-record".as_slice() {
         Some(DeclarationKind::Record)
-    } else if word == b"define-function".as_slice() {
+    } else if word == b"define-presentation-type".as_slice() {
+        Some(DeclarationKind::PresentationType)
+    } else if word == b"define-host-type".as_slice() {
+        Some(DeclarationKind::HostType)
+    } else if word == b"define-present-method".as_slice() {
+        Some(DeclarationKind::PresentMethod)
+    } else if word == b"define-accept-method".as_slice() {
+        Some(DeclarationKind::AcceptMethod)
+    } else {
+        None
+    }
+}
+
+fn declared_by(word: &[u8]) -> Option<DeclarationKind>
+    ensures { result ≡ declared_by word.now }
+{
+    if word == b"define-function".as_slice() {
         Some(DeclarationKind::Function)
     } else if word == b"define-display".as_slice() {
         Some(DeclarationKind::Display)
@@ -156,29 +186,14 @@ fn declaration_named(word: &[u8]) -> Option<DeclarationKind>
     }
 }
 
-fn is_type_declaration(word: &[u8]) -> bool
-    ensures { result ≡ is_type_declaration word.now }
-{
-    word == b"define-host-type".as_slice()
-        || word == b"define-presentation-type".as_slice()
-        || word == b"define-present-method".as_slice()
-        || word == b"define-accept-method".as_slice()
-}
-
-fn is_table_declaration(word: &[u8]) -> bool
-    ensures { result ≡ is_table_declaration word.now }
+fn is_planned(word: &[u8]) -> bool
+    ensures { result ≡ is_planned word.now }
 {
     word == b"define-command-table".as_slice()
         || word == b"define-presentation-translator".as_slice()
         || word == b"define-presentation-to-command-translator".as_slice()
         || word == b"define-drag-and-drop-translator".as_slice()
         || word == b"define-dialog".as_slice()
-}
-
-fn is_planned(word: &[u8]) -> bool
-    ensures { result ≡ is_planned word.now }
-{
-    is_type_declaration(word) || is_table_declaration(word)
 }
 
 /// What stands where the name of such a form is.
@@ -188,6 +203,10 @@ fn outer_name(kind: OuterKind, parts: &[Datum]) -> Option<&Datum>
     match kind {
         OuterKind::Declared(DeclarationKind::Command) => command_name(parts),
         OuterKind::Declared(DeclarationKind::Record) => first_of(parts),
+        OuterKind::Declared(DeclarationKind::PresentationType) => first_of(parts),
+        OuterKind::Declared(DeclarationKind::HostType) => first_of(parts),
+        OuterKind::Declared(DeclarationKind::PresentMethod) => first_of(parts),
+        OuterKind::Declared(DeclarationKind::AcceptMethod) => first_of(parts),
         OuterKind::Declared(DeclarationKind::Function) => first_of(parts),
         OuterKind::Declared(DeclarationKind::Display) => first_of(parts),
         OuterKind::Declared(DeclarationKind::Frame) => first_of(parts),

@@ -11,17 +11,19 @@ use Rattle.cl_forms.specs.Keys.{section_values}
 use Rattle.cl_forms.specs.declared.keys.Key.TheVariants.{Slots}
 use Rattle.cl_forms.specs.Outer.{Outer, declared_name, behind_name}
 use Rattle.cl_forms.specs.declared.outer.DeclarationKind.{DeclarationKind}
-use Rattle.cl_forms.specs.declared.outer.DeclarationKind.TheVariants.{Record, Command, Frame}
+use Rattle.cl_forms.specs.declared.outer.DeclarationKind.TheVariants.{Record, PresentationType, HostType, PresentMethod, AcceptMethod, Command, Frame}
 use Rattle.cl_forms.specs.declared.outer.DeclarationKind.TheVariants as kind
 use Rattle.cl_forms.specs.declared.outer.OuterKind.{OuterKind}
 use Rattle.cl_forms.specs.declared.outer.OuterKind.TheVariants.{Declared, Planned, Unknown, Headless}
 use Rattle.cl_words.specs.Heads.{is_operator}
 use Rattle.cl_words.specs.TypeNames.{is_standard_type}
-use Rattle.cl_words.specs.Signatures.{parameters_counted, with_callee, with_record, with_slot, with_slot_of, with_slots, with_sections}
+use Rattle.cl_words.specs.Signatures.{parameters_counted, with_callee, with_type, with_slot, with_slot_of, with_slots, with_sections}
 use Rattle.cl_words.specs.Signatures.{with_declaration, with_outer_kind, with_outer, with_outers, signatures_of, nothing_declared, function_count}
 use Rattle.cl_words.specs.declared.signatures.Signatures.{Signatures}
 use Rattle.cl_words.specs.declared.signatures.Callee.{Callee}
 use Rattle.cl_words.specs.declared.signatures.CalleeKind.{CalleeKind}
+use Rattle.cl_words.specs.declared.signatures.TypeKind.{TypeKind}
+use Rattle.cl_words.specs.declared.signatures.TypeKind.TheVariants as type
 use Rattle.cl_words.specs.declared.signatures.CalleeKind.TheVariants.{Function, Display}
 use Rattle.cl_grammar.specs.Heads.{CallsNames}
 use Rattle.cl_grammar.proofs.Spelled.{same_word, found_one}
@@ -72,9 +74,9 @@ callee_named w kind (Some x) count h k =
     either_named (is_operator x) w (record w { callees = with_first (λ (d : Callee). d.name) w.callees c }) h
     (first_named (is_some (named x w.callees)) w.callees (w.callees ++ (x, c) ∷ []) h (one_more w.callees x c h k))
 
-record_named : (w : Signatures) (name : Option (List ℕ)) (count : Option ℕ) → DeclaresNamed w → DeclaresNamed (with_record w name count)
-record_named w None count h = h
-record_named w (Some x) count h = either_named (is_standard_type x) w _ h h
+type_named : (w : Signatures) (kind : TypeKind) (name : Option (List ℕ)) (count : Option ℕ) → DeclaresNamed w → DeclaresNamed (with_type w kind name count)
+type_named w kind None count h = h
+type_named w kind (Some x) count h = either_named (is_standard_type x) w _ h h
 
 slot_named : (w : Signatures) (name : Option (List ℕ)) → DeclaresNamed w → DeclaresNamed (with_slot w name)
 slot_named w None h = h
@@ -97,7 +99,11 @@ outer_named (Some d) = name_named d
 outer_named None = tt
 
 declaration_named : (w : Signatures) (k : DeclarationKind) (o : Outer) → DeclaresNamed w → DeclaresNamed (with_declaration w k o)
-declaration_named w Record o h = record_named w (declared_name o) (names_counted (behind_name o)) h
+declaration_named w Record o h = type_named w type.Record (declared_name o) (names_counted (behind_name o)) h
+declaration_named w PresentationType o h = type_named w type.User (declared_name o) (parameters_counted (behind_name o)) h
+declaration_named w HostType o h = type_named w type.Host (declared_name o) None h
+declaration_named w PresentMethod o h = h
+declaration_named w AcceptMethod o h = h
 declaration_named w kind.Function o h = callee_named w Function (declared_name o) (parameters_counted (behind_name o)) h (outer_named o.name)
 declaration_named w kind.Display o h = callee_named w Display (declared_name o) (parameters_counted (behind_name o)) h (outer_named o.name)
 declaration_named w Command o h = h

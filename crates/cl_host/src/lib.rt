@@ -7,10 +7,12 @@ ghost use Rattle.cl_host.specs.Names.{first_named, IsWithin};
 
 use cl_value::Text;
 
+mod program_types;
 mod shipped;
 #[cfg(test)]
 mod tests;
 
+pub use program_types::{NameReader, shipped_types};
 pub use shipped::{month_names, month_number, weekday_names, weekday_number};
 
 /// Names with their numbers, in order.

@@ -15,10 +15,12 @@ use Rattle.cl_declare.specs.declared.frames.FrameForm.{FrameForm}
 use Rattle.cl_eval.specs.Uses.{Functions}
 use Rattle.cl_load.specs.Application.{AreForms, IsUnreadable, ComesTo, HasOutcome, data_of}
 use Rattle.cl_load.specs.Outcome.{Comes, IsVerdict, Outcome, Settled, parse}
-use Rattle.cl_load.specs.Readings.{Finds, IsFirstReading, NoneReads}
+use Rattle.cl_lattice.specs.Firsts.{offset_of}
+use Rattle.cl_phases.specs.Earlier.{earlier}
+use Rattle.cl_load.specs.Readings.{Finds, FindsReading, IsFirstReading, NoneReads, TypeReads}
 use Rattle.cl_load.specs.Refusals.{app_in, faults, first_fault, form_faults, frame_faults, numbered, type_faults}
 use Rattle.cl_load.specs.Types.{Bounds}
-use Rattle.cl_load.proofs.TypeLemmas.{large_once, ring_once}
+use Rattle.cl_load.proofs.TypeLemmas.{large_once, list_once, misfit_once, ring_once}
 
 -- trees in a row
 abbrev parse_in : Trees → List Tree
@@ -64,6 +66,12 @@ found_once fs frames (Some m) None x y = absurd (none_first fs frames m x y)
 found_once fs frames None (Some n) x y = absurd (none_first fs frames n y x)
 found_once fs frames None None x y = refl
 
+reading_once : (s : Declarations) (r q : Option ℕ) → FindsReading s r → FindsReading s q → r ≡ q
+reading_once s r q x y =
+    let frame : x.frame ≡ y.frame = found_once s.functions s.frames x.frame y.frame x.frame_found y.frame_found in
+    let user_type : x.user_type ≡ y.user_type = list_once (TypeReads s.functions) offset_of s.types x.user_type y.user_type x.type_found y.type_found in
+    x.first ∙ ap (λ (o : Option ℕ). earlier o x.user_type) frame ∙ ap (earlier y.frame) user_type ∙ sym y.first
+
 same_app : (app : Option App) (a b : App) → app ≡ Some a → app ≡ Some b → ◌≡◌ {A = Result App Fault} (Ok a) (Ok b)
 same_app app a b p q = cc
 
@@ -91,20 +99,24 @@ numbered_by n r q ys zs e h = subst (λ (p : Option ℕ). first_fault (numbered 
 
 -- one fault is the first
 faults_once : (bounds : Bounds) (length : ℕ) (ds : List Datum) (s : Declarations) (notes : Notes) (a b : Result App Fault) (x : Settled bounds length ds s notes a) (y : Settled bounds length ds s notes b)
-    → first_fault (faults bounds length ds s notes x.ring x.large x.reading) ≡ first_fault (faults bounds length ds s notes y.ring y.large y.reading)
+    → first_fault (faults bounds length ds s notes x.ring x.misfit x.large x.reading) ≡ first_fault (faults bounds length ds s notes y.ring y.misfit y.large y.reading)
 faults_once bounds length ds s notes a b x y =
-    first_by (form_faults ds notes) (type_faults x.ring x.large ++ frame_faults bounds length s x.reading) (type_faults y.ring y.large ++ frame_faults bounds length s y.reading) λ clear.
+    first_by (form_faults ds notes) (type_faults x.ring x.misfit x.large ++ frame_faults bounds length s x.reading)
+    (type_faults y.ring y.misfit y.large ++ frame_faults bounds length s y.reading) λ clear.
     let ring : x.ring ≡ y.ring = ring_once bounds s x.ring y.ring (x.ring_found clear) (y.ring_found clear) in
     numbered_by 9 x.ring y.ring _ _ ring λ no.
     let none : y.ring ≡ None = sym ring ∙ no in
-    let large : x.large ≡ y.large = large_once bounds s notes x.large y.large (x.large_found clear no) (y.large_found clear none) in
+    let misfit : x.misfit ≡ y.misfit = misfit_once s notes x.misfit y.misfit (x.misfit_found clear no) (y.misfit_found clear none) in
+    numbered_by 6 x.misfit y.misfit _ _ misfit λ fits.
+    let free : y.misfit ≡ None = sym misfit ∙ fits in
+    let large : x.large ≡ y.large = large_once bounds s notes x.large y.large (x.large_found clear no fits) (y.large_found clear none free) in
     numbered_by 13 x.large y.large _ _ large λ small.
     numbered_by 10 x.reading y.reading _ _
-    (found_once s.functions s.frames x.reading y.reading (x.reading_found clear no small) (y.reading_found clear none (sym large ∙ small))) (λ free. refl)
+    (reading_once s x.reading y.reading (x.reading_found clear no fits small) (y.reading_found clear none free (sym large ∙ small))) (λ quiet. refl)
 
 settled_once : (bounds : Bounds) (length : ℕ) (ds : List Datum) (s : Declarations) (notes : Notes) (a b : Result App Fault) → Settled bounds length ds s notes a → Settled bounds length ds s notes b → a ≡ b
 settled_once bounds length ds s notes a b x y =
-    verdict_once (first_fault (faults bounds length ds s notes y.ring y.large y.reading)) (app_in s s.frames) a b
+    verdict_once (first_fault (faults bounds length ds s notes y.ring y.misfit y.large y.reading)) (app_in s s.frames) a b
     (subst (λ first. IsVerdict first (app_in s s.frames) a) (faults_once bounds length ds s notes a b x y) x.verdict) y.verdict
 
 comes_once : (bounds : Bounds) (length : ℕ) (ds : List Datum) (r : Result (Declarations × Notes) Fault) (a b : Result App Fault) → Comes bounds length ds r a → Comes bounds length ds r b → a ≡ b

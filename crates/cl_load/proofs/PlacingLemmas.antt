@@ -8,7 +8,6 @@ use Rattle.cl_expressions.specs.Load.{Fault}
 use Rattle.cl_forms.specs.Naming.{some_if}
 use Rattle.cl_table.specs.Names.{declared_at, named, with_first}
 use Rattle.cl_application.specs.Panes.{declared_by, lie_apart, LieApart, LiesIn, IsPlaced}
-use Rattle.cl_application.specs.declared.declarations.FrameDecl.{FrameDecl}
 use Rattle.cl_application.specs.declared.declarations.PaneDecl.{PaneDecl}
 use Rattle.cl_declare.specs.declared.frames.FrameForm.{FrameForm}
 use Rattle.cl_declare.specs.declared.pane_forms.PaneForm.{PaneForm}

@@ -1,8 +1,8 @@
 -- What a lattice that is built, or refused, says of the types that are declared.
-use Rattle.std.proofs.Common.{◌≡◌, inl, inr, ℕ, ℤ, Bool, true, false, List, [], ◌∷◌, refl, sym, ap, ◌∙◌, subst}
-use Rattle.std.specs.Prelude.{All, not, Option, Some, None, Ok, Err}
+use Rattle.std.proofs.Common.{◌≡◌, ◌+◌, inl, inr, ℕ, zero, suc, ℤ, true, false, drop, List, [], ◌∷◌, refl, sym, ap, ◌∙◌, subst, arith}
+use Rattle.std.specs.Prelude.{All, not, is_some, if◌then◌else◌, Option, Some, None, Result, Ok, Err}
 use Rattle.std.proofs.lemmas.List.Elements.{All-head, All-tail}
-use Rattle.cl_syntax.specs.TypeSpecTree.{TypeSpecTree}
+use Rattle.cl_table.specs.Names.{declared_at}
 use Rattle.cl_syntax.specs.StandardTypes.{standard_named}
 use Rattle.cl_syntax.specs.declared.type_decls.CommandType.{CommandType}
 use Rattle.cl_syntax.specs.declared.type_decls.HostBound.{HostBound}
@@ -11,60 +11,64 @@ use Rattle.cl_syntax.specs.declared.type_decls.TypeDecl.{TypeDecl}
 use Rattle.cl_syntax.specs.declared.type_names.StandardType.{StandardType}
 use Rattle.cl_application.specs.declared.declarations.HostDecl.{HostDecl}
 use Rattle.cl_expressions.specs.Load.{Notes}
-use Rattle.cl_forms.specs.declared.refusals.LoadRefusal.TheVariants.{Refused}
+use Rattle.cl_forms.specs.declared.refusals.LoadRefusal.{LoadRefusal}
+use Rattle.cl_forms.specs.declared.refusals.LoadRefusal.TheVariants.{Refused, Memory}
 use Rattle.cl_declare.specs.declared.declarations.Declarations.{Declarations}
 use Rattle.cl_lattice.specs.Building.{NoRing}
 use Rattle.cl_lattice.specs.Firsts.{IsFirst, IsFirstLarge, InheritsTooMuch, IsTooLarge, StandsOnRing, is_past, offset_of}
 use Rattle.cl_lattice.specs.Laws.{AllFit}
-use Rattle.cl_lattice.specs.RingSearch.{inherited}
 use Rattle.cl_lattice.specs.Sizes.{fits, inherited_by}
 use Rattle.cl_lattice.specs.World.{World, kind_named, world_with}
 use Rattle.cl_lattice.specs.declared.declared_types.TypeKind.{TypeKind}
 use Rattle.cl_lattice.specs.declared.declared_types.TypeKind.TheVariants as kind
-use Rattle.cl_load.specs.Settling.{BuildsTypes}
-use Rattle.cl_load.specs.Types.{Bounds, FindsLarge, FindsRing, bound_with, command_types, declared_types, host_bound, host_bounds, user_types}
+use Rattle.cl_arguments.specs.Misfits.{IsMisfit}
+use Rattle.cl_load.specs.Settling.{BuildsTypes, Fits}
+use Rattle.cl_load.specs.Types.{Bounds, FindsLarge, FindsMisfit, FindsRing, bound_with, command_types, declared_types, first_missing, host_bound, host_bounds}
 
 -- ---- there is one first
 
 module _ {A : Type 0} where
-  first_once : (P : A → Type 0) (at : A → ℕ) (all : List A) (r q : Option ℕ) → IsFirst P at all r → IsFirst P at all q → r ≡ q
-  first_once P at [] None None x y = refl
-  first_once P at [] None (Some n) x y = absurd y
-  first_once P at [] (Some m) q x y = absurd x
-  first_once P at (a ∷ all) None None x y = refl
-  first_once P at (a ∷ all) None (Some n) x (inl y) = absurd (x.0 y.0)
-  first_once P at (a ∷ all) None (Some n) x (inr y) = first_once P at all None (Some n) x.1 y.1
-  first_once P at (a ∷ all) (Some m) None (inl x) y = absurd (y.0 x.0)
-  first_once P at (a ∷ all) (Some m) None (inr x) y = first_once P at all (Some m) None x.1 y.1
-  first_once P at (a ∷ all) (Some m) (Some n) (inl x) (inl y) = ap (λ (k : ℕ). Some k) (sym x.1 ∙ y.1)
-  first_once P at (a ∷ all) (Some m) (Some n) (inl x) (inr y) = absurd (y.0 x.0)
-  first_once P at (a ∷ all) (Some m) (Some n) (inr x) (inl y) = absurd (x.0 y.0)
-  first_once P at (a ∷ all) (Some m) (Some n) (inr x) (inr y) = first_once P at all (Some m) (Some n) x.1 y.1
+  pub list_once : (P : A → Type 0) (at : A → ℕ) (all : List A) (r q : Option ℕ) → IsFirst P at all r → IsFirst P at all q → r ≡ q
+  list_once P at [] None None x y = refl
+  list_once P at [] None (Some n) x y = absurd y
+  list_once P at [] (Some m) q x y = absurd x
+  list_once P at (a ∷ all) None None x y = refl
+  list_once P at (a ∷ all) None (Some n) x (inl y) = absurd (x.0 y.0)
+  list_once P at (a ∷ all) None (Some n) x (inr y) = list_once P at all None (Some n) x.1 y.1
+  list_once P at (a ∷ all) (Some m) None (inl x) y = absurd (y.0 x.0)
+  list_once P at (a ∷ all) (Some m) None (inr x) y = list_once P at all (Some m) None x.1 y.1
+  list_once P at (a ∷ all) (Some m) (Some n) (inl x) (inl y) = ap (λ (k : ℕ). Some k) (sym x.1 ∙ y.1)
+  list_once P at (a ∷ all) (Some m) (Some n) (inl x) (inr y) = absurd (y.0 x.0)
+  list_once P at (a ∷ all) (Some m) (Some n) (inr x) (inl y) = absurd (x.0 y.0)
+  list_once P at (a ∷ all) (Some m) (Some n) (inr x) (inr y) = list_once P at all (Some m) (Some n) x.1 y.1
 
   not_first : (P : A → Type 0) (at : A → ℕ) (all : List A) (n : ℕ) → IsFirst P at all (Some n) → IsFirst P at all None → ⊥
   not_first P at all n x y =
-      let same : ◌≡◌ {A = Option ℕ} (Some n) None = first_once P at all (Some n) None x y in
+      let same : ◌≡◌ {A = Option ℕ} (Some n) None = list_once P at all (Some n) None x y in
       cc
 
 pub ring_once : (bounds : Bounds) (s : Declarations) (r q : Option ℕ) → FindsRing bounds s r → FindsRing bounds s q → r ≡ q
-ring_once bounds s r q x y = first_once (StandsOnRing (declared_types bounds s)) offset_of (user_types s) r q x y
+ring_once bounds s r q x y = list_once (StandsOnRing (declared_types bounds s)) offset_of s.types r q x y
 
 abbrev at_of : PlacedSpec → ℕ
 at_of p = p.at
 
+pub misfit_once : (s : Declarations) (notes : Notes) (r q : Option ℕ) → FindsMisfit s notes r → FindsMisfit s notes q → r ≡ q
+misfit_once s notes r q x y = list_once (IsMisfit s.types) at_of notes.specifiers r q x y
+
 first_large_once : (w : World) (specs : List PlacedSpec) (types : List (List ℕ × TypeDecl)) (r q : Option ℕ) → IsFirstLarge w specs types r → IsFirstLarge w specs types q → r ≡ q
 first_large_once w specs types None None x y = refl
 first_large_once w specs types None (Some n) x (inl y) = absurd (not_first (IsTooLarge w) at_of specs n y x.0)
-first_large_once w specs types None (Some n) x (inr y) = first_once (InheritsTooMuch w) offset_of types None (Some n) x.1 y.1
+first_large_once w specs types None (Some n) x (inr y) = list_once (InheritsTooMuch w) offset_of types None (Some n) x.1 y.1
 first_large_once w specs types (Some m) None (inl x) y = absurd (not_first (IsTooLarge w) at_of specs m x y.0)
-first_large_once w specs types (Some m) None (inr x) y = first_once (InheritsTooMuch w) offset_of types (Some m) None x.1 y.1
-first_large_once w specs types (Some m) (Some n) (inl x) (inl y) = first_once (IsTooLarge w) at_of specs (Some m) (Some n) x y
+first_large_once w specs types (Some m) None (inr x) y = list_once (InheritsTooMuch w) offset_of types (Some m) None x.1 y.1
+first_large_once w specs types (Some m) (Some n) (inl x) (inl y) = list_once (IsTooLarge w) at_of specs (Some m) (Some n) x y
 first_large_once w specs types (Some m) (Some n) (inl x) (inr y) = absurd (not_first (IsTooLarge w) at_of specs m x y.0)
 first_large_once w specs types (Some m) (Some n) (inr x) (inl y) = absurd (not_first (IsTooLarge w) at_of specs n y x.0)
-first_large_once w specs types (Some m) (Some n) (inr x) (inr y) = first_once (InheritsTooMuch w) offset_of types (Some m) (Some n) x.1 y.1
+first_large_once w specs types (Some m) (Some n) (inr x) (inr y) = list_once (InheritsTooMuch w) offset_of types (Some m) (Some n) x.1 y.1
 
 pub large_once : (bounds : Bounds) (s : Declarations) (notes : Notes) (r q : Option ℕ) → FindsLarge bounds s notes r → FindsLarge bounds s notes q → r ≡ q
-large_once bounds s notes r q x y = first_large_once (declared_types bounds s) notes.specifiers (user_types s) r q x y
+large_once bounds s notes r q x y = first_large_once (declared_types bounds s) notes.specifiers s.types r q x y
 
 -- ---- in a lattice none is found
 
@@ -108,35 +112,78 @@ bound_name bounds h = by (bounds h.name)
 -- ---- what building answers
 
 -- the world of the declarations, by the tables that are made of them
-pub world_is : (bounds : Bounds) (s : Declarations) (types : List (List ℕ × TypeDecl)) (declared : List (List ℕ × HostDecl)) (hosts : List (List ℕ × HostBound))
-    (commands : List (List ℕ × CommandType)) → types ≡ [] → declared ≡ [] → hosts ≡ host_bounds bounds declared → commands ≡ command_types s.commands
-    → world_with s.records types hosts commands ≡ declared_types bounds s
-world_is bounds s types declared hosts commands no_types no_hosts bounded typed = rw (typed, bounded, no_types, no_hosts) refl
+pub world_is : (bounds : Bounds) (s : Declarations) (hosts : List (List ℕ × HostBound)) (commands : List (List ℕ × CommandType)) → hosts ≡ host_bounds bounds s.hosts
+    → commands ≡ command_types s.commands → world_with s.records s.types hosts commands ≡ declared_types bounds s
+world_is bounds s hosts commands bounded typed = rw (typed, bounded) refl
 
-pub types_built : (bounds : Bounds) (s : Declarations) (notes : Notes) (w v : World) → v ≡ declared_types bounds s → w ≡ v → NoRing w
-    → All (λ p. fits w p.spec ≡ true) notes.specifiers → AllFit w → BuildsTypes (Ok w) bounds s notes
-types_built bounds s notes w v world same ringless fit all =
+types_fit : (bounds : Bounds) (s : Declarations) (notes : Notes) (w v : World) → v ≡ declared_types bounds s → w ≡ v → NoRing w
+    → All (λ p. fits w p.spec ≡ true) notes.specifiers → AllFit w → FindsMisfit s notes None → BuildsTypes (Ok w) bounds s notes
+types_fit bounds s notes w v world same ringless fit all free =
     let is : w ≡ declared_types bounds s = same ∙ world in (
       is,
-      subst (λ (u : World). IsFirst (StandsOnRing u) offset_of (user_types s) None) is (none_on_ring w (user_types s) ringless),
-      subst (λ (u : World). IsFirstLarge u notes.specifiers (user_types s) None) is (all_small w notes.specifiers (user_types s) fit all),
+      subst (λ (u : World). IsFirst (StandsOnRing u) offset_of s.types None) is (none_on_ring w s.types ringless),
+      free,
+      subst (λ (u : World). IsFirstLarge u notes.specifiers s.types None) is (all_small w notes.specifiers s.types fit all),
     )
 
-pub types_ring : (bounds : Bounds) (s : Declarations) (notes : Notes) (types : List (List ℕ × TypeDecl)) (at : ℕ) (v : World) → v ≡ declared_types bounds s → types ≡ []
-    → IsFirst (StandsOnRing v) offset_of types (Some at) → BuildsTypes (Err (Refused 9 at)) bounds s notes
-types_ring bounds s notes types at v world none first =
-    inl (
-      refl,
-      subst (λ (u : World). IsFirst (StandsOnRing u) offset_of (user_types s) (Some at)) world
-          (subst (λ (ts : List (List ℕ × TypeDecl)). IsFirst (StandsOnRing v) offset_of ts (Some at)) none first),
-    )
+-- a lattice that was built, by the misfit that was found
+pub types_built : (r : Result World LoadRefusal) (bounds : Bounds) (s : Declarations) (notes : Notes) (w v : World) (misfit : Option ℕ) → v ≡ declared_types bounds s
+    → w ≡ v → NoRing w → All (λ p. fits w p.spec ≡ true) notes.specifiers → FindsMisfit s notes misfit → Fits r w misfit → BuildsTypes r bounds s notes
+types_built (Ok u) bounds s notes w v misfit world same ringless fit found h =
+    let all : AllFit w = subst AllFit h.0 h.1 in
+    subst (λ (x : World). BuildsTypes (Ok x) bounds s notes) (sym h.0)
+    (types_fit bounds s notes w v world same ringless fit all (subst (FindsMisfit s notes) h.2 found))
+types_built (Err (Refused number at)) bounds s notes w v misfit world same ringless fit found h =
+    let is : w ≡ declared_types bounds s = same ∙ world in
+    inr (inl (
+      h.0,
+      subst (λ (u : World). IsFirst (StandsOnRing u) offset_of s.types None) is (none_on_ring w s.types ringless),
+      subst (FindsMisfit s notes) h.1 found,
+    ))
+types_built (Err Memory) bounds s notes w v misfit world same ringless fit found h = absurd h
 
-pub types_large : (bounds : Bounds) (s : Declarations) (notes : Notes) (types : List (List ℕ × TypeDecl)) (at : ℕ) (v : World) → v ≡ declared_types bounds s → types ≡ []
-    → NoRing v → IsFirstLarge v notes.specifiers types (Some at) → BuildsTypes (Err (Refused 13 at)) bounds s notes
-types_large bounds s notes types at v world none ringless first =
-    inr (
+pub types_ring : (bounds : Bounds) (s : Declarations) (notes : Notes) (at : ℕ) (v : World) → v ≡ declared_types bounds s → IsFirst (StandsOnRing v) offset_of s.types (Some at)
+    → BuildsTypes (Err (Refused 9 at)) bounds s notes
+types_ring bounds s notes at v world first = inl (refl, subst (λ (u : World). IsFirst (StandsOnRing u) offset_of s.types (Some at)) world first)
+
+pub types_misfit : (bounds : Bounds) (s : Declarations) (notes : Notes) (at : ℕ) (v : World) → v ≡ declared_types bounds s → NoRing v → FindsMisfit s notes (Some at)
+    → BuildsTypes (Err (Refused 6 at)) bounds s notes
+types_misfit bounds s notes at v world ringless found =
+    inr (inl (refl, subst (λ (u : World). IsFirst (StandsOnRing u) offset_of s.types None) world (none_on_ring v s.types ringless), found))
+
+pub types_large : (bounds : Bounds) (s : Declarations) (notes : Notes) (at : ℕ) (v : World) → v ≡ declared_types bounds s → NoRing v → FindsMisfit s notes None
+    → IsFirstLarge v notes.specifiers s.types (Some at) → BuildsTypes (Err (Refused 13 at)) bounds s notes
+types_large bounds s notes at v world ringless free first =
+    inr (inr (
       refl,
-      subst (λ (u : World). IsFirst (StandsOnRing u) offset_of (user_types s) None) world (none_on_ring v (user_types s) ringless),
-      subst (λ (u : World). IsFirstLarge u notes.specifiers (user_types s) (Some at)) world
-          (subst (λ (ts : List (List ℕ × TypeDecl)). IsFirstLarge v notes.specifiers ts (Some at)) none first),
-    )
+      subst (λ (u : World). IsFirst (StandsOnRing u) offset_of s.types None) world (none_on_ring v s.types ringless),
+      free,
+      subst (λ (u : World). IsFirstLarge u notes.specifiers s.types (Some at)) world first,
+    ))
+
+-- ---- host types of which there are none
+
+-- what is missing from a place on
+pub missing_next : (bounds : Bounds) (hosts : List (List ℕ × HostDecl)) (i : ℕ) (d : HostDecl) → Some d ≡ declared_at i hosts
+    → first_missing bounds (drop i hosts) ≡ (if is_some (bounds d.name) then first_missing bounds (drop (suc i) hosts) else Some d.at)
+missing_next bounds [] zero d h = cc
+missing_next bounds [] (suc i) d h = cc
+missing_next bounds (e ∷ hosts) zero d h = grind arith
+missing_next bounds (e ∷ hosts) (suc i) d h = missing_next bounds hosts i d h
+
+-- there is one at this place
+pub missing_on : (bounds : Bounds) (hosts : List (List ℕ × HostDecl)) (i : ℕ) (d : HostDecl) → Some d ≡ declared_at i hosts
+    → first_missing bounds (drop i hosts) ≡ first_missing bounds hosts → is_some (bounds d.name) ≡ true → first_missing bounds (drop (i + 1) hosts) ≡ first_missing bounds hosts
+missing_on bounds hosts i d h same there =
+    let one : first_missing bounds (drop i hosts) ≡ first_missing bounds (drop (suc i) hosts) =
+    missing_next bounds hosts i d h ∙ ap (λ b. if b then first_missing bounds (drop (suc i) hosts) else Some d.at) there in
+    let next : i + 1 ≡ suc i = omega arith in
+    rw next (sym one ∙ same)
+
+-- there is none at this place
+pub missing_here : (bounds : Bounds) (hosts : List (List ℕ × HostDecl)) (i : ℕ) (d : HostDecl) → Some d ≡ declared_at i hosts
+    → first_missing bounds (drop i hosts) ≡ first_missing bounds hosts → is_some (bounds d.name) ≡ false → Some d.at ≡ first_missing bounds hosts
+missing_here bounds hosts i d h same gone =
+    let one : first_missing bounds (drop i hosts) ≡ Some d.at =
+    missing_next bounds hosts i d h ∙ ap (λ b. if b then first_missing bounds (drop (suc i) hosts) else Some d.at) gone in
+    sym one ∙ same

@@ -7,9 +7,9 @@ use Rattle.cl_words.specs.Signatures.{signatures_of}
 use Rattle.cl_expressions.specs.Load.{Load, Fault, Notes, nothing_noted}
 use Rattle.cl_declare.specs.Declarations.{parse_declarations}
 use Rattle.cl_declare.specs.declared.declarations.Declarations.{Declarations}
-use Rattle.cl_load.specs.Readings.{Finds}
+use Rattle.cl_load.specs.Readings.{FindsReading}
 use Rattle.cl_load.specs.Refusals.{app_in, faults, first_fault, form_faults}
-use Rattle.cl_load.specs.Types.{Bounds, FindsLarge, FindsRing}
+use Rattle.cl_load.specs.Types.{Bounds, FindsLarge, FindsMisfit, FindsRing}
 
 -- the first fault that is there, or the application
 abbrev pub IsVerdict : Option Fault → Option App → Result App Fault → Type 0
@@ -22,13 +22,16 @@ pub record Settled (bounds : Bounds) (length : ℕ) (ds : List Datum) (s : Decla
   -- the first user type on a ring
   pub ring : Option ℕ
   pub ring_found : first_fault (form_faults ds notes) ≡ None → FindsRing bounds s ring
+  -- the first specifier with an argument that comes to stand where it is not taken
+  pub misfit : Option ℕ
+  pub misfit_found : first_fault (form_faults ds notes) ≡ None → ring ≡ None → FindsMisfit s notes misfit
   -- the first type that is past the limits
   pub large : Option ℕ
-  pub large_found : first_fault (form_faults ds notes) ≡ None → ring ≡ None → FindsLarge bounds s notes large
-  -- the first frame with an opening value that reads a slot
+  pub large_found : first_fault (form_faults ds notes) ≡ None → ring ≡ None → misfit ≡ None → FindsLarge bounds s notes large
+  -- the first declaration with an opening value or a predicate that reads a slot
   pub reading : Option ℕ
-  pub reading_found : first_fault (form_faults ds notes) ≡ None → ring ≡ None → large ≡ None → Finds s.functions s.frames reading
-  pub verdict : IsVerdict (first_fault (faults bounds length ds s notes ring large reading)) (app_in s s.frames) o
+  pub reading_found : first_fault (form_faults ds notes) ≡ None → ring ≡ None → misfit ≡ None → large ≡ None → FindsReading s reading
+  pub verdict : IsVerdict (first_fault (faults bounds length ds s notes ring misfit large reading)) (app_in s s.frames) o
 
 -- the fault of a form that comes first in the text comes before all others
 abbrev pub Comes : Bounds → ℕ → List Datum → Result (Declarations × Notes) Fault → Result App Fault → Type 0

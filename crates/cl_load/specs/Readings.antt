@@ -1,8 +1,14 @@
--- Opening values read no slot, through calls too.
+-- Opening values and predicates read no slot, through calls too.
 use Rattle.std.specs.Prelude.{◌≡◌, ◌⊎◌, ℕ, List, [], ◌∷◌, Option, Some, None}
+use Rattle.cl_syntax.specs.declared.type_decls.TypeDecl.{TypeDecl}
+use Rattle.cl_declare.specs.declared.declarations.Declarations.{Declarations}
 use Rattle.cl_declare.specs.declared.frames.FrameForm.{FrameForm}
 use Rattle.cl_eval.specs.Uses.{Functions}
-use Rattle.cl_phases.specs.SlotReads.{AnyReads}
+use Rattle.cl_lattice.specs.Firsts.{IsFirst, offset_of}
+use Rattle.cl_phases.specs.Earlier.{earlier}
+use Rattle.cl_phases.specs.SlotReads.{AnyReads, FunctionReads}
+
+-- ---- frames
 
 -- the offset of the first frame with an opening value that reads a slot
 abbrev pub IsFirstReading : Functions → List FrameForm → ℕ → Type 0
@@ -14,8 +20,26 @@ abbrev pub NoneReads : Functions → List FrameForm → Type 0
 NoneReads fs [] = Unit {0}
 NoneReads fs (f ∷ more) = (AnyReads fs f.slots → ⊥) × NoneReads fs more
 
--- ---- what the program answers
-
 abbrev pub Finds : Functions → List FrameForm → Option ℕ → Type 0
 Finds fs frames (Some at) = IsFirstReading fs frames at
 Finds fs frames None = NoneReads fs frames
+
+-- ---- user types
+
+abbrev pub PredicateReads : Functions → Option (List ℕ) → Type 0
+PredicateReads fs None = ⊥
+PredicateReads fs (Some f) = FunctionReads fs f
+
+-- a user type whose predicate reads a slot
+abbrev pub TypeReads : Functions → List ℕ × TypeDecl → Type 0
+TypeReads fs e = PredicateReads fs e.1.satisfies
+
+-- ---- declarations
+
+-- the offset of the first declaration with an opening value or a predicate that reads a slot
+pub record FindsReading (s : Declarations) (reading : Option ℕ) : Type 0 where
+  pub frame : Option ℕ
+  pub frame_found : Finds s.functions s.frames frame
+  pub user_type : Option ℕ
+  pub type_found : IsFirst (TypeReads s.functions) offset_of s.types user_type
+  pub first : reading ≡ earlier frame user_type

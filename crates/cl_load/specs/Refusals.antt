@@ -11,7 +11,7 @@ use Rattle.cl_phases.specs.Limits.{first_past}
 use Rattle.cl_phases.specs.Twice.{first_twice}
 use Rattle.cl_load.specs.Opening.{first_unfit}
 use Rattle.cl_load.specs.Placing.{place_frame}
-use Rattle.cl_load.specs.Types.{Bounds, holds_in, host_types, types_in, user_types}
+use Rattle.cl_load.specs.Types.{Bounds, first_missing, holds_in, types_in}
 
 -- a fault of this number, where there is an offset for it
 abbrev pub numbered : ℕ → Option ℕ → Option Fault
@@ -39,9 +39,18 @@ abbrev pub no_place : List FrameForm → Option Fault
 no_place [] = None
 no_place (f ∷ more) = fault_in (place_frame f)
 
--- no text declares methods of types yet
 abbrev pub app_of : Declarations → FrameDecl → App
-app_of s f = record { records = s.records; types = user_types s; hosts = host_types s; present_methods = []; accept_methods = []; functions = s.functions; displays = s.displays; commands = s.commands; frame = f }
+app_of s f = record {
+  records = s.records;
+  types = s.types;
+  hosts = s.hosts;
+  present_methods = s.present_methods;
+  accept_methods = s.accept_methods;
+  functions = s.functions;
+  displays = s.displays;
+  commands = s.commands;
+  frame = f;
+}
 
 abbrev pub app_placed : Declarations → Result FrameDecl Fault → Option App
 app_placed s (Ok f) = Some (app_of s f)
@@ -62,15 +71,17 @@ abbrev pub form_faults : List Datum → Notes → List (Option Fault)
 form_faults ds notes =
     numbered 13 (first_past ds) ∷ numbered 7 (first_twice (outers_of ds)) ∷ numbered 8 notes.unknown ∷ []
 
--- a ring of user types; a type whose expansion is past a limit
-abbrev pub type_faults : (ring large : Option ℕ) → List (Option Fault)
-type_faults ring large = numbered 9 ring ∷ numbered 13 large ∷ []
+-- a ring of user types; an argument that comes to stand where it is not taken; a type whose expansion is past a limit
+abbrev pub type_faults : (ring misfit large : Option ℕ) → List (Option Fault)
+type_faults ring misfit large = numbered 9 ring ∷ numbered 6 misfit ∷ numbered 13 large ∷ []
 
--- an opening value that reads a slot; no frame or two; no place for it; an opening value that is not fit
+-- an opening value or a predicate that reads a slot; no frame or two; no place for it; no such host type; an opening value that is not fit
 abbrev pub frame_faults : Bounds → ℕ → Declarations → (reading : Option ℕ) → List (Option Fault)
 frame_faults bounds length s reading =
-    numbered 10 reading ∷ numbered 14 (frame_missed length s.frames) ∷ no_place s.frames ∷ numbered 12 (unfit bounds (app_in s s.frames)) ∷ []
+    numbered 10 reading ∷ numbered 14 (frame_missed length s.frames) ∷ no_place s.frames ∷ numbered 16 (first_missing bounds s.hosts)
+    ∷ numbered 12 (unfit bounds (app_in s s.frames)) ∷ []
 
 -- all of them
-abbrev pub faults : Bounds → ℕ → List Datum → Declarations → Notes → (ring large reading : Option ℕ) → List (Option Fault)
-faults bounds length ds s notes ring large reading = form_faults ds notes ++ type_faults ring large ++ frame_faults bounds length s reading
+abbrev pub faults : Bounds → ℕ → List Datum → Declarations → Notes → (ring misfit large reading : Option ℕ) → List (Option Fault)
+faults bounds length ds s notes ring misfit large reading =
+    form_faults ds notes ++ type_faults ring misfit large ++ frame_faults bounds length s reading

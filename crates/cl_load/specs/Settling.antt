@@ -6,18 +6,20 @@ use Rattle.cl_forms.specs.declared.refusals.LoadRefusal.{LoadRefusal}
 use Rattle.cl_forms.specs.declared.refusals.LoadRefusal.TheVariants.{Refused, Memory}
 use Rattle.cl_declare.specs.declared.declarations.Declarations.{Declarations}
 use Rattle.cl_declare.specs.declared.frames.FrameForm.{FrameForm}
+use Rattle.cl_eval.specs.Slots.{Slots}
+use Rattle.cl_lattice.specs.Laws.{AllFit}
 use Rattle.cl_lattice.specs.World.{World}
-use Rattle.cl_load.specs.Opening.{first_unfit}
+use Rattle.cl_load.specs.Opening.{first_unfit, opening_slots}
 use Rattle.cl_load.specs.Outcome.{IsVerdict}
-use Rattle.cl_load.specs.Readings.{Finds}
+use Rattle.cl_load.specs.Readings.{FindsReading}
 use Rattle.cl_load.specs.Refusals.{app_in, first_fault, frame_faults, frame_missed, numbered}
-use Rattle.cl_load.specs.Types.{Bounds, FindsLarge, FindsRing, declared_types, holds_in, types_in}
+use Rattle.cl_load.specs.Types.{Bounds, FindsLarge, FindsMisfit, FindsRing, declared_types, first_missing, holds_in, types_in}
 use Rattle.cl_load.specs.declared.application.Opened.{Opened}
 
 -- what the frame of declarations comes to
 pub record FrameSettled (bounds : Bounds) (length : ℕ) (s : Declarations) (o : Result App Fault) : Type 0 where
   pub reading : Option ℕ
-  pub found : Finds s.functions s.frames reading
+  pub found : FindsReading s reading
   pub verdict : IsVerdict (first_fault (frame_faults bounds length s reading)) (app_in s s.frames) o
 
 abbrev pub Settles : Result Opened LoadRefusal → Bounds → ℕ → Declarations → Type 0
@@ -31,15 +33,34 @@ TakesFrame (Ok f) length frames = frames ≡ f ∷ []
 TakesFrame (Err (Refused number at)) length frames = numbered 14 (frame_missed length frames) ≡ Some (number, at)
 TakesFrame (Err Memory) length frames = Unit {0}
 
--- the application with its types
-abbrev pub Opens : Result Opened LoadRefusal → App → World → Type 0
-Opens (Ok opened) app w = (opened.app ≡ app) × (opened.lattice ≡ w) × (first_unfit (holds_in w app) app app.frame.slots ≡ None)
-Opens (Err (Refused number at)) app w = numbered 12 (first_unfit (holds_in w app) app app.frame.slots) ≡ Some (number, at)
-Opens (Err Memory) app w = Unit {0}
+-- what is looked for once the frame has a place: a host type of which there is none, an opening value that is not fit
+abbrev pub last_faults : Bounds → World → App → List (Option Fault)
+last_faults bounds w app = numbered 16 (first_missing bounds app.hosts) ∷ numbered 12 (first_unfit (holds_in w app) app app.frame.slots) ∷ []
 
--- the lattice of the types that are declared, or what is wrong with them: a ring, or else a type past the limits
+-- the opening slots
+abbrev pub OpensLast : Result Slots LoadRefusal → Bounds → World → App → Type 0
+OpensLast (Ok slots) bounds w app = (first_fault (last_faults bounds w app) ≡ None) × (slots ≡ opening_slots app)
+OpensLast (Err (Refused number at)) bounds w app = first_fault (last_faults bounds w app) ≡ Some (number, at)
+OpensLast (Err Memory) bounds w app = Unit {0}
+
+-- the application with its types
+abbrev pub Opens : Result Opened LoadRefusal → Bounds → App → World → Type 0
+Opens (Ok opened) bounds app w = (opened.app ≡ app) × (opened.lattice ≡ w) × (first_fault (last_faults bounds w app) ≡ None)
+Opens (Err (Refused number at)) bounds app w = first_fault (last_faults bounds w app) ≡ Some (number, at)
+Opens (Err Memory) bounds app w = Unit {0}
+
+-- the lattice of the types that are declared, or what is wrong with them: a ring, or else an argument that comes to stand where it is not taken,
+-- or else a type past the limits
 abbrev pub BuildsTypes : Result World LoadRefusal → Bounds → Declarations → Notes → Type 0
-BuildsTypes (Ok w) bounds s notes = (w ≡ declared_types bounds s) × FindsRing bounds s None × FindsLarge bounds s notes None
+BuildsTypes (Ok w) bounds s notes =
+    (w ≡ declared_types bounds s) × FindsRing bounds s None × FindsMisfit s notes None × FindsLarge bounds s notes None
 BuildsTypes (Err (Refused number at)) bounds s notes =
-    ((number ≡ 9) × FindsRing bounds s (Some at)) ⊎ ((number ≡ 13) × FindsRing bounds s None × FindsLarge bounds s notes (Some at))
+    ((number ≡ 9) × FindsRing bounds s (Some at)) ⊎ ((number ≡ 6) × FindsRing bounds s None × FindsMisfit s notes (Some at))
+    ⊎ ((number ≡ 13) × FindsRing bounds s None × FindsMisfit s notes None × FindsLarge bounds s notes (Some at))
 BuildsTypes (Err Memory) bounds s notes = Unit {0}
+
+-- the lattice where no misfit is told
+abbrev pub Fits : Result World LoadRefusal → World → Option ℕ → Type 0
+Fits (Ok w) lattice misfit = (w ≡ lattice) × AllFit w × (misfit ≡ None)
+Fits (Err (Refused number at)) lattice misfit = (number ≡ 6) × (misfit ≡ Some at)
+Fits (Err Memory) lattice misfit = ⊥

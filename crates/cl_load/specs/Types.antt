@@ -1,15 +1,15 @@
 -- The types of an application on the host types that are handed in, and what is wrong with those that declarations have.
-use Rattle.std.specs.Prelude.{ℕ, ℤ, pos, Bool, List, [], Option, Some, None, map}
+use Rattle.std.specs.Prelude.{ℕ, ℤ, pos, Bool, is_some, if◌then◌else◌, List, [], ◌∷◌, Option, Some, None, map}
 use Rattle.cl_value.specs.Data.{Data}
 use Rattle.cl_syntax.specs.TypeSpecTree.{TypeSpecTree}
 use Rattle.cl_syntax.specs.declared.type_decls.CommandType.{CommandType}
 use Rattle.cl_syntax.specs.declared.type_decls.HostBound.{HostBound}
-use Rattle.cl_syntax.specs.declared.type_decls.TypeDecl.{TypeDecl}
 use Rattle.cl_application.specs.declared.applications.App.{App}
 use Rattle.cl_application.specs.declared.declarations.CommandDecl.{CommandDecl}
 use Rattle.cl_application.specs.declared.declarations.HostDecl.{HostDecl}
 use Rattle.cl_expressions.specs.Load.{Notes}
 use Rattle.cl_declare.specs.declared.declarations.Declarations.{Declarations}
+use Rattle.cl_arguments.specs.Misfits.{IsMisfit}
 use Rattle.cl_lattice.specs.Expansion.{expansion}
 use Rattle.cl_lattice.specs.Firsts.{IsFirst, IsFirstLarge, StandsOnRing, offset_of}
 use Rattle.cl_lattice.specs.Members.{is_member}
@@ -48,22 +48,23 @@ holds_in w app d s = is_member w (predicates_of app) d (expansion w [] s)
 
 -- ---- declarations
 
--- no text declares user types yet
-abbrev pub user_types : Declarations → List (List ℕ × TypeDecl)
-user_types s = []
-
--- and none declares host types
-abbrev pub host_types : Declarations → List (List ℕ × HostDecl)
-host_types s = []
-
 -- the types that are declared
 abbrev pub declared_types : Bounds → Declarations → World
-declared_types bounds s = world_with s.records (user_types s) (host_bounds bounds (host_types s)) (command_types s.commands)
+declared_types bounds s = world_with s.records s.types (host_bounds bounds s.hosts) (command_types s.commands)
 
 -- the offset of the first declaration of a user type on a ring
 abbrev pub FindsRing : Bounds → Declarations → Option ℕ → Type 0
-FindsRing bounds s ring = IsFirst (StandsOnRing (declared_types bounds s)) offset_of (user_types s) ring
+FindsRing bounds s ring = IsFirst (StandsOnRing (declared_types bounds s)) offset_of s.types ring
+
+-- the offset of the first specifier with an argument that comes to stand where it is not taken
+abbrev pub FindsMisfit : Declarations → Notes → Option ℕ → Type 0
+FindsMisfit s notes misfit = IsFirst (IsMisfit s.types) (λ p. p.at) notes.specifiers misfit
 
 -- the offset of the first specifier whose expansion is past the limits; if there is none, of the first user type that inherits from one
 abbrev pub FindsLarge : Bounds → Declarations → Notes → Option ℕ → Type 0
-FindsLarge bounds s notes large = IsFirstLarge (declared_types bounds s) notes.specifiers (user_types s) large
+FindsLarge bounds s notes large = IsFirstLarge (declared_types bounds s) notes.specifiers s.types large
+
+-- the offset of the first declaration of a host type of which there is none
+abbrev pub first_missing : Bounds → List (List ℕ × HostDecl) → Option ℕ
+first_missing bounds [] = None
+first_missing bounds (e ∷ hosts) = if is_some (bounds e.1.name) then first_missing bounds hosts else Some e.1.at

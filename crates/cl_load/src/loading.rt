@@ -22,7 +22,8 @@ const LONGEST: usize = 1_048_576;
 
 /// The application that a text of our own application language declares on these host types, with its
 /// types and its opening slots, or the first of its refusals: 13 for the whole text, the first of 1 to 4,
-/// the first of 0, 5 and 6, 13, 7, 8, 9, 13 for expanded types, 10, 14, 15 and 12, in this order.
+/// the first of 0, 5 and 6, 13, 7, 8, 9, 6 for an argument that comes to stand where it is not taken, 13 for
+/// expanded types, 10, 14, 15, 16 and 12, in this order.
 pub fn load<H: Hosts>(alloc: Global, text: &[u8], hosts: &H) -> Result<Loaded, LoadRefusal>
     ensures { Loads (H.bounds hosts.now) text.now result }
 {

@@ -2,26 +2,25 @@
 ghost use Rattle.std.specs.Prelude.{◌≡◌};
 ghost use Rattle.cl_application.specs.Panes.{IsPlaced};
 ghost use Rattle.cl_load.specs.Refusals.{app_of};
-ghost use Rattle.cl_load.specs.Opening.{OpensSlots};
-ghost use Rattle.cl_load.specs.Settling.{Opens, Settles, TakesFrame};
-ghost use Rattle.cl_load.specs.Types.{declared_types, holds_in};
+ghost use Rattle.cl_load.specs.Settling.{Opens, OpensLast, Settles, TakesFrame};
+ghost use Rattle.cl_load.specs.Types.{declared_types};
 
 use crate::application::Opened;
 use crate::faults::pass;
 use crate::opening::opening_slots;
 use crate::placing::place_frame;
 use crate::readings::first_reading;
+use crate::types::first_missing;
 use cl_application::{App, FrameDecl};
 use cl_declare::{Declarations, FrameForm, FrameForms};
 use cl_eval::Slots;
 use cl_forms::LoadRefusal;
 use cl_lattice::Lattice;
 use cl_ptext::{Hosts, TypeBook};
-use cl_table::Table;
 use std::alloc::Global;
 
 /// The application of declarations in a text of this length, with its types and its opening slots; or the
-/// first of refusals 10, 14, 15 and 12.
+/// first of refusals 10, 14, 15, 16 and 12.
 pub fn settle<H: Hosts>(
     alloc: Global,
     length: u32,
@@ -32,16 +31,12 @@ pub fn settle<H: Hosts>(
     requires { lattice ≡ declared_types (H.bounds hosts.now) declarations }
     ensures { Settles result (H.bounds hosts.now) length declarations }
 {
-    let reading = first_reading(
-        alloc,
-        &declarations.functions,
-        declarations.frames.as_slice(),
-    )?;
+    let reading = first_reading(alloc, &declarations)?;
     pass(10, reading)?;
     let mut declarations = declarations;
     let frame = take_frame(length, &mut declarations.frames)?;
     let frame = place_frame(alloc, frame)?;
-    open(alloc, hosts, app_of(alloc, declarations, frame), lattice)
+    open(alloc, hosts, app_of(declarations, frame), lattice)
 }
 
 /// The one frame.
@@ -59,15 +54,15 @@ fn take_frame(length: u32, frames: &mut FrameForms) -> Result<FrameForm, LoadRef
     Ok(frame)
 }
 
-fn app_of(alloc: Global, declarations: Declarations, frame: FrameDecl) -> App
+fn app_of(declarations: Declarations, frame: FrameDecl) -> App
     ensures { result ≡ app_of declarations frame }
 {
     App {
         records: declarations.records,
-        types: Table::new(alloc),
-        hosts: Table::new(alloc),
-        present_methods: Table::new(alloc),
-        accept_methods: Table::new(alloc),
+        types: declarations.types,
+        hosts: declarations.hosts,
+        present_methods: declarations.present_methods,
+        accept_methods: declarations.accept_methods,
         functions: declarations.functions,
         displays: declarations.displays,
         commands: declarations.commands,
@@ -75,7 +70,7 @@ fn app_of(alloc: Global, declarations: Declarations, frame: FrameDecl) -> App
     }
 }
 
-/// The application with its types and its opening slots, or refusal 12.
+/// The application with its types and its opening slots, or the first of refusals 16 and 12.
 fn open<H: Hosts>(
     alloc: Global,
     hosts: &H,
@@ -83,7 +78,7 @@ fn open<H: Hosts>(
     lattice: Lattice,
 ) -> Result<Opened, LoadRefusal>
     requires { IsPlaced app.frame }
-    ensures { Opens result app lattice }
+    ensures { Opens result (H.bounds hosts.now) app lattice }
 {
     let slots = slots_by_types(alloc, hosts, &app, &lattice)?;
     Ok(Opened {
@@ -93,7 +88,8 @@ fn open<H: Hosts>(
     })
 }
 
-/// The opening slots, whose values are members by the types of the application.
+/// The opening slots, whose values are members by the types of the application, on the host types that it
+/// declares.
 #[tactic(auto, using(crate::proofs::SettlingLemmas::slots_held))]
 fn slots_by_types<H: Hosts>(
     alloc: Global,
@@ -101,8 +97,9 @@ fn slots_by_types<H: Hosts>(
     app: &App,
     lattice: &Lattice,
 ) -> Result<Slots, LoadRefusal>
-    ensures { OpensSlots result (holds_in lattice.now app.now) app.now }
+    ensures { OpensLast result (H.bounds hosts.now) lattice.now app.now }
 {
+    pass(16, first_missing(hosts, &app.hosts))?;
     let types = TypeBook::new(alloc, app, lattice, hosts);
     opening_slots(alloc, app, &types)
 }

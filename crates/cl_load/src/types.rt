@@ -1,21 +1,21 @@
 //! The lattice of the types that a text declares.
-ghost use Rattle.std.specs.Prelude.{◌≡◌, IfOk};
-ghost use Rattle.cl_load.specs.Settling.{BuildsTypes};
-ghost use Rattle.cl_load.specs.Types.{command_type, command_types, host_bound, host_bounds};
+ghost use Rattle.std.specs.Prelude.{◌≡◌, IfOk, is_some};
+ghost use Rattle.cl_load.specs.Settling.{BuildsTypes, Fits};
+ghost use Rattle.cl_load.specs.Types.{command_type, command_types, first_missing, host_bound, host_bounds};
 
 use cl_application::{CommandDecl, Commands, HostDecl, HostDecls};
+use cl_arguments::first_misfit;
 use cl_declare::Declarations;
 use cl_expressions::Notes;
 use cl_forms::LoadRefusal;
 use cl_lattice::{BuildRefusal, Lattice};
 use cl_ptext::Hosts;
-use cl_syntax::{
-    CommandType, CommandTypes, HostBound, HostBounds, TypeDecls, TypeSpecs, UserTypes,
-};
+use cl_syntax::{CommandType, CommandTypes, HostBound, HostBounds, TypeDecls, TypeSpecs};
 use std::alloc::{AllocError, Global};
 
-/// The lattice of the types that are declared, on these host types; or the first of refusals 9 and 13, in this order.
-#[tactic(auto, using(crate::proofs::TypeLemmas::types_built, crate::proofs::TypeLemmas::types_large, crate::proofs::TypeLemmas::types_ring, crate::proofs::TypeLemmas::world_is))]
+/// The lattice of the types that are declared, on these host types; or the first of refusals 9, 6 for an
+/// argument that comes to stand where it is not taken, and 13, in this order.
+#[tactic(auto, using(crate::proofs::TypeLemmas::types_built, crate::proofs::TypeLemmas::types_large, crate::proofs::TypeLemmas::types_misfit, crate::proofs::TypeLemmas::types_ring, crate::proofs::TypeLemmas::world_is))]
 pub fn build_types<H: Hosts>(
     alloc: Global,
     hosts: &H,
@@ -24,25 +24,37 @@ pub fn build_types<H: Hosts>(
 ) -> Result<Lattice, LoadRefusal>
     ensures { BuildsTypes result (H.bounds hosts.now) declarations.now notes.now }
 {
-    let types = UserTypes::new(alloc);
-    let declared = HostDecls::new(alloc);
-    let bounds = host_bounds(alloc, hosts, &declared)?;
+    let bounds = host_bounds(alloc, hosts, &declarations.hosts)?;
     let commands = command_types(alloc, &declarations.commands)?;
     let decls = TypeDecls {
         records: &declarations.records,
-        types: &types,
+        types: &declarations.types,
         hosts: &bounds,
         commands: &commands,
         specs: notes.specifiers(),
     };
+    let misfit = first_misfit(alloc, decls.types, decls.specs)?;
     match Lattice::build(alloc, &decls) {
-        Ok(lattice) => {
+        Ok(lattice) => fitting(lattice, misfit),
+        Err(BuildRefusal::Cycle(at)) => Err(LoadRefusal::Refused(9, at)),
+        Err(BuildRefusal::Large(at)) => match misfit {
+            Some(misfit_at) => Err(LoadRefusal::Refused(6, misfit_at)),
+            None => Err(LoadRefusal::Refused(13, at)),
+        },
+        Err(BuildRefusal::Memory) => Err(LoadRefusal::Memory),
+    }
+}
+
+/// The lattice, where no argument comes to stand where it is not taken.
+fn fitting(lattice: Lattice, misfit: Option<u32>) -> Result<Lattice, LoadRefusal>
+    ensures { Fits result lattice misfit }
+{
+    match misfit {
+        Some(at) => Err(LoadRefusal::Refused(6, at)),
+        None => {
             lattice.all_fit();
             Ok(lattice)
         }
-        Err(BuildRefusal::Cycle(at)) => Err(LoadRefusal::Refused(9, at)),
-        Err(BuildRefusal::Large(at)) => Err(LoadRefusal::Refused(13, at)),
-        Err(BuildRefusal::Memory) => Err(LoadRefusal::Memory),
     }
 }
 
@@ -105,4 +117,26 @@ fn command_type(command: &CommandDecl) -> Result<CommandType, AllocError>
         args: TypeSpecs::new(),
         at: command.at,
     })
+}
+
+/// The offset of the first declaration of a host type of which there is none.
+pub fn first_missing<H: Hosts>(hosts: &H, decls: &HostDecls) -> Option<u32>
+    ensures { result ≡ first_missing (H.bounds hosts.now) decls.now }
+{
+    for place in 0..decls.len() {
+        let Some(decl) = decls.at(place) else {
+            unreachable!()
+        };
+        if !is_there(hosts, decl) {
+            return Some(decl.at);
+        }
+    }
+    None
+}
+
+/// Whether there is a host type of this name.
+fn is_there<H: Hosts>(hosts: &H, decl: &HostDecl) -> bool
+    ensures { result ≡ is_some (H.bounds hosts.now decl.now.name) }
+{
+    hosts.bounds(decl.name.as_slice()).is_some()
 }

@@ -5,7 +5,7 @@ use Rattle.cl_forms.specs.Datum.{Datum, number, literal, word, quoted, stray, li
 use Rattle.cl_forms.specs.LineNames.{line_name_of}
 use Rattle.cl_forms.specs.Outer.{Outer}
 use Rattle.cl_forms.specs.declared.outer.DeclarationKind.{DeclarationKind}
-use Rattle.cl_forms.specs.declared.outer.DeclarationKind.TheVariants.{Record, Function, Display, Command, Frame}
+use Rattle.cl_forms.specs.declared.outer.DeclarationKind.TheVariants.{Record, PresentationType, HostType, PresentMethod, AcceptMethod, Function, Display, Command, Frame}
 use Rattle.cl_forms.specs.declared.outer.OuterKind.{OuterKind}
 use Rattle.cl_forms.specs.declared.outer.OuterKind.TheVariants.{Declared, Planned, Unknown, Headless}
 use Rattle.cl_words.specs.TypeNames.{is_standard_type}
@@ -38,9 +38,13 @@ names_at (d ∷ ds) = name_at d ++ names_at ds
 abbrev pub same_space : Space → Space → Bool
 same_space a b = sameb the_type a b
 
--- functions and displays share one space
+-- functions and displays share one space, and so do all types
 abbrev pub space_of : DeclarationKind → Space
-space_of Record = space.Records
+space_of Record = space.Types
+space_of PresentationType = space.Types
+space_of HostType = space.Types
+space_of PresentMethod = space.PresentMethods
+space_of AcceptMethod = space.AcceptMethods
 space_of Function = space.Callees
 space_of Display = space.Callees
 space_of Command = space.Commands
@@ -56,7 +60,9 @@ is_in s Headless = false
 -- a name that none may have in a space
 abbrev pub is_reserved : Space → List ℕ → Bool
 is_reserved space.Callees name = is_operator name
-is_reserved space.Records name = is_standard_type name
+is_reserved space.Types name = is_standard_type name
+is_reserved space.PresentMethods name = false
+is_reserved space.AcceptMethods name = false
 is_reserved space.Commands name = false
 is_reserved space.Frames name = false
 

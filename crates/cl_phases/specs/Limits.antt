@@ -5,7 +5,7 @@ use Rattle.cl_forms.specs.Keys.{section_values}
 use Rattle.cl_forms.specs.declared.keys.Key.TheVariants.{Slots, Panes}
 use Rattle.cl_forms.specs.Outer.{Outer, behind_name, outer_in}
 use Rattle.cl_forms.specs.declared.outer.DeclarationKind.{DeclarationKind}
-use Rattle.cl_forms.specs.declared.outer.DeclarationKind.TheVariants.{Record, Function, Display, Command, Frame}
+use Rattle.cl_forms.specs.declared.outer.DeclarationKind.TheVariants.{Record, PresentationType, HostType, PresentMethod, AcceptMethod, Function, Display, Command, Frame}
 use Rattle.cl_forms.specs.declared.outer.OuterKind.{OuterKind}
 use Rattle.cl_forms.specs.declared.outer.OuterKind.TheVariants.{Declared, Planned, Unknown, Headless}
 use Rattle.cl_phases.specs.Earlier.{earlier, at_if}
@@ -32,7 +32,7 @@ offset_in (Some d) = Some (offset d)
 abbrev pub past : ℕ → List Datum → Option ℕ
 past count ds = offset_in (slice_get ds count)
 
--- a function or a display has at most 16 parameters, which stand first behind its name
+-- a user type, a function or a display has at most 16 parameters, which stand first behind its name
 abbrev pub past_parameters : List Datum → Option ℕ
 past_parameters [] = None
 past_parameters (d ∷ ds) = past 16 (parts_of d)
@@ -48,6 +48,10 @@ past_sections (d ∷ ds) = earlier (past_section d) (past_sections ds)
 -- a record has at most 16 fields
 abbrev pub past_kind : DeclarationKind → List Datum → Option ℕ
 past_kind Record more = past 16 more
+past_kind PresentationType more = past_parameters more
+past_kind HostType more = None
+past_kind PresentMethod more = None
+past_kind AcceptMethod more = None
 past_kind Function more = past_parameters more
 past_kind Display more = past_parameters more
 past_kind Command more = None

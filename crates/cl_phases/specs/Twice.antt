@@ -5,7 +5,7 @@ use Rattle.cl_forms.specs.Keys.{section_values}
 use Rattle.cl_forms.specs.declared.keys.Key.TheVariants.{Slots, Panes}
 use Rattle.cl_forms.specs.Outer.{Outer, behind_name}
 use Rattle.cl_forms.specs.declared.outer.DeclarationKind.{DeclarationKind}
-use Rattle.cl_forms.specs.declared.outer.DeclarationKind.TheVariants.{Record, Function, Display, Command, Frame}
+use Rattle.cl_forms.specs.declared.outer.DeclarationKind.TheVariants.{Record, PresentationType, HostType, PresentMethod, AcceptMethod, Function, Display, Command, Frame}
 use Rattle.cl_forms.specs.declared.outer.OuterKind.{OuterKind}
 use Rattle.cl_forms.specs.declared.outer.OuterKind.TheVariants.{Declared, Planned, Unknown, Headless}
 use Rattle.cl_phases.specs.Earlier.{earlier, at_if}
@@ -13,7 +13,7 @@ use Rattle.cl_phases.specs.Repeats.{first_repeated}
 use Rattle.cl_phases.specs.DeclaredNames.{names_at, declared_in, line_names, is_reserved}
 use Rattle.cl_phases.specs.declared.repeats.NameAt.{NameAt}
 use Rattle.cl_phases.specs.declared.declared_names.Space.{Space}
-use Rattle.cl_phases.specs.declared.declared_names.Space.TheVariants.{Callees, Records, Commands, Frames}
+use Rattle.cl_phases.specs.declared.declared_names.Space.TheVariants.{Callees, Types, PresentMethods, AcceptMethods, Commands, Frames}
 
 -- ---- among the outermost forms
 
@@ -45,6 +45,10 @@ parameters_twice (d ∷ ds) = first_repeated (names_at (parts_of d))
 
 abbrev pub parts_twice : DeclarationKind → List Datum → Option ℕ
 parts_twice Record more = first_repeated (names_at more)
+parts_twice PresentationType more = parameters_twice more
+parts_twice HostType more = None
+parts_twice PresentMethod more = None
+parts_twice AcceptMethod more = None
 parts_twice Function more = parameters_twice more
 parts_twice Display more = parameters_twice more
 parts_twice Command more = parameters_twice more
@@ -65,10 +69,15 @@ declarations_twice (o ∷ os) = earlier (declaration_twice o) (declarations_twic
 
 -- ---- the least offset
 
+abbrev pub twice_in : Space → List Outer → Option ℕ
+twice_in s os = names_twice s (declared_in s os)
+
+-- the names of types, and those of the types that have methods, of one kind each
+abbrev pub types_twice : List Outer → Option ℕ
+types_twice os = earlier (twice_in Types os) (earlier (twice_in PresentMethods os) (twice_in AcceptMethods os))
+
 abbrev pub spaces_twice : List Outer → Option ℕ
-spaces_twice os =
-    earlier (earlier (names_twice Callees (declared_in Callees os)) (names_twice Records (declared_in Records os)))
-    (earlier (commands_twice (declared_in Commands os)) (names_twice Frames (declared_in Frames os)))
+spaces_twice os = earlier (earlier (twice_in Callees os) (types_twice os)) (earlier (commands_twice (declared_in Commands os)) (twice_in Frames os))
 
 abbrev pub first_twice : List Outer → Option ℕ
 first_twice os = earlier (spaces_twice os) (declarations_twice os)

@@ -14,7 +14,10 @@ use std::alloc::{AllocError, Global};
 pub enum Space {
     /// Functions and displays.
     Callees,
-    Records,
+    /// Records, user types and host types.
+    Types,
+    PresentMethods,
+    AcceptMethods,
     Commands,
     Frames,
 }
@@ -30,7 +33,11 @@ fn space_of(kind: DeclarationKind) -> Space
     ensures { result ≡ space_of kind }
 {
     match kind {
-        DeclarationKind::Record => Space::Records,
+        DeclarationKind::Record => Space::Types,
+        DeclarationKind::PresentationType => Space::Types,
+        DeclarationKind::HostType => Space::Types,
+        DeclarationKind::PresentMethod => Space::PresentMethods,
+        DeclarationKind::AcceptMethod => Space::AcceptMethods,
         DeclarationKind::Function => Space::Callees,
         DeclarationKind::Display => Space::Callees,
         DeclarationKind::Command => Space::Commands,
@@ -56,7 +63,9 @@ pub fn is_reserved(space: Space, name: &[u8]) -> bool
 {
     match space {
         Space::Callees => is_operator(name),
-        Space::Records => is_standard_type(name),
+        Space::Types => is_standard_type(name),
+        Space::PresentMethods => false,
+        Space::AcceptMethods => false,
         Space::Commands => false,
         Space::Frames => false,
     }

@@ -2,12 +2,13 @@
 #![tactic(auto)]
 
 mod declared_names;
-mod earlier;
 mod limits;
+mod offsets;
 mod repeats;
 mod slot_reads;
 mod twice;
 
 pub use limits::first_past;
+pub use offsets::earlier;
 pub use slot_reads::SlotSearch;
 pub use twice::first_twice;

@@ -5,7 +5,7 @@ ghost use Rattle.cl_forms.specs.DatumView.{datum_of};
 ghost use Rattle.cl_forms.specs.OuterView.{outer_of};
 ghost use Rattle.cl_phases.specs.Limits.{first_past, long_among, long_in, past, past_declaration, past_declarations, past_kind, past_parameters, past_section, past_sections};
 
-use crate::earlier::{at_if, earlier};
+use crate::offsets::{at_if, earlier};
 use cl_forms::{Datum, DeclarationKind, Key, Outer, OuterKind, outer_in, section_values};
 
 /// The most bytes of a symbol.
@@ -14,7 +14,7 @@ const LONGEST_SYMBOL: usize = 64;
 const LONGEST_TEXT: usize = 4_096;
 /// The most outermost forms.
 const MOST_FORMS: usize = 4_096;
-/// The most fields of a record, and the most parameters of a function or a display.
+/// The most fields of a record, and the most parameters of a user type, a function or a display.
 const MOST_NAMES: usize = 16;
 /// The most slots of a frame.
 const MOST_SLOTS: usize = 256;
@@ -97,6 +97,10 @@ fn past_kind(kind: DeclarationKind, more: &[Datum]) -> Option<u32>
 {
     match kind {
         DeclarationKind::Record => past(MOST_NAMES, more),
+        DeclarationKind::PresentationType => past_parameters(more),
+        DeclarationKind::HostType => None,
+        DeclarationKind::PresentMethod => None,
+        DeclarationKind::AcceptMethod => None,
         DeclarationKind::Function => past_parameters(more),
         DeclarationKind::Display => past_parameters(more),
         DeclarationKind::Command => None,

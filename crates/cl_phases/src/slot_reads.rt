@@ -1,9 +1,9 @@
-//! Whether opening values read a slot, through calls too.
+//! Whether opening values and predicates read a slot, through calls too.
 ghost use Rattle.std.specs.Prelude.{◌≡◌, ◌↔◌, ◌++◌, IfOk, IsTrue, OnOk, option_map};
 ghost use Rattle.cl_syntax.specs.ExprTree.{expr_trees_of};
 ghost use Rattle.cl_syntax.specs.Expr.{bindings_of};
 ghost use Rattle.cl_eval.specs.Uses.{ReadsSlot};
-ghost use Rattle.cl_phases.specs.SlotReads.{Tells};
+ghost use Rattle.cl_phases.specs.SlotReads.{FunctionReads, Tells};
 ghost use Rattle.cl_phases.specs.SlotSearch.{AreClear, StaysClear, body_at, calls, calls_among, calls_bound, names_slot, names_slot_among, names_slot_bound, with_call, with_calls};
 
 use cl_application::{Functions, SlotDecls};
@@ -78,6 +78,38 @@ impl<'a> SlotSearch<'a> {
             self.reached = reached;
         }
         Ok(reads)
+    }
+
+    /// Whether the function of this name reads a slot: one stands in its body, or in that of a function that
+    /// is reached from there through calls. No function that is not declared does.
+    pub fn function_reads_slot(&mut self, name: &[u8]) -> Result<bool, AllocError>
+        ensures reads { IfOk result (λ b. IsTrue b ↔ FunctionReads self.old name.now) }
+        ensures same { self.new ≡ self.old }
+    {
+        let mut reached = mem::replace(&mut self.reached, Table::new(self.alloc));
+        if function_reads_slot(self.alloc, self.functions, name, &mut reached)? {
+            return Ok(true);
+        }
+        self.reached = reached;
+        Ok(false)
+    }
+}
+
+/// Whether the function of this name reads a slot. What was reached before reads none and is not looked at
+/// again.
+fn function_reads_slot(
+    alloc: Global,
+    functions: &Functions,
+    name: &[u8],
+    reached: &mut Table<Reached>,
+) -> Result<bool, AllocError>
+    requires { AreClear functions.now reached.old }
+    ensures reads { IfOk result (λ b. IsTrue b ↔ FunctionReads functions.now name.now) }
+    ensures clear { IfOk result (StaysClear functions.now reached.new) }
+{
+    match functions.get(name) {
+        Some(function) => reads_slot(alloc, functions, &function.body, reached),
+        None => Ok(false),
     }
 }
 

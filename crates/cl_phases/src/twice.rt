@@ -4,11 +4,11 @@ ghost use Rattle.cl_forms.specs.DatumView.{datum_of};
 ghost use Rattle.cl_forms.specs.OuterView.{outer_of};
 ghost use Rattle.cl_phases.specs.DeclaredNames.{declared_in, names_at};
 ghost use Rattle.cl_phases.specs.Repeats as repeats;
-ghost use Rattle.cl_phases.specs.Twice.{commands_twice, declaration_twice, declarations_twice, first_reserved, first_twice, names_twice, parameters_twice, parts_twice, section_twice, sections_twice, spaces_twice};
+ghost use Rattle.cl_phases.specs.Twice.{commands_twice, declaration_twice, declarations_twice, first_reserved, first_twice, names_twice, parameters_twice, parts_twice, section_twice, sections_twice, spaces_twice, types_twice};
 ghost use Rattle.cl_phases.specs.declared.declared_names.Space.TheVariants.{Commands};
 
 use crate::declared_names::{Space, declared_in, is_reserved, line_names, names_at};
-use crate::earlier::{at_if, earlier};
+use crate::offsets::{at_if, earlier};
 use crate::repeats::{NameAt, first_repeated};
 use cl_forms::{Datum, DeclarationKind, Key, Outer, OuterKind, section_values};
 use std::alloc::{AllocError, Global};
@@ -27,10 +27,19 @@ fn spaces_twice(alloc: Global, outers: &[Outer<'_>]) -> Result<Option<u32>, Allo
     ensures { IfOk result (λ r. r ≡ spaces_twice (map outer_of outers.now)) }
 {
     let callees = space_twice(alloc, Space::Callees, outers)?;
-    let records = space_twice(alloc, Space::Records, outers)?;
+    let types = types_twice(alloc, outers)?;
     let commands = commands_twice(alloc, outers)?;
     let frames = space_twice(alloc, Space::Frames, outers)?;
-    Ok(earlier(earlier(callees, records), earlier(commands, frames)))
+    Ok(earlier(earlier(callees, types), earlier(commands, frames)))
+}
+
+fn types_twice(alloc: Global, outers: &[Outer<'_>]) -> Result<Option<u32>, AllocError>
+    ensures { IfOk result (λ r. r ≡ types_twice (map outer_of outers.now)) }
+{
+    let types = space_twice(alloc, Space::Types, outers)?;
+    let present = space_twice(alloc, Space::PresentMethods, outers)?;
+    let accept = space_twice(alloc, Space::AcceptMethods, outers)?;
+    Ok(earlier(types, earlier(present, accept)))
 }
 
 fn space_twice(alloc: Global, space: Space, outers: &[Outer<'_>]) -> Result<Option<u32>, AllocError>
@@ -99,6 +108,10 @@ fn parts_twice(
 {
     match kind {
         DeclarationKind::Record => all_twice(alloc, more),
+        DeclarationKind::PresentationType => parameters_twice(alloc, more),
+        DeclarationKind::HostType => Ok(None),
+        DeclarationKind::PresentMethod => Ok(None),
+        DeclarationKind::AcceptMethod => Ok(None),
         DeclarationKind::Function => parameters_twice(alloc, more),
         DeclarationKind::Display => parameters_twice(alloc, more),
         DeclarationKind::Command => parameters_twice(alloc, more),

@@ -18,7 +18,7 @@ use Rattle.cl_bodies.specs.declared.type_arguments.Wanted.TheVariants as wanted
 use Rattle.cl_grammar.proofs.Spelled.{false_true, both_parts, same_word, nothing_found}
 use Rattle.cl_grammar.proofs.Endings.{Ends, gives, refuses, chooses}
 use Rattle.cl_text_grammar.specs.WritesTypes.{WritesConstant, a_number, a_text, a_quoted_name, the_true, the_false, the_null, a_symbol}
-use Rattle.cl_text_grammar.specs.WritesTypes.{WritesArgument, a_parameter, a_bound, no_bound, a_length, a_constant}
+use Rattle.cl_text_grammar.specs.WritesTypes.{WritesArgument, a_parameter, a_bound, no_bound, a_length, a_constant, a_given, none_given}
 use Rattle.cl_text_grammar.specs.WritesTypes.{WritesArguments, no_more, one_more}
 
 true_false : true ≡ false → ⊥
@@ -44,6 +44,7 @@ module _ (ps : Names) (d : Datum) where
   constant_stands wanted.NumberOrStar v n h = record { stands = λ e f. absurd (true_false (sym e ∙ n)) }
   constant_stands wanted.Number v n h = record { stands = λ e f. absurd (true_false (sym e ∙ n)) }
   constant_stands wanted.Constant v n h = record { stands = λ e f. record { argument = Constant v; made = refl; written = a_constant h } }
+  constant_stands wanted.ConstantOrStar v n h = record { stands = λ e f. record { argument = Constant v; made = refl; written = a_given h } }
 
 module _ (ps : Names) (x : List ℕ) (at : ℕ) where
   -- as another word
@@ -64,6 +65,14 @@ module _ (ps : Names) (x : List ℕ) (at : ℕ) where
       }
   star_stands wanted.Number e = record { stands = λ f g. absurd (false_true f) }
   star_stands wanted.Constant e = record { stands = λ f g. absurd (false_true f) }
+  star_stands wanted.ConstantOrStar e =
+      record {
+        stands = λ f g. record {
+          argument = Any;
+          made = refl;
+          written = subst (λ z. WritesArgument ps wanted.ConstantOrStar Any (word z at)) (sym (same_word x (codes "*") e)) none_given;
+        };
+      }
 
   constant_word_stands : (kind : Wanted) → is_some (place_of x ps) ≡ false → bytes_eq x (codes "*") ≡ false
       → Stands ps kind (word x at) (word_constant x)
@@ -89,6 +98,8 @@ module _ (ps : Names) where
   argument_stands wanted.Number (number z at) = record { stands = λ e f. record { argument = Constant (int z); made = refl; written = a_length } }
   argument_stands wanted.Constant (number z at) =
       record { stands = λ e f. record { argument = Constant (int z); made = refl; written = a_constant a_number } }
+  argument_stands wanted.ConstantOrStar (number z at) =
+      record { stands = λ e f. record { argument = Constant (int z); made = refl; written = a_given a_number } }
   argument_stands kind (literal s at) = constant_stands ps (literal s at) kind (text s) refl a_text
   argument_stands kind (word x at) = word_stands ps x at kind
   argument_stands kind (quoted x at name_at) = constant_stands ps (quoted x at name_at) kind (symbol x) refl a_quoted_name

@@ -28,14 +28,14 @@ use Rattle.cl_text_grammar.specs.WritesFrames.{WritesSlots, no_slot, one_slot, w
 use Rattle.cl_text_grammar.specs.WritesFrames.{one_pane, WritesSections, no_section, a_size, some_slots, its_panes}
 use Rattle.cl_text_grammar.specs.WritesDeclarations.{of_frame, WritesDeclared, a_frame}
 use Rattle.cl_text_grammar.proofs.TypesWritten.{type_ends}
-use Rattle.cl_text_grammar.proofs.KeyWords.{key_word, IsSection, a_section, AreSections, no_more, one_more, StandApart, Sections, sections_stand, has_last, stood_before}
+use Rattle.cl_text_grammar.proofs.KeyWords.{key_word, IsSection, a_section, AreSections, no_more, one_more, StandApart, Keys, sections_stand, has_last, stood_before}
 
 -- of any value
 anything : {A : Type 0} (r : Result A Fault) → IfOk r (λ x. Unit {0})
 anything (Ok x) = tt
 anything (Err fault) = tt
 
-any_ends : {A : Type 0} (m : Load A) → Ends (λ x. Unit {0}) m
+pub any_ends : {A : Type 0} (m : Load A) → Ends (λ x. Unit {0}) m
 any_ends m = record { ends = λ u. anything (m u) }
 
 both_same : (p q : PaneForm) (ps qs : List PaneForm) → ◌≡◌ {A = Option PaneForm} (Some p) (Some q) → ◌≡◌ {A = Option (List PaneForm)} (Some ps) (Some qs)
@@ -259,6 +259,8 @@ module _ (w : Signatures) (names : CallsNames w) where
     key_ends key.CommandTable i a f = record { ends = λ u. tt }
     key_ends key.Name i a f = absurd (false_true i)
     key_ends key.Keystroke i a f = absurd (false_true i)
+    key_ends key.InheritFrom i a f = absurd (false_true i)
+    key_ends key.Satisfies i a f = absurd (false_true i)
     key_ends key.Description i a f = absurd (false_true i)
     key_ends key.Separator i a f = absurd (false_true i)
 
@@ -322,7 +324,7 @@ module _ (w : Signatures) (names : CallsNames w) where
       (a_frame i.name (subst (λ z. WritesSections w z r.taken (Some f.panes) ds) i.size
       (subst (λ ps. WritesSections w (size_in (behind key.Size ks)) r.taken ps ds) i.panes r.written)))
 
-  shaped_ends : (h at : ℕ) (n : Datum) (ds : List Datum) (ks : List Keyed) (o : Option FrameShape) → Sections frame_keys [] ks ds → frame_shape w n ks ≡ o
+  shaped_ends : (h at : ℕ) (n : Datum) (ds : List Datum) (ks : List Keyed) (o : Option FrameShape) → Keys (AreSections frame_keys) [] ks ds → frame_shape w n ks ≡ o
       → FrameEnds h at (n ∷ ds) (parse_shaped w at ks o)
   shaped_ends h at n ds ks None s e = refuses
   shaped_ends h at n ds ks (Some f) s e =

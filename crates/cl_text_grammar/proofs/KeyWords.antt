@@ -1,11 +1,12 @@
--- The sections of a form with keys: each begins with the word of its key, and none stands twice.
+-- The keys of a form, in sections or in pairs: each stands as its word, and none stands twice.
 use Rattle.std.proofs.Common.{◌≡◌, ℕ, Bool, true, false, if◌then◌else◌, List, [], ◌∷◌, ◌++◌, refl, sym, ap, ◌∙◌}
 use Rattle.std.specs.Prelude.{Option, Some, None, is_some, option_and_then, codes}
 use Rattle.std.proofs.Math.Path.{subst}
 use denote.Enum.Bare.{same_true}
 use Rattle.cl_forms.specs.contracts.keys.Key.{the_type}
 use Rattle.cl_forms.specs.Datum.{Datum, Datums, number, literal, word, quoted, stray, list, none, item, in_order}
-use Rattle.cl_forms.specs.Keys.{Keyed, key_named, same_key, is_among, allowed, key_in, values_of, has_key, keyed_as, with_keyed, section_in, keyed_sections}
+use Rattle.cl_forms.specs.Keys.{Keyed, section_key, value_key, key_or, key_named, same_key, is_among, allowed, key_in, values_of, has_key}
+use Rattle.cl_forms.specs.Keys.{keyed_as, with_keyed, section_in, keyed_sections, pair_in, keyed_pairs}
 use Rattle.cl_forms.specs.declared.keys.Key.{Key}
 use Rattle.cl_forms.specs.declared.keys.Key.TheVariants as key
 use Rattle.cl_grammar.proofs.Spelled.{false_true, Finds, nothing, word_is, of_some, some_same, nothing_found}
@@ -17,15 +18,28 @@ key_word key.Panes = codes ":panes"
 key_word key.CommandTable = codes ":command-table"
 key_word key.Name = codes ":name"
 key_word key.Keystroke = codes ":keystroke"
+key_word key.InheritFrom = codes ":inherit-from"
+key_word key.Satisfies = codes ":satisfies"
 key_word key.Description = codes ":description"
 key_word key.Separator = codes ":separator"
 
-key_words : (x : List ℕ) → Finds (λ k. x ≡ key_word k) (key_named x)
-key_words x =
+section_words : (x : List ℕ) → Finds (λ k. x ≡ key_word k) (section_key x)
+section_words x =
     word_is key.Size x (codes ":size") (λ e. e) (word_is key.Slots x (codes ":slots") (λ e. e) (word_is key.Panes x (codes ":panes") (λ e. e)
-    (word_is key.CommandTable x (codes ":command-table") (λ e. e) (word_is key.Name x (codes ":name") (λ e. e)
-    (word_is key.Keystroke x (codes ":keystroke") (λ e. e) (word_is key.Description x (codes ":description") (λ e. e)
-    (word_is key.Separator x (codes ":separator") (λ e. e) nothing)))))))
+    (word_is key.CommandTable x (codes ":command-table") (λ e. e) nothing)))
+
+value_words : (x : List ℕ) → Finds (λ k. x ≡ key_word k) (value_key x)
+value_words x =
+    word_is key.Name x (codes ":name") (λ e. e) (word_is key.Keystroke x (codes ":keystroke") (λ e. e)
+    (word_is key.InheritFrom x (codes ":inherit-from") (λ e. e) (word_is key.Satisfies x (codes ":satisfies") (λ e. e)
+    (word_is key.Description x (codes ":description") (λ e. e) (word_is key.Separator x (codes ":separator") (λ e. e) nothing)))))
+
+either_key : {P : Key → Type 0} (o p : Option Key) → Finds P o → Finds P p → Finds P (key_or o p)
+either_key (Some k) p h i = record { found = h.found }
+either_key None p h i = i
+
+key_words : (x : List ℕ) → Finds (λ k. x ≡ key_word k) (key_named x)
+key_words x = either_key (section_key x) (value_key x) (section_words x) (value_words x)
 
 key_spelled : (x : List ℕ) (k : Key) → key_named x ≡ Some k → x ≡ key_word k
 key_spelled x k e = of_some k (key_named x) e (key_words x)
@@ -80,6 +94,34 @@ section_is may_have (word s at) k e = absurd (nothing_found e)
 section_is may_have (quoted s at name_at) k e = absurd (nothing_found e)
 section_is may_have (stray at) k e = absurd (nothing_found e)
 
+-- ---- pairs
+
+-- the two data are `KEY VALUE`, with a key that the form may have
+pub data IsPair (may_have : List Key) : Keyed → Datum → Datum → Type 0 where
+  a_pair : {k : Key} {h : ℕ} {v : Datum} → is_among may_have k ≡ true
+      → IsPair may_have (record { key = k; at = h; values = v ∷ [] }) (word (key_word k) h) v
+
+pub data ArePairs (may_have : List Key) : List Keyed → List Datum → Type 0 where
+  no_pairs : ArePairs may_have [] []
+  more_pairs : {k : Keyed} {ks : List Keyed} {d v : Datum} {ds : List Datum} → IsPair may_have k d v → ArePairs may_have ks ds
+      → ArePairs may_have (k ∷ ks) (d ∷ v ∷ ds)
+
+headed_pair : (may_have : List Key) (k : Key) (x : List ℕ) (h : ℕ) (v : Datum) → x ≡ key_word k → is_among may_have k ≡ true
+    → IsPair may_have (record { key = k; at = h; values = v ∷ [] }) (word x h) v
+headed_pair may_have k x h v e i = subst (λ y. IsPair may_have (record { key = k; at = h; values = v ∷ [] }) (word y h) v) (sym e) (a_pair i)
+
+pair_is : (may_have : List Key) (d v : Datum) (k : Keyed) → pair_in may_have d v ≡ Some k → IsPair may_have k d v
+pair_is may_have (word x h) v k e =
+    let found : (key_in may_have (word x h) ≡ Some k.key) × (record { key = k.key; at = h; values = v ∷ [] } ≡ k) =
+    keyed_is (key_in may_have (word x h)) h (v ∷ []) k e in
+    let one : (key_named x ≡ Some k.key) × (is_among may_have k.key ≡ true) = allowed_key may_have (key_named x) k.key found.0 in
+    subst (λ c. IsPair may_have c (word x h) v) found.1 (headed_pair may_have k.key x h v (key_spelled x k.key one.0) one.1)
+pair_is may_have (number z h) v k e = absurd (nothing_found e)
+pair_is may_have (literal s h) v k e = absurd (nothing_found e)
+pair_is may_have (quoted s h name_at) v k e = absurd (nothing_found e)
+pair_is may_have (stray h) v k e = absurd (nothing_found e)
+pair_is may_have (list es h) v k e = absurd (nothing_found e)
+
 -- ---- none stands twice
 
 -- the keys are none of those that stand so far, and differ
@@ -87,11 +129,11 @@ abbrev pub StandApart : List Keyed → List Keyed → Type 0
 StandApart so_far [] = Unit {0}
 StandApart so_far (k ∷ ks) = (has_key k.key so_far ≡ false) × StandApart (so_far ++ k ∷ []) ks
 
--- the keys behind those that stand so far
-pub record Sections (may_have : List Key) (so_far all : List Keyed) (ds : List Datum) : Type 0 where
+-- the keys behind those that stand so far, which stand in the data so
+pub record Keys (S : List Keyed → List Datum → Type 0) (so_far all : List Keyed) (ds : List Datum) : Type 0 where
   pub more : List Keyed
   pub whole : all ≡ so_far ++ more
-  pub stand : AreSections may_have more ds
+  pub stand : S more ds
   pub apart : StandApart so_far more
 
 no_end : (ks : List Keyed) → ks ≡ ks ++ []
@@ -102,26 +144,37 @@ moved : (ks : List Keyed) (k : Keyed) (more : List Keyed) → (ks ++ k ∷ []) +
 moved [] k more = refl
 moved (j ∷ ks) k more = λ i. j ∷ moved ks k more i
 
-one_section : (b : Bool) (may_have : List Key) (so_far all : List Keyed) (k : Keyed) (d : Datum) (ds : List Datum) → has_key k.key so_far ≡ b → IsSection may_have k d
-    → ((s : List Keyed) → keyed_sections may_have s ds ≡ Some all → Sections may_have s all ds)
-    → option_and_then (λ more. keyed_sections may_have more ds) (if b then None else Some (so_far ++ k ∷ [])) ≡ Some all → Sections may_have so_far all (d ∷ ds)
-one_section true may_have so_far all k d ds h i f e = absurd (nothing_found e)
-one_section false may_have so_far all k d ds h i f e =
-    let rest : Sections may_have (so_far ++ k ∷ []) all ds = f (so_far ++ k ∷ []) e in
-    record { more = k ∷ rest.more; whole = rest.whole ∙ moved so_far k rest.more; stand = one_more i rest.stand; apart = (h, rest.apart) }
+-- by the relation of keys to data, and what reads the keys in the rest of the data
+module _ (S : List Keyed → List Datum → Type 0) (ds rest : List Datum) (read : List Keyed → Option (List Keyed)) (all : List Keyed)
+    (reads : (s : List Keyed) → read s ≡ Some all → Keys S s all rest) where
+  one_key : (b : Bool) (so_far : List Keyed) (k : Keyed) → has_key k.key so_far ≡ b → ((ks : List Keyed) → S ks rest → S (k ∷ ks) ds)
+      → option_and_then read (if b then None else Some (so_far ++ k ∷ [])) ≡ Some all → Keys S so_far all ds
+  one_key true so_far k h i e = absurd (nothing_found e)
+  one_key false so_far k h i e =
+      let behind : Keys S (so_far ++ k ∷ []) all rest = reads (so_far ++ k ∷ []) e in
+      record { more = k ∷ behind.more; whole = behind.whole ∙ moved so_far k behind.more; stand = i behind.more behind.stand; apart = (h, behind.apart) }
 
-next_section : (o : Option Keyed) (may_have : List Key) (so_far all : List Keyed) (d : Datum) (ds : List Datum) → section_in may_have d ≡ o
-    → ((s : List Keyed) → keyed_sections may_have s ds ≡ Some all → Sections may_have s all ds)
-    → option_and_then (λ more. keyed_sections may_have more ds) (with_keyed o so_far) ≡ Some all → Sections may_have so_far all (d ∷ ds)
-next_section None may_have so_far all d ds h f e = absurd (nothing_found e)
-next_section (Some k) may_have so_far all d ds h f e =
-    one_section (has_key k.key so_far) may_have so_far all k d ds refl (section_is may_have d k h) f e
+  next_key : (o : Option Keyed) (so_far : List Keyed) → ((k : Keyed) (ks : List Keyed) → o ≡ Some k → S ks rest → S (k ∷ ks) ds)
+      → option_and_then read (with_keyed o so_far) ≡ Some all → Keys S so_far all ds
+  next_key None so_far i e = absurd (nothing_found e)
+  next_key (Some k) so_far i e = one_key (has_key k.key so_far) so_far k refl (λ ks. i k ks refl) e
 
-pub sections_stand : (may_have : List Key) (so_far all : List Keyed) (ds : List Datum) → keyed_sections may_have so_far ds ≡ Some all → Sections may_have so_far all ds
+pub sections_stand : (may_have : List Key) (so_far all : List Keyed) (ds : List Datum) → keyed_sections may_have so_far ds ≡ Some all
+    → Keys (AreSections may_have) so_far all ds
 sections_stand may_have so_far all [] e =
     record { more = []; whole = sym (some_same e) ∙ no_end so_far; stand = no_more; apart = tt }
 sections_stand may_have so_far all (d ∷ ds) e =
-    next_section (section_in may_have d) may_have so_far all d ds refl (λ s. sections_stand may_have s all ds) e
+    next_key (AreSections may_have) (d ∷ ds) ds (λ s. keyed_sections may_have s ds) all (λ s. sections_stand may_have s all ds) (section_in may_have d) so_far
+    (λ k ks h i. one_more (section_is may_have d k h) i) e
+
+pub pairs_stand : (may_have : List Key) (so_far all : List Keyed) (ds : List Datum) → keyed_pairs may_have so_far ds ≡ Some all
+    → Keys (ArePairs may_have) so_far all ds
+pairs_stand may_have so_far all [] e =
+    record { more = []; whole = sym (some_same e) ∙ no_end so_far; stand = no_pairs; apart = tt }
+pairs_stand may_have so_far all (d ∷ []) e = absurd (nothing_found e)
+pairs_stand may_have so_far all (d ∷ v ∷ ds) e =
+    next_key (ArePairs may_have) (d ∷ v ∷ ds) ds (λ s. keyed_pairs may_have s ds) all (λ s. pairs_stand may_have s all ds) (pair_in may_have d v) so_far
+    (λ k ks h i. more_pairs (pair_is may_have d v k h) i) e
 
 -- ---- what stands behind a key that stood before
 

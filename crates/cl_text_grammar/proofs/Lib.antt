@@ -10,6 +10,8 @@ pub mod TypesWritten
 pub mod CalleesWritten
 pub mod KeyWords
 pub mod FramesWritten
+pub mod UserTypesWritten
+pub mod MethodsWritten
 pub mod TextWritten
 pub mod DisplaysNamed
 pub mod FormStands

@@ -4,7 +4,7 @@ use Rattle.std.specs.Prelude.{Option, Some, None, Ok, if◌then◌else◌, codes
 use Rattle.std.proofs.lemmas.Result.{IfOk-at_ok}
 use Rattle.std.proofs.Math.Path.{subst}
 use Rattle.cl_forms.specs.Datum.{Datum, number, literal, word, quoted, stray, list, in_order}
-use Rattle.cl_forms.specs.Outer.{declaration_named, is_planned, kind_or, outer_listed, outer_in, outers_of}
+use Rattle.cl_forms.specs.Outer.{type_declared, declared_by, declared_or, declaration_named, is_planned, kind_or, outer_listed, outer_in, outers_of}
 use Rattle.cl_forms.specs.declared.outer.DeclarationKind.{DeclarationKind}
 use Rattle.cl_forms.specs.declared.outer.DeclarationKind.TheVariants as kind
 use Rattle.cl_forms.specs.declared.outer.OuterKind.TheVariants.{Planned, Unknown}
@@ -16,25 +16,44 @@ use Rattle.cl_grammar.specs.Heads.{CallsNames}
 use Rattle.cl_grammar.proofs.Endings.{Ends, gives, refuses, binds, ends_weaker}
 use Rattle.cl_grammar.proofs.Spelled.{Finds, word_is, of_some}
 use Rattle.cl_text_grammar.specs.Displays.{CallsDisplays}
-use Rattle.cl_text_grammar.specs.WritesDeclarations.{Declaration, of_record, of_function, of_display, of_command, of_frame, WritesDeclared}
+use Rattle.cl_text_grammar.specs.WritesDeclarations.{Declaration, of_record, of_user_type, of_host_type, of_present_method, of_accept_method, of_function, of_display}
+use Rattle.cl_text_grammar.specs.WritesDeclarations.{of_command, of_frame, WritesDeclared, a_present_method, an_accept_method}
 use Rattle.cl_text_grammar.specs.WritesDeclarations.{WritesDeclaration, a_declaration, nothing, one_more, with_declaration, with_declarations}
 use Rattle.cl_text_grammar.specs.WritesDeclarations.{IsDeclaredIn, TextDeclares}
 use Rattle.cl_grammar.proofs.Spelled as words
 use Rattle.cl_text_grammar.proofs.CalleesWritten.{record_ends, function_ends, command_ends, display_ends}
 use Rattle.cl_text_grammar.proofs.FramesWritten.{frame_ends}
+use Rattle.cl_text_grammar.proofs.UserTypesWritten.{user_type_ends}
+use Rattle.cl_text_grammar.proofs.MethodsWritten.{host_type_ends, method_ends}
 
 abbrev kind_word : DeclarationKind → List ℕ
 kind_word kind.Record = codes "define-record"
+kind_word kind.PresentationType = codes "define-presentation-type"
+kind_word kind.HostType = codes "define-host-type"
+kind_word kind.PresentMethod = codes "define-present-method"
+kind_word kind.AcceptMethod = codes "define-accept-method"
 kind_word kind.Function = codes "define-function"
 kind_word kind.Display = codes "define-display"
 kind_word kind.Command = codes "define-command"
 kind_word kind.Frame = codes "define-application-frame"
 
+type_words : (x : List ℕ) → Finds (λ k. x ≡ kind_word k) (type_declared x)
+type_words x =
+    word_is kind.Record x (codes "define-record") (λ e. e) (word_is kind.PresentationType x (codes "define-presentation-type") (λ e. e)
+    (word_is kind.HostType x (codes "define-host-type") (λ e. e) (word_is kind.PresentMethod x (codes "define-present-method") (λ e. e)
+    (word_is kind.AcceptMethod x (codes "define-accept-method") (λ e. e) words.nothing))))
+
+other_words : (x : List ℕ) → Finds (λ k. x ≡ kind_word k) (declared_by x)
+other_words x =
+    word_is kind.Function x (codes "define-function") (λ e. e) (word_is kind.Display x (codes "define-display") (λ e. e)
+    (word_is kind.Command x (codes "define-command") (λ e. e) (word_is kind.Frame x (codes "define-application-frame") (λ e. e) words.nothing)))
+
+either_kind : {P : DeclarationKind → Type 0} (o p : Option DeclarationKind) → Finds P o → Finds P p → Finds P (declared_or o p)
+either_kind (Some k) p h i = record { found = h.found }
+either_kind None p h i = i
+
 kind_words : (x : List ℕ) → Finds (λ k. x ≡ kind_word k) (declaration_named x)
-kind_words x =
-    word_is kind.Record x (codes "define-record") (λ e. e) (word_is kind.Function x (codes "define-function") (λ e. e)
-    (word_is kind.Display x (codes "define-display") (λ e. e) (word_is kind.Command x (codes "define-command") (λ e. e)
-    (word_is kind.Frame x (codes "define-application-frame") (λ e. e) words.nothing))))
+kind_words x = either_kind (type_declared x) (declared_by x) (type_words x) (other_words x)
 
 module _ (w : Signatures) (names : CallsNames w) (displays : CallsDisplays w) where
   -- one declaration more, which writes the parts
@@ -46,6 +65,13 @@ module _ (w : Signatures) (names : CallsNames w) (displays : CallsDisplays w) wh
   kind_ends : (k : DeclarationKind) (h at : ℕ) (ds : List Datum) (s : Declarations)
       → Ends (PartsRead at (word (kind_word k) h ∷ ds) s) (parse_declared w k at ds s)
   kind_ends kind.Record h at ds s = binds (record_ends w h at ds) λ d i. gives (record { declaration = of_record d; added = refl; written = i })
+  kind_ends kind.PresentationType h at ds s =
+      binds (user_type_ends w h at ds) λ d i. gives (record { declaration = of_user_type d; added = refl; written = i })
+  kind_ends kind.HostType h at ds s = binds (host_type_ends w h at ds) λ d i. gives (record { declaration = of_host_type d; added = refl; written = i })
+  kind_ends kind.PresentMethod h at ds s =
+      binds (method_ends w names at ds) λ d i. gives (record { declaration = of_present_method d; added = refl; written = a_present_method i })
+  kind_ends kind.AcceptMethod h at ds s =
+      binds (method_ends w names at ds) λ d i. gives (record { declaration = of_accept_method d; added = refl; written = an_accept_method i })
   kind_ends kind.Function h at ds s = binds (function_ends w names h at ds) λ d i. gives (record { declaration = of_function d; added = refl; written = i })
   kind_ends kind.Display h at ds s = binds (display_ends w names displays h at ds) λ d i. gives (record { declaration = of_display d; added = refl; written = i })
   kind_ends kind.Command h at ds s = binds (command_ends w names h at ds) λ d i. gives (record { declaration = of_command d; added = refl; written = i })

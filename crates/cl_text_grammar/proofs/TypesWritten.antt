@@ -6,11 +6,11 @@ use Rattle.std.proofs.Math.Path.{subst}
 use Rattle.cl_syntax.specs.TypeSpecTree.{TypeSpecTree, TypeArgTree, arg_trees_of}
 use Rattle.cl_syntax.specs.declared.type_specs.TypeOptions.{TypeOptions}
 use Rattle.cl_forms.specs.Datum.{Datum, Datums, number, literal, word, quoted, stray, list, none, item, in_order, offset}
-use Rattle.cl_forms.specs.Naming.{name_in}
+use Rattle.cl_forms.specs.Naming.{fits, name_in}
 use Rattle.cl_words.specs.declared.signatures.Signatures.{Signatures}
 use Rattle.cl_expressions.specs.Load.{Load, Notes, Fault, after, refuse, placed, with_specifier}
 use Rattle.cl_expressions.specs.Scopes.{Names}
-use Rattle.cl_bodies.specs.Specifiers.{TypeSub, takes_named, shapes, parse_at_most, parse_each_type, parse_nothing, parse_one_type, parse_some_types}
+use Rattle.cl_bodies.specs.Specifiers.{TypeSub, takes_named, shapes, parse_at_most, parse_given, parse_each_type, parse_nothing, parse_one_type, parse_some_types}
 use Rattle.cl_bodies.specs.Specifiers.{parse_token_type, parse_tokens_and_type, parse_arguments, parse_known, parse_named, parse_headed, with_options}
 use Rattle.cl_bodies.specs.Specifiers.{parse_optioned, parse_first, parse_type, parse_listed, parse_inner, parse_parts, type_subs}
 use Rattle.cl_bodies.specs.TypeArguments.{tokens_in, options_in}
@@ -21,7 +21,7 @@ use Rattle.cl_bodies.specs.declared.type_arguments.Wanted.TheVariants as wanted
 use Rattle.cl_grammar.proofs.Endings.{Ends, gives, refuses, chooses, notes_then, binds, ends_weaker}
 use Rattle.cl_text_grammar.specs.WritesTypes.{WritesArguments, WritesType, a_name, a_list, with_its_options}
 use Rattle.cl_text_grammar.specs.WritesTypes.{WritesNamed, a_known_type, an_unknown_type, WritesBehind, nothing, its_bounds, its_length, its_constants}
-use Rattle.cl_text_grammar.specs.WritesTypes.{one_type, some_types, tokens_and_type, WritesTypes, no_more_types, one_more_type}
+use Rattle.cl_text_grammar.specs.WritesTypes.{all_given, one_type, some_types, tokens_and_type, WritesTypes, no_more_types, one_more_type}
 use Rattle.cl_text_grammar.proofs.ArgumentsWritten.{constants_end}
 use Rattle.cl_text_grammar.proofs.NamesWritten.{tokens_written}
 
@@ -76,6 +76,10 @@ module _ (w : Signatures) (ps : Names) where
   at_most_ends most kind t at ds h =
       chooses (nat_le (length ds) most) (λ e. ends_weaker (λ ts i. h ts (fits_most (length ds) most e) i) (constants_end ps kind at ds)) (λ e. refuses)
 
+  given_ends : (count : Option ℕ) (at : ℕ) (ds : List Datum) → Ends (λ ts. WritesBehind w ps (takes.Given count) (arg_trees_of ts) ds) (parse_given count ps at ds)
+  given_ends count at ds =
+      chooses (fits count (length ds)) (λ e. ends_weaker (λ ts i. all_given e i) (constants_end ps wanted.ConstantOrStar at ds)) (λ e. refuses)
+
   one_type_ends : (at : ℕ) (subs : List TypeSub) → WrittenSubs subs → BehindEnds takes.OneType subs (parse_one_type at subs)
   one_type_ends at [] k = refuses
   one_type_ends at (s ∷ []) k = binds k.0.spec λ t i. record { ends = λ u. one_type i }
@@ -102,6 +106,7 @@ module _ (w : Signatures) (ps : Names) where
   arguments_end takes.Bounds at subs k = at_most_ends 2 wanted.NumberOrStar takes.Bounds at (shapes subs) (λ ts e i. its_bounds e i)
   arguments_end takes.Length at subs k = at_most_ends 1 wanted.Number takes.Length at (shapes subs) (λ ts e i. its_length e i)
   arguments_end takes.Constants at subs k = ends_weaker (λ ts i. its_constants i) (constants_end ps wanted.Constant at (shapes subs))
+  arguments_end (takes.Given count) at subs k = given_ends count at (shapes subs)
   arguments_end takes.OneType at subs k = one_type_ends at subs k
   arguments_end takes.SomeTypes at subs k = some_types_end at subs k
   arguments_end takes.TokensAndType at subs k = tokens_and_type_ends at subs k

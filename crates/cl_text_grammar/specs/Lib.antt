@@ -7,4 +7,5 @@ pub mod FormUnnamed
 pub mod WritesNames
 pub mod WritesTypes
 pub mod WritesFrames
+pub mod WritesUserTypes
 pub mod WritesDeclarations

@@ -4,12 +4,16 @@ use Rattle.cl_table.specs.Names.{with_first}
 use Rattle.cl_syntax.specs.ActTree.{ActTree, act_trees_of}
 use Rattle.cl_syntax.specs.ExprTree.{ExprTree}
 use Rattle.cl_syntax.specs.ShapeTree.{ShapeTree, shape_trees_of}
+use Rattle.cl_syntax.specs.TypeSpecTree.{TypeSpecTree}
 use Rattle.cl_forms.specs.Datum.{Datum, Datums, word, list, none, item, in_order}
 use Rattle.cl_forms.specs.LineNames.{line_name_of}
 use Rattle.cl_forms.specs.Naming.{name_in}
 use Rattle.cl_words.specs.declared.signatures.Signatures.{Signatures}
 use Rattle.cl_expressions.specs.Scopes.{Names}
 use Rattle.cl_syntax.specs.declared.type_decls.RecordDecl.{RecordDecl}
+use Rattle.cl_syntax.specs.declared.type_decls.TypeDecl.{TypeDecl}
+use Rattle.cl_application.specs.declared.declarations.HostDecl.{HostDecl}
+use Rattle.cl_application.specs.declared.declarations.MethodDecl.{MethodDecl}
 use Rattle.cl_application.specs.declared.declarations.FunctionDecl.{FunctionDecl}
 use Rattle.cl_application.specs.declared.declarations.DisplayDecl.{DisplayDecl}
 use Rattle.cl_application.specs.declared.declarations.CommandDecl.{CommandDecl}
@@ -19,11 +23,14 @@ use Rattle.cl_declare.specs.declared.frames.FrameForm.{FrameForm}
 use Rattle.cl_declare.specs.declared.pane_forms.PaneForm.{PaneForm}
 use Rattle.cl_declare.specs.declared.frames.Size.{Size}
 use Rattle.cl_declare.specs.Declarations.{nothing_declared}
+use Rattle.cl_declare.specs.TypeShapes.{described}
+use Rattle.cl_declare.specs.Types.{or_everything}
 use Rattle.cl_grammar.specs.Writes.{Writes}
 use Rattle.cl_text_grammar.specs.WritesShapes.{WritesShapes}
 use Rattle.cl_text_grammar.specs.WritesActs.{WritesActs}
 use Rattle.cl_text_grammar.specs.WritesNames.{WritesNames, WritesNameList}
 use Rattle.cl_text_grammar.specs.WritesFrames.{WritesSections, slots_of}
+use Rattle.cl_text_grammar.specs.WritesUserTypes.{WritesTypeKeys}
 
 -- the name of a command writes a datum
 pub data WritesCommandName : List ℕ → Datum → Type 0 where
@@ -32,9 +39,19 @@ pub data WritesCommandName : List ℕ → Datum → Type 0 where
   -- (NAME)
   in_parentheses : {x : List ℕ} {n : Datum} {at : ℕ} → name_in n ≡ Some x → WritesCommandName x (list (item n none) at)
 
+-- a method of a type, declared at this offset, writes what stands behind the head
+pub data WritesMethod (at : ℕ) : MethodDecl → List Datum → Type 0 where
+  -- NAME (PARAMETER) BODY
+  a_method : {x p : List ℕ} {t : ExprTree} {n ps e : Datum} → name_in n ≡ Some x → WritesNameList (p ∷ []) ps → Writes t e
+      → WritesMethod at (record { name = x; parameter = p; body = t; at = at }) (n ∷ ps ∷ e ∷ [])
+
 -- what one outermost form declares
 pub data Declaration : Type 0 where
   of_record : RecordDecl → Declaration
+  of_user_type : TypeDecl → Declaration
+  of_host_type : HostDecl → Declaration
+  of_present_method : MethodDecl → Declaration
+  of_accept_method : MethodDecl → Declaration
   of_function : FunctionDecl → Declaration
   of_display : DisplayDecl → Declaration
   of_command : CommandDecl → Declaration
@@ -45,6 +62,21 @@ pub data WritesDeclared (w : Signatures) (at : ℕ) : Declaration → List Datum
   -- (define-record NAME FIELD FIELD ...)
   a_record : {x f : List ℕ} {fs : Names} {n : Datum} {ds : List Datum} {h : ℕ} → name_in n ≡ Some x → WritesNames (f ∷ fs) ds
       → WritesDeclared w at (of_record (record { name = x; fields = f ∷ fs; at = at })) (word (codes "define-record") h ∷ n ∷ ds)
+  -- (define-presentation-type NAME (PARAMETER ...) KEY VALUE ...): `t` where it inherits from nothing else, and its name where nothing describes it
+  a_user_type : {x : List ℕ} {xs : Names} {i : Option TypeSpecTree} {f t : Option (List ℕ)} {n ps : Datum} {ds : List Datum} {h : ℕ} → name_in n ≡ Some x
+      → WritesNameList xs ps → WritesTypeKeys w xs i f t ds
+      → WritesDeclared w at
+      (of_user_type (record { name = x; parameters = xs; inherit_from = or_everything i; satisfies = f; description = described x t; at = at }))
+      (word (codes "define-presentation-type") h ∷ n ∷ ps ∷ ds)
+  -- (define-host-type NAME)
+  a_host_type : {x : List ℕ} {n : Datum} {h : ℕ} → name_in n ≡ Some x
+      → WritesDeclared w at (of_host_type (record { name = x; at = at })) (word (codes "define-host-type") h ∷ n ∷ [])
+  -- (define-present-method NAME (PARAMETER) BODY)
+  a_present_method : {m : MethodDecl} {ds : List Datum} {h : ℕ} → WritesMethod at m ds
+      → WritesDeclared w at (of_present_method m) (word (codes "define-present-method") h ∷ ds)
+  -- (define-accept-method NAME (PARAMETER) BODY)
+  an_accept_method : {m : MethodDecl} {ds : List Datum} {h : ℕ} → WritesMethod at m ds
+      → WritesDeclared w at (of_accept_method m) (word (codes "define-accept-method") h ∷ ds)
   -- (define-function NAME (PARAMETER ...) BODY)
   a_function : {x : List ℕ} {xs : Names} {t : ExprTree} {n ps e : Datum} {h : ℕ} → name_in n ≡ Some x → WritesNameList xs ps → Writes t e
       → WritesDeclared w at (of_function (record { name = x; parameters = xs; body = t; at = at })) (word (codes "define-function") h ∷ n ∷ ps ∷ e ∷ [])
@@ -77,6 +109,10 @@ pub data WritesText (w : Signatures) : List Declaration → List Datum → Type 
 -- behind others: of two of one name in one table the first counts, and all frames are kept
 abbrev pub with_declaration : Declarations → Declaration → Declarations
 with_declaration s (of_record d) = record s { records = with_first (λ e. e.name) s.records d }
+with_declaration s (of_user_type d) = record s { types = with_first (λ e. e.name) s.types d }
+with_declaration s (of_host_type d) = record s { hosts = with_first (λ e. e.name) s.hosts d }
+with_declaration s (of_present_method d) = record s { present_methods = with_first (λ e. e.name) s.present_methods d }
+with_declaration s (of_accept_method d) = record s { accept_methods = with_first (λ e. e.name) s.accept_methods d }
 with_declaration s (of_function d) = record s { functions = with_first (λ e. e.name) s.functions d }
 with_declaration s (of_display d) = record s { displays = with_first (λ e. e.name) s.displays d }
 with_declaration s (of_command d) = record s { commands = with_first (λ e. e.name) s.commands d }

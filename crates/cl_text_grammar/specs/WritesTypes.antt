@@ -1,5 +1,5 @@
 -- How a type specifier is written: a row for each form of it, with its offsets left out. The parameters of the declaration around may stand in it.
-use Rattle.std.specs.Prelude.{◌≡◌, ℕ, ℤ, ◌≤◌, true, false, is_some, List, [], ◌∷◌, length, Some, None, codes}
+use Rattle.std.specs.Prelude.{◌≡◌, ℕ, ℤ, ◌≤◌, true, false, is_some, List, [], ◌∷◌, length, Option, Some, None, codes}
 use Rattle.std.specs.Str.{bytes_eq}
 use Rattle.cl_value.specs.Data as value
 use Rattle.cl_value.specs.Data.{Data}
@@ -8,7 +8,7 @@ use Rattle.cl_syntax.specs.TypeSpecTree.{TypeSpecTree, specifier, TypeArgTree, C
 use Rattle.cl_syntax.specs.TypeSpecTree.{Names as Tokens, no_options, plain_type}
 use Rattle.cl_syntax.specs.declared.type_specs.TypeOptions.{TypeOptions}
 use Rattle.cl_forms.specs.Datum.{Datum, Datums, number, literal, word, quoted, list, item, in_order}
-use Rattle.cl_forms.specs.Naming.{name_in}
+use Rattle.cl_forms.specs.Naming.{fits, name_in}
 use Rattle.cl_forms.specs.Words.{is_key}
 use Rattle.cl_words.specs.declared.signatures.Signatures.{Signatures}
 use Rattle.cl_expressions.specs.Scopes.{Names}
@@ -52,6 +52,9 @@ pub data WritesArgument (ps : Names) : Wanted → TypeArgTree → Datum → Type
   a_length : {z : ℤ} {at : ℕ} → WritesArgument ps wanted.Number (Constant (value.int z)) (number z at)
   -- any constant
   a_constant : {v : Data} {d : Datum} → WritesConstant ps v d → WritesArgument ps wanted.Constant (Constant v) d
+  -- what is given for a parameter: any constant, or * for none
+  a_given : {v : Data} {d : Datum} → WritesConstant ps v d → WritesArgument ps wanted.ConstantOrStar (Constant v) d
+  none_given : {at : ℕ} → WritesArgument ps wanted.ConstantOrStar Any (word (codes "*") at)
 
 -- arguments of one kind write data, one each
 pub data WritesArguments (ps : Names) (kind : Wanted) : TypeArgTrees → List Datum → Type 0 where
@@ -75,7 +78,7 @@ mutual
 
   -- a specifier writes the name of a type with what stands behind it
   pub data WritesNamed (w : Signatures) (ps : Names) : TypeSpecTree → List Datum → Type 0 where
-    -- a standard type, or a record that is declared
+    -- a standard type, or one that is declared
     a_known_type : {x : List ℕ} {t : Takes} {ts : TypeArgTrees} {n : Datum} {ds : List Datum} → name_in n ≡ Some x → takes_named w x ≡ Some t
         → WritesBehind w ps t ts ds → WritesNamed w ps (specifier x ts no_options) (n ∷ ds)
     -- a name that is not declared, with anything behind it
@@ -94,6 +97,9 @@ mutual
         → WritesBehind w ps takes.Length ts ds
     -- (NAME CONSTANT ...)
     its_constants : {ts : TypeArgTrees} {ds : List Datum} → WritesArguments ps wanted.Constant ts ds → WritesBehind w ps takes.Constants ts ds
+    -- (NAME ARGUMENT ...), one for each parameter, or NAME alone where there are none
+    all_given : {count : Option ℕ} {ts : TypeArgTrees} {ds : List Datum} → fits count (length ds) ≡ true → WritesArguments ps wanted.ConstantOrStar ts ds
+        → WritesBehind w ps (takes.Given count) ts ds
     -- (NAME TYPE)
     one_type : {s : TypeSpecTree} {d : Datum} → WritesType w ps s d → WritesBehind w ps takes.OneType (argument (Spec s) none) (d ∷ [])
     -- (NAME TYPE TYPE ...)

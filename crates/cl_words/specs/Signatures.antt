@@ -1,4 +1,4 @@
--- What the outermost forms of a text declare: functions, displays, records and slots by name, whether their forms are right or
+-- What the outermost forms of a text declare: functions, displays, types and slots by name, whether their forms are right or
 -- not. Of two of one name in one space the first counts, and a name that is reserved is none.
 use Rattle.std.specs.Prelude.{ℕ, Bool, is_some, if◌then◌else◌, List, [], ◌∷◌, Option, Some, None}
 use Rattle.cl_table.specs.Names.{named, with_first}
@@ -8,7 +8,7 @@ use Rattle.cl_forms.specs.Keys.{section_values}
 use Rattle.cl_forms.specs.declared.keys.Key.TheVariants.{Slots}
 use Rattle.cl_forms.specs.Outer.{Outer, declared_name, behind_name}
 use Rattle.cl_forms.specs.declared.outer.DeclarationKind.{DeclarationKind}
-use Rattle.cl_forms.specs.declared.outer.DeclarationKind.TheVariants.{Record, Command, Frame}
+use Rattle.cl_forms.specs.declared.outer.DeclarationKind.TheVariants.{Record, PresentationType, HostType, PresentMethod, AcceptMethod, Command, Frame}
 use Rattle.cl_forms.specs.declared.outer.DeclarationKind.TheVariants as kind
 use Rattle.cl_forms.specs.declared.outer.OuterKind.{OuterKind}
 use Rattle.cl_forms.specs.declared.outer.OuterKind.TheVariants.{Declared, Planned, Unknown, Headless}
@@ -18,7 +18,9 @@ use Rattle.cl_words.specs.declared.signatures.Signatures.{Signatures}
 use Rattle.cl_words.specs.declared.signatures.Callee.{Callee}
 use Rattle.cl_words.specs.declared.signatures.CalleeKind.{CalleeKind}
 use Rattle.cl_words.specs.declared.signatures.CalleeKind.TheVariants.{Function, Display}
-use Rattle.cl_words.specs.declared.signatures.RecordHead.{RecordHead}
+use Rattle.cl_words.specs.declared.signatures.TypeHead.{TypeHead}
+use Rattle.cl_words.specs.declared.signatures.TypeKind.{TypeKind}
+use Rattle.cl_words.specs.declared.signatures.TypeKind.TheVariants as type
 
 -- how many parameters stand first
 abbrev pub parameters_counted : List Datum → Option ℕ
@@ -31,11 +33,11 @@ with_callee w kind None count = w
 with_callee w kind (Some x) count =
     if is_operator x then w else record w { callees = with_first (λ c. c.name) w.callees (record { name = x; kind = kind; count = count }) }
 
--- a record that is named as a standard type is none
-abbrev pub with_record : Signatures → Option (List ℕ) → Option ℕ → Signatures
-with_record w None count = w
-with_record w (Some x) count =
-    if is_standard_type x then w else record w { records = with_first (λ r. r.name) w.records (record { name = x; count = count }) }
+-- a type that is named as a standard one is none
+abbrev pub with_type : Signatures → TypeKind → Option (List ℕ) → Option ℕ → Signatures
+with_type w kind None count = w
+with_type w kind (Some x) count =
+    if is_standard_type x then w else record w { types = with_first (λ t. t.name) w.types (record { name = x; kind = kind; count = count }) }
 
 abbrev pub with_slot : Signatures → Option (List ℕ) → Signatures
 with_slot w None = w
@@ -56,7 +58,11 @@ with_sections w [] = w
 with_sections w (d ∷ ds) = with_sections (with_slots w (section_values Slots d)) ds
 
 abbrev pub with_declaration : Signatures → DeclarationKind → Outer → Signatures
-with_declaration w Record o = with_record w (declared_name o) (names_counted (behind_name o))
+with_declaration w Record o = with_type w type.Record (declared_name o) (names_counted (behind_name o))
+with_declaration w PresentationType o = with_type w type.User (declared_name o) (parameters_counted (behind_name o))
+with_declaration w HostType o = with_type w type.Host (declared_name o) None
+with_declaration w PresentMethod o = w
+with_declaration w AcceptMethod o = w
 with_declaration w kind.Function o = with_callee w Function (declared_name o) (parameters_counted (behind_name o))
 with_declaration w kind.Display o = with_callee w Display (declared_name o) (parameters_counted (behind_name o))
 with_declaration w Command o = w
@@ -76,7 +82,7 @@ with_outers w [] = w
 with_outers w (o ∷ os) = with_outers (with_outer w o) os
 
 abbrev pub nothing_declared : Signatures
-nothing_declared = record { callees = []; records = []; slots = [] }
+nothing_declared = record { callees = []; types = []; slots = [] }
 
 abbrev pub signatures_of : List Outer → Signatures
 signatures_of os = with_outers nothing_declared os
@@ -98,12 +104,17 @@ function_in w x = function_count (named x w.callees)
 abbrev pub display_in : Signatures → List ℕ → Option (Option ℕ)
 display_in w x = display_count (named x w.callees)
 
-abbrev pub record_count : Option RecordHead → Option (Option ℕ)
+-- a type that is no standard one
+abbrev pub type_in : Signatures → List ℕ → Option TypeHead
+type_in w x = named x w.types
+
+-- a record, with the count of its fields where that can be told
+abbrev pub record_count : Option TypeHead → Option (Option ℕ)
 record_count None = None
-record_count (Some r) = Some r.count
+record_count (Some t) = elim t.kind [ type.Record ↦ Some t.count | type.Host ↦ None | type.User ↦ None ]
 
 abbrev pub record_in : Signatures → List ℕ → Option (Option ℕ)
-record_in w x = record_count (named x w.records)
+record_in w x = record_count (type_in w x)
 
 abbrev pub slot_in : Signatures → List ℕ → Bool
 slot_in w x = is_some (named x w.slots)

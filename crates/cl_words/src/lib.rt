@@ -12,5 +12,5 @@ pub use heads::{
     is_operator,
 };
 pub use operators::count_of;
-pub use signatures::{Callee, CalleeKind, RecordHead, Signatures, SlotHead, signatures_of};
+pub use signatures::{Callee, CalleeKind, Signatures, SlotHead, TypeHead, TypeKind, signatures_of};
 pub use type_names::is_standard_type;

@@ -3,7 +3,7 @@ ghost use Rattle.std.specs.Prelude.{◌≡◌, ◌∷◌, [], IfOk, OnOk, map, o
 ghost use Rattle.cl_forms.specs.DatumView.{datum_of};
 ghost use Rattle.cl_forms.specs.OuterView.{outer_of};
 ghost use Rattle.cl_forms.specs.Naming.{name_in};
-ghost use Rattle.cl_words.specs.Signatures.{parameters_counted, with_callee, with_record, with_slot, with_slot_of, with_slots, with_sections, with_declaration, with_outer, with_outers, signatures_of, nothing_declared, function_in, display_in, function_count, display_count, record_in, record_count, slot_in};
+ghost use Rattle.cl_words.specs.Signatures.{parameters_counted, with_callee, with_type, with_slot, with_slot_of, with_slots, with_sections, with_declaration, with_outer, with_outers, signatures_of, nothing_declared, function_in, display_in, function_count, display_count, type_in, record_in, record_count, slot_in};
 
 use crate::heads::is_operator;
 use crate::type_names::is_standard_type;
@@ -19,7 +19,7 @@ use std::alloc::{AllocError, Global};
 #[derive(Drop)]
 pub struct Signatures {
     pub callees: Table<Callee>,
-    pub records: Table<RecordHead>,
+    pub types: Table<TypeHead>,
     pub slots: Table<SlotHead>,
 }
 
@@ -37,10 +37,20 @@ pub struct Callee {
     pub count: Option<usize>,
 }
 
-/// A record, with the count of its fields where that can be told.
+/// What declares a type that is no standard one.
+#[derive(Clone, Copy)]
+pub enum TypeKind {
+    Record,
+    Host,
+    User,
+}
+
+/// A type that is no standard one, with the count of a record's fields or of a user type's parameters where
+/// that can be told.
 #[derive(Drop)]
-pub struct RecordHead {
+pub struct TypeHead {
     pub name: Text,
+    pub kind: TypeKind,
     pub count: Option<usize>,
 }
 
@@ -57,8 +67,8 @@ impl Declared for Callee {
     }
 }
 
-impl Declared for RecordHead {
-    ghost own_name = { λ r. r.name };
+impl Declared for TypeHead {
+    ghost own_name = { λ t. t.name };
 
     fn name(&self) -> &Text {
         &self.name
@@ -79,7 +89,7 @@ pub fn signatures_of(alloc: Global, outers: &[Outer<'_>]) -> Result<Signatures, 
 {
     let mut signatures = Signatures {
         callees: Table::new(alloc),
-        records: Table::new(alloc),
+        types: Table::new(alloc),
         slots: Table::new(alloc),
     };
     for outer in outers {
@@ -109,7 +119,15 @@ fn add_declaration(
     let name = outer.declared_name();
     let more = outer.behind_name();
     match kind {
-        DeclarationKind::Record => add_record(signatures, name, names_counted(more)),
+        DeclarationKind::Record => {
+            add_type(signatures, TypeKind::Record, name, names_counted(more))
+        }
+        DeclarationKind::PresentationType => {
+            add_type(signatures, TypeKind::User, name, parameters_counted(more))
+        }
+        DeclarationKind::HostType => add_type(signatures, TypeKind::Host, name, None),
+        DeclarationKind::PresentMethod => Ok(()),
+        DeclarationKind::AcceptMethod => Ok(()),
         DeclarationKind::Function => add_callee(
             signatures,
             CalleeKind::Function,
@@ -127,12 +145,14 @@ fn add_declaration(
     }
 }
 
-fn add_record(
+fn add_type(
     signatures: &mut Signatures,
+    kind: TypeKind,
     name: Option<&Text>,
     count: Option<usize>,
 ) -> Result<(), AllocError>
-    ensures { OnOk result (signatures.new ≡ with_record signatures.old (option_map (λ n. n.now) name.entry) count) }
+    ensures { OnOk result
+        (signatures.new ≡ with_type signatures.old kind (option_map (λ n. n.now) name.entry) count) }
 {
     let Some(name) = name else {
         return Ok(());
@@ -141,7 +161,7 @@ fn add_record(
         return Ok(());
     }
     let name = name.copy()?;
-    signatures.records.add_first(RecordHead { name, count })
+    signatures.types.add_first(TypeHead { name, kind, count })
 }
 
 fn add_callee(
@@ -237,12 +257,23 @@ impl Signatures {
         }
     }
 
-    /// The same of a record and its fields.
+    /// The type of this name that is no standard one.
+    pub fn type_head(&self, name: &[u8]) -> Option<&TypeHead>
+        ensures { option_map (λ t. t.now) result ≡ type_in self.now name.now }
+    {
+        self.types.get(name)
+    }
+
+    /// The same as of a function of a record and its fields.
     pub fn record_fields(&self, name: &[u8]) -> Option<Option<usize>>
         ensures { result ≡ record_in self.now name.now }
     {
-        match self.records.get(name) {
-            Some(head) => Some(head.count),
+        match self.types.get(name) {
+            Some(head) => match head.kind {
+                TypeKind::Record => Some(head.count),
+                TypeKind::Host => None,
+                TypeKind::User => None,
+            },
             None => None,
         }
     }

@@ -3,6 +3,7 @@ ghost use Rattle.std.specs.Prelude.{IfOk};
 ghost use Rattle.cl_outside.specs.Memory.{AllPositive};
 
 use crate::settings::Setting;
+use cl_host::{month_number, shipped_types, weekday_number};
 use cl_outside::{MemPlace, MemSink, MemSource, own_steps};
 use cl_program::{Status, clim_main};
 use cl_ptext::HostTypes;
@@ -46,7 +47,10 @@ impl Outside {
 
     fn run(&mut self, alloc: Global, words: &[&str]) -> Result<Ran, AllocError> {
         let mut steps = own_steps();
-        let hosts = HostTypes { types: &[] };
+        let day = Box::new(alloc, |text: &[u8]| weekday_number(text))?;
+        let month = Box::new(alloc, |text: &[u8]| month_number(text))?;
+        let types = shipped_types(alloc, day, month)?;
+        let hosts = HostTypes { types: &types };
         let Status(status) = clim_main(
             alloc,
             words,

@@ -12,16 +12,13 @@ ghost use Rattle.cl_program.specs.Commands.{KeptBy};
 ghost use Rattle.cl_program.specs.Statuses.{DeclaresApplication, EndsWith, HasFewLines, HasManyLines, HasRefusal};
 ghost use Rattle.cl_program.specs.Surroundings.{placed, streams};
 
-use cl_host::{month_number, weekday_number};
+use cl_host::{month_number, shipped_types, weekday_number};
 use cl_outside::{FilePlace, Place, ReaderSource, Sink, Source, WriterSink, own_steps};
 use cl_program::{Status, clim_main};
 use cl_ptext::{HostTypes, Hosts};
-use shipped::host_types;
 use std::alloc::{AllocError, Global};
 use std::process::ExitCode;
 use std::{env, io};
-
-mod shipped;
 
 /// Ends with the status of a run on the words behind the program's name, over the system's files,
 /// standard input and standard output, with the host types `weekday` and `month`.
@@ -33,7 +30,7 @@ fn main(rt: HostRuntime) -> ExitCode {
     let Ok(month) = Box::new(alloc, |text: &[u8]| month_number(text)) else {
         return exit_code(Status(7));
     };
-    let Ok(types) = host_types(alloc, day, month) else {
+    let Ok(types) = shipped_types(alloc, day, month) else {
         return exit_code(Status(7));
     };
     start(rt, &HostTypes { types: &types })

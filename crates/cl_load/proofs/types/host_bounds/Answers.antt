@@ -1,4 +1,4 @@
-use Rattle.std.proofs.Common.{refl, ◌∙◌}
+use Rattle.std.proofs.Common.{◌∙◌}
 use Rattle.cl_application.specs.declared.declarations.HostDecl.{HostDecl}
 use Rattle.cl_syntax.specs.declared.type_decls.HostBound.{HostBound}
 use Rattle.cl_lattice.proofs.TableCopies.{copied_next}

@@ -1,17 +1,18 @@
-//! The host types that the program hands in.
+//! The host types that the program brings, made with readers of their names.
 ghost use Rattle.std.specs.Prelude.{◌≡◌, ◌≤◌, ◌∷◌, [], IfOk, codes, length, map, pos};
 ghost use Rattle.cl_host.specs.Names.{first_named};
 ghost use Rattle.cl_host.specs.Shipped.{month_entries, weekday_entries};
 
-use cl_host::{HostType, month_names, weekday_names};
+use crate::HostType;
+use crate::shipped::{month_names, weekday_names};
 use cl_value::Text;
 use std::alloc::{AllocError, Global};
 
 /// What finds the number of a name.
-type NameReader = Box<dyn Fn(&[u8]) -> Option<i64>>;
+pub type NameReader = Box<dyn Fn(&[u8]) -> Option<i64>>;
 
 /// The days of a week and the months of a year, by readers of their names.
-pub fn host_types(
+pub fn shipped_types(
     alloc: Global,
     day: NameReader,
     month: NameReader,
