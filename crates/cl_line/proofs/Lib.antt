@@ -1,0 +1,4 @@
+pub mod LyingLemmas
+pub mod QuoteLemmas
+pub mod TokenLemmas
+pub mod TypedLemmas

@@ -1,0 +1,4 @@
+pub mod Defaults
+pub mod Laws
+pub mod Parses
+pub mod Tokens

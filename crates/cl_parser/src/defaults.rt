@@ -1,0 +1,37 @@
+//! What an argument of a command is where a line has no token for it.
+ghost use Rattle.std.specs.Prelude.{◌≡◌, IfOk, option_map};
+ghost use Rattle.cl_parser.specs.Defaults.{default_value};
+ghost use Rattle.cl_value.specs.Value.{data_of};
+
+use crate::arguments::Argument;
+use cl_application::App;
+use cl_eval::{Env, Evaluated, Limits, Slots, eval};
+use cl_outside::own_steps;
+use cl_value::Value;
+use std::alloc::{AllocError, Global};
+
+/// The limits of a default.
+const LIMITS: Limits = Limits {
+    budget: 10_000,
+    depth: 512,
+};
+
+/// The value of an argument's default, evaluated anew, if it has one that does not trap.
+pub(crate) fn default_value(
+    alloc: Global,
+    app: &App,
+    argument: &Argument<'_>,
+) -> Result<Option<Value>, AllocError>
+    ensures { IfOk result (λ o. option_map data_of o ≡ default_value app.now argument.now) }
+{
+    let Some(default) = argument.default else {
+        return Ok(None);
+    };
+    let env = Env::new(alloc);
+    let slots = Slots::new(alloc);
+    match eval(alloc, app, default, &env, &slots, LIMITS, &mut own_steps()) {
+        Evaluated::Value(value, _, _) => Ok(Some(value)),
+        Evaluated::Trap(_, _) => Ok(None),
+        Evaluated::Memory => Err(AllocError),
+    }
+}

@@ -1,0 +1,12 @@
+//! The command-line parser: what the tokens of a line are read as, for the arguments of a command. The order of its answers is our own
+//! profile of the CLIM II specification's chapter on command processing.
+#![tactic(auto)]
+
+mod arguments;
+mod defaults;
+mod laws;
+mod parsing;
+
+pub use arguments::Argument;
+pub use laws::arguments_are_members;
+pub use parsing::{Parsed, Parser};

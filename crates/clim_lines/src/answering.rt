@@ -1,0 +1,141 @@
+//! Answers the lines for an application.
+use crate::faults::Fault;
+use crate::sheets::Sheet;
+use cl_application::{App, SlotDecl};
+use cl_eval::Slots;
+use cl_host::{month_number, shipped_types, weekday_number};
+use cl_line::Line;
+use cl_load::{Loaded, load};
+use cl_parser::{Argument, Parsed, Parser};
+use cl_print::put_value;
+use cl_ptext::{HostTypes, Hosts, TypeBook};
+use cl_value::Values;
+use std::alloc::{AllocError, Global};
+
+/// Where the name of a line ends.
+const NAME_END: usize = 2;
+
+/// The answers to the lines of a sheet, a line each.
+pub fn answer_sheet(alloc: Global, sheet: &Sheet) -> Result<String, Fault> {
+    let day = Box::new(alloc, |text: &[u8]| weekday_number(text))?;
+    let month = Box::new(alloc, |text: &[u8]| month_number(text))?;
+    let types = shipped_types(alloc, day, month)?;
+    let hosts = HostTypes { types: &types };
+    let loaded = load(alloc, sheet.application.as_bytes(), &hosts)?;
+    answer_all(alloc, &loaded, &hosts, sheet.lines.as_slice())
+}
+
+fn answer_all<H: Hosts>(
+    alloc: Global,
+    loaded: &Loaded,
+    hosts: &H,
+    lines: &[&str],
+) -> Result<String, Fault> {
+    let book = TypeBook::new(alloc, &loaded.app, &loaded.lattice, hosts);
+    let parser = Parser {
+        alloc,
+        app: &loaded.app,
+        types: &book,
+        slots: &loaded.slots,
+    };
+    let declared = arguments_of(alloc, &loaded.app)?;
+    let mut answers = Vec::new(alloc);
+    for line in lines {
+        answer(&parser, declared.as_slice(), line, &mut answers)?;
+    }
+    Ok(String::from_utf8_lossy(alloc, answers.as_slice())?)
+}
+
+// The slots that stand for arguments.
+fn arguments_of(alloc: Global, app: &App) -> Result<Vec<&SlotDecl>, AllocError> {
+    let mut arguments = Vec::new(alloc);
+    let slots = &app.frame.slots;
+    for place in 0..slots.len() {
+        if let Some(slot) = slots.at(place) {
+            if slot.name.as_slice().starts_with(b"a") {
+                arguments.push(slot)?;
+            }
+        }
+    }
+    Ok(arguments)
+}
+
+fn argument_of(slot: &SlotDecl) -> Argument<'_> {
+    Argument {
+        spec: &slot.spec,
+        default: if slot.name.as_slice().ends_with(b"d") {
+            Some(&slot.opening)
+        } else {
+            None
+        },
+    }
+}
+
+// What a line is read as, as a line.
+fn answer<H: Hosts>(
+    parser: &Parser<'_, H>,
+    declared: &[&SlotDecl],
+    text: &str,
+    answers: &mut Vec<u8>,
+) -> Result<(), Fault> {
+    let mut arguments = Vec::new(parser.alloc);
+    for slot in declared {
+        arguments.push(argument_of(slot))?;
+    }
+    let line = line_of(parser.alloc, text, parser.slots)?;
+    match parser.parse(&line, NAME_END, arguments.as_slice())? {
+        Parsed::Arguments(values) => put_values(&values, answers)?,
+        Parsed::Need(place) => put_need(declared.get(place), answers)?,
+        Parsed::BadArg(number) => {
+            answers.extend_from_slice(format!(in parser.alloc; "bad {number}")?.as_bytes())?
+        }
+        Parsed::Surplus => answers.extend_from_slice(b"surplus")?,
+    }
+    answers.push(b'\n')?;
+    Ok(())
+}
+
+// The name of an argument that is wanting.
+fn put_need(slot: Option<&&SlotDecl>, answers: &mut Vec<u8>) -> Result<(), AllocError> {
+    answers.extend_from_slice(b"need ")?;
+    if let Some(slot) = slot {
+        answers.extend_from_slice(slot.name.as_slice())?;
+    }
+    Ok(())
+}
+
+fn put_values(values: &Values, answers: &mut Vec<u8>) -> Result<(), AllocError> {
+    answers.extend_from_slice(b"arguments")?;
+    for value in values.as_slice() {
+        answers.push(b' ')?;
+        put_value(answers, value)?;
+    }
+    Ok(())
+}
+
+// The line of a text.
+fn line_of(alloc: Global, text: &str, slots: &Slots) -> Result<Line, Fault> {
+    let mut line = Line::new(alloc)?;
+    let mut is_object = false;
+    for byte in text.as_bytes() {
+        if is_object {
+            push_slot(&mut line, *byte, slots)?;
+            is_object = false;
+        } else if *byte == b'@' {
+            is_object = true;
+        } else {
+            let _ = line.push_text(&[*byte]);
+        }
+    }
+    Ok(line)
+}
+
+// The value of a slot of one letter, behind the others.
+fn push_slot(line: &mut Line, letter: u8, slots: &Slots) -> Result<(), Fault> {
+    let Some(value) = slots.get(&[letter]) else {
+        return Err(Fault::Wrong);
+    };
+    let end = line.elements().len();
+    let _ = line.push_object(end, value.copy()?);
+    Ok(())
+}
