@@ -5,7 +5,7 @@ use Rattle.cl_syntax.specs.ExprTree.{expr_trees_of}
 use Rattle.cl_syntax.specs.ShapeTree as shape
 use Rattle.cl_syntax.specs.ShapeTree.{ShapeTree, shape_trees_of}
 use Rattle.cl_syntax.specs.declared.figures.Figure.{Figure}
-use Rattle.cl_forms.specs.Datum.{Datum, Datums}
+use Rattle.cl_forms.specs.Datum.{Datum, Datums, parts_of}
 use Rattle.cl_expressions.specs.Load.{Load, ◌>>=◌, give, refuse}
 use Rattle.cl_expressions.specs.Scopes.{Names}
 use Rattle.cl_words.specs.Heads.{figure_count}
@@ -27,6 +27,7 @@ use Rattle.cl_bodies.specs.declared.display_forms.Context.TheVariants as context
 use Rattle.cl_bodies.specs.declared.display_forms.Opening.{Opening}
 use Rattle.cl_bodies.specs.declared.display_forms.Opening.TheVariants as opening
 use Rattle.cl_bodies.specs.Bodies.{Language, parse_form, parse_body}
+use Rattle.cl_bodies.specs.Presentations.{parse_present, parse_presented}
 
 -- ---- forms of expressions alone
 
@@ -56,9 +57,10 @@ abbrev pub parse_call : Signatures → List ℕ → ℕ → ℕ → List Sub →
 parse_call w x head_at at subs env = parse_call_counted (display_in w x) x head_at at subs env
 
 -- the forms that write
-abbrev pub parse_writing : Writing → ℕ → List Sub → Names → Load ShapeTree
-parse_writing writing.WriteText at subs env = parse_write at subs env
-parse_writing writing.Newline at subs env = parse_newline at subs
+abbrev pub parse_writing : Signatures → Writing → ℕ → List Sub → Names → Load ShapeTree
+parse_writing w writing.WriteText at subs env = parse_write at subs env
+parse_writing w writing.Newline at subs env = parse_newline at subs
+parse_writing w writing.Present at subs env = parse_present w at subs env
 
 -- ---- forms that set something for their bodies
 
@@ -72,27 +74,34 @@ abbrev pub parse_ink : Context → ℕ → List Sub → Names → Load (Own Shap
 parse_ink c at [] env = refuse 6 at
 parse_ink c at (a ∷ subs) env = a.expr env >>= λ t. give (Before (opening.Ink t) 1 c)
 
--- the last is `(with-room-for-graphics FORM ...)`; the body stands in what the form stands in
-abbrev pub parse_setting : Context → Setting → ℕ → List Sub → Names → Load (Own ShapeTree Opening Context)
-parse_setting c setting.Indent at subs env = parse_indent c at subs env
-parse_setting c setting.Ink at subs env = parse_ink c at subs env
-parse_setting c setting.Room at subs env = give (Before opening.Room 0 c)
+-- `(with-output-as-presentation (E SPECIFIER :single-box BOOL) FORM ...)`
+abbrev pub parse_presentation : Signatures → Context → ℕ → List Sub → Names → Load (Own ShapeTree Opening Context)
+parse_presentation w c at [] env = refuse 6 at
+parse_presentation w c at (a ∷ subs) env = parse_presented w at (parts_of a.shape) env >>= λ p. give (Before (opening.Presentation p) 1 c)
+
+-- the third is `(with-room-for-graphics FORM ...)`; the body stands in what the form stands in
+abbrev pub parse_setting : Signatures → Context → Setting → ℕ → List Sub → Names → Load (Own ShapeTree Opening Context)
+parse_setting w c setting.Indent at subs env = parse_indent c at subs env
+parse_setting w c setting.Ink at subs env = parse_ink c at subs env
+parse_setting w c setting.Room at subs env = give (Before opening.Room 0 c)
+parse_setting w c setting.Presentation at subs env = parse_presentation w c at subs env
 
 -- ---- by the head
 
 -- a display form that is not built yet is refused as such; what heads no display form, as a word that is not known
-abbrev pub parse_own : Context → Head → ℕ → ℕ → List Sub → Names → Load (Own ShapeTree Opening Context)
-parse_own c (head.Figure f) head_at at subs env = parse_draw f at subs env >>= λ s. give (Whole s)
-parse_own c (head.Setting s) head_at at subs env = parse_setting c s at subs env
-parse_own c (head.Writing k) head_at at subs env = parse_writing k at subs env >>= λ s. give (Whole s)
-parse_own c (head.Planned planned.Display) head_at at subs env = refuse 0 head_at
-parse_own c other head_at at subs env = refuse 5 head_at
+abbrev pub parse_own : Signatures → Context → Head → ℕ → ℕ → List Sub → Names → Load (Own ShapeTree Opening Context)
+parse_own w c (head.Figure f) head_at at subs env = parse_draw f at subs env >>= λ s. give (Whole s)
+parse_own w c (head.Setting s) head_at at subs env = parse_setting w c s at subs env
+parse_own w c (head.Writing k) head_at at subs env = parse_writing w k at subs env >>= λ s. give (Whole s)
+parse_own w c (head.Planned planned.Display) head_at at subs env = refuse 0 head_at
+parse_own w c other head_at at subs env = refuse 5 head_at
 
 -- a form that sets something, with its body
 abbrev pub closed : Opening → List ShapeTree → ShapeTree
 closed (opening.Indent t) fs = shape.Indent t (shape_trees_of fs)
 closed (opening.Ink t) fs = shape.Ink t (shape_trees_of fs)
 closed opening.Room fs = shape.Room (shape_trees_of fs)
+closed (opening.Presentation p) fs = shape.AsPresentation p (shape_trees_of fs)
 
 -- the language of display forms
 abbrev pub display_forms : Language ShapeTree Opening Context
@@ -102,7 +111,7 @@ display_forms = record {
   bind = λ bs fs. shape.Let (bindings_of bs) (shape_trees_of fs);
   each = λ x t fs. shape.Dolist x t (shape_trees_of fs);
   sequence = λ fs. shape.Progn (shape_trees_of fs);
-  own = λ w. parse_own;
+  own = parse_own;
   call = parse_call;
   closed = closed;
 }

@@ -1,7 +1,8 @@
 pub mod Bodies
-pub mod DisplayForms
 pub mod Statements
 pub mod PlannedKeys
 pub mod TypeArguments
 pub mod Specifiers
 pub mod TypeViews
+pub mod Presentations
+pub mod DisplayForms

@@ -5,15 +5,16 @@ ghost use Rattle.cl_forms.specs.DatumView.{datum_of};
 ghost use Rattle.cl_expressions.specs.Load.{Gives, Notes, itself};
 ghost use Rattle.cl_expressions.specs.Scopes.{variables_of};
 ghost use Rattle.cl_expressions.specs.Expressions.{subs};
-ghost use Rattle.cl_bodies.specs.DisplayForms.{parse_shape, parse_shapes, parse_own, parse_setting, parse_indent, parse_ink, closed};
+ghost use Rattle.cl_bodies.specs.DisplayForms.{parse_shape, parse_shapes, parse_own, parse_setting, parse_indent, parse_ink, parse_presentation, closed};
 
 use crate::bodies::{parse_body, parse_form};
 use crate::languages::Language;
 use crate::own::Own;
 use crate::plain_forms::{parse_call, parse_draw, parse_writing};
+use crate::presentations::parse_presented;
 use cl_expressions::{Notes, Reader, parse_expression};
 use cl_forms::{Datum, LoadRefusal};
-use cl_syntax::{Binding, Expr, Shape, Shapes};
+use cl_syntax::{Binding, Expr, Presentation, Shape, Shapes};
 use cl_value::Text;
 use cl_words::{Head, Planned, Setting};
 use std::alloc::{AllocError, Global};
@@ -35,6 +36,8 @@ pub enum Opening {
     Ink(Expr),
     /// `(with-room-for-graphics`
     Room,
+    /// `(with-output-as-presentation (E SPECIFIER :single-box BOOL)`
+    Presentation(Presentation),
 }
 
 /// The display form that a datum is. Where a name in it is not declared, the first such is noted.
@@ -138,7 +141,7 @@ fn parse_own(
     notes: &mut Notes,
 ) -> Result<Own<Shape, Opening, Context>, LoadRefusal>
     ensures { Gives itself result notes.new
-        (parse_own context head head_at at
+        (parse_own reader.now.signatures.now context head head_at at
         (subs reader.now.signatures.now (datums_of (map datum_of parts.now)))
         (variables_of reader.now.scope.now) notes.old) }
 {
@@ -160,13 +163,14 @@ fn parse_setting(
     notes: &mut Notes,
 ) -> Result<Own<Shape, Opening, Context>, LoadRefusal>
     ensures { Gives itself result notes.new
-        (parse_setting context setting at (subs reader.now.signatures.now (datums_of (map datum_of parts.now)))
+        (parse_setting reader.now.signatures.now context setting at (subs reader.now.signatures.now (datums_of (map datum_of parts.now)))
         (variables_of reader.now.scope.now) notes.old) }
 {
     match setting {
         Setting::Indent => parse_indent(reader, context, at, parts, notes),
         Setting::Ink => parse_ink(reader, context, at, parts, notes),
         Setting::Room => Ok(Own::Before(Opening::Room, 0, context)),
+        Setting::Presentation => parse_presentation(reader, context, at, parts, notes),
     }
 }
 
@@ -208,6 +212,26 @@ fn parse_ink(
     Ok(Own::Before(Opening::Ink(number), 1, context))
 }
 
+/// `(with-output-as-presentation (E SPECIFIER :single-box BOOL) FORM ...)`
+fn parse_presentation(
+    reader: &Reader,
+    context: Context,
+    at: u32,
+    parts: &[Datum],
+    notes: &mut Notes,
+) -> Result<Own<Shape, Opening, Context>, LoadRefusal>
+    ensures { Gives itself result notes.new
+        (parse_presentation reader.now.signatures.now context at
+        (subs reader.now.signatures.now (datums_of (map datum_of parts.now)))
+        (variables_of reader.now.scope.now) notes.old) }
+{
+    let Some((presented, _)) = parts.split_first() else {
+        return Err(LoadRefusal::Refused(6, at));
+    };
+    let presentation = parse_presented(reader, at, presented.parts(), notes)?;
+    Ok(Own::Before(Opening::Presentation(presentation), 1, context))
+}
+
 fn closed(opening: Opening, body: Shapes) -> Shape
     ensures { result ≡ closed opening body }
 {
@@ -215,5 +239,6 @@ fn closed(opening: Opening, body: Shapes) -> Shape
         Opening::Indent(number) => Shape::indent(number, body),
         Opening::Ink(number) => Shape::ink(number, body),
         Opening::Room => Shape::room(body),
+        Opening::Presentation(presentation) => Shape::as_presentation(presentation, body),
     }
 }

@@ -7,6 +7,7 @@ mod languages;
 mod own;
 mod plain_forms;
 mod planned_keys;
+mod presentations;
 mod specifiers;
 mod statements;
 mod type_arguments;

@@ -8,6 +8,7 @@ ghost use Rattle.cl_expressions.specs.Scopes.{variables_of};
 ghost use Rattle.cl_expressions.specs.Expressions.{subs};
 ghost use Rattle.cl_bodies.specs.DisplayForms.{parse_writing, parse_draw, parse_write, parse_newline, parse_call};
 
+use crate::presentations::parse_present;
 use cl_expressions::{Notes, Reader, parse_each, parse_expression};
 use cl_forms::{Datum, LoadRefusal, fits};
 use cl_syntax::{Figure, Shape};
@@ -44,12 +45,13 @@ pub fn parse_writing(
     notes: &mut Notes,
 ) -> Result<Shape, LoadRefusal>
     ensures { Gives itself result notes.new
-        (parse_writing writing at (subs reader.now.signatures.now (datums_of (map datum_of parts.now)))
+        (parse_writing reader.now.signatures.now writing at (subs reader.now.signatures.now (datums_of (map datum_of parts.now)))
         (variables_of reader.now.scope.now) notes.old) }
 {
     match writing {
         Writing::WriteText => parse_write(reader, at, parts, notes),
         Writing::Newline => parse_newline(at, parts),
+        Writing::Present => parse_present(reader, at, parts, notes),
     }
 }
 

@@ -1,5 +1,5 @@
 -- The command line: what is pushed on it, and the command that it finishes to. Its elements are the bytes of characters.
-use Rattle.std.specs.Prelude.{◌≡◌, ℕ, ◌+◌, ◌<◌, ◌≤◌, Bool, true, false, ◌==◌, if◌then◌else◌, List, [], ◌∷◌, ◌++◌, length, drop, Option, Some, None}
+use Rattle.std.specs.Prelude.{◌≡◌, ℕ, ◌+◌, ◌-◌, ◌<◌, ◌≤◌, Bool, true, false, ◌==◌, if◌then◌else◌, List, [], ◌∷◌, ◌++◌, length, take, drop, Option, Some, None}
 use Rattle.cl_command.specs.declared.lines.Finished.{Finished}
 use Rattle.cl_command.specs.declared.lines.Finished.TheVariants.{Command, Unknown, Surplus}
 use Rattle.cl_command.specs.declared.lines.Pushed.{Pushed}
@@ -10,6 +10,10 @@ use Rattle.cl_command.specs.Naming.{longest, place_named}
 abbrev pub Pushes : List ℕ → List ℕ → List ℕ → Pushed → Type 0
 Pushes old new bytes pushed.Done = (new ≡ old ++ bytes) × (length old + length bytes ≤ 256)
 Pushes old new bytes pushed.Full = (new ≡ old) × (256 < length old + length bytes)
+
+-- the elements but the last; none of an empty line
+abbrev pub without_last : List ℕ → List ℕ
+without_last bytes = take (length bytes - 1) bytes
 
 abbrev pub without_spaces : List ℕ → List ℕ
 without_spaces [] = []

@@ -1,6 +1,6 @@
 //! The command line: the bytes that were typed, and what they finish to.
 ghost use Rattle.std.specs.Prelude.{◌≡◌, [], IfOk};
-ghost use Rattle.cl_command.specs.Line.{Pushes, finish_of, finish_words, without_spaces};
+ghost use Rattle.cl_command.specs.Line.{Pushes, finish_of, finish_words, without_last, without_spaces};
 ghost use Rattle.cl_command.specs.Naming.{line_names};
 
 use crate::naming::{longest, place_of_length};
@@ -67,6 +67,13 @@ impl Line {
             Ok(()) => Pushed::Done,
             Err(_) => unreachable!(),
         }
+    }
+
+    /// Removes the last element, where there is one; takes no memory.
+    pub fn rubout(&mut self)
+        ensures { self.new ≡ without_last self.old }
+    {
+        let _ = self.elements.pop();
     }
 
     /// Removes all elements; takes no memory.

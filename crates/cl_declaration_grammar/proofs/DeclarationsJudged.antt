@@ -33,8 +33,7 @@ use Rattle.cl_declaration_grammar.specs.UserTypes.{user_type_seen}
 use Rattle.cl_declaration_grammar.specs.Frames.{frame_seen}
 use Rattle.cl_declaration_grammar.specs.Texts.{text_seen}
 use Rattle.cl_declaration_grammar.proofs.Judging.{Judges, joined, then_given, ended, refused_first}
-use Rattle.cl_declaration_grammar.proofs.PartsJudged.{expression_part, method_name_judged, shapes_part, acts_part}
-use Rattle.cl_declaration_grammar.proofs.TypesJudged.{chosen, is_wrong, keys_judged}
+use Rattle.cl_declaration_grammar.proofs.PartsJudged.{expression_part, chosen, is_wrong, keys_judged, method_name_judged, shapes_part, acts_part}
 use Rattle.cl_declaration_grammar.proofs.FramesJudged.{frame_judged}
 use Rattle.cl_declaration_grammar.proofs.UserTypesJudged.{user_type_judged}
 

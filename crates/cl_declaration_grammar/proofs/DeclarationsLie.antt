@@ -20,8 +20,8 @@ use Rattle.cl_grammar.proofs.Bounds.{Within}
 use Rattle.cl_grammar.proofs.Lying.{LieList, list_lies, own_lies, datum_rises, datum_earlier}
 use Rattle.cl_text_grammar.specs.FormSights.{forms_seen}
 use Rattle.cl_text_grammar.proofs.FormsLie.{forms_lie}
+use Rattle.cl_text_grammar.proofs.TypesLie.{type_lies}
 use Rattle.cl_declaration_grammar.specs.Parts.{refused, display_name, expressions, shapes, acts, wrong, planned, planned_keys, planned_parts}
-use Rattle.cl_declaration_grammar.specs.Types.{type_seen}
 use Rattle.cl_declaration_grammar.specs.Frames.{slot_seen, slots_seen, pane_display_seen, pane_seen, panes_seen, section_seen, sections_seen}
 use Rattle.cl_declaration_grammar.specs.Frames.{keyed_frame_seen, frame_seen}
 use Rattle.cl_declaration_grammar.specs.Declarations.{Row, record_seen, host_type_seen, method_named_seen, method_seen, function_seen, display_seen, command_seen}
@@ -29,7 +29,6 @@ use Rattle.cl_declaration_grammar.specs.Declarations.{headed_seen, planned_seen,
 use Rattle.cl_declaration_grammar.specs.UserTypes.{user_type_seen}
 use Rattle.cl_declaration_grammar.specs.Texts.{text_seen}
 use Rattle.cl_declaration_grammar.proofs.PartsLie.{LieParts, parts_earlier, parts_joined, one_lies, when_lies, list_rises, planned_lie}
-use Rattle.cl_declaration_grammar.proofs.TypesLie.{type_lies}
 use Rattle.cl_declaration_grammar.proofs.UserTypesLie.{user_type_lies}
 use Rattle.cl_declaration_grammar.proofs.KeysLie.{LieKey, LieKeys, list_earlier, planned_keys_lie, sections_lie, pairs_lie}
 
@@ -53,8 +52,7 @@ module _ (w : Signatures) where
 
   slot_lies : (ds : List Datum) (from to : ℕ) → LieList from ds to → LieParts from (slot_seen w ds) to
   slot_lies (n ∷ t ∷ e ∷ []) from to h =
-      parts_joined (type_seen w [] t) (expressions (expression [] e ∷ []) ∷ []) from h.2.0 to
-      (type_lies w [] t from h.2.0 (datum_earlier t from h.0 h.2.0 (datum_rises n from h.0 h.1) h.2.1)) (to, h.2.2, omega arith)
+      (h.2.0, type_lies w [] t from h.2.0 (datum_earlier t from h.0 h.2.0 (datum_rises n from h.0 h.1) h.2.1), (to, h.2.2, omega arith))
   slot_lies [] from to h = h
   slot_lies (n ∷ []) from to h = list_rises (n ∷ []) from to h
   slot_lies (n ∷ t ∷ []) from to h = list_rises (n ∷ t ∷ []) from to h
@@ -107,6 +105,7 @@ module _ (w : Signatures) where
   section_lies key.Satisfies at ds from to h = omega (arith, h.0.0, h.0.1)
   section_lies key.Description at ds from to h = omega (arith, h.0.0, h.0.1)
   section_lies key.Separator at ds from to h = omega (arith, h.0.0, h.0.1)
+  section_lies key.SingleBox at ds from to h = omega (arith, h.0.0, h.0.1)
 
   pub frame_sections_lie : (ks : List Keyed) (from to : ℕ) → LieKeys from ks to → LieParts from (sections_seen w ks) to
   frame_sections_lie [] from to h = h

@@ -13,18 +13,17 @@ use Rattle.cl_declare.specs.Sections.{parse_sections, frame_of, parse_shaped, pa
 use Rattle.cl_declare.specs.declared.frames.FrameShape.{FrameShape}
 use Rattle.cl_grammar.specs.Sights.{expression}
 use Rattle.cl_grammar.proofs.Judging.{Any}
-use Rattle.cl_declaration_grammar.specs.Parts.{expressions, wrong}
-use Rattle.cl_declaration_grammar.specs.Types.{type_seen}
+use Rattle.cl_text_grammar.specs.Types.{type_seen}
+use Rattle.cl_declaration_grammar.specs.Parts.{specifier, expressions, wrong}
 use Rattle.cl_declaration_grammar.specs.Frames.{slot_seen, slots_seen, pane_display_seen, pane_seen, panes_seen, section_seen, sections_seen}
 use Rattle.cl_declaration_grammar.specs.Frames.{keyed_frame_seen, frame_seen}
 use Rattle.cl_declaration_grammar.proofs.Judging.{Judges, joined, then_given, ended, refused_first}
-use Rattle.cl_declaration_grammar.proofs.PartsJudged.{expression_part, display_name_judged}
-use Rattle.cl_declaration_grammar.proofs.TypesJudged.{is_wrong, type_judged}
+use Rattle.cl_declaration_grammar.proofs.PartsJudged.{expression_part, type_part, is_wrong, display_name_judged}
 
 module _ (w : Signatures) where
   slot_judged : (at : ℕ) (ds : List Datum) (slots : SlotTable) → Judges w (slot_seen w ds) Any (parse_slot w at ds slots)
   slot_judged at (n ∷ t ∷ e ∷ []) slots =
-      joined w (type_seen w [] t) (expressions (expression [] e ∷ []) ∷ []) (type_judged w [] t) λ s i. then_given w _ (expression_part w e [])
+      joined w (specifier (type_seen w [] t) ∷ []) (expressions (expression [] e ∷ []) ∷ []) (type_part w [] t) λ s i. then_given w _ (expression_part w e [])
   slot_judged at [] slots = ended w
   slot_judged at (n ∷ []) slots = ended w
   slot_judged at (n ∷ t ∷ []) slots = ended w
@@ -65,6 +64,7 @@ module _ (w : Signatures) where
   section_judged key.Satisfies at ds slots = ended w
   section_judged key.Description at ds slots = ended w
   section_judged key.Separator at ds slots = ended w
+  section_judged key.SingleBox at ds slots = ended w
 
   sections_judged : (ks : List Keyed) (slots : SlotTable) → Judges w (sections_seen w ks) Any (parse_sections w ks slots)
   sections_judged [] slots = ended w

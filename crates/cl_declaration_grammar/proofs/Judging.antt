@@ -5,9 +5,10 @@ use Rattle.cl_expressions.specs.Load.{Load, Notes, ◌>>=◌, give, refuse}
 use Rattle.cl_grammar.proofs.Bounds.{Within, blames_any_within, unnamed_any_within, any_one_number, before_within}
 use Rattle.cl_grammar.proofs.Judging.{Any, Verdict, Joins, both_judged, given_judged, neither, noted_none}
 use Rattle.cl_text_grammar.specs.FormSights.{shape_seen, act_seen}
+use Rattle.cl_text_grammar.proofs.TypePartsLie.{type_within, type_missing_within, type_number}
 use Rattle.cl_text_grammar.proofs.FormsLie.{shapes_lie, acts_lie}
 use Rattle.cl_text_grammar.proofs.FormBounds.{any_within, any_unnamed_within, any_number}
-use Rattle.cl_declaration_grammar.specs.Parts.{Part, refused, type_name, method_name, function_name, display_name, expressions, shapes, acts, SomeOf, PartBlames, PartUnnamed}
+use Rattle.cl_declaration_grammar.specs.Parts.{Part, refused, specifier, method_name, function_name, display_name, expressions, shapes, acts, SomeOf, PartBlames, PartUnnamed}
 use Rattle.cl_declaration_grammar.proofs.PartsLie.{LiePart, LieParts, LieApart, part_rises, parts_rise, parts_split}
 
 -- ---- one of some parts
@@ -45,7 +46,7 @@ module _ (w : Signatures) where
 
   part_blamed_within : (p : Part) (n o from to : ℕ) → LiePart from p to → PartBlames w n o p → Within from o to
   part_blamed_within (refused number at) n o from to h b = there from at to o h b.1
-  part_blamed_within (type_name x at) n o from to h b = absurd b
+  part_blamed_within (specifier ts) n o from to h b = type_within ts n o from to h b
   part_blamed_within (method_name x at) n o from to h b = absurd b
   part_blamed_within (function_name x at) n o from to h b = absurd b
   part_blamed_within (display_name x at) n o from to h b = absurd b
@@ -55,7 +56,7 @@ module _ (w : Signatures) where
 
   part_missing_within : (p : Part) (o from to : ℕ) → LiePart from p to → PartUnnamed w o p → Within from o to
   part_missing_within (refused number at) o from to h b = absurd b
-  part_missing_within (type_name x at) o from to h b = there from at to o h b.1
+  part_missing_within (specifier ts) o from to h b = type_missing_within w ts o from to h b
   part_missing_within (method_name x at) o from to h b = there from at to o h b.1
   part_missing_within (function_name x at) o from to h b = there from at to o h b.1
   part_missing_within (display_name x at) o from to h b = there from at to o h b.1
@@ -81,7 +82,7 @@ module _ (w : Signatures) where
 
   part_number : (p : Part) (n k o from to : ℕ) → LiePart from p to → PartBlames w n o p → PartBlames w k o p → n ≡ k
   part_number (refused number at) n k o from to h a b = omega (arith, a.0, b.0)
-  part_number (type_name x at) n k o from to h a b = absurd a
+  part_number (specifier ts) n k o from to h a b = type_number ts n k o from to h a b
   part_number (method_name x at) n k o from to h a b = absurd a
   part_number (function_name x at) n k o from to h a b = absurd a
   part_number (display_name x at) n k o from to h a b = absurd a

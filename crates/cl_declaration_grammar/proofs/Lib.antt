@@ -2,8 +2,6 @@ pub mod PartsLie
 pub mod KeysLie
 pub mod Judging
 pub mod PartsJudged
-pub mod TypesJudged
-pub mod TypesLie
 pub mod UserTypesLie
 pub mod DeclarationsLie
 pub mod UserTypesJudged

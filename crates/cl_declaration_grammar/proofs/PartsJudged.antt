@@ -1,27 +1,32 @@
 -- The readings of names, expressions and bodies answer to the part that they are.
-use Rattle.std.proofs.Common.{◌≡◌, ℕ, ◌⊎◌, inl, inr, Bool, true, false, List, [], ◌∷◌, refl, sym, ◌∙◌}
+use Rattle.std.proofs.Common.{◌≡◌, ℕ, ◌⊎◌, inl, inr, Bool, true, false, if◌then◌else◌, List, [], ◌∷◌, refl, sym, ◌∙◌}
 use Rattle.std.specs.Prelude.{Result, Option, Some, None, is_some}
 use Rattle.std.proofs.Math.Path.{subst}
 use Rattle.cl_forms.specs.Datum.{Datum, datums_of, in_order}
+use Rattle.cl_forms.specs.Keys.{Keyed}
 use Rattle.cl_forms.proofs.Data.{data_in_order}
 use Rattle.cl_words.specs.Signatures.{display_in, function_in, type_in}
 use Rattle.cl_words.specs.declared.signatures.Signatures.{Signatures}
-use Rattle.cl_expressions.specs.Load.{Load, Notes, Fault, noted}
+use Rattle.cl_expressions.specs.Load.{Load, Notes, Fault, refuse, noted}
 use Rattle.cl_expressions.specs.Scopes.{Names}
 use Rattle.cl_expressions.specs.Expressions.{parse_expression}
 use Rattle.cl_bodies.specs.DisplayForms.{parse_shapes}
-use Rattle.cl_bodies.specs.Specifiers.{takes_named}
+use Rattle.cl_bodies.specs.PlannedKeys.{no_keys}
+use Rattle.cl_bodies.specs.Specifiers.{parse_type}
 use Rattle.cl_bodies.specs.Statements.{parse_acts}
 use Rattle.cl_declare.specs.Methods.{may_have_methods}
 use Rattle.cl_grammar.specs.Sights.{expression}
 use Rattle.cl_grammar.proofs.Judging.{Any, Verdict, noted_none, noted_one, verdict_same}
 use Rattle.cl_grammar.proofs.Judged.{expression_judged}
+use Rattle.cl_text_grammar.specs.Types.{type_seen}
 use Rattle.cl_text_grammar.specs.FormSights.{forms_seen}
 use Rattle.cl_text_grammar.proofs.ActsJudged.{acts_judged}
 use Rattle.cl_text_grammar.proofs.ShapesJudged.{shapes_judged}
-use Rattle.cl_declaration_grammar.specs.Parts.{Part, type_name, method_name, function_name, display_name, expressions, shapes, acts, PartBlames, PartUnnamed}
+use Rattle.cl_text_grammar.proofs.TypesJudged.{type_judged}
+use Rattle.cl_declaration_grammar.specs.Parts.{Part, specifier, method_name, function_name, display_name, expressions, shapes, acts, wrong, planned_keys}
+use Rattle.cl_declaration_grammar.specs.Parts.{PartBlames, PartUnnamed}
 use Rattle.cl_declaration_grammar.proofs.PartsLie.{LiePart}
-use Rattle.cl_declaration_grammar.proofs.Judging.{Judges, Blamed, Missing}
+use Rattle.cl_declaration_grammar.proofs.Judging.{Judges, Blamed, Missing, ended, refused_first}
 
 -- one part, or nothing behind it
 only : {A : Type 0} → A ⊎ ⊥ → A
@@ -45,14 +50,26 @@ module _ (w : Signatures) where
       part_judged (expressions (expression env d ∷ [])) Any (parse_expression w d env) λ from to lie u.
       (expression_judged w d env).judged from to lie u
 
+  pub type_part : (ps : Names) (d : Datum) → Judges w (specifier (type_seen w ps d) ∷ []) Any (parse_type w ps d)
+  type_part ps d = part_judged (specifier (type_seen w ps d)) Any (parse_type w ps d) λ from to lie u. (type_judged w ps d).judged from to lie u
+
+  -- ---- wrong forms
+
+  pub chosen : {A : Type 0} (b : Bool) {ps qs : List Part} {m n : Load A} → Judges w ps Any m → Judges w qs Any n
+      → Judges w (if b then ps else qs) Any (if b then m else n)
+  chosen true h k = h
+  chosen false h k = k
+
+  -- a wrong form
+  pub is_wrong : {A : Type 0} (at : ℕ) → Judges w {A = A} (wrong at) Any (refuse 6 at)
+  is_wrong at = refused_first w 6 at []
+
+  -- keys that are not built yet
+  pub keys_judged : (ks : List Keyed) → Judges w (planned_keys ks) Any (no_keys ks)
+  keys_judged [] = ended w
+  keys_judged (k ∷ ks) = refused_first w 0 k.at (planned_keys ks)
+
   -- ---- names
-
-  unnamed_type : (x : List ℕ) (at : ℕ) → takes_named w x ≡ None → (u : Notes)
-      → Verdict {A = Unit {0}} (λ n o. PartBlames w n o (type_name x at)) (λ o. PartUnnamed w o (type_name x at)) Any u (noted false at u)
-  unnamed_type x at e u = (tt, λ n o b. b, noted_one (λ o. PartUnnamed w o (type_name x at)) u.unknown at (e, refl) (λ o b. b.1))
-
-  pub type_name_judged : (x : List ℕ) (at : ℕ) → takes_named w x ≡ None → Judges w (type_name x at ∷ []) Any (noted false at)
-  type_name_judged x at e = part_judged (type_name x at) Any (noted false at) λ from to lie u. unnamed_type x at e u
 
   none_some : {A : Type 0} {x : A} → ◌≡◌ {A = Option A} (Some x) None → ⊥
   none_some e = cc

@@ -3,13 +3,14 @@ use Rattle.std.proofs.Common.{ℕ, ◌≤◌, Bool, true, false, if◌then◌els
 use Rattle.cl_forms.specs.Datum.{Datum, offset}
 use Rattle.cl_grammar.proofs.Bounds.{Within}
 use Rattle.cl_grammar.proofs.Lying.{LieSeen, LieList, own_lies, seen_rises, seen_earlier}
+use Rattle.cl_text_grammar.proofs.TypePartsLie.{LieType, type_rises, type_earlier}
 use Rattle.cl_text_grammar.proofs.FormsLie.{LieForms, forms_rise, forms_earlier}
-use Rattle.cl_declaration_grammar.specs.Parts.{Part, refused, type_name, method_name, function_name, display_name, expressions, shapes, acts, planned_parts}
+use Rattle.cl_declaration_grammar.specs.Parts.{Part, refused, specifier, method_name, function_name, display_name, expressions, shapes, acts, planned_parts}
 
 -- the part stands from one place up to another
 abbrev pub LiePart : ℕ → Part → ℕ → Type 0
 LiePart from (refused n at) to = Within from at to
-LiePart from (type_name x at) to = Within from at to
+LiePart from (specifier ts) to = LieType from ts to
 LiePart from (method_name x at) to = Within from at to
 LiePart from (function_name x at) to = Within from at to
 LiePart from (display_name x at) to = Within from at to
@@ -24,7 +25,7 @@ LieParts from (p ∷ ps) to = (next : ℕ) × LiePart from p next × LieParts ne
 
 pub part_rises : (p : Part) (from to : ℕ) → LiePart from p to → from ≤ to
 part_rises (refused n at) from to h = omega (arith, h.0, h.1)
-part_rises (type_name x at) from to h = omega (arith, h.0, h.1)
+part_rises (specifier ts) from to h = type_rises ts from to h
 part_rises (method_name x at) from to h = omega (arith, h.0, h.1)
 part_rises (function_name x at) from to h = omega (arith, h.0, h.1)
 part_rises (display_name x at) from to h = omega (arith, h.0, h.1)
@@ -38,7 +39,7 @@ parts_rise (p ∷ ps) from to h = omega (arith, part_rises p from h.0 h.1, parts
 
 part_earlier : (p : Part) (before from to : ℕ) → before ≤ from → LiePart from p to → LiePart before p to
 part_earlier (refused n at) before from to e h = (omega (arith, e, h.0), h.1)
-part_earlier (type_name x at) before from to e h = (omega (arith, e, h.0), h.1)
+part_earlier (specifier ts) before from to e h = type_earlier ts before from to e h
 part_earlier (method_name x at) before from to e h = (omega (arith, e, h.0), h.1)
 part_earlier (function_name x at) before from to e h = (omega (arith, e, h.0), h.1)
 part_earlier (display_name x at) before from to e h = (omega (arith, e, h.0), h.1)

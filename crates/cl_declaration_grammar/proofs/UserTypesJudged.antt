@@ -18,8 +18,7 @@ use Rattle.cl_declaration_grammar.specs.Parts.{wrong}
 use Rattle.cl_declaration_grammar.specs.UserTypes.{inherited_seen, keyed_type_seen, predicate_name_seen, predicate_seen, type_key_seen, type_keys_seen}
 use Rattle.cl_declaration_grammar.specs.UserTypes.{user_type_seen}
 use Rattle.cl_declaration_grammar.proofs.Judging.{Judges, joined, then_given, ended}
-use Rattle.cl_declaration_grammar.proofs.PartsJudged.{function_name_judged}
-use Rattle.cl_declaration_grammar.proofs.TypesJudged.{is_wrong, type_judged}
+use Rattle.cl_declaration_grammar.proofs.PartsJudged.{type_part, is_wrong, function_name_judged}
 
 module _ (w : Signatures) where
   predicate_name_judged : (at : ℕ) (o : Option (List ℕ)) → Judges w (predicate_name_seen at o) Any (note_function w at o)
@@ -33,7 +32,7 @@ module _ (w : Signatures) where
   module _ (ps : Names) where
     inherited_judged : (ds : List Datum) (i : Inherited) → Judges w (inherited_seen w ps ds) Any (parse_inherited w ps ds i)
     inherited_judged [] i = ended w
-    inherited_judged (d ∷ ds) i = then_given w (λ t. Some t) (type_judged w ps d)
+    inherited_judged (d ∷ ds) i = then_given w (λ t. Some t) (type_part w ps d)
 
     type_key_judged : (k : Key) (at : ℕ) (ds : List Datum) (i : Inherited)
         → Judges w (type_key_seen w ps (record { key = k; at = at; values = ds })) Any (parse_type_key w ps (record { key = k; at = at; values = ds }) i)
@@ -47,6 +46,7 @@ module _ (w : Signatures) where
     type_key_judged key.Keystroke at ds i = ended w
     type_key_judged key.Description at ds i = ended w
     type_key_judged key.Separator at ds i = ended w
+    type_key_judged key.SingleBox at ds i = ended w
 
     type_keys_judged : (ks : List Keyed) (i : Inherited) → Judges w (type_keys_seen w ps ks) Any (parse_type_keys w ps ks i)
     type_keys_judged [] i = ended w

@@ -13,12 +13,11 @@ use Rattle.cl_declare.specs.Names.{names_of}
 use Rattle.cl_declare.specs.TypeShapes.{type_keys, type_shape}
 use Rattle.cl_grammar.proofs.Bounds.{Within}
 use Rattle.cl_grammar.proofs.Lying.{LieList, own_lies, datum_rises}
+use Rattle.cl_text_grammar.proofs.TypesLie.{type_lies}
 use Rattle.cl_declaration_grammar.specs.Parts.{refused, function_name, wrong}
-use Rattle.cl_declaration_grammar.specs.Types.{type_seen}
 use Rattle.cl_declaration_grammar.specs.UserTypes.{inherited_seen, keyed_type_seen, predicate_name_seen, predicate_seen, type_key_seen, type_keys_seen}
 use Rattle.cl_declaration_grammar.specs.UserTypes.{user_type_seen}
-use Rattle.cl_declaration_grammar.proofs.PartsLie.{LieParts, parts_earlier, parts_later, parts_joined, one_lies, when_lies, list_rises}
-use Rattle.cl_declaration_grammar.proofs.TypesLie.{type_lies}
+use Rattle.cl_declaration_grammar.proofs.PartsLie.{LieParts, parts_earlier, parts_joined, one_lies, when_lies, list_rises}
 use Rattle.cl_declaration_grammar.proofs.KeysLie.{LieKey, LieKeys, pairs_lie}
 
 predicate_name_lies : (at : ℕ) (o : Option (List ℕ)) (from to : ℕ) → Within from at to → LieParts from (predicate_name_seen at o) to
@@ -35,7 +34,7 @@ module _ (w : Signatures) where
   module _ (ps : Names) where
     inherited_lies : (ds : List Datum) (from to : ℕ) → LieList from ds to → LieParts from (inherited_seen w ps ds) to
     inherited_lies [] from to h = h
-    inherited_lies (d ∷ ds) from to h = parts_later (type_seen w ps d) from h.0 to (list_rises ds h.0 to h.2) (type_lies w ps d from h.0 h.1)
+    inherited_lies (d ∷ ds) from to h = (h.0, type_lies w ps d from h.0 h.1, list_rises ds h.0 to h.2)
 
     type_key_lies : (k : Key) (at : ℕ) (ds : List Datum) (from to : ℕ) → LieKey from (record { key = k; at = at; values = ds }) to
         → LieParts from (type_key_seen w ps (record { key = k; at = at; values = ds })) to
@@ -50,6 +49,7 @@ module _ (w : Signatures) where
     type_key_lies key.Keystroke at ds from to h = omega (arith, h.0.0, h.0.1)
     type_key_lies key.Description at ds from to h = omega (arith, h.0.0, h.0.1)
     type_key_lies key.Separator at ds from to h = omega (arith, h.0.0, h.0.1)
+    type_key_lies key.SingleBox at ds from to h = omega (arith, h.0.0, h.0.1)
 
     type_keys_lie : (ks : List Keyed) (from to : ℕ) → LieKeys from ks to → LieParts from (type_keys_seen w ps ks) to
     type_keys_lie [] from to h = h

@@ -7,12 +7,12 @@ use Rattle.cl_forms.specs.declared.keys.Key.TheVariants as key
 use Rattle.cl_words.specs.declared.signatures.Signatures.{Signatures}
 use Rattle.cl_declare.specs.Frames.{frame_keys, frame_shape}
 use Rattle.cl_grammar.specs.Sights.{expression}
-use Rattle.cl_declaration_grammar.specs.Parts.{Part, display_name, expressions, wrong, planned}
-use Rattle.cl_declaration_grammar.specs.Types.{type_seen}
+use Rattle.cl_text_grammar.specs.Types.{type_seen}
+use Rattle.cl_declaration_grammar.specs.Parts.{Part, specifier, display_name, expressions, wrong, planned}
 
 -- `NAME TYPE E`: an opening value sees no variable
 abbrev pub slot_seen : Signatures → List Datum → List Part
-slot_seen w (n ∷ t ∷ e ∷ []) = type_seen w [] t ++ expressions (expression [] e ∷ []) ∷ []
+slot_seen w (n ∷ t ∷ e ∷ []) = specifier (type_seen w [] t) ∷ expressions (expression [] e ∷ []) ∷ []
 slot_seen w parts = []
 
 abbrev pub slots_seen : Signatures → List Datum → List Part
@@ -46,6 +46,7 @@ section_seen w k = elim k.key [
   | key.Satisfies ↦ []
   | key.Description ↦ []
   | key.Separator ↦ []
+  | key.SingleBox ↦ []
 ]
 
 abbrev pub sections_seen : Signatures → List Keyed → List Part

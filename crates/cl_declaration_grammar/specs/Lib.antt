@@ -1,5 +1,4 @@
 pub mod Parts
-pub mod Types
 pub mod Frames
 pub mod UserTypes
 pub mod Declarations

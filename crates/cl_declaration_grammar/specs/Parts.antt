@@ -4,11 +4,11 @@ use Rattle.cl_forms.specs.Datum.{Datum, offset}
 use Rattle.cl_forms.specs.Keys.{Keyed}
 use Rattle.cl_words.specs.Signatures.{display_in, function_in, type_in}
 use Rattle.cl_words.specs.declared.signatures.Signatures.{Signatures}
-use Rattle.cl_bodies.specs.Specifiers.{takes_named}
 use Rattle.cl_declare.specs.Methods.{may_have_methods}
 use Rattle.cl_grammar.specs.Sights.{Seen}
 use Rattle.cl_grammar.specs.Blames.{BlamesAny}
 use Rattle.cl_grammar.specs.Unnamed.{UnnamedAny}
+use Rattle.cl_text_grammar.specs.Types.{TypePart, TypeBlames, TypeUnnamed}
 use Rattle.cl_text_grammar.specs.FormSights.{FormSeen, shape_seen, act_seen}
 use Rattle.cl_text_grammar.specs.FormBlames.{FormBlamesAny}
 use Rattle.cl_text_grammar.specs.FormUnnamed.{FormUnnamedAny}
@@ -17,8 +17,8 @@ use Rattle.cl_text_grammar.specs.FormUnnamed.{FormUnnamedAny}
 pub data Part : Type 0 where
   -- a form that is refused by itself, with the number of the refusal and its offset
   refused : ℕ → ℕ → Part
-  -- the name of a type, with its offset
-  type_name : List ℕ → ℕ → Part
+  -- what is looked at of a type
+  specifier : List TypePart → Part
   -- the name of a type that a method is for, with its offset
   method_name : List ℕ → ℕ → Part
   -- the name of a function, with its offset
@@ -40,7 +40,7 @@ SomeOf P (p ∷ ps) = P p ⊎ SomeOf P ps
 -- the part, or a form in it, is blamed with this number at this offset
 abbrev pub PartBlames : Signatures → ℕ → ℕ → Part → Type 0
 PartBlames w n o (refused number at) = (n ≡ number) × (o ≡ at)
-PartBlames w n o (type_name x at) = ⊥
+PartBlames w n o (specifier ts) = TypeBlames ts n o
 PartBlames w n o (method_name x at) = ⊥
 PartBlames w n o (function_name x at) = ⊥
 PartBlames w n o (display_name x at) = ⊥
@@ -51,7 +51,7 @@ PartBlames w n o (acts fs) = FormBlamesAny act_seen w fs n o
 -- the part is a name at this offset that is not declared, or has one
 abbrev pub PartUnnamed : Signatures → ℕ → Part → Type 0
 PartUnnamed w o (refused number at) = ⊥
-PartUnnamed w o (type_name x at) = (takes_named w x ≡ None) × (o ≡ at)
+PartUnnamed w o (specifier ts) = TypeUnnamed w ts o
 PartUnnamed w o (method_name x at) = (may_have_methods (type_in w x) ≡ false) × (o ≡ at)
 PartUnnamed w o (function_name x at) = (function_in w x ≡ None) × (o ≡ at)
 PartUnnamed w o (display_name x at) = (display_in w x ≡ None) × (o ≡ at)

@@ -8,13 +8,13 @@ use Rattle.cl_words.specs.declared.signatures.Signatures.{Signatures}
 use Rattle.cl_expressions.specs.Scopes.{Names}
 use Rattle.cl_declare.specs.Names.{names_of}
 use Rattle.cl_declare.specs.TypeShapes.{type_keys, type_shape}
-use Rattle.cl_declaration_grammar.specs.Parts.{Part, function_name, wrong}
-use Rattle.cl_declaration_grammar.specs.Types.{type_seen}
+use Rattle.cl_text_grammar.specs.Types.{type_seen}
+use Rattle.cl_declaration_grammar.specs.Parts.{Part, specifier, function_name, wrong}
 
 -- the type that it inherits from, in which its parameters stand
 abbrev pub inherited_seen : Signatures → Names → List Datum → List Part
 inherited_seen w ps [] = []
-inherited_seen w ps (d ∷ ds) = type_seen w ps d
+inherited_seen w ps (d ∷ ds) = specifier (type_seen w ps d) ∷ []
 
 abbrev pub predicate_name_seen : ℕ → Option (List ℕ) → List Part
 predicate_name_seen at None = []
@@ -38,6 +38,7 @@ type_key_seen w ps k = elim k.key [
   | key.Keystroke ↦ []
   | key.Description ↦ []
   | key.Separator ↦ []
+  | key.SingleBox ↦ []
 ]
 
 abbrev pub type_keys_seen : Signatures → Names → List Keyed → List Part

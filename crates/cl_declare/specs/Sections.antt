@@ -54,6 +54,7 @@ parse_section w k slots = elim k.key [
   | key.Satisfies ↦ give slots
   | key.Description ↦ give slots
   | key.Separator ↦ give slots
+  | key.SingleBox ↦ give slots
 ]
 
 abbrev pub parse_sections : Signatures → List Keyed → SlotTable → Load SlotTable

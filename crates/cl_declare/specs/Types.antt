@@ -47,6 +47,7 @@ parse_type_key w ps k i = elim k.key [
   | key.Keystroke ↦ give i
   | key.Description ↦ give i
   | key.Separator ↦ give i
+  | key.SingleBox ↦ give i
 ]
 
 abbrev pub parse_type_keys : Signatures → Names → List Keyed → Inherited → Load Inherited

@@ -86,6 +86,7 @@ fn parse_section(
         Key::Satisfies => Ok(()),
         Key::Description => Ok(()),
         Key::Separator => Ok(()),
+        Key::SingleBox => Ok(()),
     }
 }
 

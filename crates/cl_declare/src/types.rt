@@ -106,6 +106,7 @@ fn parse_type_key(
         Key::Keystroke => Ok(()),
         Key::Description => Ok(()),
         Key::Separator => Ok(()),
+        Key::SingleBox => Ok(()),
     }
 }
 

@@ -1,10 +1,14 @@
 -- Parts with one more item, and parts behind one another.
-use Rattle.std.proofs.Common.{◌≡◌, ℕ, ◌≤◌, ◌+◌, true, nat_le, List, [], ◌∷◌, ◌++◌, Ok, refl, ap, sym, ◌∙◌, append_assoc, arith}
+use Rattle.std.proofs.Common.{◌≡◌, ℕ, ◌≤◌, ◌+◌, true, nat_le, List, [], ◌∷◌, ◌++◌, Ok, refl, ap, sym, ◌∙◌, append_assoc, append-nil, arith}
 use Rattle.std.proofs.lemmas.Bool.Decides.{nat_tests}
 use Rattle.cl_region.specs.declared.rects.Shift.{Shift}
 use Rattle.cl_medium.specs.Items.{move_item, Item}
-use Rattle.cl_record.specs.Marks.{Mark, history_marks, marks_of}
-use Rattle.cl_record.specs.Trees.{Tree}
+use Rattle.cl_medium.specs.ItemLaws.{item_stays}
+use Rattle.cl_record.specs.Labels.{LabelAt}
+use Rattle.cl_record.specs.Marks.{Mark, close, history_marks, marks_of, move_marks, open_presentation}
+use Rattle.cl_record.specs.Shifts.{still}
+use Rattle.cl_record.specs.Trees.{Tree, presentation, trees_of}
+use Rattle.cl_record.proofs.Moves.{all-still}
 use Rattle.cl_display.specs.Drawings.{DrawingAt, add_item, with_item}
 
 module _ {A : Type 0} (move : Shift → A → A) where
@@ -25,3 +29,10 @@ add_item-light most l weight whole s e h =
 pub marks_behind : (ts us : List (Tree Item)) → history_marks move_item (ts ++ us) ≡ history_marks move_item ts ++ history_marks
     move_item us
 marks_behind = marks-append move_item
+
+-- the marks of one record that presents others and stands where they are
+pub marks-presented : (label : LabelAt) (ts : List (Tree Item))
+    → history_marks move_item (presentation label still (trees_of ts) ∷ []) ≡ open_presentation label ∷ (history_marks move_item ts ++ close ∷ [])
+marks-presented label ts =
+    let marks = open_presentation label ∷ (history_marks move_item ts ++ close ∷ []) in
+    append-nil (move_marks move_item still marks) ∙ all-still move_item item_stays marks

@@ -1,10 +1,14 @@
 pub mod ItemLemmas
 pub mod FormLemmas
+pub mod PresentationLemmas
 pub mod CornerLemmas
 pub mod EndLemmas
 pub mod PartLemmas
 pub mod SumLemmas
+pub mod FormSums
 pub mod DisplayLemmas
+pub mod WeightLemmas
+pub mod TextLimits
 pub mod LimitLemmas
 pub mod FigureLemmas
 pub mod UseLemmas

@@ -3,7 +3,7 @@ use Rattle.std.proofs.Common.{◌≡◌, ap, ℕ, zero, suc, ◌+◌, ◌≤◌,
 use Rattle.std.proofs.Common.{Option, Some, None, Result, Ok, Err, arith, refl}
 use Rattle.std.proofs.lemmas.Bool.Decides.{nat_tests}
 use Rattle.std.specs.Prelude.{pos, int_le, int_lt, ◌||◌}
-use Rattle.cl_value.specs.Data.{Data, text}
+use Rattle.cl_value.specs.Data.{Data}
 use Rattle.cl_syntax.specs.ShapeTree as shape
 use Rattle.cl_syntax.specs.ShapeTree.{ShapeTree, ShapeTrees, none, form, shape_trees_of}
 use Rattle.cl_application.specs.App.{display_named}
@@ -23,93 +23,17 @@ use Rattle.cl_display.specs.Figures.{area_at, draw_figure, draw_parts, figure_pa
 use Rattle.cl_display.specs.declared.figures.FigureParts.{FigureParts}
 use Rattle.cl_display.specs.Settings.{enter_room, indent, leave_room, restore_ink, restore_margin, set_ink}
 use Rattle.cl_display.specs.Outcomes.{Draw, opens_none, run_of, ◌>->◌, ◌>>=◌}
-use Rattle.cl_display.specs.Fresh.{Allowance, Draws, call_display, draws, draws_to, for_each, in_order, shape_parts, within, write_value}
+use Rattle.cl_display.specs.Fresh.{Allowance, Draws, call_display, draws, draws_to, for_each, in_order, shape_parts, within}
 use Rattle.cl_display.specs.Script.{fresh, whole_allowance}
 use Rattle.cl_display.proofs.SumLemmas.{AddsTo, adds-draw_parts, adds-indent, adds-newline, adds-set_ink, adds-write_value}
 use Rattle.cl_display.proofs.DisplayLemmas.{adds_up}
-
--- ---- answers
-
--- an answer that gives a drawing gives it, too, where all may weigh so much as it does
-abbrev Keeps : ℕ → Result DrawingAt ℕ → Result DrawingAt ℕ → Type 0
-Keeps most r r' = (t : DrawingAt) → r ≡ Ok t → t.weight ≤ most → r' ≡ Ok t
-
--- the weight of an answer
-abbrev weight_in : Result DrawingAt ℕ → ℕ
-weight_in (Ok t) = t.weight
-weight_in (Err k) = 0
-
-no_drawing : (k : ℕ) (t : DrawingAt) → Err k ≡ Ok t → ⊥
-no_drawing k t p = cc
-
--- an answer that does not weigh less than what was there
-abbrev Rises : DrawingAt → Result DrawingAt ℕ → Type 0
-Rises s (Ok t) = s.weight ≤ t.weight
-Rises s (Err k) = Unit {0}
-
--- what adds items does not lose weight
-rises-adds : (w : ℕ) (s : DrawingAt) (r : Result DrawingAt ℕ) → AddsTo w s r → Rises s r
-rises-adds w s (Ok t) a = omega (arith, a.weight)
-rises-adds w s (Err k) a = tt
-
-module _ (most : ℕ) where
-  keeps-item : (b : Bool) (k weight : ℕ) (u s : DrawingAt) → u.weight ≡ s.weight + weight
-      → Keeps most (if b then Ok u else Err k) (if nat_le (s.weight + weight) most then Ok u else Err k)
-  keeps-item true k weight u s e t p h =
-      let same : u.weight ≡ t.weight = ap weight_in p in
-      let fits : nat_le (s.weight + weight) most ≡ true = grind (arith, nat_tests, e, h, same) in
-      rw fits p
-  keeps-item false k weight u s e t p h = absurd (no_drawing k t p)
-
-  keeps-add_item : (w : ℕ) (leaf : Item) (weight : ℕ) (s : DrawingAt)
-      → Keeps most (add_item w leaf weight s) (add_item most leaf weight s)
-  keeps-add_item w leaf weight s =
-      keeps-item (nat_le (s.weight + weight) w) 10 weight (record s { weight = s.weight + weight; part = with_item leaf s.part }) s refl
-
-  keeps-then_to : (a : AmbientAt) (r r' : Result DrawingAt ℕ) → Keeps most r r' → Keeps most (then_to a r) (then_to a r')
-  keeps-then_to a (Ok u) r' g t p h =
-      let same : u.weight ≡ t.weight = ap weight_in p in
-      let goes : r' ≡ Ok u = g u refl (omega (arith, h, same)) in
-      rw goes p
-  keeps-then_to a (Err k) r' g t p h = absurd (no_drawing k t p)
-
-  keeps-origin : (r r' : Result DrawingAt ℕ) → Keeps most r r' → Keeps most (with_origin_used r) (with_origin_used r')
-  keeps-origin (Ok u) r' g t p h =
-      let same : u.weight ≡ t.weight = ap weight_in p in
-      let goes : r' ≡ Ok u = g u refl (omega (arith, h, same)) in
-      rw goes p
-  keeps-origin (Err k) r' g t p h = absurd (no_drawing k t p)
-
-  keeps-choice : (b : Bool) (q q' r r' : Result DrawingAt ℕ) → Keeps most q q' → Keeps most r r'
-      → Keeps most (if b then q else r) (if b then q' else r')
-  keeps-choice true q q' r r' g h = g
-  keeps-choice false q q' r r' g h = h
-
-  keeps-same : (r : Result DrawingAt ℕ) → Keeps most r r
-  keeps-same r t p h = p
-
-  keeps-write_value : (w : ℕ) (s : DrawingAt) (d : Data) → Keeps most (write_value w s d) (write_value most s d)
-  keeps-write_value w s (text []) = keeps-same (Ok s)
-  keeps-write_value w s (text (b ∷ bs)) =
-      let leaf = text_leaf s.ambient (b ∷ bs) in
-      let weight = length (b ∷ bs) + 1 in
-      let after = after_text s.ambient (b ∷ bs) in
-      keeps-choice (is_in_range (item_bounds leaf)) (then_to after (add_item w leaf weight s)) (then_to after (add_item most leaf weight s))
-      (Err 9) (Err 9)
-      (keeps-then_to after (add_item w leaf weight s) (add_item most leaf weight s) (keeps-add_item w leaf weight s)) (keeps-same (Err 9))
-  keeps-write_value w s d = keeps-same (Err 1)
-
-  keeps-draw_parts : (w : ℕ) (parts : Option FigureParts) (s : DrawingAt) → Keeps most (draw_parts w parts s) (draw_parts most parts s)
-  keeps-draw_parts w None s = keeps-same (Err 1)
-  keeps-draw_parts w (Some p) s =
-      let area = area_at s.ambient p in
-      let leaf = leaf_in area p.item in
-      let first = with_origin_used (add_item w leaf 1 s) in
-      let second = with_origin_used (add_item most leaf 1 s) in
-      let drawn = keeps-origin (add_item w leaf 1 s) (add_item most leaf 1 s) (keeps-add_item w leaf 1 s) in
-      let placed = keeps-choice (is_in_range (bounds_of area)) first second (Err 9) (Err 9) drawn (keeps-same (Err 9)) in
-      keeps-choice (int_lt area.width (pos 0) || int_lt area.height (pos 0)) (Err 9) (Err 9) _ _ (keeps-same (Err 9))
-      (keeps-choice (int_le area.width (pos 0) || int_le area.height (pos 0)) (Ok s) (Ok s) _ _ (keeps-same (Ok s)) placed)
+use Rattle.cl_eval.specs.TypeMeanings.{AreTexts}
+use Rattle.cl_display.proofs.TextLimits.{TextsGo, goes-texts}
+use Rattle.cl_display.specs.Fresh.{Scene, for_members, presents_body, presents_text}
+use Rattle.cl_display.specs.Presentations.{Texts, enter_presentation, label_of, leave_presentation, present_text, texts_on, write_value}
+use Rattle.cl_display.proofs.FormSums.{adds-present_text}
+use Rattle.cl_display.proofs.WeightLemmas.{Keeps, Rises, any, keeps-draw_parts, keeps-entered, keeps-present_text, keeps-same, keeps-write_value}
+use Rattle.cl_display.proofs.WeightLemmas.{rises-adds, rises-entered}
 
 -- ---- draws
 
@@ -256,6 +180,23 @@ module _ (budget depth most : ℕ) where
         (widens-draws_to g env body leave e inner)
     widens-within g env body s (Err k) leave h e = widens-trap s k
 
+    -- the same where what is set weighs more or less
+    widens-entered : AllWiden budget depth most level go go' → (env : Env) (body : ShapeTrees) (s : DrawingAt) (r r' : Result DrawingAt ℕ)
+        (leave : DrawingAt → DrawingAt)
+        → Rises s r → Keeps most r r' → ((t : DrawingAt) → (leave t).weight ≡ t.weight)
+        → Widens budget depth most s (within go level env body r leave) (within go' level env body r' leave)
+    widens-entered g env body s (Ok u) r' leave h k e c d t n l p =
+        let inner = widens-draws_to g env body leave e u c d t n l p in
+        record {
+          cost = inner.cost;
+          deepest = inner.deepest;
+          weight = omega (arith, h, inner.weight);
+          same = λ cheap shallow light.
+              let goes : r' ≡ Ok u = k u refl (omega (arith, light, inner.weight)) in
+              rw goes (inner.same cheap shallow light);
+        }
+    widens-entered g env body s (Err i) r' leave h k e c d t n l p = absurd (no_value i c d t n l p)
+
     widens-call_display : AllWiden budget depth most level go go' → (f : Option DisplayDecl) (s : DrawingAt) (ds : List Data)
         → Widens budget depth most s (call_display go level f ds s) (call_display go' level f ds s)
     widens-call_display g None s ds = widens-trap s 1
@@ -266,47 +207,69 @@ module _ (budget depth most : ℕ) where
 
     -- ---- the rows
 
-    widens-shape_parts : (app : App) (allowed allowed' : Allowance) → allowed'.weight ≡ most → GoGoes budget depth level value value'
-        → AllWiden budget depth most level go go'
+    widens-shape_parts : (scene : Scene) (allowed allowed' : Allowance) → allowed'.weight ≡ most → GoGoes budget depth level value value'
+        → (text text' : Texts) → TextsGo budget depth level text text' → AllWiden budget depth most level go go'
         → (env : Env) (f : ShapeTree) (s : DrawingAt)
-        → Widens budget depth most s (shape_parts app allowed value go level env f s) (shape_parts app allowed' value' go' level env f s)
-    widens-shape_parts app allowed allowed' w v g env (shape.WriteText t) s =
+        → Widens budget depth most s (shape_parts scene allowed value text go level env f s) (shape_parts scene allowed' value' text' go' level env f s)
+    widens-shape_parts scene allowed allowed' w v text text' h g env (shape.WriteText t) s =
         widens-value s (value level env t) (value' level env t) (λ d. opens_none (lift (write_value allowed.weight s d)))
         (λ d. opens_none (lift (write_value allowed'.weight s d))) (v env t)
         (λ d. rw w (widens-lift s (write_value allowed.weight s d) (write_value most s d)
         (rises-adds allowed.weight s (write_value allowed.weight s d)
-        (adds-write_value allowed.weight s d)) (keeps-write_value most allowed.weight s d)))
-    widens-shape_parts app allowed allowed' w v g env shape.Newline s =
-        widens-lift s (newline s) (newline s) (rises-adds 0 s (newline s) (adds-newline 0 s)) (keeps-same most (newline s))
-    widens-shape_parts app allowed allowed' w v g env (shape.Draw figure ts) s =
+        (adds-write_value allowed.weight any s d)) (keeps-write_value most allowed.weight s d)))
+    widens-shape_parts scene allowed allowed' w v text text' h g env shape.Newline s =
+        widens-lift s (newline s) (newline s) (rises-adds 0 s (newline s) (adds-newline 0 any s)) (keeps-same most (newline s))
+    widens-shape_parts scene allowed allowed' w v text text' h g env (shape.Draw figure ts) s =
         widens-value s (each value level env ts []) (each value' level env ts [])
         (λ ds. opens_none (lift (draw_figure allowed.weight figure ds s)))
         (λ ds. opens_none (lift (draw_figure allowed'.weight figure ds s))) (goes-each budget depth value value' level v env ts [])
         (λ ds. rw w (widens-lift s (draw_figure allowed.weight figure ds s) (draw_figure most figure ds s)
         (rises-adds allowed.weight s (draw_figure allowed.weight figure ds s)
-        (adds-draw_parts allowed.weight (figure_parts figure ds) s)) (keeps-draw_parts most allowed.weight (figure_parts figure ds) s)))
-    widens-shape_parts app allowed allowed' w v g env (shape.Indent t body) s =
+        (adds-draw_parts allowed.weight any (figure_parts figure ds) s)) (keeps-draw_parts most allowed.weight (figure_parts figure ds) s)))
+    widens-shape_parts scene allowed allowed' w v text text' h g env (shape.Indent t body) s =
         widens-value s (value level env t) (value' level env t) (λ d. within go level env body (indent d s) (restore_margin s.ambient))
         (λ d. within go' level env body (indent d s) (restore_margin s.ambient)) (v env t)
-        (λ d. widens-within g env body s (indent d s) (restore_margin s.ambient) (rises-adds 0 s (indent d s) (adds-indent 0 d s))
+        (λ d. widens-within g env body s (indent d s) (restore_margin s.ambient) (rises-adds 0 s (indent d s) (adds-indent 0 any d s))
         (λ end. refl))
-    widens-shape_parts app allowed allowed' w v g env (shape.Ink t body) s =
+    widens-shape_parts scene allowed allowed' w v text text' h g env (shape.Ink t body) s =
         widens-value s (value level env t) (value' level env t) (λ d. within go level env body (set_ink d s) (restore_ink s.ambient))
         (λ d. within go' level env body (set_ink d s) (restore_ink s.ambient)) (v env t)
-        (λ d. widens-within g env body s (set_ink d s) (restore_ink s.ambient) (rises-adds 0 s (set_ink d s) (adds-set_ink 0 d s))
+        (λ d. widens-within g env body s (set_ink d s) (restore_ink s.ambient) (rises-adds 0 s (set_ink d s) (adds-set_ink 0 any d s))
         (λ end. refl))
-    widens-shape_parts app allowed allowed' w v g env (shape.Room body) s =
+    widens-shape_parts scene allowed allowed' w v text text' h g env (shape.Room body) s =
         let leave = leave_room s.ambient s.part in
         widens-from s (enter_room s) (draws_to go level env body leave (enter_room s)) (draws_to go' level env body leave (enter_room s))
         (omega arith)
         (widens-draws_to g env body leave (λ end. refl) (enter_room s))
-    widens-shape_parts app allowed allowed' w v g env (shape.If t a b) s =
+    widens-shape_parts scene allowed allowed' w v text text' h g env (shape.Present t spec) s =
+        widens-value s (value level env t) (value' level env t)
+        (λ d. for_members scene.types.holds spec d (presents_text allowed.weight text level spec s d))
+        (λ d. for_members scene.types.holds spec d (presents_text allowed'.weight text' level spec s d)) (v env t)
+        (λ d. rw w (widens-choice s (scene.types.holds d spec) (presents_text allowed.weight text level spec s d)
+        (presents_text most text' level spec s d) (opens_none (trap 1)) (opens_none (trap 1))
+        (widens-value s (text level spec d) (text' level spec d)
+        (λ x. opens_none (lift (present_text allowed.weight (label_of spec false d) s x)))
+        (λ x. opens_none (lift (present_text most (label_of spec false d) s x))) (h spec d)
+        (λ x. widens-lift s (present_text allowed.weight (label_of spec false d) s x) (present_text most (label_of spec false d) s x)
+        (rises-adds allowed.weight s (present_text allowed.weight (label_of spec false d) s x)
+        (adds-present_text allowed.weight any (label_of spec false d) s x refl)) (keeps-present_text most allowed.weight (label_of spec false d) s x)))
+        (widens-trap s 1)))
+    widens-shape_parts scene allowed allowed' w v text text' h g env (shape.AsPresentation p body) s =
+        widens-value s (value level env p.object) (value' level env p.object)
+        (λ d. for_members scene.types.holds p.spec d (presents_body allowed.weight go level env p body s d))
+        (λ d. for_members scene.types.holds p.spec d (presents_body allowed'.weight go' level env p body s d)) (v env p.object)
+        (λ d. rw w (widens-choice s (scene.types.holds d p.spec) (presents_body allowed.weight go level env p body s d)
+        (presents_body most go' level env p body s d) (opens_none (trap 1)) (opens_none (trap 1))
+        (widens-entered g env body s (enter_presentation allowed.weight d s) (enter_presentation most d s)
+        (leave_presentation (label_of p.spec p.single_box d) s.part) (rises-entered allowed.weight d s) (keeps-entered most allowed.weight d s)
+        (λ end. refl)) (widens-trap s 1)))
+    widens-shape_parts scene allowed allowed' w v text text' h g env (shape.If t a b) s =
         widens-value s (truth_of value level env t) (truth_of value' level env t)
         (λ holds. if holds then go level env a s else go level env b s)
         (λ holds. if holds then go' level env a s else go' level env b s) (goes-tested budget depth value value' level v env t)
         (λ holds. widens-choice s holds (go level env a s) (go' level env a s) (go level env b s) (go' level env b s) (g env a s)
         (g env b s))
-    widens-shape_parts app allowed allowed' w v g env (shape.When t body) s =
+    widens-shape_parts scene allowed allowed' w v text text' h g env (shape.When t body) s =
         widens-value s (truth_of value level env t) (truth_of value' level env t)
         (λ holds. if holds then in_order go level env body s else opens_none (give s))
         (λ holds. if holds then in_order go' level env body s else opens_none (give s))
@@ -314,19 +277,19 @@ module _ (budget depth most : ℕ) where
         (λ holds. widens-choice s holds (in_order go level env body s) (in_order go' level env body s) (opens_none (give s))
         (opens_none (give s))
         (widens-in_order g env body s) (widens-give s s refl))
-    widens-shape_parts app allowed allowed' w v g env (shape.Let bs body) s =
+    widens-shape_parts scene allowed allowed' w v text text' h g env (shape.Let bs body) s =
         widens-value s (bind_each value level bs env) (bind_each value' level bs env) (λ inner. in_order go level inner body s)
         (λ inner. in_order go' level inner body s)
         (goes-bound budget depth value value' level v bs env) (λ inner. widens-in_order g inner body s)
-    widens-shape_parts app allowed allowed' w v g env (shape.Dolist x t body) s =
+    widens-shape_parts scene allowed allowed' w v text text' h g env (shape.Dolist x t body) s =
         widens-value s (parts_of_list value level env t) (parts_of_list value' level env t) (λ ds. for_each go level env x body ds s)
         (λ ds. for_each go' level env x body ds s)
         (goes-listed budget depth value value' level v env t) (λ ds. widens-for_each g env x body ds s)
-    widens-shape_parts app allowed allowed' w v g env (shape.Progn body) s = widens-in_order g env body s
-    widens-shape_parts app allowed allowed' w v g env (shape.Call f ts) s =
-        widens-value s (each value level env ts []) (each value' level env ts []) (λ ds. call_display go level (display_named f app) ds s)
-        (λ ds. call_display go' level (display_named f app) ds s) (goes-each budget depth value value' level v env ts [])
-        (widens-call_display g (display_named f app) s)
+    widens-shape_parts scene allowed allowed' w v text text' h g env (shape.Progn body) s = widens-in_order g env body s
+    widens-shape_parts scene allowed allowed' w v text text' h g env (shape.Call f ts) s =
+        widens-value s (each value level env ts []) (each value' level env ts []) (λ ds. call_display go level (display_named f scene.app) ds s)
+        (λ ds. call_display go' level (display_named f scene.app) ds s) (goes-each budget depth value value' level v env ts [])
+        (widens-call_display g (display_named f scene.app) s)
 
 -- ---- forms
 
@@ -345,51 +308,58 @@ extends-deep budget most s first second b w level k c d (Gives x i j) above g t 
     }
 extends-deep budget most s first second b w level k c d (Traps e i j) above g t n l p = absurd (no_value e i j t n l p)
 
-widens-draws : (left left' : ℕ) (allowed allowed' : Allowance) (app : App) (slots : Slots) (level : ℕ)
-    → AllWiden allowed'.budget (level + left') allowed'.weight level (draws left allowed app slots) (draws left' allowed' app slots)
-widens-draws zero left' allowed allowed' app slots level env f s c d t n l p = absurd (never (entering 0 allowed.budget level c d) t n l p)
-widens-draws (suc left) zero allowed allowed' app slots level env f s c d t n l p =
-    let value = means left allowed.budget app slots in
-    let go = draws left allowed app slots in
-    let inside = shape_parts app allowed value go (level + 1) env f s in
-    extends-deep allowed'.budget allowed'.weight s inside (draws zero allowed' app slots level env f s) allowed.budget allowed.weight level
-    (level + 1 + left) c d
-    (entering (suc left) allowed.budget level c d) (entered-above (nat_le allowed.budget c) (suc left == 0) level c d)
-    (widens-shape_parts allowed.budget (level + 1 + left) allowed.weight (level + 1) value value go go app allowed allowed refl
-    (goes-means left allowed.budget left allowed.budget app slots (level + 1))
-    (widens-draws left left allowed allowed app slots (level + 1)) env f s) t n l p
-widens-draws (suc left) (suc left') allowed allowed' app slots level env f s c d t n l p =
-    let deeper : level + 1 + left' ≡ level + suc left' = omega arith in
-    let value = means left allowed.budget app slots in
-    let value' = means left' allowed'.budget app slots in
-    let go = draws left allowed app slots in
-    let go' = draws left' allowed' app slots in
-    widens-value allowed'.budget (level + suc left') allowed'.weight s (entering (suc left) allowed.budget level)
-    (entering (suc left') allowed'.budget level)
-    (λ _. shape_parts app allowed value go (level + 1) env f s) (λ _. shape_parts app allowed' value' go' (level + 1) env f s)
-    (goes-entering (suc left) allowed.budget (suc left') allowed'.budget level)
-    (λ _. rw (← deeper) (widens-shape_parts allowed'.budget (level + 1 + left') allowed'.weight (level + 1) value value' go go' app allowed
-    allowed' refl
-    (goes-means left allowed.budget left' allowed'.budget app slots (level + 1))
-    (widens-draws left left' allowed allowed' app slots (level + 1)) env f s)) c d t n l p
+module _ (scene : Scene) (texts : AreTexts scene.app scene.types.presents) where
+  widens-draws : (left left' : ℕ) (allowed allowed' : Allowance) (level : ℕ)
+      → AllWiden allowed'.budget (level + left') allowed'.weight level (draws left allowed scene) (draws left' allowed' scene)
+  widens-draws zero left' allowed allowed' level env f s c d t n l p = absurd (never (entering 0 allowed.budget level c d) t n l p)
+  widens-draws (suc left) zero allowed allowed' level env f s c d t n l p =
+      let value = means left allowed.budget scene.app scene.slots in
+      let text = texts_on scene.types.presents scene.slots allowed.budget left in
+      let go = draws left allowed scene in
+      let inside = shape_parts scene allowed value text go (level + 1) env f s in
+      extends-deep allowed'.budget allowed'.weight s inside (draws zero allowed' scene level env f s) allowed.budget allowed.weight level
+      (level + 1 + left) c d
+      (entering (suc left) allowed.budget level c d) (entered-above (nat_le allowed.budget c) (suc left == 0) level c d)
+      (widens-shape_parts allowed.budget (level + 1 + left) allowed.weight (level + 1) value value go go scene allowed allowed refl
+      (goes-means left allowed.budget left allowed.budget scene.app scene.slots (level + 1)) text text
+      (goes-texts scene.app scene.types.presents texts scene.slots allowed.budget allowed.budget left left (level + 1))
+      (widens-draws left left allowed allowed (level + 1)) env f s) t n l p
+  widens-draws (suc left) (suc left') allowed allowed' level env f s c d t n l p =
+      let deeper : level + 1 + left' ≡ level + suc left' = omega arith in
+      let value = means left allowed.budget scene.app scene.slots in
+      let value' = means left' allowed'.budget scene.app scene.slots in
+      let text = texts_on scene.types.presents scene.slots allowed.budget left in
+      let text' = texts_on scene.types.presents scene.slots allowed'.budget left' in
+      let go = draws left allowed scene in
+      let go' = draws left' allowed' scene in
+      widens-value allowed'.budget (level + suc left') allowed'.weight s (entering (suc left) allowed.budget level)
+      (entering (suc left') allowed'.budget level)
+      (λ _. shape_parts scene allowed value text go (level + 1) env f s) (λ _. shape_parts scene allowed' value' text' go' (level + 1) env f s)
+      (goes-entering (suc left) allowed.budget (suc left') allowed'.budget level)
+      (λ _. rw (← deeper) (widens-shape_parts allowed'.budget (level + 1 + left') allowed'.weight (level + 1) value value' go go' scene allowed
+      allowed' refl
+      (goes-means left allowed.budget left' allowed'.budget scene.app scene.slots (level + 1)) text text'
+      (goes-texts scene.app scene.types.presents texts scene.slots allowed.budget allowed'.budget left left' (level + 1))
+      (widens-draws left left' allowed allowed' (level + 1)) env f s)) c d t n l p
 
-pub widens-forms : (left more : ℕ) (allowed wider : Allowance) (app : App) (slots : Slots) (level : ℕ) (env : Env) (forms : ShapeTrees)
-    (s end : DrawingAt) (cost deepest c d : ℕ)
-    → (in_order (draws left allowed app slots) level env forms s cost deepest).outcome ≡ Gives end c d
+pub widens-forms : (left more : ℕ) (allowed wider : Allowance) (scene : Scene) → AreTexts scene.app scene.types.presents
+    → (level : ℕ) (env : Env) (forms : ShapeTrees) (s end : DrawingAt) (cost deepest c d : ℕ)
+    → (in_order (draws left allowed scene) level env forms s cost deepest).outcome ≡ Gives end c d
     → c ≤ wider.budget → d ≤ level + more → end.weight ≤ wider.weight
-    → (in_order (draws more wider app slots) level env forms s cost deepest).outcome ≡ Gives end c d
-widens-forms left more allowed wider app slots level env forms s end cost deepest c d p =
-    (widens-in_order wider.budget (level + more) wider.weight level (means left allowed.budget app slots)
-    (means more wider.budget app slots)
-    (draws left allowed app slots) (draws more wider app slots) (widens-draws left more allowed wider app slots level) env forms s cost
+    → (in_order (draws more wider scene) level env forms s cost deepest).outcome ≡ Gives end c d
+widens-forms left more allowed wider scene texts level env forms s end cost deepest c d p =
+    (widens-in_order wider.budget (level + more) wider.weight level (means left allowed.budget scene.app scene.slots)
+    (means more wider.budget scene.app scene.slots)
+    (draws left allowed scene) (draws more wider scene) (widens-draws scene texts left more allowed wider level) env forms s cost
     deepest end c d p).same
 
-pub widens-fresh : (limits wider : Limits) (app : App) (forms : List ShapeTree) (env : Env) (slots : Slots) (s : DrawingAt) (cost reach : ℕ)
-    → (fresh limits app forms env slots).outcome ≡ Gives s cost reach → cost ≤ wider.budget → reach ≤ wider.depth
-    → (fresh wider app forms env slots).outcome ≡ Gives s cost reach
+pub widens-fresh : (limits wider : Limits) (scene : Scene) → AreTexts scene.app scene.types.presents
+    → (forms : List ShapeTree) (env : Env) (s : DrawingAt) (cost reach : ℕ)
+    → (fresh limits scene forms env).outcome ≡ Gives s cost reach → cost ≤ wider.budget → reach ≤ wider.depth
+    → (fresh wider scene forms env).outcome ≡ Gives s cost reach
 unfolding fresh
-widens-fresh limits wider app forms env slots s cost reach p cheap shallow =
+widens-fresh limits wider scene texts forms env s cost reach p cheap shallow =
     let within : reach ≤ 0 + wider.depth = omega (arith, shallow) in
-    widens-forms limits.depth wider.depth (whole_allowance limits) (whole_allowance wider) app slots 0 env (shape_trees_of forms)
+    widens-forms limits.depth wider.depth (whole_allowance limits) (whole_allowance wider) scene texts 0 env (shape_trees_of forms)
     blank_drawing s 0 0 cost reach p
-    cheap within (adds_up limits app forms env slots s cost reach p).light
+    cheap within (adds_up limits scene forms env s cost reach p).light

@@ -19,8 +19,8 @@ use Rattle.cl_medium.specs.Ambients.{AmbientAt, after_indent, after_newline}
 use Rattle.cl_medium.specs.Items.{bounds_of, item_bounds, Item}
 use Rattle.cl_medium.specs.declared.areas.Area.{Area}
 use Rattle.cl_region.specs.Places.{box}
-use Rattle.cl_record.specs.Marks.{draw}
-use Rattle.cl_record.proofs.Replayed.{drawn-append}
+use Rattle.cl_record.specs.Marks.{Mark, draw}
+use Rattle.cl_eval.specs.Statements.{Member}
 use Rattle.cl_display.specs.Drawings.{DrawingAt, add_item, after_text, cursor_box, cursor_to}
 use Rattle.cl_display.specs.Drawings.{is_in_range, is_near}
 use Rattle.cl_display.specs.Drawings.{newline, then_to, with_cursor, with_item, with_margin_used}
@@ -33,36 +33,38 @@ use Rattle.cl_display.specs.Settings.{behind_room, enter_room, indent, leave_roo
 use Rattle.cl_display.specs.Settings.{set_ink, with_ink, with_margin}
 use Rattle.cl_display.specs.Outcomes.{Draw, opens_none, run_of, ◌>->◌, ◌>>=◌}
 use Rattle.cl_display.specs.Fresh.{Allowance, Draws, call_display, draws, draws_in, draws_to, for_each, in_order, shape_parts, within}
-use Rattle.cl_display.specs.Fresh.{write_value}
+use Rattle.cl_display.specs.Presentations.{write_value}
 use Rattle.cl_display.proofs.CornerLemmas.{box-first, box-second, holds-itself, holds-then, holds_all-then}
-use Rattle.cl_display.specs.Sums.{Holds, item_weight, weight_of}
-use Rattle.cl_display.proofs.PartLemmas.{PartAdds, part-join, part-none, part-then, weight_of-behind}
+use Rattle.cl_display.specs.Sums.{AreMembers, Holds, item_weight, weight_of}
+use Rattle.cl_display.proofs.PartLemmas.{PartAdds, members-behind, part-none, part-then, weight_of-behind}
 
--- what was drawn between two states, where all may weigh so much
-pub record Adds (most : ℕ) (s t : DrawingAt) : Type 0 where
-  pub items : List Item
-  pub part : PartAdds s.part t.part items
-  pub weight : t.weight ≡ s.weight + weight_of items
+-- what was drawn between two states, where all may weigh so much, and these are the members of types
+pub record Adds (most : ℕ) (holds : Member) (s t : DrawingAt) : Type 0 where
+  pub marks : List (Mark Item)
+  pub part : PartAdds s.part t.part marks
+  pub weight : t.weight ≡ s.weight + weight_of marks
+  pub members : AreMembers holds marks
   pub light : s.weight ≤ most → t.weight ≤ most
   pub cursor : Holds s.part.extent (cursor_box s.ambient) → Holds t.part.extent (cursor_box t.ambient)
 
-module _ (most : ℕ) where
+module _ (most : ℕ) (holds : Member) where
   -- ---- steps
 
   adds-none : (s t : DrawingAt) → PartAdds s.part t.part [] → t.weight ≡ s.weight
-      → (Holds s.part.extent (cursor_box s.ambient) → Holds t.part.extent (cursor_box t.ambient)) → Adds most s t
-  adds-none s t p w c = record { items = []; part = p; weight = omega (arith, w); light = λ h. omega (arith, w, h); cursor = c }
+      → (Holds s.part.extent (cursor_box s.ambient) → Holds t.part.extent (cursor_box t.ambient)) → Adds most holds s t
+  adds-none s t p w c = record { marks = []; part = p; weight = omega (arith, w); members = tt; light = λ h. omega (arith, w, h); cursor = c }
 
   -- the same items and the same extent, with the cursor where it was
-  adds-nothing : (s t : DrawingAt) → t.part ≡ s.part → t.weight ≡ s.weight → cursor_box t.ambient ≡ cursor_box s.ambient → Adds most s t
+  pub adds-nothing : (s t : DrawingAt) → t.part ≡ s.part → t.weight ≡ s.weight → cursor_box t.ambient ≡ cursor_box s.ambient → Adds most holds s t
   adds-nothing s t p w c =
       adds-none s t (rw p (part-none s.part s.part refl refl (holds-itself s.part.extent) (λ h. h) (λ h. h))) w (λ h. rw (p, c) h)
 
-  adds-then : (s t u : DrawingAt) → Adds most s t → Adds most t u → Adds most s u
+  adds-then : (s t u : DrawingAt) → Adds most holds s t → Adds most holds t u → Adds most holds s u
   adds-then s t u p q = record {
-    items = p.items ++ q.items;
-    part = part-then s.part t.part u.part p.items q.items p.part q.part;
-    weight = omega (arith, p.weight, q.weight, weight_of-behind p.items q.items);
+    marks = p.marks ++ q.marks;
+    part = part-then s.part t.part u.part p.marks q.marks p.part q.part;
+    weight = omega (arith, p.weight, q.weight, weight_of-behind p.marks q.marks);
+    members = members-behind holds p.marks q.marks p.members q.members;
     light = λ h. q.light (p.light h);
     cursor = λ h. q.cursor (p.cursor h);
   }
@@ -70,17 +72,17 @@ module _ (most : ℕ) where
   -- ---- answers and runs
 
   abbrev pub AddsTo : DrawingAt → Result DrawingAt ℕ → Type 0
-  AddsTo s (Ok t) = Adds most s t
+  AddsTo s (Ok t) = Adds most holds s t
   AddsTo s (Err k) = Unit {0}
 
   abbrev pub AddsOut : DrawingAt → Outcome DrawingAt → Type 0
-  AddsOut s (Gives t cost deepest) = Adds most s t
+  AddsOut s (Gives t cost deepest) = Adds most holds s t
   AddsOut s (Traps kind cost deepest) = Unit {0}
 
   abbrev pub AddsRun : DrawingAt → Draw → Type 0
   AddsRun s m = (c d : ℕ) → AddsOut s (m c d).outcome
 
-  adds-further : (s t : DrawingAt) → Adds most s t → (o : Outcome DrawingAt) → AddsOut t o → AddsOut s o
+  pub adds-further : (s t : DrawingAt) → Adds most holds s t → (o : Outcome DrawingAt) → AddsOut t o → AddsOut s o
   adds-further s t p (Gives u cost deepest) q = adds-then s t u p q
   adds-further s t p (Traps kind cost deepest) q = tt
 
@@ -89,7 +91,7 @@ module _ (most : ℕ) where
   adds-behind s f h (Gives t c d) p = adds-further s t p (f t c d).outcome (h t c d)
   adds-behind s f h (Traps kind c d) p = tt
 
-  adds-run : (s : DrawingAt) (m : Draw) (f : DrawingAt → Draw) → AddsRun s m → ((t : DrawingAt) → AddsRun t (f t)) → AddsRun s (m >>= f)
+  pub adds-run : (s : DrawingAt) (m : Draw) (f : DrawingAt → Draw) → AddsRun s m → ((t : DrawingAt) → AddsRun t (f t)) → AddsRun s (m >>= f)
   adds-run s m f g h c d = adds-behind s f h (m c d).outcome (g c d)
 
   adds-value : {A : Type 0} (s : DrawingAt) (o : Outcome A) (f : A → Draw) → ((x : A) → AddsRun s (f x))
@@ -97,17 +99,17 @@ module _ (most : ℕ) where
   adds-value s (Gives x c d) f h = h x c d
   adds-value s (Traps kind c d) f h = tt
 
-  adds-given : {A : Type 0} (s : DrawingAt) (m : Run A) (f : A → Draw) → ((x : A) → AddsRun s (f x)) → AddsRun s (m >-> f)
+  pub adds-given : {A : Type 0} (s : DrawingAt) (m : Run A) (f : A → Draw) → ((x : A) → AddsRun s (f x)) → AddsRun s (m >-> f)
   adds-given s m f h c d = adds-value s (m c d) f h
 
-  adds-lift : (s : DrawingAt) (r : Result DrawingAt ℕ) → AddsTo s r → AddsRun s (opens_none (lift r))
+  pub adds-lift : (s : DrawingAt) (r : Result DrawingAt ℕ) → AddsTo s r → AddsRun s (opens_none (lift r))
   adds-lift s (Ok t) p c d = p
   adds-lift s (Err k) p c d = tt
 
-  adds-give : (s : DrawingAt) → AddsRun s (opens_none (give s))
+  pub adds-give : (s : DrawingAt) → AddsRun s (opens_none (give s))
   adds-give s c d = adds-nothing s s refl refl refl
 
-  adds-choice : (s : DrawingAt) (b : Bool) (m n : Draw) → AddsRun s m → AddsRun s n → AddsRun s (if b then m else n)
+  pub adds-choice : (s : DrawingAt) (b : Bool) (m n : Draw) → AddsRun s m → AddsRun s n → AddsRun s (if b then m else n)
   adds-choice s true m n g h = g
   adds-choice s false m n g h = h
 
@@ -116,9 +118,9 @@ module _ (most : ℕ) where
   adds-item : (b : Bool) (leaf : Item) (weight : ℕ) (s : DrawingAt) → nat_le (s.weight + weight) most ≡ b → weight ≡ item_weight leaf
       → AddsTo s (if b then Ok (record s { weight = s.weight + weight; part = with_item leaf s.part }) else Err 10)
   adds-item true leaf weight s h e = record {
-    items = leaf ∷ [];
+    marks = draw leaf ∷ [];
     part = record {
-      behind = drawn-append s.part.marks (draw leaf ∷ []);
+      behind = refl;
       lowest = refl;
       wider = box-first s.part.extent (item_bounds leaf);
       within = (box-second s.part.extent (item_bounds leaf), tt);
@@ -126,6 +128,7 @@ module _ (most : ℕ) where
       origin = λ g. g;
     };
     weight = omega (arith, e);
+    members = tt;
     light = λ g. grind (arith, nat_tests, h);
     cursor = λ g.
         holds-then (box s.part.extent (item_bounds leaf)) s.part.extent (cursor_box s.ambient) (box-first s.part.extent (item_bounds leaf))
@@ -137,7 +140,7 @@ module _ (most : ℕ) where
   adds-add_item leaf weight s e = adds-item (nat_le (s.weight + weight) most) leaf weight s refl e
 
   -- the cursor elsewhere
-  adds-cursor : (a : AmbientAt) (s : DrawingAt) → Adds most s (cursor_to a s)
+  adds-cursor : (a : AmbientAt) (s : DrawingAt) → Adds most holds s (cursor_to a s)
   adds-cursor a s =
       adds-none s (cursor_to a s) (part-none s.part (with_cursor a s.part) refl refl (box-first s.part.extent (cursor_box a)) (λ h. h)
       (λ h. h)) refl
@@ -218,122 +221,3 @@ module _ (most : ℕ) where
   adds-set_ink (int (pos n)) s = adds-where s (nat_le n 7) 9 (Ok (with_ink n s)) (adds-nothing s (with_ink n s) refl refl refl)
   adds-set_ink (int (negsuc n)) s = tt
   adds-set_ink d s = tt
-
-  -- ---- forms
-
-  abbrev pub AllAdd : Draws → Type 0
-  AllAdd go = (level : ℕ) (env : Env) (f : ShapeTree) (s : DrawingAt) → AddsRun s (go level env f s)
-
-  pub adds-in_order : (go : Draws) → AllAdd go → (level : ℕ) (env : Env) (fs : ShapeTrees) (s : DrawingAt)
-      → AddsRun s (in_order go level env fs s)
-  adds-in_order go g level env none s = adds-give s
-  adds-in_order go g level env (form f fs) s = adds-run s (go level env f s) (in_order go level env fs) (g level env f s)
-      (adds-in_order go g level env fs)
-
-  adds-for_each : (go : Draws) → AllAdd go → (level : ℕ) (env : Env) (x : List ℕ) (body : ShapeTrees) (ds : List Data) (s : DrawingAt)
-      → AddsRun s (for_each go level env x body ds s)
-  adds-for_each go g level env x body [] s = adds-give s
-  adds-for_each go g level env x body (d ∷ ds) s =
-      adds-run s (in_order go level ((x, d) ∷ env) body s) (for_each go level env x body ds)
-      (adds-in_order go g level ((x, d) ∷ env) body s)
-      (adds-for_each go g level env x body ds)
-
-  -- a body from a state that has the same items, left so that the items stay
-  adds-draws_to : (go : Draws) → AllAdd go → (level : ℕ) (env : Env) (body : ShapeTrees) (leave : DrawingAt → DrawingAt) (s : DrawingAt)
-      → ((t : DrawingAt) → Adds most t (leave t)) → AddsRun s (draws_to go level env body leave s)
-  adds-draws_to go g level env body leave s h =
-      adds-run s (in_order go level env body s) (λ end. opens_none (give (leave end))) (adds-in_order go g level env body s) (λ t c d. h t)
-
-  adds-within : (go : Draws) → AllAdd go → (level : ℕ) (env : Env) (body : ShapeTrees) (s : DrawingAt) (r : Result DrawingAt ℕ)
-      (leave : DrawingAt → DrawingAt)
-      → AddsTo s r → ((t : DrawingAt) → Adds most t (leave t)) → AddsRun s (within go level env body r leave)
-  adds-within go g level env body s (Ok inner) leave p h c d =
-      adds-further s inner p (draws_to go level env body leave inner c d).outcome (adds-draws_to go g level env body leave inner h c d)
-  adds-within go g level env body s (Err k) leave p h c d = tt
-
-  -- ---- rooms
-
-  adds-leave_room : (s t : DrawingAt) → Adds most (enter_room s) t → Adds most s (leave_room s.ambient s.part t)
-  adds-leave_room s t p =
-      let behind = behind_room s.ambient t in
-      let inner = room_part behind t.part in
-      record {
-        items = p.items;
-        part =
-            part-join behind s.part inner p.items p.part.behind p.part.lowest
-            (holds_all-then (box t.part.extent (cursor_box behind)) t.part.extent p.items (box-first t.part.extent (cursor_box behind))
-            p.part.within);
-        weight = p.weight;
-        light = p.light;
-        cursor = λ h.
-            holds-then (box s.part.extent inner.extent) inner.extent (cursor_box behind) (box-second s.part.extent inner.extent)
-            (box-second t.part.extent (cursor_box behind));
-      }
-
-  adds-behind_room : (s : DrawingAt) (o : Outcome DrawingAt) → AddsOut (enter_room s) o
-      → AddsOut s (after o (λ end. run_of (opens_none (give (leave_room s.ambient s.part end)))))
-  adds-behind_room s (Gives t c d) p = adds-leave_room s t p
-  adds-behind_room s (Traps kind c d) p = tt
-
-  adds-room : (go : Draws) → AllAdd go → (level : ℕ) (env : Env) (body : ShapeTrees) (s : DrawingAt)
-      → AddsRun s (draws_to go level env body (leave_room s.ambient s.part) (enter_room s))
-  adds-room go g level env body s c d =
-      adds-behind_room s (in_order go level env body (enter_room s) c d).outcome (adds-in_order go g level env body (enter_room s) c d)
-
-  -- ---- the rows
-
-  adds-draws_in : (value : Go) (go : Draws) → AllAdd go → (level : ℕ) (bs : Bindings) (body : ShapeTrees) (env : Env) (s : DrawingAt)
-      → AddsRun s (draws_in value go level bs body env s)
-  adds-draws_in value go g level bs body env s =
-      adds-given s (bind_each value level bs env) (λ inner. in_order go level inner body s) (λ inner. adds-in_order go g level inner body s)
-
-  adds-call_display : (go : Draws) → AllAdd go → (level : ℕ) (f : Option DisplayDecl) (ds : List Data) (s : DrawingAt)
-      → AddsRun s (call_display go level f ds s)
-  adds-call_display go g level None ds s = λ c d. tt
-  adds-call_display go g level (Some f) ds s =
-      adds-choice s (length ds == length f.parameters) (in_order go level (bind_parameters f.parameters ds) (shape_trees_of f.body) s)
-      (opens_none (trap 1))
-      (adds-in_order go g level (bind_parameters f.parameters ds) (shape_trees_of f.body) s) (λ c d. tt)
-
-  adds-shape_parts : (app : App) (budget : ℕ) (value : Go) (go : Draws) → AllAdd go
-      → (level : ℕ) (env : Env) (f : ShapeTree) (s : DrawingAt)
-      → AddsRun s (shape_parts app (record { budget = budget; weight = most }) value go level env f s)
-  adds-shape_parts app budget value go g level env (shape.WriteText t) s =
-      adds-given s (value level env t) (λ d. opens_none (lift (write_value most s d)))
-      (λ d. adds-lift s (write_value most s d) (adds-write_value s d))
-  adds-shape_parts app budget value go g level env shape.Newline s = adds-lift s (newline s) (adds-newline s)
-  adds-shape_parts app budget value go g level env (shape.Draw figure ts) s =
-      adds-given s (each value level env ts []) (λ ds. opens_none (lift (draw_figure most figure ds s)))
-      (λ ds. adds-lift s (draw_figure most figure ds s) (adds-draw_parts (figure_parts figure ds) s))
-  adds-shape_parts app budget value go g level env (shape.Indent t body) s =
-      adds-given s (value level env t) (λ d. within go level env body (indent d s) (restore_margin s.ambient))
-      (λ d. adds-within go g level env body s (indent d s) (restore_margin s.ambient) (adds-indent d s)
-      (λ end. adds-nothing end (restore_margin s.ambient end) refl refl refl))
-  adds-shape_parts app budget value go g level env (shape.Ink t body) s =
-      adds-given s (value level env t) (λ d. within go level env body (set_ink d s) (restore_ink s.ambient))
-      (λ d. adds-within go g level env body s (set_ink d s) (restore_ink s.ambient) (adds-set_ink d s)
-      (λ end. adds-nothing end (restore_ink s.ambient end) refl refl refl))
-  adds-shape_parts app budget value go g level env (shape.Room body) s = adds-room go g level env body s
-  adds-shape_parts app budget value go g level env (shape.If t a b) s =
-      adds-given s (truth_of value level env t) (λ holds. if holds then go level env a s else go level env b s)
-      (λ holds. adds-choice s holds (go level env a s) (go level env b s) (g level env a s) (g level env b s))
-  adds-shape_parts app budget value go g level env (shape.When t body) s =
-      adds-given s (truth_of value level env t) (λ holds. if holds then in_order go level env body s else opens_none (give s))
-      (λ holds. adds-choice s holds (in_order go level env body s) (opens_none (give s)) (adds-in_order go g level env body s)
-      (adds-give s))
-  adds-shape_parts app budget value go g level env (shape.Let bs body) s = adds-draws_in value go g level bs body env s
-  adds-shape_parts app budget value go g level env (shape.Dolist x t body) s =
-      adds-given s (parts_of_list value level env t) (λ ds. for_each go level env x body ds s) (λ ds. adds-for_each go g level env x body ds s)
-  adds-shape_parts app budget value go g level env (shape.Progn body) s = adds-in_order go g level env body s
-  adds-shape_parts app budget value go g level env (shape.Call f ts) s =
-      adds-given s (each value level env ts []) (λ ds. call_display go level (display_named f app) ds s)
-      (λ ds. adds-call_display go g level (display_named f app) ds s)
-
-  pub adds-draws : (left budget : ℕ) (app : App) (slots : Slots) → AllAdd (draws left (record { budget = budget; weight = most }) app slots)
-  adds-draws zero budget app slots level env f s = adds-given s (entering 0 budget level) (λ _. opens_none (trap 6)) (λ _ c d. tt)
-  adds-draws (suc left) budget app slots level env f s =
-      let allowed : Allowance = record { budget = budget; weight = most } in
-      adds-given s (entering (suc left) budget level)
-      (λ _. shape_parts app allowed (means left budget app slots) (draws left allowed app slots) (level + 1) env f s)
-      (λ _. adds-shape_parts app budget (means left budget app slots) (draws left allowed app slots) (adds-draws left budget app slots)
-      (level + 1) env f s)

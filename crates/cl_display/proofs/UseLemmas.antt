@@ -24,9 +24,17 @@ use Rattle.cl_display.specs.Figures.{area_at, draw_figure, draw_parts, draw_shap
 use Rattle.cl_display.specs.declared.figures.FigureParts.{FigureParts}
 use Rattle.cl_display.specs.Settings.{enter_room, indent, leave_room, restore_ink, restore_margin, set_ink, with_ink, with_margin}
 use Rattle.cl_display.specs.Outcomes.{Draw, opens_none, run_of}
-use Rattle.cl_display.specs.Fresh.{Allowance, Draws, call_display, draws, draws_to, for_each, in_order, shape_parts, within, write_value}
+use Rattle.cl_display.specs.Fresh.{Allowance, Draws, call_display, draws, draws_to, for_each, in_order, shape_parts, within}
 use Rattle.cl_display.specs.Uses.{EndsWith, HasUsedMargin, IsPlain, NoneUses, UsesMargin, UsesNeither, UsesOrigin}
-use Rattle.cl_display.proofs.SumLemmas.{AddsOut, adds-draws, adds-in_order}
+use Rattle.cl_display.specs.Fresh.{Scene, for_members, presents_body, presents_text}
+use Rattle.cl_display.specs.Presentations.{Texts, label_of, label_weight, leave_after, leave_presentation, present_text, write_inside}
+use Rattle.cl_display.specs.Presentations.{write_value}
+use Rattle.cl_eval.specs.Statements.{Member}
+use Rattle.cl_record.specs.Labels.{LabelAt}
+use Rattle.cl_display.proofs.FormSums.{adds-draws, adds-in_order}
+use Rattle.cl_display.proofs.SumLemmas.{AddsOut}
+use Rattle.cl_display.specs.Drawings.{start}
+use Rattle.std.proofs.Common.{ap}
 
 -- ---- answers
 
@@ -172,44 +180,86 @@ unused-ink go g level env body s v c d =
     (weaker s t (in_order go level env body t c d).outcome p (unused-in_order go g level env body t c d))
     (λ end q i j. neither s (restore_ink s.ambient end) q.margin q.origin))
 
-pub plain-unused : (app : App) (allowed : Allowance) (value : Go) (go : Draws) (level : ℕ) (env : Env) (f : ShapeTree) (s : DrawingAt)
+-- what a body uses in a presentation, it uses around it, and nothing more is used
+presented-unused : (label : LabelAt) (s u t : DrawingAt) → u.part.margin_used ≡ false → u.part.origin_used ≡ false → UsesNeither u t
+    → UsesNeither s (leave_presentation label s.part t)
+presented-unused label s u t m o p =
+    neither s (leave_presentation label s.part t) (ap (λ (b : Bool). b || s.part.margin_used) (p.margin ∙ m))
+    (ap (λ (b : Bool). b || s.part.origin_used) (p.origin ∙ o))
+
+unused-body : (go : Draws) → NoneUses go → (level : ℕ) (env : Env) (body : ShapeTrees) (label : LabelAt) (s : DrawingAt) (weight : ℕ) (b : Bool) (c d : ℕ)
+    → EndsWith (UsesNeither s) (within go level env body (if b then Ok (start (record s { weight = weight })) else Err 10)
+    (leave_presentation label s.part) c d).outcome
+unused-body go g level env body label s weight true c d =
+    let inner : DrawingAt = start (record s { weight = weight }) in
+    ends-behind (UsesNeither inner) (UsesNeither s) (in_order go level env body inner c d).outcome
+    (λ end. opens_none (give (leave_presentation label s.part end))) (unused-in_order go g level env body inner c d)
+    (λ end p i j. presented-unused label s inner end refl refl p)
+unused-body go g level env body label s weight false c d = tt
+
+unused-left : (label : LabelAt) (s u : DrawingAt) (r : Result DrawingAt ℕ) → u.part.margin_used ≡ false → u.part.origin_used ≡ false
+    → GivesWith (UsesNeither u) r → GivesWith (UsesNeither s) (leave_after label s.part r)
+unused-left label s u (Ok t) m o p = presented-unused label s u t m o p
+unused-left label s u (Err k) m o p = tt
+
+unused-text : (most : ℕ) (label : LabelAt) (s : DrawingAt) (x : Data) (weight : ℕ) (b : Bool)
+    → GivesWith (UsesNeither s) (leave_after label s.part (write_inside most x (if b then Ok (start (record s { weight = weight })) else Err 10)))
+unused-text most label s x weight true =
+    let inner : DrawingAt = start (record s { weight = weight }) in
+    unused-left label s inner (write_value most inner x) refl refl (text-unused most inner x)
+unused-text most label s x weight false = tt
+
+pub plain-unused : (scene : Scene) (allowed : Allowance) (value : Go) (texts : Texts) (go : Draws) (level : ℕ) (env : Env) (f : ShapeTree) (s : DrawingAt)
     (cost deepest : ℕ)
-    → IsPlain f → NoneUses go → EndsWith (UsesNeither s) (shape_parts app allowed value go level env f s cost deepest).outcome
-plain-unused app allowed value go level env (shape.WriteText t) s c d h g =
+    → IsPlain f → NoneUses go → EndsWith (UsesNeither s) (shape_parts scene allowed value texts go level env f s cost deepest).outcome
+plain-unused scene allowed value texts go level env (shape.WriteText t) s c d h g =
     ends-value (UsesNeither s) (value level env t c d) (λ v. opens_none (lift (write_value allowed.weight s v)))
     (λ v i j. ends-lift (UsesNeither s) (write_value allowed.weight s v) i j (text-unused allowed.weight s v))
-plain-unused app allowed value go level env (shape.Ink t body) s c d h g =
+plain-unused scene allowed value texts go level env (shape.Ink t body) s c d h g =
     ends-value (UsesNeither s) (value level env t c d) (λ v. within go level env body (set_ink v s) (restore_ink s.ambient))
     (unused-ink go g level env body s)
-plain-unused app allowed value go level env (shape.If t a b) s c d h g =
+plain-unused scene allowed value texts go level env (shape.Present t spec) s c d h g =
+    ends-value (UsesNeither s) (value level env t c d)
+    (λ v. for_members scene.types.holds spec v (presents_text allowed.weight texts level spec s v))
+    (λ v i j. ends-choice (UsesNeither s) (scene.types.holds v spec) (presents_text allowed.weight texts level spec s v) (opens_none (trap 1)) i j
+    (ends-value (UsesNeither s) (texts level spec v i j) (λ x. opens_none (lift (present_text allowed.weight (label_of spec false v) s x)))
+    (λ x k l. ends-lift (UsesNeither s) (present_text allowed.weight (label_of spec false v) s x) k l
+    (unused-text allowed.weight (label_of spec false v) s x (s.weight + label_weight v) (nat_le (s.weight + label_weight v) allowed.weight)))) tt)
+plain-unused scene allowed value texts go level env (shape.AsPresentation p body) s c d h g =
+    ends-value (UsesNeither s) (value level env p.object c d)
+    (λ v. for_members scene.types.holds p.spec v (presents_body allowed.weight go level env p body s v))
+    (λ v i j. ends-choice (UsesNeither s) (scene.types.holds v p.spec) (presents_body allowed.weight go level env p body s v) (opens_none (trap 1)) i j
+    (unused-body go g level env body (label_of p.spec p.single_box v) s (s.weight + label_weight v)
+    (nat_le (s.weight + label_weight v) allowed.weight) i j) tt)
+plain-unused scene allowed value texts go level env (shape.If t a b) s c d h g =
     ends-value (UsesNeither s) (truth_of value level env t c d) (λ holds. if holds then go level env a s else go level env b s)
     (λ holds i j. ends-choice (UsesNeither s) holds (go level env a s) (go level env b s) i j (g level env a s i j) (g level env b s i j))
-plain-unused app allowed value go level env (shape.When t body) s c d h g =
+plain-unused scene allowed value texts go level env (shape.When t body) s c d h g =
     ends-value (UsesNeither s) (truth_of value level env t c d) (λ holds. if holds then in_order go level env body s else opens_none (give s))
     (λ holds i j. ends-choice (UsesNeither s) holds (in_order go level env body s) (opens_none (give s)) i j
     (unused-in_order go g level env body s i j) (neither s s refl refl))
-plain-unused app allowed value go level env (shape.Let bs body) s c d h g =
+plain-unused scene allowed value texts go level env (shape.Let bs body) s c d h g =
     ends-value (UsesNeither s) (bind_each value level bs env c d) (λ inner. in_order go level inner body s)
     (λ inner i j. unused-in_order go g level inner body s i j)
-plain-unused app allowed value go level env (shape.Dolist x t body) s c d h g =
+plain-unused scene allowed value texts go level env (shape.Dolist x t body) s c d h g =
     ends-value (UsesNeither s) (parts_of_list value level env t c d) (λ ds. for_each go level env x body ds s)
     (λ ds i j. unused-for_each go g level env x body ds s i j)
-plain-unused app allowed value go level env (shape.Progn body) s c d h g = unused-in_order go g level env body s c d
-plain-unused app allowed value go level env (shape.Call f ts) s c d h g =
-    ends-value (UsesNeither s) (each value level env ts [] c d) (λ ds. call_display go level (display_named f app) ds s)
-    (λ ds i j. unused-call go g level (display_named f app) ds s i j)
-plain-unused app allowed value go level env f s c d h g = absurd h
+plain-unused scene allowed value texts go level env (shape.Progn body) s c d h g = unused-in_order go g level env body s c d
+plain-unused scene allowed value texts go level env (shape.Call f ts) s c d h g =
+    ends-value (UsesNeither s) (each value level env ts [] c d) (λ ds. call_display go level (display_named f scene.app) ds s)
+    (λ ds i j. unused-call go g level (display_named f scene.app) ds s i j)
+plain-unused scene allowed value texts go level env f s c d h g = absurd h
 
 -- ---- forms that use one
 
-pub newline-uses : (app : App) (allowed : Allowance) (value : Go) (go : Draws) (level : ℕ) (env : Env) (s : DrawingAt) (cost deepest : ℕ)
-    → EndsWith (UsesMargin s) (shape_parts app allowed value go level env shape.Newline s cost deepest).outcome
-newline-uses app allowed value go level env s c d = ends-lift (UsesMargin s) (newline s) c d (newline-used s)
+pub newline-uses : (scene : Scene) (allowed : Allowance) (value : Go) (texts : Texts) (go : Draws) (level : ℕ) (env : Env) (s : DrawingAt) (cost deepest : ℕ)
+    → EndsWith (UsesMargin s) (shape_parts scene allowed value texts go level env shape.Newline s cost deepest).outcome
+newline-uses scene allowed value texts go level env s c d = ends-lift (UsesMargin s) (newline s) c d (newline-used s)
 
-pub figure-uses : (app : App) (allowed : Allowance) (value : Go) (go : Draws) (level : ℕ) (env : Env) (figure : Figure) (ts : ExprTrees)
+pub figure-uses : (scene : Scene) (allowed : Allowance) (value : Go) (texts : Texts) (go : Draws) (level : ℕ) (env : Env) (figure : Figure) (ts : ExprTrees)
     (s : DrawingAt) (cost deepest : ℕ)
-    → EndsWith (UsesOrigin s) (shape_parts app allowed value go level env (shape.Draw figure ts) s cost deepest).outcome
-figure-uses app allowed value go level env figure ts s c d =
+    → EndsWith (UsesOrigin s) (shape_parts scene allowed value texts go level env (shape.Draw figure ts) s cost deepest).outcome
+figure-uses scene allowed value texts go level env figure ts s c d =
     ends-value (UsesOrigin s) (each value level env ts [] c d) (λ ds. opens_none (lift (draw_figure allowed.weight figure ds s)))
     (λ ds i j. ends-lift (UsesOrigin s) (draw_figure allowed.weight figure ds s) i j
     (figure-used allowed.weight (figure_parts figure ds) s))
@@ -219,38 +269,38 @@ ends-left : (P : DrawingAt → Type 0) (o : Outcome DrawingAt) (leave : DrawingA
 ends-left P (Gives t c d) leave h = h t
 ends-left P (Traps k c d) leave h = tt
 
-pub room-uses : (app : App) (allowed : Allowance) (value : Go) (go : Draws) (level : ℕ) (env : Env) (body : ShapeTrees) (s : DrawingAt)
+pub room-uses : (scene : Scene) (allowed : Allowance) (value : Go) (texts : Texts) (go : Draws) (level : ℕ) (env : Env) (body : ShapeTrees) (s : DrawingAt)
     (cost deepest : ℕ)
-    → EndsWith (UsesMargin s) (shape_parts app allowed value go level env (shape.Room body) s cost deepest).outcome
-room-uses app allowed value go level env body s c d =
+    → EndsWith (UsesMargin s) (shape_parts scene allowed value texts go level env (shape.Room body) s cost deepest).outcome
+room-uses scene allowed value texts go level env body s c d =
     ends-left (UsesMargin s) (in_order go level env body (enter_room s) c d).outcome (leave_room s.ambient s.part)
     (λ t. record { margin = refl; origin = refl })
 
 -- what is used stays used
-margin-stays : (most : ℕ) (s : DrawingAt) (o : Outcome DrawingAt) → AddsOut most s o → HasUsedMargin s → EndsWith HasUsedMargin o
-margin-stays most s (Gives t c d) p h = p.part.margin h
-margin-stays most s (Traps k c d) p h = tt
+margin-stays : (most : ℕ) (holds : Member) (s : DrawingAt) (o : Outcome DrawingAt) → AddsOut most holds s o → HasUsedMargin s → EndsWith HasUsedMargin o
+margin-stays most holds s (Gives t c d) p h = p.part.margin h
+margin-stays most holds s (Traps k c d) p h = tt
 
-pub indent-uses : (left : ℕ) (allowed : Allowance) (app : App) (slots : Slots) (value : Go) (level : ℕ) (env : Env) (t : ExprTree)
+pub indent-uses : (left : ℕ) (allowed : Allowance) (scene : Scene) (value : Go) (texts : Texts) (level : ℕ) (env : Env) (t : ExprTree)
     (body : ShapeTrees) (s : DrawingAt) (cost deepest : ℕ)
-    → EndsWith HasUsedMargin (shape_parts app allowed value (draws left allowed app slots) level env (shape.Indent t body) s cost
+    → EndsWith HasUsedMargin (shape_parts scene allowed value texts (draws left allowed scene) level env (shape.Indent t body) s cost
     deepest).outcome
-indent-uses left allowed app slots value level env t body s c d =
-    let go = draws left allowed app slots in
+indent-uses left allowed scene value texts level env t body s c d =
+    let go = draws left allowed scene in
     ends-value HasUsedMargin (value level env t c d) (λ v. within go level env body (indent v s) (restore_margin s.ambient))
     (λ v i j. ends-set (UsesMargin s) HasUsedMargin (indent v s) i j (draws_to go level env body (restore_margin s.ambient))
     (indent-used s v)
     (λ u p. ends-behind HasUsedMargin HasUsedMargin (in_order go level env body u i j).outcome
     (λ end. opens_none (give (restore_margin s.ambient end)))
-    (margin-stays allowed.weight u (in_order go level env body u i j).outcome
-    (adds-in_order allowed.weight go (adds-draws allowed.weight left allowed.budget app slots) level env body u i j) p.margin)
+    (margin-stays allowed.weight scene.types.holds u (in_order go level env body u i j).outcome
+    (adds-in_order allowed.weight scene.types.holds go (adds-draws allowed.weight scene.types.holds left allowed.budget scene refl) level env body u i j) p.margin)
     (λ end q k l. q)))
 
 -- forms inside that use no origin leave it unused
-pub indent-alone : (app : App) (allowed : Allowance) (value : Go) (go : Draws) (level : ℕ) (env : Env) (t : ExprTree) (body : ShapeTrees)
+pub indent-alone : (scene : Scene) (allowed : Allowance) (value : Go) (texts : Texts) (go : Draws) (level : ℕ) (env : Env) (t : ExprTree) (body : ShapeTrees)
     (s : DrawingAt) (cost deepest : ℕ)
-    → NoneUses go → EndsWith (UsesMargin s) (shape_parts app allowed value go level env (shape.Indent t body) s cost deepest).outcome
-indent-alone app allowed value go level env t body s c d g =
+    → NoneUses go → EndsWith (UsesMargin s) (shape_parts scene allowed value texts go level env (shape.Indent t body) s cost deepest).outcome
+indent-alone scene allowed value texts go level env t body s c d g =
     ends-value (UsesMargin s) (value level env t c d) (λ v. within go level env body (indent v s) (restore_margin s.ambient))
     (λ v i j. ends-set (UsesMargin s) (UsesMargin s) (indent v s) i j (draws_to go level env body (restore_margin s.ambient))
     (indent-used s v)

@@ -1,19 +1,24 @@
 -- Evaluation of display forms from nothing: what each form draws, from the drawing so far.
--- Traps, beside those of expressions: 9 range of coordinates, 10 weight.
-use Rattle.std.specs.Prelude.{ℕ, zero, suc, ◌+◌, ◌==◌, if◌then◌else◌, List, [], ◌∷◌, length, Option, Some, None, Result, Err}
-use Rattle.cl_value.specs.Data.{Data, text}
+-- Traps, beside those of expressions: 1 an object that is no member of its type, 9 range of coordinates, 10 weight.
+use Rattle.std.specs.Prelude.{ℕ, zero, suc, ◌+◌, ◌==◌, false, if◌then◌else◌, List, [], ◌∷◌, length, Option, Some, None, Result, Err}
+use Rattle.cl_value.specs.Data.{Data}
 use Rattle.cl_syntax.specs.ExprTree.{Bindings}
+use Rattle.cl_syntax.specs.PresentationTree.{PresentationTree}
 use Rattle.cl_syntax.specs.ShapeTree as shape
 use Rattle.cl_syntax.specs.ShapeTree.{ShapeTree, ShapeTrees, none, form, shape_trees_of}
+use Rattle.cl_syntax.specs.TypeSpecTree.{TypeSpecTree}
 use Rattle.cl_application.specs.App.{display_named}
 use Rattle.cl_application.specs.declared.applications.App.{App}
 use Rattle.cl_application.specs.declared.declarations.DisplayDecl.{DisplayDecl}
 use Rattle.cl_eval.specs.Outcome.{give, trap, lift}
 use Rattle.cl_eval.specs.Slots.{Slots, Env, bind_parameters}
 use Rattle.cl_eval.specs.Meaning.{Go, bind_each, each, entering, parts_of_list, means, truth_of}
-use Rattle.cl_display.specs.Drawings.{DrawingAt, newline, write_text}
+use Rattle.cl_eval.specs.Statements.{Member}
+use Rattle.cl_eval.specs.TypeMeanings.{TypeMeanings}
+use Rattle.cl_display.specs.Drawings.{DrawingAt, newline}
 use Rattle.cl_display.specs.Figures.{draw_figure}
 use Rattle.cl_display.specs.Outcomes.{Draw, opens_none, ◌>->◌, ◌>>=◌}
+use Rattle.cl_display.specs.Presentations.{Texts, enter_presentation, label_of, leave_presentation, present_text, texts_on, write_value}
 use Rattle.cl_display.specs.Settings.{enter_room, indent, leave_room, restore_ink, restore_margin, set_ink}
 
 -- how many forms may be entered, and how much all marks together may weigh
@@ -21,10 +26,11 @@ pub record Allowance : Type 0 where
   pub budget : ℕ
   pub weight : ℕ
 
--- a value that is a text is written
-abbrev pub write_value : (most : ℕ) → DrawingAt → Data → Result DrawingAt ℕ
-write_value most s (text bytes) = write_text most bytes s
-write_value most s d = Err 1
+-- what a display is drawn of: an application, slots, and what the types of the application say of values
+pub record Scene : Type 0 where
+  pub app : App
+  pub slots : Slots
+  pub types : TypeMeanings
 
 -- the meaning of the forms inside, at a level
 abbrev pub Draws : Type 0
@@ -58,31 +64,49 @@ call_display go level None ds s = opens_none (trap 1)
 call_display go level (Some f) ds s =
     if length ds == length f.parameters then in_order go level (bind_parameters f.parameters ds) (shape_trees_of f.body) s else opens_none (trap 1)
 
--- a form that was entered, by what is allowed and by the meaning of its expressions and of the forms inside
-abbrev pub shape_parts : App → Allowance → Go → Draws → ℕ → Env → ShapeTree → DrawingAt → Draw
-shape_parts app allowed value go level env (shape.WriteText t) s =
+-- the draw behind, where a value is a member of a type
+abbrev pub for_members : Member → TypeSpecTree → Data → Draw → Draw
+for_members holds spec d m = if holds d spec then m else opens_none (trap 1)
+
+-- a text that presents a value
+abbrev pub presents_text : (most : ℕ) → Texts → ℕ → TypeSpecTree → DrawingAt → Data → Draw
+presents_text most text level spec s d = text level spec d >-> λ x. opens_none (lift (present_text most (label_of spec false d) s x))
+
+-- the forms of a body that present a value
+abbrev pub presents_body : (most : ℕ) → Draws → ℕ → Env → PresentationTree → ShapeTrees → DrawingAt → Data → Draw
+presents_body most go level env p body s d =
+    within go level env body (enter_presentation most d s) (leave_presentation (label_of p.spec p.single_box d) s.part)
+
+-- a form that was entered, by what is allowed and by the meaning of its expressions, of texts and of the forms inside
+abbrev pub shape_parts : Scene → Allowance → Go → Texts → Draws → ℕ → Env → ShapeTree → DrawingAt → Draw
+shape_parts scene allowed value text go level env (shape.WriteText t) s =
     value level env t >-> λ d. opens_none (lift (write_value allowed.weight s d))
-shape_parts app allowed value go level env shape.Newline s = opens_none (lift (newline s))
-shape_parts app allowed value go level env (shape.Draw figure ts) s =
+shape_parts scene allowed value text go level env shape.Newline s = opens_none (lift (newline s))
+shape_parts scene allowed value text go level env (shape.Draw figure ts) s =
     each value level env ts [] >-> λ ds. opens_none (lift (draw_figure allowed.weight figure ds s))
-shape_parts app allowed value go level env (shape.Indent t body) s =
+shape_parts scene allowed value text go level env (shape.Indent t body) s =
     value level env t >-> λ d. within go level env body (indent d s) (restore_margin s.ambient)
-shape_parts app allowed value go level env (shape.Ink t body) s =
+shape_parts scene allowed value text go level env (shape.Ink t body) s =
     value level env t >-> λ d. within go level env body (set_ink d s) (restore_ink s.ambient)
-shape_parts app allowed value go level env (shape.Room body) s = draws_to go level env body (leave_room s.ambient s.part) (enter_room s)
-shape_parts app allowed value go level env (shape.If t f g) s =
+shape_parts scene allowed value text go level env (shape.Room body) s = draws_to go level env body (leave_room s.ambient s.part) (enter_room s)
+shape_parts scene allowed value text go level env (shape.Present t spec) s =
+    value level env t >-> λ d. for_members scene.types.holds spec d (presents_text allowed.weight text level spec s d)
+shape_parts scene allowed value text go level env (shape.AsPresentation p body) s =
+    value level env p.object >-> λ d. for_members scene.types.holds p.spec d (presents_body allowed.weight go level env p body s d)
+shape_parts scene allowed value text go level env (shape.If t f g) s =
     truth_of value level env t >-> λ holds. if holds then go level env f s else go level env g s
-shape_parts app allowed value go level env (shape.When t body) s =
+shape_parts scene allowed value text go level env (shape.When t body) s =
     truth_of value level env t >-> λ holds. if holds then in_order go level env body s else opens_none (give s)
-shape_parts app allowed value go level env (shape.Let bs body) s = draws_in value go level bs body env s
-shape_parts app allowed value go level env (shape.Dolist x t body) s = parts_of_list value level env t >-> λ ds. for_each go level env x body ds s
-shape_parts app allowed value go level env (shape.Progn body) s = in_order go level env body s
-shape_parts app allowed value go level env (shape.Call f ts) s =
-    each value level env ts [] >-> λ ds. call_display go level (display_named f app) ds s
+shape_parts scene allowed value text go level env (shape.Let bs body) s = draws_in value go level bs body env s
+shape_parts scene allowed value text go level env (shape.Dolist x t body) s = parts_of_list value level env t >-> λ ds. for_each go level env x body ds s
+shape_parts scene allowed value text go level env (shape.Progn body) s = in_order go level env body s
+shape_parts scene allowed value text go level env (shape.Call f ts) s =
+    each value level env ts [] >-> λ ds. call_display go level (display_named f scene.app) ds s
 
 -- a form, where so many levels are left, below this level
-abbrev pub draws : ℕ → Allowance → App → Slots → Draws
-draws zero allowed app slots level env f s = entering 0 allowed.budget level >-> λ _. opens_none (trap 6)
-draws (suc left) allowed app slots level env f s =
+abbrev pub draws : ℕ → Allowance → Scene → Draws
+draws zero allowed scene level env f s = entering 0 allowed.budget level >-> λ _. opens_none (trap 6)
+draws (suc left) allowed scene level env f s =
     entering (suc left) allowed.budget level
-    >-> λ _. shape_parts app allowed (means left allowed.budget app slots) (draws left allowed app slots) (level + 1) env f s
+    >-> λ _. shape_parts scene allowed (means left allowed.budget scene.app scene.slots)
+    (texts_on scene.types.presents scene.slots allowed.budget left) (draws left allowed scene) (level + 1) env f s

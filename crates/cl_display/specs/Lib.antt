@@ -3,6 +3,7 @@ pub mod Figures
 pub mod Settings
 pub mod Sums
 pub mod Walks
+pub mod Presentations
 pub mod Outcomes
 pub mod Fresh
 pub mod Place

@@ -8,13 +8,16 @@ use Rattle.cl_application.specs.declared.declarations.PaneDecl.{PaneDecl}
 use Rattle.cl_eval.specs.declared.metering.Limits.{Limits}
 use Rattle.cl_eval.specs.Outcome.{Outcome, Gives, Traps}
 use Rattle.cl_eval.specs.Slots.{Slots, Env}
+use Rattle.cl_eval.specs.Statements.{Member}
+use Rattle.cl_eval.specs.TypeMeanings.{Presents, TypeMeanings}
+use Rattle.cl_eval.specs.declared.programs.Program.{Program}
 use Rattle.cl_medium.specs.Ambients.{ambient_start}
 use Rattle.cl_medium.specs.Drawing.{text_leaf}
 use Rattle.cl_medium.specs.Items.{Item}
 use Rattle.cl_record.specs.Marks.{Mark, draw}
 use Rattle.cl_display.specs.Drawings.{DrawingAt, blank_drawing}
 use Rattle.cl_display.specs.declared.drawings.TheConstants.{MAX_WEIGHT}
-use Rattle.cl_display.specs.Fresh.{Allowance, draws, in_order}
+use Rattle.cl_display.specs.Fresh.{Allowance, Scene, draws, in_order}
 use Rattle.cl_display.specs.Outcomes.{DrawOutcome}
 
 -- what a whole display is allowed
@@ -22,9 +25,17 @@ abbrev pub whole_allowance : Limits → Allowance
 whole_allowance limits = record { budget = limits.budget; weight = MAX_WEIGHT }
 
 -- display forms with these variables, from a blank drawing
-unfoldable pub fresh : Limits → App → List ShapeTree → Env → Slots → DrawOutcome
-fresh limits app forms env slots =
-    in_order (draws limits.depth (whole_allowance limits) app slots) 0 env (shape_trees_of forms) blank_drawing 0 0
+unfoldable pub fresh : Limits → Scene → List ShapeTree → Env → DrawOutcome
+fresh limits scene forms env =
+    in_order (draws limits.depth (whole_allowance limits) scene) 0 env (shape_trees_of forms) blank_drawing 0 0
+
+-- what the displays of a program are drawn of on these slots
+abbrev pub scene_of : {T : Type 0} → (T → Member) → (T → Presents) → Program T → Slots → Scene
+scene_of holds presents program slots = record {
+  app = program.app.now;
+  slots = slots;
+  types = record { holds = holds program.types.now; presents = presents program.types.now };
+}
 
 -- the one mark of a display that trapped
 abbrev pub trap_history : ℕ → List (Mark Item)
@@ -36,15 +47,15 @@ history_of (Gives s cost deepest) = s.part.marks
 history_of (Traps kind cost deepest) = trap_history kind
 
 -- the marks of these forms
-abbrev pub script : Limits → App → List ShapeTree → Env → Slots → List (Mark Item)
-script limits app forms env slots = history_of (fresh limits app forms env slots).outcome
+abbrev pub script : Limits → Scene → List ShapeTree → Env → List (Mark Item)
+script limits scene forms env = history_of (fresh limits scene forms env).outcome
 
 -- ---- a pane of a frame: the forms of its display, with no variables
 
 -- what the display of a pane comes to
-abbrev pub pane_fresh : Limits → App → PaneDecl → Slots → Outcome DrawingAt
-pane_fresh limits app pane slots = (fresh limits app (forms_of pane app) [] slots).outcome
+abbrev pub pane_fresh : Limits → App → TypeMeanings → PaneDecl → Slots → Outcome DrawingAt
+pane_fresh limits app types pane slots = (fresh limits (record { app = app; slots = slots; types = types }) (forms_of pane app) []).outcome
 
 -- its marks
-abbrev pub pane_script : Limits → App → PaneDecl → Slots → List (Mark Item)
-pane_script limits app pane slots = history_of (pane_fresh limits app pane slots)
+abbrev pub pane_script : Limits → App → TypeMeanings → PaneDecl → Slots → List (Mark Item)
+pane_script limits app types pane slots = history_of (pane_fresh limits app types pane slots)

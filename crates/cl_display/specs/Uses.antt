@@ -40,6 +40,8 @@ NoneUses go = (level : ℕ) (env : Env) (f : ShapeTree) (s : DrawingAt) (cost de
 abbrev pub IsPlain : ShapeTree → Type 0
 IsPlain (shape.WriteText t) = Unit {0}
 IsPlain (shape.Ink t body) = Unit {0}
+IsPlain (shape.Present t spec) = Unit {0}
+IsPlain (shape.AsPresentation p body) = Unit {0}
 IsPlain (shape.If t f g) = Unit {0}
 IsPlain (shape.When t body) = Unit {0}
 IsPlain (shape.Let bs body) = Unit {0}

@@ -3,7 +3,7 @@ ghost use Rattle.std.specs.Prelude.{◌≡◌, ◌≤◌, IfOk};
 ghost use Rattle.cl_eval.specs.Outcome.{RisesBy, cost_of};
 ghost use Rattle.cl_medium.specs.Items.{move_item};
 ghost use Rattle.cl_record.specs.Marks.{history_marks};
-ghost use Rattle.cl_display.specs.Script.{fresh, trap_history};
+ghost use Rattle.cl_display.specs.Script.{fresh, scene_of, trap_history};
 ghost use Rattle.cl_display.specs.Agrees.{IsFew, Shows, met_memory};
 
 use crate::drawings::{Drawing, MAX_WEIGHT};
@@ -11,8 +11,7 @@ use crate::forms::draw_all;
 use crate::histories::History;
 use crate::parts::push_leaf;
 use crate::places::Place;
-use cl_application::App;
-use cl_eval::{Context, Env, Limits, Meter, Scope, Slots, Standpoint, Stop};
+use cl_eval::{Context, Env, Meter, Program, Scope, Slots, Standpoint, Stop, Types};
 use cl_medium::{Ambient, Drawn, draw_text};
 use cl_outside::{Ledger, Steps};
 use cl_record::Nodes;
@@ -31,28 +30,29 @@ pub enum Shown {
     Memory,
 }
 
-/// Evaluates display forms once, from nothing, with these variables. Each form that is entered is a step.
+/// Evaluates display forms of a program once, from nothing, with these variables and slots, within the limits of the program. Each
+/// form that is entered is a step.
 #[tactic(auto, unfolding(crate::specs::Script::fresh))]
-pub fn display<L: Ledger>(
-    alloc: Global,
-    app: &App,
+pub fn display<T: Types, L: Ledger>(
+    program: &Program<'_, T>,
     forms: &[Shape],
     env: &Env,
     slots: &Slots,
-    limits: Limits,
     steps: &mut Steps<L>,
 ) -> Shown
-    requires { limits.depth ≤ 512 }
-    ensures shows { Shows result (fresh limits app.now forms.now env.now slots.now).outcome }
+    requires { program.now.limits.depth ≤ 512 }
+    ensures shows { Shows result
+        (fresh program.now.limits (scene_of T.holds T.presents program.now slots.now) forms.now env.now).outcome }
     ensures few { IsFew result }
     ensures ledger { RisesBy (met_memory result) steps.old steps.new
-        (cost_of (fresh limits app.now forms.now env.now slots.now).outcome) }
+        (cost_of (fresh program.now.limits (scene_of T.holds T.presents program.now slots.now) forms.now env.now).outcome) }
 {
+    let alloc = program.alloc;
     let context = Context {
         alloc,
-        app,
+        app: program.app,
         slots,
-        budget: limits.budget,
+        budget: program.limits.budget,
     };
     let mut meter = Meter::new();
     let mut drawing = Drawing::blank(alloc);
@@ -61,9 +61,10 @@ pub fn display<L: Ledger>(
         here: Standpoint {
             context: &context,
             scope: &scope,
-            left: limits.depth,
+            left: program.limits.depth,
             level: 0,
         },
+        types: program.types,
         max_weight: MAX_WEIGHT,
     };
     match draw_all(&place, forms, &mut drawing, &mut meter, steps) {

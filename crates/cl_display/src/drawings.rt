@@ -3,7 +3,7 @@ ghost use Rattle.std.specs.Prelude.{◌≡◌, ◌+◌, ◌<◌, ◌≤◌, Matc
 ghost use Rattle.cl_value.specs.Value.{data_of};
 ghost use Rattle.cl_eval.specs.Agrees.{Comes, always};
 ghost use Rattle.cl_display.specs.Drawings.{add_item, blank_drawing, cursor_to, drawing_of, join, newline, part_of, start, write_text};
-ghost use Rattle.cl_display.specs.Fresh.{write_value};
+ghost use Rattle.cl_display.specs.Presentations.{write_value};
 
 use crate::parts::Part;
 use cl_eval::Stop;
@@ -119,7 +119,7 @@ impl Drawing {
 }
 
 // The sum of two weights, where it is no more than the most.
-fn heavier(most: u64, weight: u64, more: u64) -> Option<u64>
+pub(crate) fn heavier(most: u64, weight: u64, more: u64) -> Option<u64>
     ensures { MatchOption result (most < weight + more)
         (λ sum. (sum ≡ weight + more) × (sum ≤ most)) }
 {

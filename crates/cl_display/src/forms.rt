@@ -1,5 +1,5 @@
 //! What display forms draw, once they are entered.
-ghost use Rattle.std.specs.Prelude.{◌≡◌, ◌+◌, ◌<◌, ◌^◌, map, Ok};
+ghost use Rattle.std.specs.Prelude.{◌≡◌, ◌+◌, ◌≤◌, if◌then◌else◌, map};
 ghost use Rattle.cl_value.specs.Value.{data_of};
 ghost use Rattle.cl_syntax.specs.ShapeTree.{shape_trees_of};
 ghost use Rattle.cl_syntax.specs.Expr.{bindings_of};
@@ -9,31 +9,33 @@ ghost use Rattle.cl_eval.specs.Standpoint.{meaning_at};
 ghost use Rattle.cl_eval.specs.Agrees.{Agrees, always, itself};
 ghost use Rattle.cl_display.specs.Drawings.{drawing_of};
 ghost use Rattle.cl_display.specs.Settings.{enter_room, indent, leave_room, restore_ink, restore_margin, set_ink};
-ghost use Rattle.cl_display.specs.Fresh.{call_display, draws_in, draws_to, for_each, in_order, shape_parts, within};
-ghost use Rattle.cl_display.specs.Place.{allowance_at, draw_from, draws_at};
+ghost use Rattle.cl_display.specs.Fresh.{call_display, draws_in, draws_to, for_each, for_members, in_order, presents_body, shape_parts, within};
+ghost use Rattle.cl_display.specs.Place.{allowance_at, draw_from, draws_at, scene_at, texts_at};
 
 use crate::drawings::Drawing;
 use crate::places::Place;
+use crate::presentations::{check_member, present};
 use cl_eval::{
-    Meter, Scope, Standpoint, Stop, evaluate, evaluate_bindings, evaluate_each, evaluate_list,
-    evaluate_test,
+    Meter, Scope, Standpoint, Stop, Types, evaluate, evaluate_bindings, evaluate_each,
+    evaluate_list, evaluate_test,
 };
 use cl_outside::{Ledger, Steps};
-use cl_syntax::{Binding, Shape, ShapeChoice, ShapeKind};
+use cl_record::Label;
+use cl_syntax::{Binding, Presentation, Shape, ShapeChoice, ShapeKind, Shapes};
 use cl_value::{Text, Value};
 
 // One form.
 #[cycle(draw)]
-fn draw<L: Ledger>(
-    place: &Place<'_>,
+fn draw<T: Types, L: Ledger>(
+    place: &Place<'_, T>,
     form: &Shape,
     drawing: &mut Drawing,
     meter: &mut Meter,
     steps: &mut Steps<L>,
 ) -> Result<(), Stop>
-    requires { place.now.here.level + place.now.here.left < 2 ^ 32 }
+    requires { place.now.here.level + place.now.here.left ≤ 512 }
     ensures meaning { Agrees (always (drawing_of drawing.new)) result meter.new
-        (draw_from place.now itself form.now (drawing_of drawing.old) meter.old.cost
+        (draw_from T.holds T.presents place.now itself form.now (drawing_of drawing.old) meter.old.cost
         meter.old.deepest).outcome }
     ensures ledger { steps.new + meter.old.cost ≡ steps.old + meter.new.cost }
 {
@@ -52,16 +54,17 @@ fn draw<L: Ledger>(
 
 // A form that was entered.
 #[cycle(draw)]
-fn draw_parts<L: Ledger>(
-    place: &Place<'_>,
+fn draw_parts<T: Types, L: Ledger>(
+    place: &Place<'_, T>,
     form: &Shape,
     drawing: &mut Drawing,
     meter: &mut Meter,
     steps: &mut Steps<L>,
 ) -> Result<(), Stop>
-    requires { place.now.here.level + place.now.here.left < 2 ^ 32 }
+    requires { place.now.here.level + place.now.here.left ≤ 512 }
     ensures meaning { Agrees (always (drawing_of drawing.new)) result meter.new
-        (draw_from place.now (shape_parts place.now.here.context.now.app.now (allowance_at place.now) (meaning_at place.now.here))
+        (draw_from T.holds T.presents place.now (shape_parts (scene_at T.holds T.presents place.now) (allowance_at place.now) (meaning_at place.now.here)
+        (texts_at T.holds T.presents place.now))
         form.now (drawing_of drawing.old) meter.old.cost
         meter.old.deepest).outcome }
     ensures ledger { steps.new + meter.old.cost ≡ steps.old + meter.new.cost }
@@ -85,6 +88,14 @@ fn draw_parts<L: Ledger>(
             draw_in_ink(place, &number, body.as_slice(), drawing, meter, steps)
         }
         ShapeKind::Room(body) => draw_in_room(place, body.as_slice(), drawing, meter, steps),
+        ShapeKind::Present(object, spec) => {
+            let object = evaluate(&place.here, object, meter, steps)?;
+            present(place, object, spec, drawing, meter, steps)
+        }
+        ShapeKind::AsPresentation(presentation, body) => {
+            let object = evaluate(&place.here, presentation.object(), meter, steps)?;
+            draw_presented(place, object, presentation, body, drawing, meter, steps)
+        }
         ShapeKind::If(choice) => {
             let ShapeChoice { test, then, other } = &**choice;
             if evaluate_test(&place.here, test, meter, steps)? {
@@ -130,16 +141,16 @@ fn draw_parts<L: Ledger>(
 
 // Forms in order.
 #[cycle(draw)]
-pub(crate) fn draw_all<L: Ledger>(
-    place: &Place<'_>,
+pub(crate) fn draw_all<T: Types, L: Ledger>(
+    place: &Place<'_, T>,
     forms: &[Shape],
     drawing: &mut Drawing,
     meter: &mut Meter,
     steps: &mut Steps<L>,
 ) -> Result<(), Stop>
-    requires { place.now.here.level + place.now.here.left < 2 ^ 32 }
+    requires { place.now.here.level + place.now.here.left ≤ 512 }
     ensures meaning { Agrees (always (drawing_of drawing.new)) result meter.new
-        (draw_from place.now in_order (shape_trees_of forms.now) (drawing_of drawing.old) meter.old.cost
+        (draw_from T.holds T.presents place.now in_order (shape_trees_of forms.now) (drawing_of drawing.old) meter.old.cost
         meter.old.deepest).outcome }
     ensures ledger { steps.new + meter.old.cost ≡ steps.old + meter.new.cost }
 {
@@ -151,17 +162,17 @@ pub(crate) fn draw_all<L: Ledger>(
 
 // The forms behind bindings.
 #[cycle(draw)]
-fn draw_in<L: Ledger>(
-    place: &Place<'_>,
+fn draw_in<T: Types, L: Ledger>(
+    place: &Place<'_, T>,
     bindings: &[Binding],
     body: &[Shape],
     drawing: &mut Drawing,
     meter: &mut Meter,
     steps: &mut Steps<L>,
 ) -> Result<(), Stop>
-    requires { place.now.here.level + place.now.here.left < 2 ^ 32 }
+    requires { place.now.here.level + place.now.here.left ≤ 512 }
     ensures meaning { Agrees (always (drawing_of drawing.new)) result meter.new
-        (draws_in (meaning_at place.now.here) (draws_at place.now) place.now.here.level (bindings_of bindings.now)
+        (draws_in (meaning_at place.now.here) (draws_at T.holds T.presents place.now) place.now.here.level (bindings_of bindings.now)
         (shape_trees_of body.now) (variables_of place.now.here.scope.now)
         (drawing_of drawing.old) meter.old.cost
         meter.old.deepest).outcome }
@@ -181,8 +192,8 @@ fn draw_in<L: Ledger>(
 
 // The forms for each of these values.
 #[cycle(draw)]
-fn draw_each<L: Ledger>(
-    place: &Place<'_>,
+fn draw_each<T: Types, L: Ledger>(
+    place: &Place<'_, T>,
     name: &Text,
     list: &[Value],
     body: &[Shape],
@@ -190,9 +201,9 @@ fn draw_each<L: Ledger>(
     meter: &mut Meter,
     steps: &mut Steps<L>,
 ) -> Result<(), Stop>
-    requires { place.now.here.level + place.now.here.left < 2 ^ 32 }
+    requires { place.now.here.level + place.now.here.left ≤ 512 }
     ensures meaning { Agrees (always (drawing_of drawing.new)) result meter.new
-        (draw_from place.now for_each name.now (shape_trees_of body.now) (map data_of list.now)
+        (draw_from T.holds T.presents place.now for_each name.now (shape_trees_of body.now) (map data_of list.now)
         (drawing_of drawing.old) meter.old.cost
         meter.old.deepest).outcome }
     ensures ledger { steps.new + meter.old.cost ≡ steps.old + meter.new.cost }
@@ -213,17 +224,17 @@ fn draw_each<L: Ledger>(
 
 // A display's forms, where its parameters are all that they see.
 #[cycle(draw)]
-fn call<L: Ledger>(
-    place: &Place<'_>,
+fn call<T: Types, L: Ledger>(
+    place: &Place<'_, T>,
     name: &Text,
     values: &[Value],
     drawing: &mut Drawing,
     meter: &mut Meter,
     steps: &mut Steps<L>,
 ) -> Result<(), Stop>
-    requires { place.now.here.level + place.now.here.left < 2 ^ 32 }
+    requires { place.now.here.level + place.now.here.left ≤ 512 }
     ensures meaning { Agrees (always (drawing_of drawing.new)) result meter.new
-        (call_display (draws_at place.now) place.now.here.level
+        (call_display (draws_at T.holds T.presents place.now) place.now.here.level
         (display_named name.now place.now.here.context.now.app.now) (map data_of values.now)
         (drawing_of drawing.old) meter.old.cost
         meter.old.deepest).outcome }
@@ -247,17 +258,17 @@ fn call<L: Ledger>(
 
 // The forms with this number more at the margin.
 #[cycle(draw)]
-fn draw_indented<L: Ledger>(
-    place: &Place<'_>,
+fn draw_indented<T: Types, L: Ledger>(
+    place: &Place<'_, T>,
     number: &Value,
     body: &[Shape],
     drawing: &mut Drawing,
     meter: &mut Meter,
     steps: &mut Steps<L>,
 ) -> Result<(), Stop>
-    requires { place.now.here.level + place.now.here.left < 2 ^ 32 }
+    requires { place.now.here.level + place.now.here.left ≤ 512 }
     ensures meaning { Agrees (always (drawing_of drawing.new)) result meter.new
-        (draw_from place.now within (shape_trees_of body.now)
+        (draw_from T.holds T.presents place.now within (shape_trees_of body.now)
         (indent (data_of number.now) (drawing_of drawing.old))
         (restore_margin (drawing_of drawing.old).ambient) meter.old.cost
         meter.old.deepest).outcome }
@@ -272,17 +283,17 @@ fn draw_indented<L: Ledger>(
 
 // The forms in this ink.
 #[cycle(draw)]
-fn draw_in_ink<L: Ledger>(
-    place: &Place<'_>,
+fn draw_in_ink<T: Types, L: Ledger>(
+    place: &Place<'_, T>,
     number: &Value,
     body: &[Shape],
     drawing: &mut Drawing,
     meter: &mut Meter,
     steps: &mut Steps<L>,
 ) -> Result<(), Stop>
-    requires { place.now.here.level + place.now.here.left < 2 ^ 32 }
+    requires { place.now.here.level + place.now.here.left ≤ 512 }
     ensures meaning { Agrees (always (drawing_of drawing.new)) result meter.new
-        (draw_from place.now within (shape_trees_of body.now)
+        (draw_from T.holds T.presents place.now within (shape_trees_of body.now)
         (set_ink (data_of number.now) (drawing_of drawing.old))
         (restore_ink (drawing_of drawing.old).ambient) meter.old.cost
         meter.old.deepest).outcome }
@@ -297,16 +308,16 @@ fn draw_in_ink<L: Ledger>(
 
 // The forms in a room.
 #[cycle(draw)]
-fn draw_in_room<L: Ledger>(
-    place: &Place<'_>,
+fn draw_in_room<T: Types, L: Ledger>(
+    place: &Place<'_, T>,
     body: &[Shape],
     drawing: &mut Drawing,
     meter: &mut Meter,
     steps: &mut Steps<L>,
 ) -> Result<(), Stop>
-    requires { place.now.here.level + place.now.here.left < 2 ^ 32 }
+    requires { place.now.here.level + place.now.here.left ≤ 512 }
     ensures meaning { Agrees (always (drawing_of drawing.new)) result meter.new
-        (draw_from place.now draws_to (shape_trees_of body.now)
+        (draw_from T.holds T.presents place.now draws_to (shape_trees_of body.now)
         (leave_room (drawing_of drawing.old).ambient (drawing_of drawing.old).part)
         (enter_room (drawing_of drawing.old)) meter.old.cost
         meter.old.deepest).outcome }
@@ -315,4 +326,32 @@ fn draw_in_room<L: Ledger>(
     let outer = drawing.enter_room(place.here.context.alloc);
     draw_all(place, body, drawing, meter, steps)?;
     drawing.leave_room(outer)
+}
+
+// The forms as what presents an object, where that is a member of its type.
+#[cycle(draw)]
+fn draw_presented<T: Types, L: Ledger>(
+    place: &Place<'_, T>,
+    object: Value,
+    presentation: &Presentation,
+    body: &Shapes,
+    drawing: &mut Drawing,
+    meter: &mut Meter,
+    steps: &mut Steps<L>,
+) -> Result<(), Stop>
+    requires { place.now.here.level + place.now.here.left ≤ 512 }
+    ensures meaning { Agrees (always (drawing_of drawing.new)) result meter.new
+        (for_members (T.holds place.now.types.now) presentation.now.spec (data_of object)
+        (draw_from T.holds T.presents place.now (presents_body place.now.max_weight) presentation.now (shape_trees_of body.now)
+        (drawing_of drawing.old) (data_of object)) meter.old.cost
+        meter.old.deepest).outcome }
+    ensures ledger { steps.new + meter.old.cost ≡ steps.old + meter.new.cost }
+{
+    let alloc = place.here.context.alloc;
+    check_member(place.types, &object, presentation.spec())?;
+    let outer = drawing.enter_presentation(alloc, place.max_weight, &object)?;
+    draw_all(place, body.as_slice(), drawing, meter, steps)?;
+    let spec = presentation.spec().clone()?;
+    let label = Label::new(object, spec, presentation.is_single_box());
+    drawing.leave_presentation(alloc, label, outer)
 }

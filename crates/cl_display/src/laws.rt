@@ -5,53 +5,62 @@ ghost use Rattle.cl_value.specs.Data.{Data};
 ghost use Rattle.cl_syntax.specs.ExprTree.{ExprTree, ExprTrees};
 ghost use Rattle.cl_syntax.specs.ShapeTree as shape;
 ghost use Rattle.cl_syntax.specs.ShapeTree.{ShapeTree, ShapeTrees};
-ghost use Rattle.cl_application.specs.declared.applications.App.{App};
 ghost use Rattle.cl_syntax.specs.declared.figures.Figure.{Figure};
 ghost use Rattle.cl_syntax.specs.declared.figures.Figure.TheVariants as figure;
 ghost use Rattle.cl_eval.specs.declared.metering.Limits.{Limits};
 ghost use Rattle.cl_eval.specs.Meaning.{Go};
 ghost use Rattle.cl_eval.specs.Outcome.{Gives};
-ghost use Rattle.cl_eval.specs.Slots.{Env, Slots};
+ghost use Rattle.cl_eval.specs.Slots.{Env};
+ghost use Rattle.cl_eval.specs.TypeMeanings.{AreTexts};
 ghost use Rattle.cl_medium.specs.Drawing.{shape_area, point_leaf, hline_leaf, vline_leaf, box_leaf, fill_leaf};
 ghost use Rattle.cl_record.specs.Replays.{items_drawn};
 ghost use Rattle.cl_display.specs.Drawings.{DrawingAt, cursor_box};
 ghost use Rattle.cl_display.specs.Figures.{IsFigure, draw_figure, draw_shape};
 ghost use Rattle.cl_display.specs.Settings.{enter_room};
-ghost use Rattle.cl_display.specs.Fresh.{Allowance, Draws, draws, in_order, shape_parts};
+ghost use Rattle.cl_display.specs.Fresh.{Allowance, Draws, Scene, draws, in_order, shape_parts};
+ghost use Rattle.cl_display.specs.Presentations.{Texts};
 ghost use Rattle.cl_display.specs.Script.{fresh};
-ghost use Rattle.cl_display.specs.Sums.{AddsUp, Holds, HoldsAll, lowest_of};
+ghost use Rattle.cl_display.specs.Sums.{AddsUp, AreMembers, Holds, HoldsAll, lowest_of};
 ghost use Rattle.cl_display.specs.Uses.{EndsWith, HasUsedMargin, IsPlain, NoneUses, UsesMargin, UsesNeither, UsesOrigin};
 
 /// Forms that end without a trap under some limits, end so under all limits that their cost, their reach and the weight at their
-/// end do not pass, with the same drawing, cost and reach. So does a display.
+/// end do not pass, with the same drawing, cost and reach, where the texts of values do so. So does a display.
 pub fn limits_can_be_wider()
-    ensures forms { (left more : ℕ) (allowed wider : Allowance) (app : App) (slots : Slots) (level : ℕ) (env : Env) (forms : ShapeTrees) (s end : DrawingAt) (cost deepest c d : ℕ)
-        → (in_order (draws left allowed app slots) level env forms s cost deepest).outcome ≡ Gives end c d
+    ensures forms { (left more : ℕ) (allowed wider : Allowance) (scene : Scene) → AreTexts scene.app scene.types.presents
+        → (level : ℕ) (env : Env) (forms : ShapeTrees) (s end : DrawingAt) (cost deepest c d : ℕ)
+        → (in_order (draws left allowed scene) level env forms s cost deepest).outcome ≡ Gives end c d
         → c ≤ wider.budget → d ≤ level + more → end.weight ≤ wider.weight
-        → (in_order (draws more wider app slots) level env forms s cost deepest).outcome ≡ Gives end c d }
-    ensures display { (limits wider : Limits) (app : App) (forms : List ShapeTree) (env : Env) (slots : Slots) (s : DrawingAt) (cost reach : ℕ)
-        → (fresh limits app forms env slots).outcome ≡ Gives s cost reach → cost ≤ wider.budget → reach ≤ wider.depth
-        → (fresh wider app forms env slots).outcome ≡ Gives s cost reach }
+        → (in_order (draws more wider scene) level env forms s cost deepest).outcome ≡ Gives end c d }
+    ensures display { (limits wider : Limits) (scene : Scene) → AreTexts scene.app scene.types.presents
+        → (forms : List ShapeTree) (env : Env) (s : DrawingAt) (cost reach : ℕ)
+        → (fresh limits scene forms env).outcome ≡ Gives s cost reach → cost ≤ wider.budget → reach ≤ wider.depth
+        → (fresh wider scene forms env).outcome ≡ Gives s cost reach }
 {}
 
-/// A display that ends without a trap weighs what its items weigh together, no more than 1,000,000; its lowest end is that of
+/// A display that ends without a trap weighs what its marks weigh together, no more than 1,000,000; its lowest end is that of
 /// the lowest item; and it draws at most 1,000,000 items.
 pub fn displays_add_up()
-    ensures { (limits : Limits) (app : App) (forms : List ShapeTree) (env : Env) (slots : Slots) (s : DrawingAt) (cost reach : ℕ)
-        → (fresh limits app forms env slots).outcome ≡ Gives s cost reach → AddsUp s }
+    ensures { (limits : Limits) (scene : Scene) (forms : List ShapeTree) (env : Env) (s : DrawingAt) (cost reach : ℕ)
+        → (fresh limits scene forms env).outcome ≡ Gives s cost reach → AddsUp s }
+{}
+
+/// Each object that a display presents is a member of the type by which it is presented.
+pub fn what_is_presented_is_a_member()
+    ensures { (limits : Limits) (scene : Scene) (forms : List ShapeTree) (env : Env) (s : DrawingAt) (cost reach : ℕ)
+        → (fresh limits scene forms env).outcome ≡ Gives s cost reach → AreMembers scene.types.holds s.part.marks }
 {}
 
 /// A room ends at the lowest end of the items that its body draws.
 pub fn rooms_end_below_their_items()
-    ensures { (left : ℕ) (allowed : Allowance) (app : App) (slots : Slots) (level : ℕ) (env : Env) (body : ShapeTrees) (s end : DrawingAt) (cost deepest c d : ℕ)
-        → (in_order (draws left allowed app slots) level env body (enter_room s) cost deepest).outcome ≡ Gives end c d
+    ensures { (left : ℕ) (allowed : Allowance) (scene : Scene) (level : ℕ) (env : Env) (body : ShapeTrees) (s end : DrawingAt) (cost deepest c d : ℕ)
+        → (in_order (draws left allowed scene) level env body (enter_room s) cost deepest).outcome ≡ Gives end c d
         → end.part.lowest ≡ lowest_of (items_drawn end.part.marks) }
 {}
 
 /// The extent of a display that ends without a trap holds the corners of each of its items, and the place of the cursor.
 pub fn extents_hold_what_is_drawn()
-    ensures { (limits : Limits) (app : App) (forms : List ShapeTree) (env : Env) (slots : Slots) (s : DrawingAt) (cost reach : ℕ)
-        → (fresh limits app forms env slots).outcome ≡ Gives s cost reach → HoldsAll s.part.extent (items_drawn s.part.marks) × Holds s.part.extent (cursor_box s.ambient) }
+    ensures { (limits : Limits) (scene : Scene) (forms : List ShapeTree) (env : Env) (s : DrawingAt) (cost reach : ℕ)
+        → (fresh limits scene forms env).outcome ≡ Gives s cost reach → HoldsAll s.part.extent (items_drawn s.part.marks) × Holds s.part.extent (cursor_box s.ambient) }
 {}
 
 /// A figure of parts of the right kinds is drawn as an item in the area of its place and its sizes, from the origin, where these
@@ -78,16 +87,16 @@ pub fn figures_refuse_other_values()
 /// and a room use the margin, and a figure that draws something uses the origin. A room does not use the origin around it, whatever
 /// its body draws, and a form that indents does so by the forms inside alone. All other forms use neither, but by the forms inside.
 pub fn margin_and_origin_are_used_by_few_forms()
-    ensures newline { (app : App) (allowed : Allowance) (value : Go) (go : Draws) (level : ℕ) (env : Env) (s : DrawingAt) (cost deepest : ℕ)
-        → EndsWith (UsesMargin s) (shape_parts app allowed value go level env shape.Newline s cost deepest).outcome }
-    ensures room { (app : App) (allowed : Allowance) (value : Go) (go : Draws) (level : ℕ) (env : Env) (body : ShapeTrees) (s : DrawingAt) (cost deepest : ℕ)
-        → EndsWith (UsesMargin s) (shape_parts app allowed value go level env (shape.Room body) s cost deepest).outcome }
-    ensures indent { (left : ℕ) (allowed : Allowance) (app : App) (slots : Slots) (value : Go) (level : ℕ) (env : Env) (t : ExprTree) (body : ShapeTrees) (s : DrawingAt) (cost deepest : ℕ)
-        → EndsWith HasUsedMargin (shape_parts app allowed value (draws left allowed app slots) level env (shape.Indent t body) s cost deepest).outcome }
-    ensures indent_alone { (app : App) (allowed : Allowance) (value : Go) (go : Draws) (level : ℕ) (env : Env) (t : ExprTree) (body : ShapeTrees) (s : DrawingAt) (cost deepest : ℕ)
-        → NoneUses go → EndsWith (UsesMargin s) (shape_parts app allowed value go level env (shape.Indent t body) s cost deepest).outcome }
-    ensures figure { (app : App) (allowed : Allowance) (value : Go) (go : Draws) (level : ℕ) (env : Env) (figure : Figure) (ts : ExprTrees) (s : DrawingAt) (cost deepest : ℕ)
-        → EndsWith (UsesOrigin s) (shape_parts app allowed value go level env (shape.Draw figure ts) s cost deepest).outcome }
-    ensures others { (app : App) (allowed : Allowance) (value : Go) (go : Draws) (level : ℕ) (env : Env) (f : ShapeTree) (s : DrawingAt) (cost deepest : ℕ)
-        → IsPlain f → NoneUses go → EndsWith (UsesNeither s) (shape_parts app allowed value go level env f s cost deepest).outcome }
+    ensures newline { (scene : Scene) (allowed : Allowance) (value : Go) (text : Texts) (go : Draws) (level : ℕ) (env : Env) (s : DrawingAt) (cost deepest : ℕ)
+        → EndsWith (UsesMargin s) (shape_parts scene allowed value text go level env shape.Newline s cost deepest).outcome }
+    ensures room { (scene : Scene) (allowed : Allowance) (value : Go) (text : Texts) (go : Draws) (level : ℕ) (env : Env) (body : ShapeTrees) (s : DrawingAt) (cost deepest : ℕ)
+        → EndsWith (UsesMargin s) (shape_parts scene allowed value text go level env (shape.Room body) s cost deepest).outcome }
+    ensures indent { (left : ℕ) (allowed : Allowance) (scene : Scene) (value : Go) (text : Texts) (level : ℕ) (env : Env) (t : ExprTree) (body : ShapeTrees) (s : DrawingAt) (cost deepest : ℕ)
+        → EndsWith HasUsedMargin (shape_parts scene allowed value text (draws left allowed scene) level env (shape.Indent t body) s cost deepest).outcome }
+    ensures indent_alone { (scene : Scene) (allowed : Allowance) (value : Go) (text : Texts) (go : Draws) (level : ℕ) (env : Env) (t : ExprTree) (body : ShapeTrees) (s : DrawingAt) (cost deepest : ℕ)
+        → NoneUses go → EndsWith (UsesMargin s) (shape_parts scene allowed value text go level env (shape.Indent t body) s cost deepest).outcome }
+    ensures figure { (scene : Scene) (allowed : Allowance) (value : Go) (text : Texts) (go : Draws) (level : ℕ) (env : Env) (figure : Figure) (ts : ExprTrees) (s : DrawingAt) (cost deepest : ℕ)
+        → EndsWith (UsesOrigin s) (shape_parts scene allowed value text go level env (shape.Draw figure ts) s cost deepest).outcome }
+    ensures others { (scene : Scene) (allowed : Allowance) (value : Go) (text : Texts) (go : Draws) (level : ℕ) (env : Env) (f : ShapeTree) (s : DrawingAt) (cost deepest : ℕ)
+        → IsPlain f → NoneUses go → EndsWith (UsesNeither s) (shape_parts scene allowed value text go level env f s cost deepest).outcome }
 {}

@@ -9,3 +9,4 @@ pub mod LimitLemmas
 pub mod NameLemmas
 pub mod ListLemmas
 pub mod NumberLemmas
+pub mod KeepLemmas

@@ -12,3 +12,4 @@ pub mod Statements
 pub mod Stage
 pub mod Executed
 pub mod Uses
+pub mod TypeMeanings

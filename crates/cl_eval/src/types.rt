@@ -1,11 +1,7 @@
 //! What an application's types say of values.
-ghost use Rattle.std.specs.Prelude.{◌≤◌, Bool};
-ghost use Rattle.cl_value.specs.Data.{Data};
+ghost use Rattle.std.specs.Prelude.{◌≤◌};
 ghost use Rattle.cl_value.specs.Value.{data_of};
-ghost use Rattle.cl_syntax.specs.TypeSpecTree.{TypeSpecTree};
-ghost use Rattle.cl_eval.specs.declared.metering.Limits.{Limits};
-ghost use Rattle.cl_eval.specs.Slots.{Slots};
-ghost use Rattle.cl_eval.specs.Outcome.{Outcome, RisesBy, cost_of};
+ghost use Rattle.cl_eval.specs.Outcome.{RisesBy, cost_of};
 ghost use Rattle.cl_eval.specs.Evaluated.{Evaluates, met_memory};
 ghost use Rattle.cl_eval.specs.Executed.{Decides};
 
@@ -16,13 +12,21 @@ use cl_outside::{Ledger, Steps};
 use cl_syntax::TypeSpec;
 use cl_value::{Held, Value};
 
-/// The types of an application.
+/// The types of an application. Which values are members of a type depends on the value and the type alone. The laws say what
+/// the texts of values keep to.
 pub trait Types {
+    ghost use Rattle.cl_application.specs.declared.applications.App.{App};
+    ghost use Rattle.cl_eval.specs.Statements.{Member};
+    ghost use Rattle.cl_eval.specs.TypeMeanings.{AreTexts, Presents};
+
+    // the application that declares them
+    ghost app: { Self → App };
+
     // whether a value is a member of a type
-    ghost holds: { Self → Data → TypeSpecTree → Bool };
+    ghost holds: { Self → Member };
 
     // the text of a value by a type, on these slots
-    ghost presents: { Self → Limits → Slots → TypeSpecTree → Data → Outcome Data };
+    ghost presents: { Self → Presents };
 
     /// Whether a value is a member of a type, as far as there is memory to find it.
     fn member(&self, value: &Value, spec: &TypeSpec) -> Held
@@ -43,4 +47,6 @@ pub trait Types {
             (presents self.now limits slots.now spec.now (data_of value.now)) }
         ensures ledger { RisesBy (met_memory result) steps.old steps.new
             (cost_of (presents self.now limits slots.now spec.now (data_of value.now))) };
+
+    ghost are_texts: { (t : Self) → AreTexts (app t) (presents t) };
 }

@@ -53,6 +53,7 @@ module _ {P : ℕ → Type 0} where
   section_faults w key.Satisfies at ds slots h c = gives
   section_faults w key.Description at ds slots h c = gives
   section_faults w key.Separator at ds slots h c = gives
+  section_faults w key.SingleBox at ds slots h c = gives
 
   sections_faults : (w : Signatures) (ks : List Keyed) (slots : SlotTable) → CoversKeys P ks → FaultsAt P (parse_sections w ks slots)
   sections_faults w [] slots c = gives

@@ -9,7 +9,7 @@ use crate::datum::Datum;
 use crate::naming::symbol_of;
 use std::alloc::{AllocError, Global};
 
-/// The keys of declarations and of types.
+/// The keys of declarations, of types and of presentations.
 #[derive(Clone, Copy, PartialEq, Eq)]
 pub enum Key {
     Size,
@@ -22,6 +22,7 @@ pub enum Key {
     Satisfies,
     Description,
     Separator,
+    SingleBox,
 }
 
 /// A key with what stands behind it.
@@ -76,6 +77,8 @@ fn value_key(word: &[u8]) -> Option<Key>
         Some(Key::Description)
     } else if word == b":separator".as_slice() {
         Some(Key::Separator)
+    } else if word == b":single-box".as_slice() {
+        Some(Key::SingleBox)
     } else {
         None
     }

@@ -35,15 +35,15 @@ settles_quiet g w slots k panes d o steps declares stands due = record {
   stood = stands;
   stands = refl;
   settles = record {
-    marks = ap (λ (b : Bool). (settle_if b (pane_fresh g.limits g.app d slots) (marks_of_pane o) false).marks) (sym due);
-    report = ap (λ (b : Bool). (settle_if b (pane_fresh g.limits g.app d slots) (marks_of_pane o) false).report) (sym due);
+    marks = ap (λ (b : Bool). (settle_if b (pane_fresh g.limits g.app g.types d slots) (marks_of_pane o) false).marks) (sym due);
+    report = ap (λ (b : Bool). (settle_if b (pane_fresh g.limits g.app g.types d slots) (marks_of_pane o) false).report) (sym due);
   };
-  spends = subst (λ (b : Bool). RisesBy false steps steps (settle_if b (pane_fresh g.limits g.app d slots) (marks_of_pane o) false).cost) (sym due) (omega arith);
+  spends = subst (λ (b : Bool). RisesBy false steps steps (settle_if b (pane_fresh g.limits g.app g.types d slots) (marks_of_pane o) false).cost) (sym due) (omega arith);
 }
 
 pub settles_due : (g : Ground) (w : Which) (slots : Slots) (k : ℕ) (old new : List Pane) (d : PaneDecl) (o p : Pane) (from to : ℕ)
     → slice_get (panes_of g.app) k ≡ Some d → slice_get old k ≡ Some o → new ≡ slice_set old k p → is_due w (marks_of_pane o) ≡ true
-    → Evaluates (pane_fresh g.limits g.app d slots) o p from to → SettlesAt g w slots k old new from to
+    → Evaluates (pane_fresh g.limits g.app g.types d slots) o p from to → SettlesAt g w slots k old new from to
 settles_due g w slots k old new d o p from to declares stood stands due e = record {
   declared = d;
   before = o;
@@ -52,10 +52,10 @@ settles_due g w slots k old new d o p from to declares stood stands due e = reco
   stood = stood;
   stands = stands;
   settles = record {
-    marks = subst (λ (b : Bool). marks_of_pane p ≡ (settle_if b (pane_fresh g.limits g.app d slots) (marks_of_pane o) (met_memory p.report)).marks) (sym due) e.marks;
-    report = subst (λ (b : Bool). p.report ≡ (settle_if b (pane_fresh g.limits g.app d slots) (marks_of_pane o) (met_memory p.report)).report) (sym due) e.report;
+    marks = subst (λ (b : Bool). marks_of_pane p ≡ (settle_if b (pane_fresh g.limits g.app g.types d slots) (marks_of_pane o) (met_memory p.report)).marks) (sym due) e.marks;
+    report = subst (λ (b : Bool). p.report ≡ (settle_if b (pane_fresh g.limits g.app g.types d slots) (marks_of_pane o) (met_memory p.report)).report) (sym due) e.report;
   };
-  spends = subst (λ (b : Bool). RisesBy (met_memory p.report) from to (settle_if b (pane_fresh g.limits g.app d slots) (marks_of_pane o) (met_memory p.report)).cost) (sym due) e.spends;
+  spends = subst (λ (b : Bool). RisesBy (met_memory p.report) from to (settle_if b (pane_fresh g.limits g.app g.types d slots) (marks_of_pane o) (met_memory p.report)).cost) (sym due) e.spends;
 }
 
 -- a frame of which one pane is put in the place of another

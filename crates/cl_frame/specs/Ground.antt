@@ -1,18 +1,23 @@
 -- What the panes of a frame and all steps stand on.
 use Rattle.cl_application.specs.declared.applications.App.{App}
 use Rattle.cl_eval.specs.Statements.{Member}
+use Rattle.cl_eval.specs.TypeMeanings.{Presents, TypeMeanings}
 use Rattle.cl_eval.specs.declared.metering.Limits.{Limits}
 use Rattle.cl_eval.specs.declared.programs.Program.{Program}
 
--- an application, what is a member of its types, and the limits of its displays and commands
+-- an application, what its types say of values, and the limits of its displays and commands
 pub record Ground : Type 0 where
   pub app : App
-  pub holds : Member
+  pub types : TypeMeanings
   pub limits : Limits
 
-abbrev pub ground : App → Member → Limits → Ground
-ground app holds limits = record { app = app; holds = holds; limits = limits }
+abbrev pub ground : App → TypeMeanings → Limits → Ground
+ground app types limits = record { app = app; types = types; limits = limits }
 
--- the ground of a program, by what is a member of its types
-abbrev pub ground_of : {T : Type 0} → (T → Member) → Program T → Ground
-ground_of holds program = ground program.app.now (holds program.types.now) program.limits
+-- what the types of a program say of values, by which are members of a type and by the texts of values
+abbrev pub meanings_of : {T : Type 0} → (T → Member) → (T → Presents) → T → TypeMeanings
+meanings_of holds presents types = record { holds = holds types; presents = presents types }
+
+-- the ground of a program
+abbrev pub ground_of : {T : Type 0} → (T → Member) → (T → Presents) → Program T → Ground
+ground_of holds presents program = ground program.app.now (meanings_of holds presents program.types.now) program.limits

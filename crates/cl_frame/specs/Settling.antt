@@ -45,7 +45,7 @@ is_due which.Force marks = true
 
 -- one pane
 abbrev pub settle_pane : Ground → Which → Slots → PaneDecl → PaneMarks → (met : Bool) → PaneStep
-settle_pane g which slots d old met = settle_if (is_due which old) (pane_fresh g.limits g.app d slots) old met
+settle_pane g which slots d old met = settle_if (is_due which old) (pane_fresh g.limits g.app g.types d slots) old met
 
 -- all panes, each with what it met; where that is not told, it met nothing
 abbrev pub settle_panes : Ground → Which → Slots → List PaneDecl → List PaneMarks → (mets : List Bool) → List PaneStep

@@ -2,6 +2,7 @@
 ghost use Rattle.std.specs.Prelude.{◌≡◌, ◌≤◌, Some, None};
 ghost use Rattle.cl_display.specs.Script.{pane_fresh};
 ghost use Rattle.cl_frame.specs.Frames.{Evaluates};
+ghost use Rattle.cl_frame.specs.Ground.{meanings_of};
 ghost use Rattle.cl_frame.specs.Panes.{IsCounted, area_of};
 ghost use Rattle.cl_medium.specs.Items.{move_item};
 ghost use Rattle.cl_record.specs.Counts.{count_of};
@@ -60,21 +61,13 @@ impl Pane {
         requires depth { program.now.limits.depth ≤ 512 }
         requires counted { IsCounted self.now }
         ensures evaluates { Evaluates
-            (pane_fresh program.now.limits program.now.app.now declared.now slots.now) self.now result
-            steps.old steps.new }
+            (pane_fresh program.now.limits program.now.app.now (meanings_of T.holds T.presents program.now.types.now)
+            declared.now slots.now) self.now result steps.old steps.new }
         ensures later { steps.old ≤ steps.new }
     {
         let env = Env::new(program.alloc);
         let forms = program.app.forms_of(declared);
-        match display(
-            program.alloc,
-            program.app,
-            forms,
-            &env,
-            slots,
-            program.limits,
-            steps,
-        ) {
+        match display(program, forms, &env, slots, steps) {
             Shown::Built(history) => {
                 let report = Report {
                     kept: 0,

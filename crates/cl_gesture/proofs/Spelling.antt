@@ -92,34 +92,40 @@ typing_spelled : (verb : List ℕ) (rest : Option (List ℕ)) (h : Gesture) → 
 typing_spelled verb None h is same = absurd (cc)
 typing_spelled verb (Some text) h is same = typing_by verb text h (is_typable text) refl is same
 
-verb_spelled : (verb : List ℕ) (rest : Option (List ℕ)) (g : Gesture) (r f i o n t : Bool) → (r ≡ true → verb ≡ codes "return") → (f ≡ true → verb ≡ codes "frame")
+verb_spelled : (verb : List ℕ) (rest : Option (List ℕ)) (g : Gesture) (r u l f i o n t : Bool)
+    → (r ≡ true → verb ≡ codes "return") → (u ≡ true → verb ≡ codes "rubout") → (l ≡ true → verb ≡ codes "clear") → (f ≡ true → verb ≡ codes "frame")
     → (i ≡ true → verb ≡ codes "inks") → (o ≡ true → verb ≡ codes "force") → (n ≡ true → verb ≡ codes "history") → (t ≡ true → verb ≡ codes "type")
-    → cond r (alone gesture.Return rest) (cond f (alone gesture.Frame rest) (cond i (alone gesture.Inks rest) (cond o (alone gesture.Force rest)
-    (cond n (asking rest) (cond t (typing rest) bad))))) ≡ does g
+    → cond r (alone gesture.Return rest) (cond u (alone gesture.Rubout rest) (cond l (alone gesture.Clear rest) (cond f (alone gesture.Frame rest)
+    (cond i (alone gesture.Inks rest) (cond o (alone gesture.Force rest) (cond n (asking rest) (cond t (typing rest) bad))))))) ≡ does g
     → (verb ++ behind rest ≡ spelling_of g) × IsTypable g
-verb_spelled verb rest g true f i o n t is_r is_f is_i is_o is_n is_t same = alone_spelled verb rest gesture.Return g (is_r refl) tt same
-verb_spelled verb rest g false true i o n t is_r is_f is_i is_o is_n is_t same = alone_spelled verb rest gesture.Frame g (is_f refl) tt same
-verb_spelled verb rest g false false true o n t is_r is_f is_i is_o is_n is_t same = alone_spelled verb rest gesture.Inks g (is_i refl) tt same
-verb_spelled verb rest g false false false true n t is_r is_f is_i is_o is_n is_t same = alone_spelled verb rest gesture.Force g (is_o refl) tt same
-verb_spelled verb rest g false false false false true t is_r is_f is_i is_o is_n is_t same = asking_spelled verb rest g (is_n refl) same
-verb_spelled verb rest g false false false false false true is_r is_f is_i is_o is_n is_t same = typing_spelled verb rest g (is_t refl) same
-verb_spelled verb rest g false false false false false false is_r is_f is_i is_o is_n is_t same = absurd (cc)
+verb_spelled verb rest g true u l f i o n t is_r is_u is_l is_f is_i is_o is_n is_t same = alone_spelled verb rest gesture.Return g (is_r refl) tt same
+verb_spelled verb rest g false true l f i o n t is_r is_u is_l is_f is_i is_o is_n is_t same = alone_spelled verb rest gesture.Rubout g (is_u refl) tt same
+verb_spelled verb rest g false false true f i o n t is_r is_u is_l is_f is_i is_o is_n is_t same = alone_spelled verb rest gesture.Clear g (is_l refl) tt same
+verb_spelled verb rest g false false false true i o n t is_r is_u is_l is_f is_i is_o is_n is_t same = alone_spelled verb rest gesture.Frame g (is_f refl) tt same
+verb_spelled verb rest g false false false false true o n t is_r is_u is_l is_f is_i is_o is_n is_t same = alone_spelled verb rest gesture.Inks g (is_i refl) tt same
+verb_spelled verb rest g false false false false false true n t is_r is_u is_l is_f is_i is_o is_n is_t same = alone_spelled verb rest gesture.Force g (is_o refl) tt same
+verb_spelled verb rest g false false false false false false true t is_r is_u is_l is_f is_i is_o is_n is_t same = asking_spelled verb rest g (is_n refl) same
+verb_spelled verb rest g false false false false false false false true is_r is_u is_l is_f is_i is_o is_n is_t same = typing_spelled verb rest g (is_t refl) same
+verb_spelled verb rest g false false false false false false false false is_r is_u is_l is_f is_i is_o is_n is_t same = absurd (cc)
 
 line_by : (bytes : List ℕ) (g : Gesture) (quiet : Bool) → cond quiet idle (verb_says (verb_of bytes) (rest_of bytes)) ≡ does g
     → (bytes ≡ spelling_of g) × IsTypable g
 line_by bytes g true same = absurd (cc)
 line_by bytes g false same =
     let verb = verb_of bytes in
-    let spelled = verb_spelled verb (rest_of bytes) g (bytes_eq verb (codes "return")) (bytes_eq verb (codes "frame")) (bytes_eq verb (codes "inks"))
-    (bytes_eq verb (codes "force")) (bytes_eq verb (codes "history")) (bytes_eq verb (codes "type"))
-    (bytes_eq-Decides verb (codes "return")).0 (bytes_eq-Decides verb (codes "frame")).0 (bytes_eq-Decides verb (codes "inks")).0
-    (bytes_eq-Decides verb (codes "force")).0 (bytes_eq-Decides verb (codes "history")).0 (bytes_eq-Decides verb (codes "type")).0 same in
+    let spelled = verb_spelled verb (rest_of bytes) g (bytes_eq verb (codes "return")) (bytes_eq verb (codes "rubout")) (bytes_eq verb (codes "clear"))
+    (bytes_eq verb (codes "frame")) (bytes_eq verb (codes "inks")) (bytes_eq verb (codes "force")) (bytes_eq verb (codes "history")) (bytes_eq verb (codes "type"))
+    (bytes_eq-Decides verb (codes "return")).0 (bytes_eq-Decides verb (codes "rubout")).0 (bytes_eq-Decides verb (codes "clear")).0
+    (bytes_eq-Decides verb (codes "frame")).0 (bytes_eq-Decides verb (codes "inks")).0 (bytes_eq-Decides verb (codes "force")).0
+    (bytes_eq-Decides verb (codes "history")).0 (bytes_eq-Decides verb (codes "type")).0 same in
     (rejoin bytes ∙ spelled.0, spelled.1)
 
 -- ---- a spelling is said
 
 backward : (g : Gesture) → IsTypable g → says (spelling_of g) ≡ does g
 backward gesture.Return h = refl
+backward gesture.Rubout h = refl
+backward gesture.Clear h = refl
 backward gesture.Frame h = refl
 backward gesture.Inks h = refl
 backward gesture.Force h = refl

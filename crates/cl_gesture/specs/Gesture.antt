@@ -65,11 +65,13 @@ typing (Some text) = if is_typable text then does (gesture.«Type» text) else b
 abbrev pub verb_says : List ℕ → Option (List ℕ) → LineKind
 verb_says verb rest =
     if bytes_eq verb (codes "return") then alone gesture.Return rest else
+    (if bytes_eq verb (codes "rubout") then alone gesture.Rubout rest else
+    (if bytes_eq verb (codes "clear") then alone gesture.Clear rest else
     (if bytes_eq verb (codes "frame") then alone gesture.Frame rest else
     (if bytes_eq verb (codes "inks") then alone gesture.Inks rest else
     (if bytes_eq verb (codes "force") then alone gesture.Force rest else
     (if bytes_eq verb (codes "history") then asking rest else
-    (if bytes_eq verb (codes "type") then typing rest else bad)))))
+    (if bytes_eq verb (codes "type") then typing rest else bad)))))))
 
 -- what a line says, byte for byte
 abbrev pub says : List ℕ → LineKind
@@ -85,6 +87,8 @@ kind_of (long bytes) = bad
 -- the line of a gesture
 abbrev pub spelling_of : Gesture → List ℕ
 spelling_of gesture.Return = codes "return"
+spelling_of gesture.Rubout = codes "rubout"
+spelling_of gesture.Clear = codes "clear"
 spelling_of gesture.Frame = codes "frame"
 spelling_of gesture.Inks = codes "inks"
 spelling_of gesture.Force = codes "force"
@@ -100,6 +104,8 @@ IsNoSpace byte = byte ≢ 32
 -- what is typed is 1 or more bytes from 32 to 126, and a name 1 or more bytes without a space
 abbrev pub IsTypable : Gesture → Type 0
 IsTypable gesture.Return = Unit {0}
+IsTypable gesture.Rubout = Unit {0}
+IsTypable gesture.Clear = Unit {0}
 IsTypable gesture.Frame = Unit {0}
 IsTypable gesture.Inks = Unit {0}
 IsTypable gesture.Force = Unit {0}

@@ -8,6 +8,10 @@ pub enum Gesture {
     Type(Text),
     /// Ended the line that was typed.
     Return,
+    /// Took the last element of the line away.
+    Rubout,
+    /// Took the whole line away.
+    Clear,
     /// Asked for what the screen shows.
     Frame,
     /// Asked for the inks of what the screen shows.

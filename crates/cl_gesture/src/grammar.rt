@@ -155,6 +155,10 @@ fn read_verb(alloc: Global, verb: &[u8], rest: Option<&[u8]>) -> Said
 {
     if verb == b"return".as_slice() {
         read_alone(Gesture::Return, rest)
+    } else if verb == b"rubout".as_slice() {
+        read_alone(Gesture::Rubout, rest)
+    } else if verb == b"clear".as_slice() {
+        read_alone(Gesture::Clear, rest)
     } else if verb == b"frame".as_slice() {
         read_alone(Gesture::Frame, rest)
     } else if verb == b"inks".as_slice() {

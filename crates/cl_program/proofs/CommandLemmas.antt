@@ -8,11 +8,12 @@ use Rattle.cl_frame.specs.Sending.{Wire, wire_of}
 use Rattle.cl_invocation.specs.Words.{Invocation, run, check, invocation_of}
 use Rattle.cl_lattice.specs.World.{World}
 use Rattle.cl_load.specs.Application.{IsApplication}
-use Rattle.cl_load.specs.Types.{Bounds, holds_in, types_in}
+use Rattle.cl_load.specs.Types.{types_in}
 use Rattle.cl_outside.specs.Causes.{Rose}
 use Rattle.cl_outside.specs.Place.{IsTold}
 use Rattle.cl_program.specs.Command.{IsCheck, IsRun, Names, application_of}
 use Rattle.cl_program.specs.Commands.{Checked, KeepsFiles, RanOn, RanText}
+use Rattle.cl_program.specs.Hosts.{HostMeanings, meanings_in}
 use Rattle.cl_program.specs.Run.{Opens, Ran, RanLoaded, RanOutServing, ground_in, limits_of}
 use Rattle.cl_program.specs.Surroundings.{IsMade, Placed, Streams, UsesDevice, no_device}
 use Rattle.cl_program.specs.Texts.{IsTextOf}
@@ -29,14 +30,14 @@ uses_from (Some name) old mid new d e same u =
 named : (words : List (List ℕ)) (i : Invocation) (name : List ℕ) → invocation_of words ≡ Some i → application_of i ≡ name → Names words name
 named words i name e f = ap (option_map application_of) e ∙ ap (λ (n : List ℕ). Some n) f
 
-module _ (bounds : Bounds) (words : List (List ℕ)) (name : List ℕ) (wire : Option (List ℕ)) (budget : Option ℕ) (run_is : IsRun words name wire budget) where
-  opens : (place : Placed) (text : List ℕ) (app : App) → IsTextOf (place.file name) text → IsApplication bounds text app
-      → Opens bounds words place wire (ground_in bounds app (limits_of budget))
+module _ (hosts : HostMeanings) (words : List (List ℕ)) (name : List ℕ) (wire : Option (List ℕ)) (budget : Option ℕ) (run_is : IsRun words name wire budget) where
+  opens : (place : Placed) (text : List ℕ) (app : App) → IsTextOf (place.file name) text → IsApplication hosts.bounds text app
+      → Opens hosts words place wire (ground_in hosts app (limits_of budget))
   opens place text app of is =
       record { name = name; budget = budget; command = run_is; text = text; of_file = of; declared = is; stands = refl }
 
   pub Ran-text : (old mid new : Placed) (s t : Streams) (text : List ℕ) (h : How) → IsTextOf (old.file name) text → mid.sink ≡ old.sink
-      → mid.making_faults ≡ old.making_faults → RanText bounds text wire (limits_of budget) mid new s t h → Ran bounds words old new s t h
+      → mid.making_faults ≡ old.making_faults → RanText hosts text wire (limits_of budget) mid new s t h → Ran hosts words old new s t h
   Ran-text old mid new s t text how.Usage of sink making r = absurd r
   Ran-text old mid new s t text how.UsageCut of sink making r = absurd r
   Ran-text old mid new s t text how.AppFault of sink making r = absurd r
@@ -55,19 +56,19 @@ module _ (bounds : Bounds) (words : List (List ℕ)) (name : List ℕ) (wire : O
   Ran-text old mid new s t text how.Loads of sink making r = absurd r
   Ran-text old mid new s t text how.LoadsCut of sink making r = absurd r
   Ran-text old mid new s t text how.WireFault of sink making r = record {
-    g = ground_in bounds r.0 (limits_of budget);
+    g = ground_in hosts r.0 (limits_of budget);
     wire = r.2.0;
-    opened = subst (λ (w : Option (List ℕ)). Opens bounds words old w (ground_in bounds r.0 (limits_of budget))) r.2.1 (opens old text r.0 of r.1);
+    opened = subst (λ (w : Option (List ℕ)). Opens hosts words old w (ground_in hosts r.0 (limits_of budget))) r.2.1 (opens old text r.0 of r.1);
     rose = subst (λ (n : ℕ). Rose n new.making_faults) making r.2.2;
     same = r.2.3;
   }
   Ran-text old mid new s t text how.Memory of sink making (inl same) = inl same
   Ran-text old mid new s t text how.Memory of sink making (inr r) =
-      let serving : RanOutServing bounds words old s t =
-      record { g = ground_in bounds r.0 (limits_of budget); wire = wire; opened = opens old text r.0 of r.1; ran_out = r.2 } in
+      let serving : RanOutServing hosts words old s t =
+      record { g = ground_in hosts r.0 (limits_of budget); wire = wire; opened = opens old text r.0 of r.1; ran_out = r.2 } in
       inr serving
   Ran-text old mid new s t text (how.Ended e) of sink making r = record {
-    g = ground_in bounds r.0 (limits_of budget);
+    g = ground_in hosts r.0 (limits_of budget);
     wire = wire;
     opened = opens old text r.0 of r.1;
     device_old = r.2.device_old;
@@ -76,43 +77,43 @@ module _ (bounds : Bounds) (words : List (List ℕ)) (name : List ℕ) (wire : O
     went = r.2.went;
   }
 
-pub Ran-check : (bounds : Bounds) (words : List (List ℕ)) (name : List ℕ) (old new : Placed) (s t : Streams) (text : List ℕ) (h : How) → IsCheck words name
-    → IsTextOf (old.file name) text → Checked bounds text s t h → Ran bounds words old new s t h
-Ran-check bounds words name old new s t text how.Usage is of r = absurd r
-Ran-check bounds words name old new s t text how.UsageCut is of r = absurd r
-Ran-check bounds words name old new s t text how.AppFault is of r = absurd r
-Ran-check bounds words name old new s t text how.Refused is of r = record {
+pub Ran-check : (hosts : HostMeanings) (words : List (List ℕ)) (name : List ℕ) (old new : Placed) (s t : Streams) (text : List ℕ) (h : How) → IsCheck words name
+    → IsTextOf (old.file name) text → Checked hosts.bounds text s t h → Ran hosts words old new s t h
+Ran-check hosts words name old new s t text how.Usage is of r = absurd r
+Ran-check hosts words name old new s t text how.UsageCut is of r = absurd r
+Ran-check hosts words name old new s t text how.AppFault is of r = absurd r
+Ran-check hosts words name old new s t text how.Refused is of r = record {
   number = r.0;
   at = r.1;
   refused = record { name = name; command = named words (check name) name is refl; text = text; of_file = of; refusal = r.2 };
   said = r.3;
 }
-Ran-check bounds words name old new s t text how.RefusalCut is of r = record {
+Ran-check hosts words name old new s t text how.RefusalCut is of r = record {
   number = r.0;
   at = r.1;
   refused = record { name = name; command = named words (check name) name is refl; text = text; of_file = of; refusal = r.2 };
   said = r.3;
 }
-Ran-check bounds words name old new s t text how.Loads is of r = (record { name = name; command = is; text = text; of_file = of; app = r.0; declared = r.1 }, r.2)
-Ran-check bounds words name old new s t text how.LoadsCut is of r = (record { name = name; command = is; text = text; of_file = of; app = r.0; declared = r.1 }, r.2)
-Ran-check bounds words name old new s t text how.WireFault is of r = absurd r
-Ran-check bounds words name old new s t text how.Memory is of r = inl r
-Ran-check bounds words name old new s t text (how.Ended e) is of r = absurd r
+Ran-check hosts words name old new s t text how.Loads is of r = (record { name = name; command = is; text = text; of_file = of; app = r.0; declared = r.1 }, r.2)
+Ran-check hosts words name old new s t text how.LoadsCut is of r = (record { name = name; command = is; text = text; of_file = of; app = r.0; declared = r.1 }, r.2)
+Ran-check hosts words name old new s t text how.WireFault is of r = absurd r
+Ran-check hosts words name old new s t text how.Memory is of r = inl r
+Ran-check hosts words name old new s t text (how.Ended e) is of r = absurd r
 
 -- an application that was loaded, with its types
-pub Ran-application : (bounds : Bounds) (text : List ℕ) (wire : Option (List ℕ)) (limits : Limits) (app : App) (types : World) (p q : Placed) (s t : Streams) (h : How)
-    → IsApplication bounds text app → types ≡ types_in bounds app → RanOn wire (ground app (holds_in types app) limits) p q s t h → RanText bounds text wire limits p q s t h
-Ran-application bounds text wire limits app types p q s t how.Usage is same r = absurd r
-Ran-application bounds text wire limits app types p q s t how.UsageCut is same r = absurd r
-Ran-application bounds text wire limits app types p q s t how.AppFault is same r = absurd r
-Ran-application bounds text wire limits app types p q s t how.Refused is same r = absurd r
-Ran-application bounds text wire limits app types p q s t how.RefusalCut is same r = absurd r
-Ran-application bounds text wire limits app types p q s t how.Loads is same r = absurd r
-Ran-application bounds text wire limits app types p q s t how.LoadsCut is same r = absurd r
-Ran-application bounds text wire limits app types p q s t how.WireFault is same r = (app, is, r)
-Ran-application bounds text wire limits app types p q s t how.Memory is same (inl r) = inl r
-Ran-application bounds text wire limits app types p q s t how.Memory is same (inr r) = inr (app, is, rw same at r)
-Ran-application bounds text wire limits app types p q s t (how.Ended e) is same r = (app, is, rw same at r)
+pub Ran-application : (hosts : HostMeanings) (text : List ℕ) (wire : Option (List ℕ)) (limits : Limits) (app : App) (types : World) (p q : Placed) (s t : Streams) (h : How)
+    → IsApplication hosts.bounds text app → types ≡ types_in hosts.bounds app → RanOn wire (ground app (meanings_in hosts.names types app) limits) p q s t h → RanText hosts text wire limits p q s t h
+Ran-application hosts text wire limits app types p q s t how.Usage is same r = absurd r
+Ran-application hosts text wire limits app types p q s t how.UsageCut is same r = absurd r
+Ran-application hosts text wire limits app types p q s t how.AppFault is same r = absurd r
+Ran-application hosts text wire limits app types p q s t how.Refused is same r = absurd r
+Ran-application hosts text wire limits app types p q s t how.RefusalCut is same r = absurd r
+Ran-application hosts text wire limits app types p q s t how.Loads is same r = absurd r
+Ran-application hosts text wire limits app types p q s t how.LoadsCut is same r = absurd r
+Ran-application hosts text wire limits app types p q s t how.WireFault is same r = (app, is, r)
+Ran-application hosts text wire limits app types p q s t how.Memory is same (inl r) = inl r
+Ran-application hosts text wire limits app types p q s t how.Memory is same (inr r) = inr (app, is, rw same at r)
+Ran-application hosts text wire limits app types p q s t (how.Ended e) is same r = (app, is, rw same at r)
 
 -- ---- an application that was loaded
 

@@ -14,6 +14,7 @@ use Rattle.cl_outside.specs.Causes.{Rose}
 use Rattle.cl_session.specs.declared.serving.End.{End}
 use Rattle.cl_session.specs.declared.serving.End.TheVariants as end
 use Rattle.cl_program.specs.Command.{IsCheck, IsNoCommand, IsRun, Names, application_of}
+use Rattle.cl_program.specs.Hosts.{HostMeanings}
 use Rattle.cl_program.specs.Run.{AppFaultRose, IsLoaded, Opens, ReadToEnd, ReadToLimit, Refuses, Serves}
 use Rattle.cl_program.specs.Statuses.{DeclaresApplication, HasFewLines, HasManyLines, HasRefusal}
 use Rattle.cl_program.specs.Surroundings.{Placed, Streams}
@@ -88,12 +89,12 @@ refused_declares bounds words place old new name said is d =
     none_declared bounds (place.file r.name) r.text said.number said.at r.of_file r.refusal (subst P same d)
 
 -- a text that was opened is not refused
-pub opened_declares : (bounds : Bounds) (words : List (List ℕ)) (place : Placed) (wire : Option (List ℕ)) (g : Ground) (name : List ℕ) (number at : ℕ)
-    → Opens bounds words place wire g → Names words name → HasRefusal bounds (place.file name) number at → ⊥
-opened_declares bounds words place wire g name number at o is d =
+pub opened_declares : (hosts : HostMeanings) (words : List (List ℕ)) (place : Placed) (wire : Option (List ℕ)) (g : Ground) (name : List ℕ) (number at : ℕ)
+    → Opens hosts words place wire g → Names words name → HasRefusal hosts.bounds (place.file name) number at → ⊥
+opened_declares hosts words place wire g name number at o is d =
     let same : name ≡ o.name = one_name words name o.name is (run_named words o.name wire o.budget o.command) in
-    let P : List ℕ → Type 0 = λ n. HasRefusal bounds (place.file n) number at in
-    some_declared bounds (place.file o.name) o.text g.app number at o.of_file o.declared (subst P same d)
+    let P : List ℕ → Type 0 = λ n. HasRefusal hosts.bounds (place.file n) number at in
+    some_declared hosts.bounds (place.file o.name) o.text g.app number at o.of_file o.declared (subst P same d)
 
 -- nor is one that was loaded
 pub loaded_declares : (bounds : Bounds) (words : List (List ℕ)) (place : Placed) (name : List ℕ) (number at : ℕ)
@@ -104,8 +105,8 @@ loaded_declares bounds words place name number at o is d =
     some_declared bounds (place.file o.name) o.text o.app number at o.of_file o.declared (subst P same d)
 
 -- an application that is checked is not opened
-pub opened_checked : (bounds : Bounds) (words : List (List ℕ)) (place : Placed) (wire : Option (List ℕ)) (g : Ground) (name : List ℕ) → Opens bounds words place wire g → IsCheck words name → ⊥
-opened_checked bounds words place wire g name o is = not_checked words o.name name wire o.budget o.command is
+pub opened_checked : (hosts : HostMeanings) (words : List (List ℕ)) (place : Placed) (wire : Option (List ℕ)) (g : Ground) (name : List ℕ) → Opens hosts words place wire g → IsCheck words name → ⊥
+opened_checked hosts words place wire g name o is = not_checked words o.name name wire o.budget o.command is
 
 -- ---- the gestures
 
@@ -121,14 +122,14 @@ more_lines (Some bytes) (Some rest) read (byte ∷ further) c whole lines more f
     omega (arith, pieces-further read byte (further ++ rest) whole, lines, small)
 
 -- a further byte behind a million lines is a line more
-pub limit_passed : (bounds : Bounds) (words : List (List ℕ)) (p q : Placed) (old new : Streams) (how : End) → how ≡ end.TooMany
-    → Serves bounds words p q old new how → HasFewLines old.left → ⊥
-limit_passed bounds words p q old new end.TooMany e s few =
+pub limit_passed : (hosts : HostMeanings) (words : List (List ℕ)) (p q : Placed) (old new : Streams) (how : End) → how ≡ end.TooMany
+    → Serves hosts words p q old new how → HasFewLines old.left → ⊥
+limit_passed hosts words p q old new end.TooMany e s few =
     let r : ReadToLimit s.g old new s.device_old s.device_new = s.went in
     more_lines old.left new.left r.read r.further r.consumed r.whole r.lines r.more few
-limit_passed bounds words p q old new end.Done e s few = cc
-limit_passed bounds words p q old new end.ReadFault e s few = cc
-limit_passed bounds words p q old new end.OutputFault e s few = cc
+limit_passed hosts words p q old new end.Done e s few = cc
+limit_passed hosts words p q old new end.ReadFault e s few = cc
+limit_passed hosts words p q old new end.OutputFault e s few = cc
 
 few_lines : (left_old left_new : Option (List ℕ)) (read : List ℕ) → Consumes left_old left_new read → IsAtEnd left_new
     → length (pieces read) ≤ 1000000 → HasManyLines left_old → ⊥
@@ -141,10 +142,10 @@ few_lines (Some bytes) (Some rest) read c at_end few many =
     omega (arith, few, long)
 
 -- gestures that were read to their end are at most a million lines
-pub end_reached : (bounds : Bounds) (words : List (List ℕ)) (p q : Placed) (old new : Streams) (how : End) → how ≡ end.Done
-    → Serves bounds words p q old new how → HasManyLines old.left → ⊥
-end_reached bounds words p q old new end.Done e s many =
+pub end_reached : (hosts : HostMeanings) (words : List (List ℕ)) (p q : Placed) (old new : Streams) (how : End) → how ≡ end.Done
+    → Serves hosts words p q old new how → HasManyLines old.left → ⊥
+end_reached hosts words p q old new end.Done e s many =
     let r : ReadToEnd s.g old new s.device_old s.device_new = s.went in few_lines old.left new.left r.read r.consumed r.at_end r.few many
-end_reached bounds words p q old new end.TooMany e s many = cc
-end_reached bounds words p q old new end.ReadFault e s many = cc
-end_reached bounds words p q old new end.OutputFault e s many = cc
+end_reached hosts words p q old new end.TooMany e s many = cc
+end_reached hosts words p q old new end.ReadFault e s many = cc
+end_reached hosts words p q old new end.OutputFault e s many = cc

@@ -12,6 +12,7 @@ use Rattle.cl_outside.specs.Causes.{Rose}
 use Rattle.cl_invocation.specs.Words.{Invocation, run, check}
 use Rattle.cl_session.specs.declared.serving.End.{End}
 use Rattle.cl_program.specs.Command.{loads_line, refusal_line}
+use Rattle.cl_program.specs.Hosts.{HostMeanings}
 use Rattle.cl_program.specs.Run.{EndsAs, RanOut, SaysCut, SaysWhole, ground_in}
 use Rattle.cl_program.specs.Surroundings.{Placed, Streams, UsesDevice}
 use Rattle.cl_program.specs.declared.running.How.{How}
@@ -60,28 +61,28 @@ RanOn wire g place_old place_new old new how.WireFault =
 RanOn wire g place_old place_new old new how.Memory = (new ≡ old) ⊎ RanOut g old new
 RanOn wire g place_old place_new old new (how.Ended end) = Went wire g place_old place_new old new end
 
--- ---- a text that was read, with host types of these bounds
+-- ---- a text that was read, with these host types
 
 -- this number and this offset are those of its refusal, and its line was said so
 abbrev pub RefusesText : Bounds → (text : List ℕ) → (said : List ℕ → Type 0) → Type 0
 RefusesText bounds text said = (number : ℕ) × (at : ℕ) × IsRefusal bounds text number at × said (refusal_line number at)
 
 -- it declares an application, of which this holds on its ground
-abbrev pub OfApplication : Bounds → (text : List ℕ) → (limits : Limits) → (Ground → Type 0) → Type 0
-OfApplication bounds text limits P = (app : App) × IsApplication bounds text app × P (ground_in bounds app limits)
+abbrev pub OfApplication : HostMeanings → (text : List ℕ) → (limits : Limits) → (Ground → Type 0) → Type 0
+OfApplication hosts text limits P = (app : App) × IsApplication hosts.bounds text app × P (ground_in hosts app limits)
 
 -- a run of a text
-abbrev pub RanText : Bounds → (text : List ℕ) → (wire : Option (List ℕ)) → Limits → (place_old place_new : Placed) → (old new : Streams) → How → Type 0
-RanText bounds text wire limits place_old place_new old new how.Usage = ⊥
-RanText bounds text wire limits place_old place_new old new how.UsageCut = ⊥
-RanText bounds text wire limits place_old place_new old new how.AppFault = ⊥
-RanText bounds text wire limits place_old place_new old new how.Refused = RefusesText bounds text (SaysWhole old new)
-RanText bounds text wire limits place_old place_new old new how.RefusalCut = RefusesText bounds text (SaysCut old new)
-RanText bounds text wire limits place_old place_new old new how.Loads = ⊥
-RanText bounds text wire limits place_old place_new old new how.LoadsCut = ⊥
-RanText bounds text wire limits place_old place_new old new how.WireFault = OfApplication bounds text limits (λ g. RanOn wire g place_old place_new old new how.WireFault)
-RanText bounds text wire limits place_old place_new old new how.Memory = (new ≡ old) ⊎ OfApplication bounds text limits (λ g. RanOut g old new)
-RanText bounds text wire limits place_old place_new old new (how.Ended end) = OfApplication bounds text limits (λ g. Went wire g place_old place_new old new end)
+abbrev pub RanText : HostMeanings → (text : List ℕ) → (wire : Option (List ℕ)) → Limits → (place_old place_new : Placed) → (old new : Streams) → How → Type 0
+RanText hosts text wire limits place_old place_new old new how.Usage = ⊥
+RanText hosts text wire limits place_old place_new old new how.UsageCut = ⊥
+RanText hosts text wire limits place_old place_new old new how.AppFault = ⊥
+RanText hosts text wire limits place_old place_new old new how.Refused = RefusesText hosts.bounds text (SaysWhole old new)
+RanText hosts text wire limits place_old place_new old new how.RefusalCut = RefusesText hosts.bounds text (SaysCut old new)
+RanText hosts text wire limits place_old place_new old new how.Loads = ⊥
+RanText hosts text wire limits place_old place_new old new how.LoadsCut = ⊥
+RanText hosts text wire limits place_old place_new old new how.WireFault = OfApplication hosts text limits (λ g. RanOn wire g place_old place_new old new how.WireFault)
+RanText hosts text wire limits place_old place_new old new how.Memory = (new ≡ old) ⊎ OfApplication hosts text limits (λ g. RanOut g old new)
+RanText hosts text wire limits place_old place_new old new (how.Ended end) = OfApplication hosts text limits (λ g. Went wire g place_old place_new old new end)
 
 -- a text that declares an application, or has a refusal; nothing is said where memory was wanting
 abbrev pub Judges : Bounds → (text : List ℕ) → Option LoadRefusal → Type 0

@@ -11,7 +11,7 @@ use Rattle.cl_gesture.specs.Lines.{Piece, pieces, ended, held_from}
 use Rattle.cl_gesture.specs.Next.{most_lines}
 use Rattle.cl_load.specs.Application.{IsApplication, IsRefusal}
 use Rattle.cl_load.specs.Opening.{opening_slots}
-use Rattle.cl_load.specs.Types.{Bounds, holds_in, types_in}
+use Rattle.cl_load.specs.Types.{Bounds, types_in}
 use Rattle.cl_outside.specs.Writing.{Says}
 use Rattle.cl_session.specs.Session.{Fits, cost_of_panes, world_of}
 use Rattle.cl_session.specs.Transcript.{IsTranscript, Meters, RoseIf, meters}
@@ -19,6 +19,7 @@ use Rattle.cl_session.specs.World.{World, opening}
 use Rattle.cl_session.specs.declared.serving.End.{End}
 use Rattle.cl_session.specs.declared.serving.End.TheVariants as end
 use Rattle.cl_program.specs.Command.{IsCheck, IsNoCommand, IsRun, Names, loads_line, refusal_line, usage_line}
+use Rattle.cl_program.specs.Hosts.{HostMeanings, meanings_in}
 use Rattle.cl_program.specs.Surroundings.{Placed, Streams, UsesDevice}
 use Rattle.cl_program.specs.Texts.{IsTextOf}
 use Rattle.cl_program.specs.declared.running.Opening.{Opening}
@@ -62,19 +63,19 @@ pub record IsTranscriptOf (g : Ground) (ps : List Piece) (bytes : List ℕ) (spe
 
 -- ---- the application
 
--- an application with its types on host types of these bounds, within limits
-abbrev pub ground_in : Bounds → App → Limits → Ground
-ground_in bounds app limits = ground app (holds_in (types_in bounds app) app) limits
+-- an application with its types on these host types, within limits
+abbrev pub ground_in : HostMeanings → App → Limits → Ground
+ground_in hosts app limits = ground app (meanings_in hosts.names (types_in hosts.bounds app) app) limits
 
--- the words run an application of this text, which declares it on host types of these bounds; this ground is it with its types
-pub record Opens (bounds : Bounds) (words : List (List ℕ)) (place : Placed) (wire : Option (List ℕ)) (g : Ground) : Type 0 where
+-- the words run an application of this text, which declares it on these host types; this ground is it with its types
+pub record Opens (hosts : HostMeanings) (words : List (List ℕ)) (place : Placed) (wire : Option (List ℕ)) (g : Ground) : Type 0 where
   pub name : List ℕ
   pub budget : Option ℕ
   pub command : IsRun words name wire budget
   pub text : List ℕ
   pub of_file : IsTextOf (place.file name) text
-  pub declared : IsApplication bounds text g.app
-  pub stands : g ≡ ground_in bounds g.app (limits_of budget)
+  pub declared : IsApplication hosts.bounds text g.app
+  pub stands : g ≡ ground_in hosts g.app (limits_of budget)
 
 -- the words name a file, and its text has this refusal at this offset
 pub record IsRefused (bounds : Bounds) (words : List (List ℕ)) (place : Placed) (number at : ℕ) : Type 0 where
@@ -167,10 +168,10 @@ EndsAs g old new device_old device_new end.TooMany = ReadToLimit g old new devic
 EndsAs g old new device_old device_new end.OutputFault = WrittenToFault g old new device_old device_new
 
 -- an application was opened, and its gestures went so
-pub record Serves (bounds : Bounds) (words : List (List ℕ)) (place_old place_new : Placed) (old new : Streams) (how : End) : Type 0 where
+pub record Serves (hosts : HostMeanings) (words : List (List ℕ)) (place_old place_new : Placed) (old new : Streams) (how : End) : Type 0 where
   pub g : Ground
   pub wire : Option (List ℕ)
-  pub opened : Opens bounds words place_old wire g
+  pub opened : Opens hosts words place_old wire g
   pub device_old : Wire
   pub device_new : Wire
   pub uses : UsesDevice wire place_old place_new device_old device_new
@@ -190,10 +191,10 @@ pub record RanOut (g : Ground) (old new : Streams) : Type 0 where
   pub at_most : new.spent ≤ old.spent + opening_cost g
 
 -- the same, of the application that the words open
-pub record RanOutServing (bounds : Bounds) (words : List (List ℕ)) (place : Placed) (old new : Streams) : Type 0 where
+pub record RanOutServing (hosts : HostMeanings) (words : List (List ℕ)) (place : Placed) (old new : Streams) : Type 0 where
   pub g : Ground
   pub wire : Option (List ℕ)
-  pub opened : Opens bounds words place wire g
+  pub opened : Opens hosts words place wire g
   pub ran_out : RanOut g old new
 
 -- the line was written whole; or the output failed behind its first bytes
@@ -218,29 +219,29 @@ pub record RefusesCut (bounds : Bounds) (words : List (List ℕ)) (place : Place
   pub said : SaysCut old new (refusal_line number at)
 
 -- the wire that the words name could not be made: the application loads, and nothing was read or written
-pub record MakesNoWire (bounds : Bounds) (words : List (List ℕ)) (old_place new_place : Placed) (old new : Streams) : Type 0 where
+pub record MakesNoWire (hosts : HostMeanings) (words : List (List ℕ)) (old_place new_place : Placed) (old new : Streams) : Type 0 where
   pub g : Ground
   pub wire : List ℕ
-  pub opened : Opens bounds words old_place (Some wire) g
+  pub opened : Opens hosts words old_place (Some wire) g
   pub rose : Rose old_place.making_faults new_place.making_faults
   pub same : new ≡ old
 
 -- want of memory before the first gesture: the ledger stays, or the opening of an application met it
-abbrev pub RanOutOfMemory : Bounds → List (List ℕ) → Placed → Streams → Streams → Type 0
-RanOutOfMemory bounds words place old new = (new ≡ old) ⊎ RanOutServing bounds words place old new
+abbrev pub RanOutOfMemory : HostMeanings → List (List ℕ) → Placed → Streams → Streams → Type 0
+RanOutOfMemory hosts words place old new = (new ≡ old) ⊎ RanOutServing hosts words place old new
 
--- a run of these words, with host types of these bounds
-abbrev pub Ran : Bounds → List (List ℕ) → (place_old place_new : Placed) → (old new : Streams) → How → Type 0
-Ran bounds words place_old place_new old new how.Usage = IsNoCommand words × SaysWhole old new usage_line
-Ran bounds words place_old place_new old new how.UsageCut = IsNoCommand words × SaysCut old new usage_line
-Ran bounds words place_old place_new old new how.AppFault = AppFaultRose words place_old place_new × (new ≡ old)
-Ran bounds words place_old place_new old new how.Refused = Refuses bounds words place_old old new
-Ran bounds words place_old place_new old new how.RefusalCut = RefusesCut bounds words place_old old new
-Ran bounds words place_old place_new old new how.Loads = IsLoaded bounds words place_old × SaysWhole old new loads_line
-Ran bounds words place_old place_new old new how.LoadsCut = IsLoaded bounds words place_old × SaysCut old new loads_line
-Ran bounds words place_old place_new old new how.WireFault = MakesNoWire bounds words place_old place_new old new
-Ran bounds words place_old place_new old new how.Memory = RanOutOfMemory bounds words place_old old new
-Ran bounds words place_old place_new old new (how.Ended end) = Serves bounds words place_old place_new old new end
+-- a run of these words, with these host types
+abbrev pub Ran : HostMeanings → List (List ℕ) → (place_old place_new : Placed) → (old new : Streams) → How → Type 0
+Ran hosts words place_old place_new old new how.Usage = IsNoCommand words × SaysWhole old new usage_line
+Ran hosts words place_old place_new old new how.UsageCut = IsNoCommand words × SaysCut old new usage_line
+Ran hosts words place_old place_new old new how.AppFault = AppFaultRose words place_old place_new × (new ≡ old)
+Ran hosts words place_old place_new old new how.Refused = Refuses hosts.bounds words place_old old new
+Ran hosts words place_old place_new old new how.RefusalCut = RefusesCut hosts.bounds words place_old old new
+Ran hosts words place_old place_new old new how.Loads = IsLoaded hosts.bounds words place_old × SaysWhole old new loads_line
+Ran hosts words place_old place_new old new how.LoadsCut = IsLoaded hosts.bounds words place_old × SaysCut old new loads_line
+Ran hosts words place_old place_new old new how.WireFault = MakesNoWire hosts words place_old place_new old new
+Ran hosts words place_old place_new old new how.Memory = RanOutOfMemory hosts words place_old old new
+Ran hosts words place_old place_new old new (how.Ended end) = Serves hosts words place_old place_new old new end
 
 -- a run of an application on a device
 abbrev pub RanLoaded : Ground → (old new : Streams) → (device_old device_new : Wire) → How → Type 0

@@ -7,6 +7,7 @@ use Rattle.cl_load.specs.Application.{IsApplication, IsRefusal}
 use Rattle.cl_load.specs.Types.{Bounds}
 use Rattle.cl_session.specs.declared.serving.End.TheVariants as end
 use Rattle.cl_program.specs.Texts.{first_bytes}
+use Rattle.cl_program.specs.Hosts.{HostMeanings}
 use Rattle.cl_program.specs.Run.{Ran}
 use Rattle.cl_program.specs.Surroundings.{Placed, Streams}
 use Rattle.cl_program.specs.declared.running.How.{How}
@@ -29,10 +30,10 @@ status_of (how.Ended end.TooMany) = 8
 status_of (how.Ended end.OutputFault) = 5
 
 -- a run ended with this status: in one of the ways that have it, and what that says holds
-pub record EndsWith (bounds : Bounds) (words : List (List ℕ)) (place_old place_new : Placed) (old new : Streams) (status : ℕ) : Type 0 where
+pub record EndsWith (hosts : HostMeanings) (words : List (List ℕ)) (place_old place_new : Placed) (old new : Streams) (status : ℕ) : Type 0 where
   pub how : How
   pub status_is : status ≡ status_of how
-  pub ran : Ran bounds words place_old place_new old new how
+  pub ran : Ran hosts words place_old place_new old new how
 
 -- a file that is told, whose text declares an application on host types of these bounds
 abbrev pub DeclaresApplication : Bounds → Option (Option (List ℕ)) → Type 0

@@ -1,12 +1,12 @@
 //! The commands of the program: an application is run, or checked.
 ghost use Rattle.std.specs.Prelude.{◌≡◌, ◌≤◌, ℕ, List, Option, [], Some, None, map, option_map, true};
 ghost use Rattle.cl_application.specs.Panes.{IsPlaced};
-ghost use Rattle.cl_frame.specs.Ground.{ground, ground_of};
+ghost use Rattle.cl_frame.specs.Ground.{ground, ground_of, meanings_of};
 ghost use Rattle.cl_frame.specs.Sending.{wire_of};
 ghost use Rattle.cl_invocation.specs.Words.{invocation_of};
 ghost use Rattle.cl_load.specs.Opening.{opening_slots};
-ghost use Rattle.cl_load.specs.Types.{holds_in};
 ghost use Rattle.cl_program.specs.Commands.{Checked, Judges, KeepsFiles, KeptBy, RanOn, RanText};
+ghost use Rattle.cl_program.specs.Hosts.{hosts_of, meanings_in};
 ghost use Rattle.cl_program.specs.Run.{Ran, RanLoaded};
 ghost use Rattle.cl_program.specs.Surroundings.{placed, streams};
 
@@ -39,7 +39,7 @@ pub fn run_words<H: Hosts, P: Place, G: Source, O: Sink, L: Ledger>(
     out: &mut O,
     steps: &mut Steps<L>,
 ) -> How
-    ensures ran { Ran (H.bounds hosts.now) (map (λ w. w.now) words.now) (placed (P.file place.old)
+    ensures ran { Ran (hosts_of H.bounds H.entries hosts.now) (map (λ w. w.now) words.now) (placed (P.file place.old)
         (P.app_faults place.old) (P.making_faults place.old)
         (wire_of (P.taken place.old) (P.writing_faults place.old) (P.tells place.old)))
         (placed (P.file place.new) (P.app_faults place.new) (P.making_faults place.new)
@@ -108,7 +108,7 @@ fn run_text<H: Hosts, P: Place, G: Source, O: Sink, L: Ledger>(
     steps: &mut Steps<L>,
 ) -> How
     requires depth { setting.limits.depth ≤ 512 }
-    ensures ran { RanText (H.bounds hosts.now) text.now
+    ensures ran { RanText (hosts_of H.bounds H.entries hosts.now) text.now
         (option_map (λ name. name.now) setting.entry.wire) setting.entry.limits
         (placed (P.file place.old) (P.app_faults place.old) (P.making_faults place.old)
         (wire_of (P.taken place.old) (P.writing_faults place.old) (P.tells place.old)))
@@ -154,8 +154,8 @@ fn run_application<H: Hosts, P: Place, G: Source, O: Sink, L: Ledger>(
 ) -> How
     requires depth { setting.limits.depth ≤ 512 }
     ensures ran { RanOn (option_map (λ name. name.now) setting.entry.wire)
-        (ground loaded.app (holds_in loaded.lattice loaded.app) setting.entry.limits) (placed (P.file place.old) (P.app_faults place.old)
-        (P.making_faults place.old)
+        (ground loaded.app (meanings_in (H.entries hosts.now) loaded.lattice loaded.app) setting.entry.limits)
+        (placed (P.file place.old) (P.app_faults place.old) (P.making_faults place.old)
         (wire_of (P.taken place.old) (P.writing_faults place.old) (P.tells place.old)))
         (placed (P.file place.new) (P.app_faults place.new) (P.making_faults place.new)
         (wire_of (P.taken place.new) (P.writing_faults place.new) (P.tells place.new)))
@@ -191,8 +191,8 @@ fn run_types<'a, T: Types, P: Place, G: Source, O: Sink, L: Ledger>(
 ) -> How
     requires depth { setting.limits.depth ≤ 512 }
     ensures ran { RanOn (option_map (λ name. name.now) setting.entry.wire)
-        (ground loaded.now.app (T.holds types.now) setting.entry.limits) (placed (P.file place.old) (P.app_faults place.old)
-        (P.making_faults place.old)
+        (ground loaded.now.app (meanings_of T.holds T.presents types.now) setting.entry.limits)
+        (placed (P.file place.old) (P.app_faults place.old) (P.making_faults place.old)
         (wire_of (P.taken place.old) (P.writing_faults place.old) (P.tells place.old)))
         (placed (P.file place.new) (P.app_faults place.new) (P.making_faults place.new)
         (wire_of (P.taken place.new) (P.writing_faults place.new) (P.tells place.new)))
@@ -243,7 +243,7 @@ fn run_on<T: Types, P: Place, G: Source, O: Sink, L: Ledger>(
     requires placed { IsPlaced program.now.app.now.frame }
     requires opening { slots.now ≡ opening_slots program.now.app.now }
     ensures ran { RanOn (option_map (λ name. name.now) wire.entry)
-        (ground_of T.holds program.now) (placed (P.file place.old) (P.app_faults place.old)
+        (ground_of T.holds T.presents program.now) (placed (P.file place.old) (P.app_faults place.old)
         (P.making_faults place.old)
         (wire_of (P.taken place.old) (P.writing_faults place.old) (P.tells place.old)))
         (placed (P.file place.new) (P.app_faults place.new) (P.making_faults place.new)
@@ -289,7 +289,7 @@ fn run_on_wire<T: Types, P: Place, G: Source, O: Sink, L: Ledger>(
     requires opening { slots.now ≡ opening_slots program.now.app.now }
     requires made { P.made place.old ≡ true }
     requires unused { P.tells place.old ≡ true → P.taken place.old ≡ Some [] }
-    ensures ran { RanLoaded (ground_of T.holds program.now) (streams (G.left gestures.old)
+    ensures ran { RanLoaded (ground_of T.holds T.presents program.now) (streams (G.left gestures.old)
         (G.faults gestures.old) (O.taken out.old) (O.faults out.old) steps.old)
         (streams (G.left gestures.new) (G.faults gestures.new) (O.taken out.new) (O.faults out.new)
         steps.new) (wire_of (P.taken place.old) (P.writing_faults place.old) (P.tells place.old))

@@ -5,6 +5,7 @@ ghost use Rattle.cl_invocation.specs.Words.{invocation_of};
 ghost use Rattle.cl_outside.specs.Causes.{Rose};
 ghost use Rattle.cl_program.specs.Command.{IsCheck, IsNoCommand, IsRun, Names};
 ghost use Rattle.cl_program.specs.Commands.{KeptBy};
+ghost use Rattle.cl_program.specs.Hosts.{hosts_of};
 ghost use Rattle.cl_program.specs.Statuses.{DeclaresApplication, EndsWith, HasFewLines, HasManyLines, HasRefusal};
 ghost use Rattle.cl_program.specs.Surroundings.{placed, streams};
 
@@ -38,7 +39,7 @@ pub fn clim_main<H: Hosts, P: Place, G: Source, O: Sink, L: Ledger>(
     out: &mut O,
     steps: &mut Steps<L>,
 ) -> Status
-    ensures ends { EndsWith (H.bounds hosts.now) (map (λ w. w.now) words.now) (placed (P.file place.old)
+    ensures ends { EndsWith (hosts_of H.bounds H.entries hosts.now) (map (λ w. w.now) words.now) (placed (P.file place.old)
         (P.app_faults place.old) (P.making_faults place.old)
         (wire_of (P.taken place.old) (P.writing_faults place.old) (P.tells place.old)))
         (placed (P.file place.new) (P.app_faults place.new) (P.making_faults place.new)

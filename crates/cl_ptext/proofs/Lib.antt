@@ -1,13 +1,8 @@
 pub mod CostLemmas
 pub mod CutLemmas
-pub mod KeepLemmas
-pub mod LawLemmas
-pub mod LimitLemmas
 pub mod Measures
 pub mod PartLemmas
 pub mod PartTypes
 pub mod PieceLemmas
 pub mod ReadingLemmas
-pub mod SlotLemmas
-pub mod TextKeepLemmas
 pub mod WordLemmas

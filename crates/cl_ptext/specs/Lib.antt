@@ -8,3 +8,7 @@ pub mod Presenting
 pub mod Readings
 pub mod Texts
 pub mod Words
+pub mod TextKeepLemmas
+pub mod TextLimitLemmas
+pub mod TextSlotLemmas
+pub mod TextLaws

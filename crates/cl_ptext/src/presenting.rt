@@ -39,7 +39,13 @@ impl<H: Hosts> Types for TypeBook<'_, H> {
 
     ghost holds = { λ b d s. is_member b.lattice.now (predicates_of b.app.now) d (expansion b.lattice.now [] s) };
 
+    ghost app = { λ b. b.app.now };
+
     ghost presents = { λ b limits slots s d. outcome_of_text (book_of H.entries b) limits slots (expansion b.lattice.now [] s) s d };
+
+    ghost use Rattle.cl_ptext.specs.TextLaws.{book_texts};
+
+    ghost are_texts = { λ b. book_texts (book_of H.entries b) (expansion b.lattice.now []) };
 
     fn member(&self, value: &Value, spec: &TypeSpec) -> Held {
         self.lattice.member(self.alloc, value, spec, self)

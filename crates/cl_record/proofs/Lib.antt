@@ -7,3 +7,7 @@ pub mod Walks
 pub mod Regions
 pub mod Outside
 pub mod Lined
+pub mod Touched
+pub mod TouchWalks
+pub mod Ends
+pub mod TouchSteps

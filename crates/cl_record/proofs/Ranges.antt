@@ -68,12 +68,12 @@ around-second v a b h =
 abbrev pub Fits : Shift → Option Rect → Type 0
 Fits v o = IfSome o (λ r. IsInRange (move_rect v r))
 
-fits-first : (v : Shift) (o p : Option Rect) → Fits v (join_boxes corner_box o p) → Fits v o
+pub fits-first : (v : Shift) (o p : Option Rect) → Fits v (join_boxes corner_box o p) → Fits v o
 fits-first v None p h = tt
 fits-first v (Some a) None h = h
 fits-first v (Some a) (Some b) h = around-first v a b h
 
-fits-second : (v : Shift) (o p : Option Rect) → Fits v (join_boxes corner_box o p) → Fits v p
+pub fits-second : (v : Shift) (o p : Option Rect) → Fits v (join_boxes corner_box o p) → Fits v p
 fits-second v None p h = h
 fits-second v (Some a) None h = tt
 fits-second v (Some a) (Some b) h = around-second v a b h

@@ -17,7 +17,7 @@ module _ {A : Type 0} (bounds : A → Rect) (move : Shift → A → A) where
   sound-append [] ms h k = k
   sound-append (n ∷ ns) ms h k = (h.0, sound-append ns ms h.1 k)
 
-  marks-append : (ns ms : List (Node A))
+  pub marks-append : (ns ms : List (Node A))
       → marks_of_all move (forest_of (ns ++ ms)) ≡ marks_of_all move (forest_of ns) ++ marks_of_all move (forest_of ms)
   marks-append [] ms = refl
   marks-append (n ∷ ns) ms =

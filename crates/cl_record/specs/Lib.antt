@@ -7,6 +7,8 @@ pub mod Marks
 pub mod Replays
 pub mod Counts
 pub mod Boxes
+pub mod Touches
+pub mod TouchWalks
 pub mod Ranges
 pub mod Lines
 pub mod TreeLines

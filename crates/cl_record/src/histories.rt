@@ -1,10 +1,12 @@
 //! The history of a pane.
-ghost use Rattle.std.specs.Prelude.{◌≡◌, ◌++◌, ◌∷◌, ℤ, [], OnErr, OnOk, true};
+ghost use Rattle.std.specs.Prelude.{◌≡◌, ◌++◌, ◌∷◌, ℤ, [], OnErr, OnOk, option_map, true};
 ghost use Rattle.cl_region.specs.Places.{one_holds, holds};
 ghost use Rattle.cl_record.specs.Counts.{count_of};
 ghost use Rattle.cl_record.specs.Lines.{history_lines};
 ghost use Rattle.cl_record.specs.Marks.{history_marks};
 ghost use Rattle.cl_record.specs.Replays.{Paints, items_drawn, cell_after, items_touching};
+ghost use Rattle.cl_record.specs.Touches.{touched_at};
+ghost use Rattle.cl_record.specs.TouchWalks.{touch_of};
 
 use crate::canvases::Canvas;
 use crate::lines::Printable;
@@ -12,6 +14,7 @@ use crate::nodes::Nodes;
 use crate::printing::print_inside;
 use crate::replaying::replay_inside;
 use crate::shifts::STILL;
+use crate::touches::{Search, Spot, Touch, seek_row};
 use cl_medium::Leaf;
 use cl_region::{Rect, Region};
 use cl_value::Text;
@@ -114,6 +117,22 @@ impl<L: Leaf> History<L> {
         // What the rows keep is known from here on.
         let _ = self.nodes.summary();
         replay_inside(&self.nodes, STILL, rects, canvas);
+    }
+
+    /// What the presentation with number `k` of those that this place touches presents, and None exactly
+    /// where there are at most `k`. The one that began latest has number 0, so one that is inside of
+    /// another comes before it. A presentation is touched where the bounds of one of the items inside it
+    /// hold the place, or with a single box where the box of all of these does. It takes no memory.
+    pub fn touched(&self, x: i64, y: i64, k: u32) -> Option<Touch<'_>>
+        ensures { option_map touch_of result
+            ≡ touched_at L.bounds x y k (history_marks L.moved_by self.now) }
+    {
+        // What the rows keep is known from here on.
+        let _ = self.nodes.summary();
+        match seek_row(&self.nodes, STILL, Spot { x, y }, k) {
+            Search::Found(label) => Some(Touch::of_label(label)),
+            Search::Passed(_) => None,
+        }
     }
 }
 

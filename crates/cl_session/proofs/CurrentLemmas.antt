@@ -41,7 +41,7 @@ as_many g slots [] (m ∷ ms) h = h
 as_many g slots (d ∷ ds) [] h = h
 as_many g slots (d ∷ ds) (m ∷ ms) h = as_many g slots ds ms h.1
 
-settled_current : (g : Ground) (slots : Slots) (d : PaneDecl) (met : Bool) → IsPaneCurrent g slots d (marks_settled (pane_fresh g.limits g.app d slots) met)
+settled_current : (g : Ground) (slots : Slots) (d : PaneDecl) (met : Bool) → IsPaneCurrent g slots d (marks_settled (pane_fresh g.limits g.app g.types d slots) met)
 settled_current g slots d true = inl refl
 settled_current g slots d false = inr refl
 

@@ -81,7 +81,7 @@ pub paid_panes : (g : Ground) (w : Which) (slots : Slots) (ds : List PaneDecl) (
 paid_panes g w slots [] os from to h = omega (arith, h)
 paid_panes g w slots (d ∷ ds) [] from to h = omega (arith, h)
 paid_panes g w slots (d ∷ ds) (o ∷ os) from to h =
-    omega (arith, paid_if (is_due w o) (pane_fresh g.limits g.app d slots) o from h.0 h.1, paid_panes g w slots ds os h.0 to h.2)
+    omega (arith, paid_if (is_due w o) (pane_fresh g.limits g.app g.types d slots) o from h.0 h.1, paid_panes g w slots ds os h.0 to h.2)
 
 -- what a line costs
 abbrev line_cost : Ground → World → LineKind → ℕ

@@ -7,7 +7,7 @@ use Rattle.cl_application.specs.declared.declarations.CommandDecl.{CommandDecl}
 use Rattle.cl_application.specs.declared.declarations.PaneDecl.{PaneDecl}
 use Rattle.cl_command.specs.declared.lines.Finished.{Finished}
 use Rattle.cl_command.specs.declared.lines.Finished.TheVariants as finished
-use Rattle.cl_command.specs.Line.{finish_of}
+use Rattle.cl_command.specs.Line.{finish_of, without_last}
 use Rattle.cl_command.specs.Naming.{line_names}
 use Rattle.cl_eval.specs.Outcome.{Outcome, Gives, Traps}
 use Rattle.cl_eval.specs.declared.effects.Effects.{Effects}
@@ -33,8 +33,8 @@ keeps_told w cost replies = record { panes = refl; slots = refl; trapped = λ ki
 none_is_one : {A : Type 0} (x : A) → ◌≡◌ {A = List A} [] (x ∷ []) → ⊥
 none_is_one x e = cc
 
-keeps_typed : (w : World) (line : List ℕ) → Keeps w (tell (record w { line = line }) 0 [])
-keeps_typed w line = record { panes = refl; slots = refl; trapped = λ kind e. absurd (none_is_one (command_trap_line kind) e) }
+keeps_line : (w : World) (line : List ℕ) → Keeps w (tell (record w { line = line }) 0 [])
+keeps_line w line = record { panes = refl; slots = refl; trapped = λ kind e. absurd (none_is_one (command_trap_line kind) e) }
 
 keeps_if : (w : World) (b : Bool) (h k : Handled) → Keeps w h → Keeps w k → Keeps w (if b then h else k)
 keeps_if w true h k p q = p
@@ -68,8 +68,10 @@ keeps_history w (d ∷ ds) (m ∷ ms) name =
 pub keeps_handled : (g : Ground) (w : World) (act : Gesture) → Keeps w (handled g w act)
 keeps_handled g w (gesture.«Type» text) =
     keeps_if w (nat_le (length w.line + length text) 256) (tell (record w { line = w.line ++ text }) 0 []) (refuse w 0 (codes "! full"))
-    (keeps_typed w (w.line ++ text)) (keeps_told w 0 (codes "! full" ∷ []))
+    (keeps_line w (w.line ++ text)) (keeps_told w 0 (codes "! full" ∷ []))
 keeps_handled g w gesture.Return = keeps_finished g w (finish_of (line_names g.app.commands) w.line)
+keeps_handled g w gesture.Rubout = keeps_line w (without_last w.line)
+keeps_handled g w gesture.Clear = keeps_line w []
 keeps_handled g w gesture.Frame = keeps_told w 0 (handled g w gesture.Frame).replies
 keeps_handled g w gesture.Inks = keeps_told w 0 (handled g w gesture.Inks).replies
 keeps_handled g w (gesture.History name) = keeps_history w (panes_of g.app) w.panes name

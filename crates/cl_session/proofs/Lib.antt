@@ -3,6 +3,7 @@ pub mod StreamLemmas
 pub mod ServingLemmas
 pub mod StoppedLemmas
 pub mod KeptLemmas
+pub mod LineLemmas
 pub mod CurrentLemmas
 pub mod DeterminedLemmas
 pub mod StepLemmas

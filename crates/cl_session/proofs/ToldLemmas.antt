@@ -115,7 +115,7 @@ module _ (g : Ground) (w : Which) (slots : Slots) where
       let its = report_lines d.name (settle_pane g w slots d o n).report in
       let here : mine ++ lines_then ds ss xs ≡ its ++ lines_then ds ts ys =
       sym (append_assoc mine (pane_lines ds (map report_after ss)) xs) ∙ (e ∙ append_assoc its (pane_lines ds (map report_after ts)) ys) in
-      pane_told (is_due w o) d.name (pane_fresh g.limits g.app d slots) o m n (lines_then ds ss xs) (lines_then ds ts ys) here
+      pane_told (is_due w o) d.name (pane_fresh g.limits g.app g.types d slots) o m n (lines_then ds ss xs) (lines_then ds ts ys) here
 
   cons_marks : (s t : PaneStep) (ss ts : List PaneStep) → s.marks ≡ t.marks → map marks_after ss ≡ map marks_after ts
       → map marks_after (s ∷ ss) ≡ map marks_after (t ∷ ts)
@@ -180,12 +180,12 @@ module _ (g : Ground) (w : Which) (slots : Slots) where
   behind_not_eight (d ∷ ds) (o ∷ os) [] wire rest x eight e =
       let ss = settle_panes g w slots ds os [] in
       let mine = report_lines d.name (settle_pane g w slots d o false).report in
-      pane_not_eight (is_due w o) d.name (pane_fresh g.limits g.app d slots) o false (lines_then ds ss (wire_lines wire)) rest x
+      pane_not_eight (is_due w o) d.name (pane_fresh g.limits g.app g.types d slots) o false (lines_then ds ss (wire_lines wire)) rest x
       (behind_not_eight ds os [] wire rest x eight) eight (sym (append_assoc mine (pane_lines ds (map report_after ss)) (wire_lines wire)) ∙ e)
   behind_not_eight (d ∷ ds) (o ∷ os) (m ∷ ms) wire rest x eight e =
       let ss = settle_panes g w slots ds os ms in
       let mine = report_lines d.name (settle_pane g w slots d o m).report in
-      pane_not_eight (is_due w o) d.name (pane_fresh g.limits g.app d slots) o m (lines_then ds ss (wire_lines wire)) rest x
+      pane_not_eight (is_due w o) d.name (pane_fresh g.limits g.app g.types d slots) o m (lines_then ds ss (wire_lines wire)) rest x
       (behind_not_eight ds os ms wire rest x eight) eight (sym (append_assoc mine (pane_lines ds (map report_after ss)) (wire_lines wire)) ∙ e)
 
 -- ---- the own replies
@@ -310,6 +310,12 @@ apart_told g w (gesture.«Type» text) ms ns x y e =
 apart_told g w gesture.Return ms ns x y e =
     let h = handled g w gesture.Return in
     absurd (told_apart g h ns y h.replies _ (not_finished g w (finish_of (line_names g.app.commands) w.line)) e)
+apart_told g w gesture.Rubout ms ns x y e =
+    let h = handled g w gesture.Rubout in
+    absurd (told_apart g h ns y h.replies _ tt e)
+apart_told g w gesture.Clear ms ns x y e =
+    let h = handled g w gesture.Clear in
+    absurd (told_apart g h ns y h.replies _ tt e)
 apart_told g w gesture.Frame ms ns x y e = frame_told g w ms ns x y (shown_in g w) g.app.frame.width 0 g.app.frame.height e
 apart_told g w gesture.Inks ms ns x y e =
     let h = handled g w gesture.Inks in

@@ -1,10 +1,11 @@
 -- What holds above the step, in every transcript.
-use Rattle.std.specs.Prelude.{◌≡◌, ◌⊎◌, ℕ, ◌+◌, ◌-◌, ◌^◌, ◌≤◌, min, Bool, true, false, if◌then◌else◌, All, List, [], ◌∷◌}
+use Rattle.std.specs.Prelude.{◌≡◌, ◌⊎◌, ℕ, ◌+◌, ◌-◌, ◌^◌, ◌<◌, ◌≤◌, min, Bool, true, false, if◌then◌else◌, All, List, [], ◌∷◌, length}
 use Rattle.cl_gesture.specs.Gesture.{LineKind, idle, bad, does, kind_of}
 use Rattle.cl_eval.specs.Slots.{Slots}
 use Rattle.cl_frame.specs.Ground.{Ground}
 use Rattle.cl_gesture.specs.Lines.{Piece}
 use Rattle.cl_gesture.specs.declared.answers.Gesture.{Gesture}
+use Rattle.cl_gesture.specs.declared.answers.Gesture.TheVariants as gesture
 use Rattle.cl_session.specs.Current.{IsCurrent}
 use Rattle.cl_session.specs.Step.{Met, command_trap_line, handled, next}
 use Rattle.cl_session.specs.Streams.{SpendsAll, transcript, worlds}
@@ -69,6 +70,13 @@ Fails g w act met = (met.handling ≡ true) ⊎ ((kind : ℕ) × ((handled g w a
 abbrev pub IsUnchangedByFailure : Type 0
 IsUnchangedByFailure = (g : Ground) (w : World) (act : Gesture) (met : Met) → Fails g w act met
     → ((next g w act met).world.slots ≡ w.slots) × ((next g w act met).world.line ≡ w.line)
+
+-- ---- a rubout takes back what was typed
+
+-- where the line has room for a byte, typing it and rubbing it out leaves the world as it was
+abbrev pub IsTakenBack : Type 0
+IsTakenBack = (g : Ground) (w : World) (byte : ℕ) → length w.line < 256
+    → (handled g (handled g w (gesture.«Type» (byte ∷ []))).world gesture.Rubout).world ≡ w
 
 -- ---- faults of the wire are told
 

@@ -14,7 +14,7 @@ use Rattle.cl_record.specs.Lines.{item_line, lines_from}
 use Rattle.cl_redisplay.specs.Shown.{Shown, shown_ink_rows, shown_rows}
 use Rattle.cl_command.specs.declared.lines.Finished.{Finished}
 use Rattle.cl_command.specs.declared.lines.Finished.TheVariants.{Command, Unknown, Surplus}
-use Rattle.cl_command.specs.Line.{finish_of}
+use Rattle.cl_command.specs.Line.{finish_of, without_last}
 use Rattle.cl_command.specs.Naming.{line_names}
 use Rattle.cl_frame.specs.Ground.{Ground}
 use Rattle.cl_frame.specs.Panes.{PaneMarks, marks_in, shown_panes}
@@ -60,6 +60,14 @@ type_text w text =
     then tell (record w { line = w.line ++ text }) 0 []
     else refuse w 0 (codes "! full")
 
+-- the line loses its last element
+abbrev pub rub_out : World → Handled
+rub_out w = tell (record w { line = without_last w.line }) 0 []
+
+-- the line loses all its elements
+abbrev pub clear_line : World → Handled
+clear_line w = tell (record w { line = [] }) 0 []
+
 -- `= TEXT` for each text that the command replied
 abbrev pub text_lines : List (List ℕ) → List (List ℕ)
 text_lines [] = []
@@ -84,7 +92,7 @@ run_command name w (Traps kind cost deepest) = refuse w cost (command_trap_line 
 
 -- what a command's statements come to, with no variables
 abbrev pub command_outcome : Ground → CommandDecl → Slots → Outcome Effects
-command_outcome g command slots = outcome_of_exec g.limits g.app g.holds command.body [] slots
+command_outcome g command slots = outcome_of_exec g.limits g.app g.types.holds command.body [] slots
 
 -- the command in a place of the order, from 0, is run
 abbrev pub run_named : Ground → World → Option CommandDecl → Handled
@@ -125,6 +133,8 @@ tell_history w (d ∷ ds) (m ∷ ms) name =
 abbrev pub handled : Ground → World → Gesture → Handled
 handled g w (gesture.«Type» text) = type_text w text
 handled g w gesture.Return = finish_line g w (finish_of (line_names g.app.commands) w.line)
+handled g w gesture.Rubout = rub_out w
+handled g w gesture.Clear = clear_line w
 handled g w gesture.Frame = tell w 0 (glyph_rows g w)
 handled g w gesture.Inks = tell w 0 (ink_rows g w)
 handled g w (gesture.History name) = tell_history w (panes_of g.app) w.panes name

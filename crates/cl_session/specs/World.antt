@@ -17,7 +17,7 @@ pub record World : Type 0 where
 
 -- a pane has its script
 abbrev pub script_of : Ground → Slots → PaneDecl → PaneMarks
-script_of g slots d = Some (pane_script g.limits g.app d slots)
+script_of g slots d = Some (pane_script g.limits g.app g.types d slots)
 
 -- The world at the opening: an empty line, and each pane has its script. The screen is stale where the device failed in it.
 abbrev pub opening : Ground → Slots → (failed : Bool) → World
@@ -25,4 +25,4 @@ opening g slots failed = record { slots = slots; line = []; panes = map (script_
 
 -- what the display of a pane costs
 abbrev pub cost_of_pane : Ground → Slots → PaneDecl → ℕ
-cost_of_pane g slots d = cost_of (pane_fresh g.limits g.app d slots)
+cost_of_pane g slots d = cost_of (pane_fresh g.limits g.app g.types d slots)

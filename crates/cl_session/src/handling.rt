@@ -6,7 +6,7 @@ ghost use Rattle.cl_eval.specs.Outcome.{RisesBy};
 ghost use Rattle.cl_application.specs.Panes.{panes_of};
 ghost use Rattle.cl_frame.specs.Frames.{IsFrameOf, marks_of_frame};
 ghost use Rattle.cl_frame.specs.Ground.{ground_of};
-ghost use Rattle.cl_session.specs.Step.{command_outcome, command_trap_line, finish_line, handled, ok_lines, run_command, tell_history, type_text, which_after};
+ghost use Rattle.cl_session.specs.Step.{clear_line, command_outcome, command_trap_line, finish_line, handled, ok_lines, rub_out, run_command, tell_history, type_text, which_after};
 ghost use Rattle.cl_session.specs.Handling.{HandlesTo, IsReply, ToldOf, after_of, handling_met, world_at};
 
 use crate::telling::{frame_lines, history_lines, ink_lines, place_of_pane};
@@ -70,17 +70,19 @@ pub fn handle<T: Types, L: Ledger>(
 ) -> Handling
     requires depth { program.now.limits.depth ≤ 512 }
     requires frame { IsFrameOf program.now.app.now frame.now }
-    ensures handles { HandlesTo (handled (ground_of T.holds program.now)
+    ensures handles { HandlesTo (handled (ground_of T.holds T.presents program.now)
         (world_at slots.old desk.old frame.now) gesture.now) frame.now result slots.old slots.new
         desk.old desk.new }
     ensures ledger { RisesBy (handling_met result) steps.old steps.new
-        (handled (ground_of T.holds program.now)
+        (handled (ground_of T.holds T.presents program.now)
         (world_at slots.old desk.old frame.now) gesture.now).cost }
 {
     let (alloc, app) = (program.alloc, program.app);
     match gesture {
         Gesture::Type(text) => type_text(alloc, text.as_slice(), frame, slots, desk),
         Gesture::Return => finish_line(program, frame, slots, desk, steps),
+        Gesture::Rubout => rub_out(alloc, frame, slots, desk),
+        Gesture::Clear => clear_line(alloc, frame, slots, desk),
         Gesture::Frame => told(frame_lines(alloc, app, frame)),
         Gesture::Inks => told(ink_lines(alloc, app, frame)),
         Gesture::History(name) => tell_history(alloc, app, frame, name.as_slice(), slots, desk),
@@ -131,6 +133,22 @@ fn type_text(alloc: Global, text: &[u8], frame: &Frame, slots: &Slots, desk: &mu
     }
 }
 
+fn rub_out(alloc: Global, frame: &Frame, slots: &Slots, desk: &mut Desk) -> Handling
+    ensures { HandlesTo (rub_out (world_at slots.now desk.old frame.now)) frame.now result slots.now
+        slots.now desk.old desk.new }
+{
+    desk.line.rubout();
+    Handling::Replied(Lines::new(alloc), After::Nothing)
+}
+
+fn clear_line(alloc: Global, frame: &Frame, slots: &Slots, desk: &mut Desk) -> Handling
+    ensures { HandlesTo (clear_line (world_at slots.now desk.old frame.now)) frame.now result
+        slots.now slots.now desk.old desk.new }
+{
+    desk.line.clear();
+    Handling::Replied(Lines::new(alloc), After::Nothing)
+}
+
 fn finish_line<T: Types, L: Ledger>(
     program: &Program<'_, T>,
     frame: &Frame,
@@ -139,12 +157,12 @@ fn finish_line<T: Types, L: Ledger>(
     steps: &mut Steps<L>,
 ) -> Handling
     requires { program.now.limits.depth ≤ 512 }
-    ensures handles { HandlesTo (finish_line (ground_of T.holds program.now)
+    ensures handles { HandlesTo (finish_line (ground_of T.holds T.presents program.now)
         (world_at slots.old desk.old frame.now)
         (finish_of (line_names program.now.app.now.commands) desk.old.line)) frame.now result
         slots.old slots.new desk.old desk.new }
     ensures ledger { RisesBy (handling_met result) steps.old steps.new
-        (finish_line (ground_of T.holds program.now)
+        (finish_line (ground_of T.holds T.presents program.now)
         (world_at slots.old desk.old frame.now)
         (finish_of (line_names program.now.app.now.commands) desk.old.line)).cost }
 {
@@ -169,11 +187,11 @@ fn run_command<T: Types, L: Ledger>(
     requires { program.now.limits.depth ≤ 512 }
     ensures handles { HandlesTo (run_command command.now.line_name
         (world_at slots.old desk.old frame.now)
-        (command_outcome (ground_of T.holds program.now) command.now slots.old))
+        (command_outcome (ground_of T.holds T.presents program.now) command.now slots.old))
         frame.now result slots.old slots.new desk.old desk.new }
     ensures ledger { RisesBy (handling_met result) steps.old steps.new
         (run_command command.now.line_name (world_at slots.old desk.old frame.now)
-        (command_outcome (ground_of T.holds program.now) command.now slots.old)).cost }
+        (command_outcome (ground_of T.holds T.presents program.now) command.now slots.old)).cost }
 {
     let env = Env::new(program.alloc);
     match exec(program, &command.body, &env, slots, steps) {

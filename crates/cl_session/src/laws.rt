@@ -1,5 +1,5 @@
 //! What holds above the step, in every transcript. The contracts are the laws.
-ghost use Rattle.cl_session.specs.Laws.{AreCountedByFaults, AreCurrentAlways, AreDetermined, IsToldByLines, IsUnchangedByFailure};
+ghost use Rattle.cl_session.specs.Laws.{AreCountedByFaults, AreCurrentAlways, AreDetermined, IsTakenBack, IsToldByLines, IsUnchangedByFailure};
 
 /// In every world of a transcript, from one whose panes are blank or show their displays on, each pane is
 /// blank or has the script of its display on that world's own slots; and the world at the opening is such
@@ -23,6 +23,11 @@ pub fn what_met_want_of_memory_is_told()
 /// they were.
 pub fn failed_commands_change_nothing()
     ensures { IsUnchangedByFailure }
+{}
+
+/// A byte that is typed where the line has room for it, and rubbed out, leaves everything as it was.
+pub fn rubout_takes_back_what_was_typed()
+    ensures { IsTakenBack }
 {}
 
 /// In every transcript there are at most as many lines `! wire` as the device's count of faults rose by, unless that

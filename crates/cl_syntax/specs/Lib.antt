@@ -3,6 +3,7 @@ pub mod ExprTree
 pub mod ExprTreeCode
 pub mod Expr
 pub mod ExprFalls
+pub mod PresentationTree
 pub mod ShapeTree
 pub mod ShapeTreeCode
 pub mod Shape

@@ -1,6 +1,8 @@
 -- A display form as a tree.
 use Rattle.std.specs.Prelude.{ℕ, ◌+◌, List, [], ◌∷◌}
 use Rattle.cl_syntax.specs.ExprTree.{ExprTree, ExprTrees, Bindings}
+use Rattle.cl_syntax.specs.PresentationTree.{PresentationTree}
+use Rattle.cl_syntax.specs.TypeSpecTree.{TypeSpecTree}
 use Rattle.cl_syntax.specs.declared.figures.Figure.{Figure}
 
 mutual
@@ -16,6 +18,10 @@ mutual
     Ink : ExprTree → ShapeTrees → ShapeTree
     -- (with-room-for-graphics FORM ...)
     Room : ShapeTrees → ShapeTree
+    -- (present E SPEC)
+    Present : ExprTree → TypeSpecTree → ShapeTree
+    -- (with-output-as-presentation (E SPEC :single-box BOOL) FORM ...)
+    AsPresentation : PresentationTree → ShapeTrees → ShapeTree
     -- (if TEST THEN ELSE)
     If : ExprTree → ShapeTree → ShapeTree → ShapeTree
     -- (when TEST FORM ...)
@@ -46,6 +52,8 @@ abbrev mutual
   nodes (Indent t fs) = nodes_all fs + 1
   nodes (Ink t fs) = nodes_all fs + 1
   nodes (Room fs) = nodes_all fs + 1
+  nodes (Present t spec) = 1
+  nodes (AsPresentation p fs) = nodes_all fs + 1
   nodes (If t f g) = nodes f + nodes g + 1
   nodes (When t fs) = nodes_all fs + 1
   nodes (Let bs fs) = nodes_all fs + 1

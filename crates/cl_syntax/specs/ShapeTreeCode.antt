@@ -6,7 +6,10 @@ use base.Stored.{Gv, gnil, gnum, gcons}
 use Rattle.cl_syntax.specs.contracts.figures.Figure as figure_code
 use Rattle.cl_syntax.specs.Code.{head, tail, tag, has_parts, name_code, name_code-inj}
 use Rattle.cl_syntax.specs.ExprTreeCode.{coded_expr_tree, coded_expr_trees, coded_bindings}
-use Rattle.cl_syntax.specs.ShapeTree.{ShapeTree, WriteText, Newline, Draw, Indent, Ink, Room, If, When, Let, Dolist, Progn, Call, ShapeTrees, none, form}
+use Rattle.cl_syntax.specs.ShapeTree.{ShapeTree, WriteText, Newline, Draw, Indent, Ink, Room, Present, AsPresentation, If, When}
+use Rattle.cl_syntax.specs.ShapeTree.{Let, Dolist, Progn, Call, ShapeTrees, none, form}
+use Rattle.cl_syntax.specs.PresentationTree.{coded_presentation}
+use Rattle.cl_syntax.specs.TypeSpecTreeCode.{coded_type_spec_tree}
 
 -- the place of a row in its table
 abbrev pub row : ShapeTree → ℕ
@@ -16,12 +19,14 @@ row (Draw figure ts) = 2
 row (Indent t fs) = 3
 row (Ink t fs) = 4
 row (Room fs) = 5
-row (If t e f) = 6
-row (When t fs) = 7
-row (Let bs fs) = 8
-row (Dolist x t fs) = 9
-row (Progn fs) = 10
-row (Call d ts) = 11
+row (Present t spec) = 6
+row (AsPresentation p fs) = 7
+row (If t e f) = 8
+row (When t fs) = 9
+row (Let bs fs) = 10
+row (Dolist x t fs) = 11
+row (Progn fs) = 12
+row (Call d ts) = 13
 
 abbrev mutual
   pub code : ShapeTree → Gv
@@ -31,12 +36,14 @@ abbrev mutual
   code (Indent t fs) = gcons (gnum 3) (gcons (coded_expr_tree.code t) (code_all fs))
   code (Ink t fs) = gcons (gnum 4) (gcons (coded_expr_tree.code t) (code_all fs))
   code (Room fs) = gcons (gnum 5) (code_all fs)
-  code (If t e f) = gcons (gnum 6) (gcons (coded_expr_tree.code t) (gcons (code e) (code f)))
-  code (When t fs) = gcons (gnum 7) (gcons (coded_expr_tree.code t) (code_all fs))
-  code (Let bs fs) = gcons (gnum 8) (gcons (coded_bindings.code bs) (code_all fs))
-  code (Dolist x t fs) = gcons (gnum 9) (gcons (name_code x) (gcons (coded_expr_tree.code t) (code_all fs)))
-  code (Progn fs) = gcons (gnum 10) (code_all fs)
-  code (Call d ts) = gcons (gnum 11) (gcons (name_code d) (coded_expr_trees.code ts))
+  code (Present t spec) = gcons (gnum 6) (gcons (coded_expr_tree.code t) (coded_type_spec_tree.code spec))
+  code (AsPresentation p fs) = gcons (gnum 7) (gcons (coded_presentation.code p) (code_all fs))
+  code (If t e f) = gcons (gnum 8) (gcons (coded_expr_tree.code t) (gcons (code e) (code f)))
+  code (When t fs) = gcons (gnum 9) (gcons (coded_expr_tree.code t) (code_all fs))
+  code (Let bs fs) = gcons (gnum 10) (gcons (coded_bindings.code bs) (code_all fs))
+  code (Dolist x t fs) = gcons (gnum 11) (gcons (name_code x) (gcons (coded_expr_tree.code t) (code_all fs)))
+  code (Progn fs) = gcons (gnum 12) (code_all fs)
+  code (Call d ts) = gcons (gnum 13) (gcons (name_code d) (coded_expr_trees.code ts))
 
   pub code_all : ShapeTrees → Gv
   code_all none = gnil
@@ -59,6 +66,14 @@ mutual
       let pfs : fs ≡ fs' = code_all-inj fs fs' (ap (λ g. tail (tail g)) p) in
       λ i. Ink (pt i) (pfs i)
   code-inj (Room fs) (Room fs') p = ap Room (code_all-inj fs fs' (ap tail p))
+  code-inj (Present t spec) (Present t' spec') p =
+      let pt : t ≡ t' = coded_expr_tree.inj t t' (ap (λ g. head (tail g)) p) in
+      let ps : spec ≡ spec' = coded_type_spec_tree.inj spec spec' (ap (λ g. tail (tail g)) p) in
+      λ i. Present (pt i) (ps i)
+  code-inj (AsPresentation q fs) (AsPresentation q' fs') p =
+      let pq : q ≡ q' = coded_presentation.inj q q' (ap (λ g. head (tail g)) p) in
+      let pfs : fs ≡ fs' = code_all-inj fs fs' (ap (λ g. tail (tail g)) p) in
+      λ i. AsPresentation (pq i) (pfs i)
   code-inj (If t e f) (If t' e' f') p =
       let pt : t ≡ t' = coded_expr_tree.inj t t' (ap (λ g. head (tail g)) p) in
       let pe : e ≡ e' = code-inj e e' (ap (λ g. head (tail (tail g))) p) in

@@ -6,9 +6,12 @@ ghost use Rattle.cl_syntax.specs.ExprTree.{expr_trees_of};
 
 use crate::expressions::{Binding, Expr};
 use crate::figures::Figure;
+use crate::presentations::Presentation;
+use crate::type_specs::TypeSpec;
 use cl_value::Text;
 use std::alloc::{AllocError, Global};
 use std::marker::Model;
+use std::rc::Rc;
 
 /// A display form, which contracts see as its tree, a `ShapeTree`.
 #[cycle(shape)]
@@ -33,6 +36,10 @@ pub enum ShapeKind {
     Ink(Expr, Shapes),
     /// `(with-room-for-graphics FORM ...)`
     Room(Shapes),
+    /// `(present E SPEC)`
+    Present(Expr, Rc<TypeSpec>),
+    /// `(with-output-as-presentation (E SPEC :single-box BOOL) FORM ...)`
+    AsPresentation(Presentation, Shapes),
     /// `(if TEST THEN ELSE)`
     If(Box<ShapeChoice>),
     /// `(when TEST FORM ...)`
@@ -156,6 +163,25 @@ impl Shape {
     {
         Shape {
             kind: ShapeKind::Room(body),
+        }
+    }
+
+    /// `(present E SPEC)`
+    pub fn present(alloc: Global, object: Expr, spec: TypeSpec) -> Result<Shape, AllocError>
+        ensures { IfOk result (λ s. s ≡ shape.Present object spec) }
+    {
+        let spec = Rc::new(alloc, spec)?;
+        Ok(Shape {
+            kind: ShapeKind::Present(object, spec),
+        })
+    }
+
+    /// `(with-output-as-presentation (E SPEC :single-box BOOL) FORM ...)`
+    pub fn as_presentation(presentation: Presentation, body: Shapes) -> Shape
+        ensures { result ≡ shape.AsPresentation presentation (shape.shape_trees_of body) }
+    {
+        Shape {
+            kind: ShapeKind::AsPresentation(presentation, body),
         }
     }
 

@@ -5,6 +5,7 @@ mod display_forms;
 mod expressions;
 mod figures;
 mod operators;
+mod presentations;
 mod sites;
 mod statements;
 mod type_decls;
@@ -15,6 +16,7 @@ pub use display_forms::{Shape, ShapeChoice, ShapeKind, Shapes};
 pub use expressions::{Binding, Expr, ExprChoice, ExprKind, Folding, Iteration};
 pub use figures::Figure;
 pub use operators::{Arithmetic, Comparison, ListOperator, Operator, RecordOperator, TextOperator};
+pub use presentations::Presentation;
 pub use sites::Site;
 pub use statements::{Act, ActChoice, ActKind, Acts};
 pub use type_decls::{

@@ -5,6 +5,7 @@ mod execution;
 mod forms;
 mod frames;
 mod gesture;
+mod lines;
 mod medium;
 mod outside;
 mod phases;

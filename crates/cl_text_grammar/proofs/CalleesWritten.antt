@@ -140,4 +140,4 @@ module _ (w : Signatures) (names : CallsNames w) where
       chooses (is_some (name_in n) && is_name_list ps)
       (λ f. let parts : (is_some (name_in n) ≡ true) × (is_name_list ps ≡ true) = both_parts (is_some (name_in n)) (is_name_list ps) f in
       binds (shapes_end w names displays (datums_of body) (variables_in ps)) λ fs i.
-      gives (a_display (name_is n parts.0) (name_list_written ps parts.1) (subst (WritesShapes (shape_trees_of fs)) (shown body) i))) (λ f. refuses)
+      gives (a_display (name_is n parts.0) (name_list_written ps parts.1) (subst (WritesShapes w (shape_trees_of fs)) (shown body) i))) (λ f. refuses)

@@ -12,11 +12,13 @@ use Rattle.cl_grammar.specs.Unnamed.{UnnamedAny}
 use Rattle.cl_grammar.proofs.Bounds.{Within, blames_any_within, unnamed_any_within, any_one_number}
 use Rattle.cl_grammar.proofs.Lying.{list_lies, own_lies, datum_rises, seen_rises}
 use Rattle.cl_grammar.proofs.Spelled.{false_true}
-use Rattle.cl_text_grammar.specs.FormSights.{FormSeen, expressions, form, FormSight, Misshapen, UnknownHead, PlannedHead, Sees}
+use Rattle.cl_text_grammar.specs.Types.{TypePart, TypeBlames, TypeUnnamed}
+use Rattle.cl_text_grammar.specs.FormSights.{FormSeen, expressions, specifier, form, FormSight, Misshapen, UnknownHead, PlannedHead, Sees}
 use Rattle.cl_text_grammar.specs.FormBlames.{FormBlames, FormBlamesAny, an_atom, a_misshapen_form, an_unknown_head, a_planned_head, in_a_part}
-use Rattle.cl_text_grammar.specs.FormBlames.{in_expressions, in_the_form, in_a_later}
+use Rattle.cl_text_grammar.specs.FormBlames.{in_expressions, in_a_type, in_the_form, in_a_later}
 use Rattle.cl_text_grammar.specs.FormUnnamed.{FormUnnamed, FormUnnamedAny}
 use Rattle.cl_text_grammar.specs.FormUnnamed as unnamed
+use Rattle.cl_text_grammar.proofs.TypePartsLie.{type_rises, type_within, type_missing_within, type_number}
 use Rattle.cl_text_grammar.proofs.FormsLie.{LieForms, LieFormSight, forms_rise, LieSights}
 
 module _ (seen : Names → List Datum → FormSight) (w : Signatures) where
@@ -37,6 +39,16 @@ module _ (seen : Names → List Datum → FormSight) (w : Signatures) where
       → UnnamedAny w qs o ⊎ FormUnnamedAny seen w ps o
   expressions_unnamed qs ps o (unnamed.in_expressions b) = inl b
   expressions_unnamed qs ps o (unnamed.in_a_later b) = inr b
+
+  pub type_blamed : (ts : List TypePart) (ps : List FormSeen) (n o : ℕ) → FormBlamesAny seen w (specifier ts ∷ ps) n o
+      → TypeBlames ts n o ⊎ FormBlamesAny seen w ps n o
+  type_blamed ts ps n o (in_a_type b) = inl b
+  type_blamed ts ps n o (in_a_later b) = inr b
+
+  pub type_unnamed : (ts : List TypePart) (ps : List FormSeen) (o : ℕ) → FormUnnamedAny seen w (specifier ts ∷ ps) o
+      → TypeUnnamed w ts o ⊎ FormUnnamedAny seen w ps o
+  type_unnamed ts ps o (unnamed.in_a_type b) = inl b
+  type_unnamed ts ps o (unnamed.in_a_later b) = inr b
 
   pub first_form_blamed : (env : Names) (d : Datum) (ps : List FormSeen) (n o : ℕ) → FormBlamesAny seen w (form env d ∷ ps) n o
       → FormBlames seen w env d n o ⊎ FormBlamesAny seen w ps n o
@@ -104,10 +116,14 @@ module _ (seen : Names → List Datum → FormSight) (w : Signatures) (lies : Li
     pub any_within : {ps : List FormSeen} {n o : ℕ} → FormBlamesAny seen w ps n o → (from to : ℕ) → LieForms from ps to → Within from o to
     any_within (in_expressions {qs} {ps} {number = n} {offset = o} b) from to h =
         let place : Within from o h.0 = blames_any_within b from h.0 h.1 in (place.0, omega (arith, place.1, forms_rise ps h.0 to h.2))
+    any_within (in_a_type {ts} {ps} {number = n} {offset = o} b) from to h =
+        let place : Within from o h.0 = type_within ts n o from h.0 h.1 b in (place.0, omega (arith, place.1, forms_rise ps h.0 to h.2))
     any_within (in_the_form {env} {d} {ps} {number = n} {offset = o} b) from to h =
         let place : Within from o h.0 = form_within b from h.0 h.1 in (place.0, omega (arith, place.1, forms_rise ps h.0 to h.2))
     any_within (in_a_later {p = expressions qs} {ps} {number = n} {offset = o} b) from to h =
         let place : Within h.0 o to = any_within b h.0 to h.2 in (omega (arith, place.0, seen_rises qs from h.0 h.1), place.1)
+    any_within (in_a_later {p = specifier ts} {ps} {number = n} {offset = o} b) from to h =
+        let place : Within h.0 o to = any_within b h.0 to h.2 in (omega (arith, place.0, type_rises ts from h.0 h.1), place.1)
     any_within (in_a_later {p = form env d} {ps} {number = n} {offset = o} b) from to h =
         let place : Within h.0 o to = any_within b h.0 to h.2 in (omega (arith, place.0, datum_rises d from h.0 h.1), place.1)
 
@@ -120,10 +136,14 @@ module _ (seen : Names → List Datum → FormSight) (w : Signatures) (lies : Li
     pub any_unnamed_within : {ps : List FormSeen} {o : ℕ} → FormUnnamedAny seen w ps o → (from to : ℕ) → LieForms from ps to → Within from o to
     any_unnamed_within (unnamed.in_expressions {qs} {ps} {offset = o} b) from to h =
         let place : Within from o h.0 = unnamed_any_within b from h.0 h.1 in (place.0, omega (arith, place.1, forms_rise ps h.0 to h.2))
+    any_unnamed_within (unnamed.in_a_type {ts} {ps} {offset = o} b) from to h =
+        let place : Within from o h.0 = type_missing_within w ts o from h.0 h.1 b in (place.0, omega (arith, place.1, forms_rise ps h.0 to h.2))
     any_unnamed_within (unnamed.in_the_form {env} {d} {ps} {offset = o} b) from to h =
         let place : Within from o h.0 = form_unnamed_within b from h.0 h.1 in (place.0, omega (arith, place.1, forms_rise ps h.0 to h.2))
     any_unnamed_within (unnamed.in_a_later {p = expressions qs} {ps} {offset = o} b) from to h =
         let place : Within h.0 o to = any_unnamed_within b h.0 to h.2 in (omega (arith, place.0, seen_rises qs from h.0 h.1), place.1)
+    any_unnamed_within (unnamed.in_a_later {p = specifier ts} {ps} {offset = o} b) from to h =
+        let place : Within h.0 o to = any_unnamed_within b h.0 to h.2 in (omega (arith, place.0, type_rises ts from h.0 h.1), place.1)
     any_unnamed_within (unnamed.in_a_later {p = form env d} {ps} {offset = o} b) from to h =
         let place : Within h.0 o to = any_unnamed_within b h.0 to h.2 in (omega (arith, place.0, datum_rises d from h.0 h.1), place.1)
 
@@ -146,6 +166,11 @@ module _ (seen : Names → List Datum → FormSight) (w : Signatures) (lies : Li
         let left : Within from o h.0 = blames_any_within a from h.0 h.1 in
         let right : Within h.0 o to = any_within b h.0 to h.2 in
         absurd (omega (arith, left.1, right.0))
+    any_number (in_a_type {ts} {ps} {number = n} {offset = o} a) m from to h (in_a_type b) = type_number ts n m o from h.0 h.1 a b
+    any_number (in_a_type {ts} {ps} {number = n} {offset = o} a) m from to h (in_a_later b) =
+        let left : Within from o h.0 = type_within ts n o from h.0 h.1 a in
+        let right : Within h.0 o to = any_within b h.0 to h.2 in
+        absurd (omega (arith, left.1, right.0))
     any_number (in_the_form a) m from to h (in_the_form b) = form_number a m from h.0 h.1 b
     any_number (in_the_form {env} {d} {ps} {number = n} {offset = o} a) m from to h (in_a_later b) =
         let left : Within from o h.0 = form_within a from h.0 h.1 in
@@ -156,6 +181,11 @@ module _ (seen : Names → List Datum → FormSight) (w : Signatures) (lies : Li
         let right : Within h.0 o to = any_within a h.0 to h.2 in
         absurd (omega (arith, left.1, right.0))
     any_number (in_a_later {p = expressions qs} a) m from to h (in_a_later b) = any_number a m h.0 to h.2 b
+    any_number (in_a_later {p = specifier ts} {ps} {number = n} {offset = o} a) m from to h (in_a_type b) =
+        let left : Within from o h.0 = type_within ts m o from h.0 h.1 b in
+        let right : Within h.0 o to = any_within a h.0 to h.2 in
+        absurd (omega (arith, left.1, right.0))
+    any_number (in_a_later {p = specifier ts} a) m from to h (in_a_later b) = any_number a m h.0 to h.2 b
     any_number (in_a_later {p = form env d} {ps} {number = n} {offset = o} a) m from to h (in_the_form b) =
         let left : Within from o h.0 = form_within b from h.0 h.1 in
         let right : Within h.0 o to = any_within a h.0 to h.2 in

@@ -15,13 +15,16 @@ use Rattle.cl_grammar.specs.Unnamed.{UnnamedAny}
 use Rattle.cl_grammar.proofs.Bounds.{before_within, blames_any_within, unnamed_any_within}
 use Rattle.cl_grammar.proofs.Judging.{Any, Judges, Joins, Verdict, both_judged, given_judged, verdict_same, noted_none}
 use Rattle.cl_grammar.proofs.Lying.{LieSeen, list_lies}
-use Rattle.cl_text_grammar.specs.FormSights.{FormSeen, expressions, form, FormSight, Misshapen, UnknownHead, PlannedHead, Sees}
+use Rattle.cl_text_grammar.specs.Types.{TypePart, TypeBlames, TypeUnnamed}
+use Rattle.cl_text_grammar.specs.FormSights.{FormSeen, expressions, specifier, form, FormSight, Misshapen, UnknownHead, PlannedHead, Sees}
 use Rattle.cl_text_grammar.specs.FormBlames.{FormBlames, FormBlamesAny, an_atom, a_misshapen_form, an_unknown_head, a_planned_head, in_a_part}
-use Rattle.cl_text_grammar.specs.FormBlames.{in_expressions, in_the_form, in_a_later}
+use Rattle.cl_text_grammar.specs.FormBlames.{in_expressions, in_a_type, in_the_form, in_a_later}
 use Rattle.cl_text_grammar.specs.FormUnnamed.{FormUnnamed, FormUnnamedAny}
 use Rattle.cl_text_grammar.specs.FormUnnamed as unnamed
+use Rattle.cl_text_grammar.proofs.TypePartsLie.{LieType, type_within, type_missing_within}
+use Rattle.cl_text_grammar.proofs.TypeJudging.{TypeJudges}
 use Rattle.cl_text_grammar.proofs.FormsLie.{LieForms, LieFormSight, LieSights}
-use Rattle.cl_text_grammar.proofs.FormBounds.{none_blamed, none_unnamed, expressions_blamed, expressions_unnamed, first_form_blamed}
+use Rattle.cl_text_grammar.proofs.FormBounds.{none_blamed, none_unnamed, expressions_blamed, expressions_unnamed, type_blamed, type_unnamed, first_form_blamed}
 use Rattle.cl_text_grammar.proofs.FormBounds.{first_form_unnamed, atom_blamed, SightBlames, form_blamed, SightUnnamed, form_unnamed, form_within}
 use Rattle.cl_text_grammar.proofs.FormBounds.{any_within, form_unnamed_within, any_unnamed_within}
 
@@ -50,6 +53,20 @@ module _ (seen : Names → List Datum → FormSight) (w : Signatures) (lies : Li
     unnamed_rise = λ o p a b. before_within from middle to (unnamed_any_within a from middle l) (any_unnamed_within seen w lies b middle to r);
   }
 
+  type_join : (ts : List TypePart) (ps : List FormSeen) (from middle to : ℕ) → LieType from ts middle → LieForms middle ps to
+      → Joins (TypeBlames ts) (FormBlamesAny seen w ps) (FormBlamesAny seen w (specifier ts ∷ ps)) (TypeUnnamed w ts) (FormUnnamedAny seen w ps)
+      (FormUnnamedAny seen w (specifier ts ∷ ps))
+  type_join ts ps from middle to l r = record {
+    blames_first = λ n o b. in_a_type b;
+    blames_second = λ n o b. in_a_later b;
+    blames_either = type_blamed seen w ts ps;
+    blames_rise = λ n o m p a b. before_within from middle to (type_within ts n o from middle l a) (any_within seen w lies b middle to r);
+    unnamed_first = λ o b. unnamed.in_a_type b;
+    unnamed_second = λ o b. unnamed.in_a_later b;
+    unnamed_either = type_unnamed seen w ts ps;
+    unnamed_rise = λ o p a b. before_within from middle to (type_missing_within w ts o from middle l a) (any_unnamed_within seen w lies b middle to r);
+  }
+
   form_join : (env : Names) (d : Datum) (ps : List FormSeen) (from middle to : ℕ) → Lies from d middle → LieForms middle ps to
       → Joins (FormBlames seen w env d) (FormBlamesAny seen w ps) (FormBlamesAny seen w (form env d ∷ ps)) (FormUnnamed seen w env d)
       (FormUnnamedAny seen w ps) (FormUnnamedAny seen w (form env d ∷ ps))
@@ -71,6 +88,15 @@ module _ (seen : Names → List Datum → FormSight) (w : Signatures) (lies : Li
   then_expressions P Q qs ps m f h g = record {
     judged = λ from to lie u.
         both_judged (expressions_join qs ps from lie.0 to lie.1 lie.2) P Q f (λ x i v. (g x i).judged lie.0 to lie.2 v) u (m u)
+        (h.judged from lie.0 lie.1 u);
+  }
+
+  -- a type, and then the other parts
+  pub then_type : {A E : Type 0} (P : A → Type 0) (Q : E → Type 0) (ts : List TypePart) (ps : List FormSeen) (m : Load A) (f : A → Load E)
+      → TypeJudges w ts P m → ((x : A) → P x → FormJudges ps Q (f x)) → FormJudges (specifier ts ∷ ps) Q (m >>= f)
+  then_type P Q ts ps m f h g = record {
+    judged = λ from to lie u.
+        both_judged (type_join ts ps from lie.0 to lie.1 lie.2) P Q f (λ x i v. (g x i).judged lie.0 to lie.2 v) u (m u)
         (h.judged from lie.0 lie.1 u);
   }
 

@@ -31,22 +31,24 @@ use Rattle.cl_words.specs.declared.signatures.Signatures.{Signatures}
 use Rattle.cl_expressions.specs.Scopes.{Names}
 use Rattle.cl_grammar.proofs.Spelled.{missed, not_fixed, Finds, nothing, word_is, of_some, first, last_found}
 use Rattle.cl_text_grammar.specs.FormSights.{Row, UnknownHead, if_seen, when_seen, let_seen, dolist_seen, progn_seen, planned_seen, write_seen}
-use Rattle.cl_text_grammar.specs.FormSights.{newline_seen, drawn_seen, indent_seen, ink_seen, room_seen, call_seen, shape_rows, shape_row_seen}
-use Rattle.cl_text_grammar.specs.FormSights.{setf_seen, reply_seen, act_rows, act_row_seen}
+use Rattle.cl_text_grammar.specs.FormSights.{newline_seen, drawn_seen, indent_seen, ink_seen, room_seen, present_seen, presentation_seen, call_seen}
+use Rattle.cl_text_grammar.specs.FormSights.{shape_rows, shape_row_seen, setf_seen, reply_seen, act_rows, act_row_seen}
 
 abbrev pub control_seen : Control → Row
 control_seen control.When = when_seen
 control_seen control.Dolist = dolist_seen
 control_seen control.Progn = progn_seen
 
-abbrev pub setting_seen : Setting → Row
-setting_seen setting.Indent = indent_seen
-setting_seen setting.Ink = ink_seen
-setting_seen setting.Room = room_seen
+abbrev pub setting_seen : Signatures → Setting → Row
+setting_seen w setting.Indent = indent_seen
+setting_seen w setting.Ink = ink_seen
+setting_seen w setting.Room = room_seen
+setting_seen w setting.Presentation = presentation_seen w
 
-abbrev pub writing_seen : Writing → Row
-writing_seen writing.WriteText = write_seen
-writing_seen writing.Newline = newline_seen
+abbrev pub writing_seen : Signatures → Writing → Row
+writing_seen w writing.WriteText = write_seen
+writing_seen w writing.Newline = newline_seen
+writing_seen w writing.Present = present_seen w
 
 abbrev pub change_seen : Change → Row
 change_seen change.Setf = setf_seen
@@ -67,17 +69,17 @@ planned_act planned.Display = unknown_seen
 planned_act planned.Part = unknown_seen
 
 -- what a display form with this head sees
-abbrev pub shape_under : Head → Row
-shape_under head.If = if_seen
-shape_under head.Let = let_seen
-shape_under (head.Control c) = control_seen c
-shape_under (head.Special s) = unknown_seen
-shape_under (head.Operator o) = unknown_seen
-shape_under (head.Figure f) = drawn_seen (figure_count f)
-shape_under (head.Setting s) = setting_seen s
-shape_under (head.Writing v) = writing_seen v
-shape_under (head.Change c) = unknown_seen
-shape_under (head.Planned p) = planned_shape p
+abbrev pub shape_under : Signatures → Head → Row
+shape_under w head.If = if_seen
+shape_under w head.Let = let_seen
+shape_under w (head.Control c) = control_seen c
+shape_under w (head.Special s) = unknown_seen
+shape_under w (head.Operator o) = unknown_seen
+shape_under w (head.Figure f) = drawn_seen (figure_count f)
+shape_under w (head.Setting s) = setting_seen w s
+shape_under w (head.Writing v) = writing_seen w v
+shape_under w (head.Change c) = unknown_seen
+shape_under w (head.Planned p) = planned_shape p
 
 -- what a statement with this head sees
 abbrev pub act_under : Head → Row
@@ -94,12 +96,12 @@ act_under (head.Planned p) = planned_act p
 
 -- the word is that of the head, in both languages
 record Stands (w : Signatures) (x : List ℕ) (k : Head) : Type 0 where
-  shape : (h : ℕ) (env : Names) (ds : List Datum) → shape_row_seen w (named x shape_rows) x h env ds ≡ shape_under k h env ds
+  shape : (h : ℕ) (env : Names) (ds : List Datum) → shape_row_seen w (named x (shape_rows w)) x h env ds ≡ shape_under w k h env ds
   act : (h : ℕ) (env : Names) (ds : List Datum) → act_row_seen (named x act_rows) h env ds ≡ act_under k h env ds
 
 module _ (w : Signatures) (x : List ℕ) where
   stands : {y : List ℕ} (k : Head) → x ≡ y
-      → ((h : ℕ) (env : Names) (ds : List Datum) → shape_row_seen w (named y shape_rows) y h env ds ≡ shape_under k h env ds)
+      → ((h : ℕ) (env : Names) (ds : List Datum) → shape_row_seen w (named y (shape_rows w)) y h env ds ≡ shape_under w k h env ds)
       → ((h : ℕ) (env : Names) (ds : List Datum) → act_row_seen (named y act_rows) h env ds ≡ act_under k h env ds) → Stands w x k
   stands k e i j = subst (λ z. Stands w z k) (sym e) (record { shape = i; act = j })
 
@@ -182,12 +184,14 @@ module _ (w : Signatures) (x : List ℕ) where
   settings =
       word_is setting.Indent x (codes "indenting-output") (λ e. stands (head.Setting setting.Indent) e (λ h env ds. refl) (λ h env ds. refl)) (
       word_is setting.Ink x (codes "with-ink") (λ e. stands (head.Setting setting.Ink) e (λ h env ds. refl) (λ h env ds. refl)) (
-      word_is setting.Room x (codes "with-room-for-graphics") (λ e. stands (head.Setting setting.Room) e (λ h env ds. refl) (λ h env ds. refl)) nothing))
+      word_is setting.Room x (codes "with-room-for-graphics") (λ e. stands (head.Setting setting.Room) e (λ h env ds. refl) (λ h env ds. refl)) (
+      word_is setting.Presentation x (codes "with-output-as-presentation") (λ e. stands (head.Setting setting.Presentation) e (λ h env ds. refl) (λ h env ds. refl)) nothing)))
 
   writings : Finds (λ a. Stands w x (head.Writing a)) (writing_named x)
   writings =
       word_is writing.WriteText x (codes "write-text") (λ e. stands (head.Writing writing.WriteText) e (λ h env ds. refl) (λ h env ds. refl)) (
-      word_is writing.Newline x (codes "newline") (λ e. stands (head.Writing writing.Newline) e (λ h env ds. refl) (λ h env ds. refl)) nothing)
+      word_is writing.Newline x (codes "newline") (λ e. stands (head.Writing writing.Newline) e (λ h env ds. refl) (λ h env ds. refl)) (
+      word_is writing.Present x (codes "present") (λ e. stands (head.Writing writing.Present) e (λ h env ds. refl) (λ h env ds. refl)) nothing))
 
   changes : Finds (λ a. Stands w x (head.Change a)) (change_named x)
   changes =
@@ -196,10 +200,8 @@ module _ (w : Signatures) (x : List ℕ) where
 
   planned_displays : Finds (λ a. Stands w x (head.Planned a)) (planned_display x)
   planned_displays =
-      word_is planned.Display x (codes "present") (λ e. stands (head.Planned planned.Display) e (λ h env ds. refl) (λ h env ds. refl)) (
-      word_is planned.Display x (codes "with-output-as-presentation") (λ e. stands (head.Planned planned.Display) e (λ h env ds. refl) (λ h env ds. refl)) (
       word_is planned.Display x (codes "updating-output") (λ e. stands (head.Planned planned.Display) e (λ h env ds. refl) (λ h env ds. refl)) (
-      word_is planned.Display x (codes "formatting-table") (λ e. stands (head.Planned planned.Display) e (λ h env ds. refl) (λ h env ds. refl)) nothing)))
+      word_is planned.Display x (codes "formatting-table") (λ e. stands (head.Planned planned.Display) e (λ h env ds. refl) (λ h env ds. refl)) nothing)
 
   planned_others : Finds (λ a. Stands w x (head.Planned a)) (planned_other x)
   planned_others =
@@ -232,7 +234,7 @@ module _ (w : Signatures) (x : List ℕ) where
       (first (λ s. head.Special s) (special_named x) specials_found forms_found))
 
   pub shape_stands : (k : Head) → head_named x ≡ Some k → (h : ℕ) (env : Names) (ds : List Datum)
-      → shape_row_seen w (named x shape_rows) x h env ds ≡ shape_under k h env ds
+      → shape_row_seen w (named x (shape_rows w)) x h env ds ≡ shape_under w k h env ds
   shape_stands k e = (of_some k (head_named x) e heads_found).shape
 
   pub act_stands : (k : Head) → head_named x ≡ Some k → (h : ℕ) (env : Names) (ds : List Datum)
@@ -241,9 +243,9 @@ module _ (w : Signatures) (x : List ℕ) where
 
   -- a word that is no head calls a display
   pub shape_called : head_named x ≡ None → (h : ℕ) (env : Names) (ds : List Datum)
-      → shape_row_seen w (named x shape_rows) x h env ds ≡ call_seen (display_in w x) h env ds
+      → shape_row_seen w (named x (shape_rows w)) x h env ds ≡ call_seen (display_in w x) h env ds
   shape_called e h env ds =
-      ap (λ o. shape_row_seen w o x h env ds) (missed x shape_rows refl e)
+      ap (λ o. shape_row_seen w o x h env ds) (missed x (shape_rows w) refl e)
       ∙ ap (λ (b : Bool). if b then UnknownHead h else call_seen (display_in w x) h env ds) (not_fixed x e)
 
   pub act_called : head_named x ≡ None → (h : ℕ) (env : Names) (ds : List Datum) → act_row_seen (named x act_rows) h env ds ≡ UnknownHead h

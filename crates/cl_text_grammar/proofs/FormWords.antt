@@ -29,10 +29,12 @@ abbrev pub setting_word : Setting → List ℕ
 setting_word setting.Indent = codes "indenting-output"
 setting_word setting.Ink = codes "with-ink"
 setting_word setting.Room = codes "with-room-for-graphics"
+setting_word setting.Presentation = codes "with-output-as-presentation"
 
 abbrev pub writing_word : Writing → List ℕ
 writing_word writing.WriteText = codes "write-text"
 writing_word writing.Newline = codes "newline"
+writing_word writing.Present = codes "present"
 
 abbrev pub change_word : Change → List ℕ
 change_word change.Setf = codes "setf"
@@ -83,10 +85,13 @@ module _ (x : List ℕ) where
   settings : Finds (λ s. Spells x (head.Setting s)) (setting_named x)
   settings =
       word_is setting.Indent x (codes "indenting-output") (λ e. e) (word_is setting.Ink x (codes "with-ink") (λ e. e)
-      (word_is setting.Room x (codes "with-room-for-graphics") (λ e. e) nothing))
+      (word_is setting.Room x (codes "with-room-for-graphics") (λ e. e)
+      (word_is setting.Presentation x (codes "with-output-as-presentation") (λ e. e) nothing)))
 
   writings : Finds (λ v. Spells x (head.Writing v)) (writing_named x)
-  writings = word_is writing.WriteText x (codes "write-text") (λ e. e) (word_is writing.Newline x (codes "newline") (λ e. e) nothing)
+  writings =
+      word_is writing.WriteText x (codes "write-text") (λ e. e) (word_is writing.Newline x (codes "newline") (λ e. e)
+      (word_is writing.Present x (codes "present") (λ e. e) nothing))
 
   changes : Finds (λ c. Spells x (head.Change c)) (change_named x)
   changes = word_is change.Setf x (codes "setf") (λ e. e) (word_is change.Reply x (codes "reply") (λ e. e) nothing)

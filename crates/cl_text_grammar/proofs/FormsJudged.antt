@@ -1,7 +1,8 @@
 -- What the readings of forms come to, in any language of forms whose own rows answer to what they see.
 use Rattle.std.proofs.Common.{◌≡◌, ℕ, Bool, true, false, if◌then◌else◌, List, [], ◌∷◌, drop, refl, sym, ap, ◌∙◌}
-use Rattle.std.specs.Prelude.{Err, Option, Some, None}
+use Rattle.std.specs.Prelude.{Result, Ok, Err, Option, Some, None}
 use Rattle.std.proofs.Math.Path.{subst}
+use Rattle.cl_syntax.specs.ExprTree.{ExprTree}
 use Rattle.cl_forms.specs.Datum.{Datum, Datums, number, literal, word, quoted, stray, list, none, item, in_order, parts_of}
 use Rattle.cl_words.specs.Heads.{head_named}
 use Rattle.cl_words.specs.declared.heads.Head.{Head}
@@ -9,7 +10,7 @@ use Rattle.cl_words.specs.declared.heads.Head.TheVariants as head
 use Rattle.cl_words.specs.declared.heads.Control.{Control}
 use Rattle.cl_words.specs.declared.heads.Control.TheVariants as control
 use Rattle.cl_words.specs.declared.signatures.Signatures.{Signatures}
-use Rattle.cl_expressions.specs.Load.{Load, Notes, after, ◌>>=◌, give, refuse}
+use Rattle.cl_expressions.specs.Load.{Load, Notes, Fault, after, ◌>>=◌, give, refuse}
 use Rattle.cl_expressions.specs.Scopes.{Names}
 use Rattle.cl_expressions.specs.Expressions.{Sub, parse_binding, is_binding, is_binding_list}
 use Rattle.cl_bodies.specs.declared.own.Own.{Own}
@@ -21,13 +22,23 @@ use Rattle.cl_grammar.proofs.Judged.{binding_judged}
 use Rattle.cl_grammar.proofs.Judging.{Any, Judges}
 use Rattle.cl_grammar.proofs.Rows.{JudgedPart, JudgedParts}
 use Rattle.cl_grammar.proofs.Written.{shapes}
-use Rattle.cl_text_grammar.specs.FormSights.{FormSeen, expressions, FormSight, Misshapen, UnknownHead, PlannedHead, Sees, Row, forms_seen, if_seen}
+use Rattle.cl_text_grammar.specs.Types.{TypePart}
+use Rattle.cl_text_grammar.specs.FormSights.{FormSeen, expressions, specifier, FormSight, Misshapen, UnknownHead, PlannedHead, Sees, Row, forms_seen, if_seen}
 use Rattle.cl_text_grammar.specs.FormSights.{when_seen, let_seen, dolist_seen, headed_seen}
 use Rattle.cl_text_grammar.proofs.FormParts.{EachPart, stand, parts_behind, stand_behind, stand_all}
 use Rattle.cl_text_grammar.proofs.BindingsJudged.{no_binding, part_judged}
 use Rattle.cl_text_grammar.proofs.FormsLie.{LieSights}
-use Rattle.cl_text_grammar.proofs.FormJudging.{FormJudges, FormJudged, then_expressions, then_form, ended, then_given, Answers, list_judged, atom_judged}
+use Rattle.cl_text_grammar.proofs.TypeJudging.{TypeJudges}
+use Rattle.cl_text_grammar.proofs.FormJudging.{FormJudges, FormJudged, then_expressions, then_type, then_form, ended, then_given, Answers, list_judged, atom_judged}
 use Rattle.cl_text_grammar.proofs.FormStands.{control_seen}
+
+-- of three readings one behind another, the first two may be taken together
+behind_taken : {A B E : Type 0} (r : Result (A × Notes) Fault) (f : A → Load B) (g : B → Load E) → after r (λ x. f x >>= g) ≡ after (after r f) g
+behind_taken (Ok x) f g = refl
+behind_taken (Err fault) f g = refl
+
+pub one_behind : {A B E : Type 0} (m : Load A) (f : A → Load B) (g : B → Load E) → (m >>= λ x. f x >>= g) ≡ ((m >>= f) >>= g)
+one_behind m f g = λ i u. behind_taken (m u) f g i
 
 -- the forms that are left behind what was read of a form of the language's own
 abbrev pub RestIs : {F O C : Type 0} → Names → List Datum → List FormSeen → Own F O C → Type 0
@@ -37,6 +48,8 @@ RestIs env ds rest (Before o count c) = rest ≡ forms_seen env (drop count ds)
 -- what is read of a form of the language's own, up to its body, answers to the parts that it sees
 pub data OwnSees {F O C : Type 0} (w : Signatures) (env : Names) (ds : List Datum) : List FormSeen → Load (Own F O C) → Type 0 where
   in_front : {qs : List Seen} {rest : List FormSeen} {m : Load (Own F O C)} → Judges w qs (RestIs env ds rest) m → OwnSees w env ds (expressions qs ∷ rest) m
+  typed_in_front : {qs : List Seen} {ts : List TypePart} {rest : List FormSeen} {m : Load ExprTree} {f : ExprTree → Load (Own F O C)} → Judges w qs Any m
+      → ((t : ExprTree) → TypeJudges w ts (RestIs env ds rest) (f t)) → OwnSees w env ds (expressions qs ∷ specifier ts ∷ rest) (m >>= f)
   at_once : {ps : List FormSeen} {own : Own F O C} → RestIs env ds ps own → OwnSees w env ds ps (give own)
 
 abbrev pub OwnAnswers : {F O C : Type 0} → Signatures → Names → List Datum → ℕ → FormSight → Load (Own F O C) → Type 0
@@ -164,6 +177,11 @@ module _ {F O C : Type 0} (l : Language F O C) (w : Signatures) (row : List ℕ 
       → Goes seen_parts (m >>= λ own. finished l own ps env)
   sees_row seen_parts m ps env (in_front {qs} {rest} {m = n} h) k =
       then_expressions seen w lies (RestIs env (stand ps) rest) Any qs rest n (λ own. finished l own ps env) h λ own i. finished_judged own rest ps env i k
+  sees_row seen_parts m ps env (typed_in_front {qs} {ts} {rest} {m = n} {f} h g) k =
+      subst (Goes (expressions qs ∷ specifier ts ∷ rest)) (one_behind n f (λ own. finished l own ps env))
+      (then_expressions seen w lies Any Any qs (specifier ts ∷ rest) n (λ t. f t >>= λ own. finished l own ps env) h λ t i.
+      then_type seen w lies (RestIs env (stand ps) rest) Any ts rest (f t) (λ own. finished l own ps env) (g t) λ own j.
+      finished_judged own rest ps env j k)
   sees_row seen_parts m ps env (at_once {ps = parts} {own} i) k = record { judged = (finished_judged own parts ps env i k).judged }
 
   own_row : (s : FormSight) (m : Load (Own F O C)) (at : ℕ) (ps : List (Part F C)) (env : Names) → OwnAnswers w env (stand ps) at s m → FormParts ps

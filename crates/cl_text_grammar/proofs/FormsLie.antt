@@ -1,29 +1,34 @@
 -- What a form sees lies in it, part behind part.
 use Rattle.std.proofs.Common.{ℕ, ◌+◌, ◌≤◌, ◌<◌, Bool, true, false, if◌then◌else◌, List, [], ◌∷◌, length, arith}
-use Rattle.std.specs.Prelude.{Option, Some, None, ◌==◌, codes}
+use Rattle.std.specs.Prelude.{Option, Some, None, is_some, ◌==◌, codes}
 use Rattle.std.specs.Option.{IfSome}
 use Rattle.std.specs.Str.{bytes_eq}
 use Rattle.cl_table.specs.Names.{named}
-use Rattle.cl_forms.specs.Datum.{Datum, number, literal, word, quoted, stray, list, none, item, parts_of, offset}
+use Rattle.cl_forms.specs.Datum.{Datum, Datums, number, literal, word, quoted, stray, list, none, item, in_order, parts_of, offset}
 use Rattle.cl_forms.specs.Naming.{name_in, symbol_of, fits}
 use Rattle.cl_words.specs.Signatures.{display_in}
 use Rattle.cl_words.specs.declared.signatures.Signatures.{Signatures}
 use Rattle.cl_expressions.specs.Scopes.{Names, among}
 use Rattle.cl_expressions.specs.Expressions.{is_binding, is_binding_list}
+use Rattle.cl_bodies.specs.Presentations.{single_box_in}
 use Rattle.cl_grammar.specs.Heads.{fixed_heads}
-use Rattle.cl_grammar.specs.Lies.{Lies}
+use Rattle.cl_grammar.specs.Lies.{Lies, LieAll}
 use Rattle.cl_grammar.specs.Sights.{expression, slot_name, all_seen, names_behind, value_seen, names_bound, values_seen}
 use Rattle.cl_grammar.proofs.Lying.{LieList, LieSeen, own_lies, datum_rises, datum_earlier, seen_rises, seen_earlier, all_lie, value_lies, bound_lies}
 use Rattle.cl_grammar.proofs.Spelled.{row_found}
-use Rattle.cl_text_grammar.specs.FormSights.{FormSeen, expressions, form, FormSight, Misshapen, UnknownHead, PlannedHead, Sees, Row, forms_seen}
+use Rattle.cl_text_grammar.specs.Types.{type_seen}
+use Rattle.cl_text_grammar.specs.FormSights.{FormSeen, expressions, specifier, form, FormSight, Misshapen, UnknownHead, PlannedHead, Sees, Row, forms_seen}
 use Rattle.cl_text_grammar.specs.FormSights.{if_seen, when_seen, let_seen, dolist_seen, progn_seen, planned_seen, write_seen, newline_seen}
-use Rattle.cl_text_grammar.specs.FormSights.{drawn_seen, indent_seen, ink_seen, room_seen, call_seen, shape_rows, shape_row_seen, place_seen}
-use Rattle.cl_text_grammar.specs.FormSights.{setf_seen, reply_seen, act_rows, act_row_seen, headed_seen, shape_seen, act_seen}
+use Rattle.cl_text_grammar.specs.FormSights.{drawn_seen, indent_seen, ink_seen, room_seen, present_seen, presented_seen, presentation_seen, call_seen}
+use Rattle.cl_text_grammar.specs.FormSights.{shape_rows, shape_row_seen, place_seen, setf_seen, reply_seen, act_rows, act_row_seen, headed_seen, shape_seen, act_seen}
+use Rattle.cl_text_grammar.proofs.TypePartsLie.{LieType, type_rises, type_earlier, type_later}
+use Rattle.cl_text_grammar.proofs.TypesLie.{type_lies, all_rise}
 
 -- what is seen lies one behind another
 abbrev pub LieForms : ℕ → List FormSeen → ℕ → Type 0
 LieForms from [] to = from ≤ to
 LieForms from (expressions qs ∷ ps) to = (next : ℕ) × LieSeen from qs next × LieForms next ps to
+LieForms from (specifier ts ∷ ps) to = (next : ℕ) × LieType from ts next × LieForms next ps to
 LieForms from (form env d ∷ ps) to = (next : ℕ) × Lies from d next × LieForms next ps to
 
 abbrev pub LieFormSight : ℕ → FormSight → ℕ → Type 0
@@ -35,11 +40,13 @@ LieFormSight from (Sees ps) to = LieForms from ps to
 pub forms_rise : (ps : List FormSeen) (from to : ℕ) → LieForms from ps to → from ≤ to
 forms_rise [] from to h = h
 forms_rise (expressions qs ∷ ps) from to h = omega (arith, seen_rises qs from h.0 h.1, forms_rise ps h.0 to h.2)
+forms_rise (specifier ts ∷ ps) from to h = omega (arith, type_rises ts from h.0 h.1, forms_rise ps h.0 to h.2)
 forms_rise (form env d ∷ ps) from to h = omega (arith, datum_rises d from h.0 h.1, forms_rise ps h.0 to h.2)
 
 pub forms_earlier : (ps : List FormSeen) (before from to : ℕ) → before ≤ from → LieForms from ps to → LieForms before ps to
 forms_earlier [] before from to e h = omega (arith, e, h)
 forms_earlier (expressions qs ∷ ps) before from to e h = (h.0, seen_earlier qs before from h.0 e h.1, h.2)
+forms_earlier (specifier ts ∷ ps) before from to e h = (h.0, type_earlier ts before from h.0 e h.1, h.2)
 forms_earlier (form env d ∷ ps) before from to e h = (h.0, datum_earlier d before from h.0 e h.1, h.2)
 
 list_rises : (ds : List Datum) (from to : ℕ) → LieList from ds to → from ≤ to
@@ -124,6 +131,45 @@ ink_lies k env (a ∷ ds) from to l h = when_row_lies k env (a ∷ ds) from to l
 room_lies : LieRow room_seen
 room_lies k env ds from to l h = progn_lies k env ds from to l h
 
+module _ (w : Signatures) where
+  present_lies : LieRow (present_seen w)
+  present_lies k env (a ∷ b ∷ []) from to l h =
+      (h.0, one_lies env a k h.0 (datum_earlier a k from h.0 (omega (arith, l)) h.1), (h.2.0, type_lies w [] b h.0 h.2.0 h.2.1, h.2.2))
+  present_lies k env [] from to l h = tt
+  present_lies k env (a ∷ []) from to l h = tt
+  present_lies k env (a ∷ b ∷ c ∷ ds) from to l h = tt
+
+  -- the object, its type and the body, where these end in order
+  object_lies : (b : Bool) (e s : Datum) (keys : Datums) (ds : List Datum) (env : Names) (k from next to : ℕ) → k ≤ from → LieAll from (item e (item s keys)) next
+      → LieList next ds to
+      → LieFormSight k (if b then Sees (expressions (expression env e ∷ []) ∷ specifier (type_seen w [] s) ∷ forms_seen env ds) else Misshapen) to
+  object_lies b e s keys ds env k from next to l h i =
+      when_lies b (expressions (expression env e ∷ []) ∷ specifier (type_seen w [] s) ∷ forms_seen env ds) k to (
+        h.0,
+        one_lies env e k h.0 (datum_earlier e k from h.0 l h.1),
+        (
+          next,
+          type_later (type_seen w [] s) h.0 h.2.0 next (all_rise keys h.2.0 next h.2.2) (type_lies w [] s h.0 h.2.0 h.2.1),
+          forms_lie env ds next to i,
+        ),
+      )
+
+  presented_lies : (a : Datum) (ds : List Datum) (env : Names) (k from next to : ℕ) → k < from → Lies from a next → LieList next ds to
+      → LieFormSight k (presented_seen w env (parts_of a) ds) to
+  presented_lies (list (item e (item s keys)) at) ds env k from next to l h i =
+      object_lies (is_some (single_box_in (in_order keys))) e s keys ds env k (at + 1) next to (omega (arith, l, h.0)) h.2 i
+  presented_lies (list none at) ds env k from next to l h i = tt
+  presented_lies (list (item e none) at) ds env k from next to l h i = tt
+  presented_lies (number z at) ds env k from next to l h i = tt
+  presented_lies (literal s at) ds env k from next to l h i = tt
+  presented_lies (word s at) ds env k from next to l h i = tt
+  presented_lies (quoted s at name_at) ds env k from next to l h i = tt
+  presented_lies (stray at) ds env k from next to l h i = tt
+
+  presentation_lies : LieRow (presentation_seen w)
+  presentation_lies k env [] from to l h = tt
+  presentation_lies k env (a ∷ ds) from to l h = presented_lies a ds env k from h.0 to l h.1 h.2
+
 call_lies : (o : Option (Option ℕ)) → LieRow (call_seen o)
 call_lies None k env ds from to l h = head_lies k from to ds l h
 call_lies (Some count) k env ds from to l h = block_lies (fits count (length ds)) k env ds from to l h
@@ -158,6 +204,7 @@ place_lies (stray at) e env k from next to l h i = tt
 forms_later : (ps : List FormSeen) (from to behind : ℕ) → to ≤ behind → LieForms from ps to → LieForms from ps behind
 forms_later [] from to behind e h = omega (arith, e, h)
 forms_later (expressions qs ∷ ps) from to behind e h = (h.0, h.1, forms_later ps h.0 to behind e h.2)
+forms_later (specifier ts ∷ ps) from to behind e h = (h.0, h.1, forms_later ps h.0 to behind e h.2)
 forms_later (form env d ∷ ps) from to behind e h = (h.0, h.1, forms_later ps h.0 to behind e h.2)
 
 sight_later : (s : FormSight) (from to behind : ℕ) → to ≤ behind → LieFormSight from s to → LieFormSight from s behind
@@ -212,8 +259,8 @@ headed_lie row i env (stray at ∷ ds) from to h = tt
 headed_lie row i env (list es at ∷ ds) from to h = tt
 
 pub shapes_lie : (w : Signatures) → LieSights (shape_seen w)
-shapes_lie w = headed_lie (λ x. shape_row_seen w (named x shape_rows) x) (λ x. shape_row_lies w (named x shape_rows) x
-    (row_found LieRow x shape_rows (
+shapes_lie w = headed_lie (λ x. shape_row_seen w (named x (shape_rows w)) x) (λ x. shape_row_lies w (named x (shape_rows w)) x
+    (row_found LieRow x (shape_rows w) (
       if_lies,
       (
         when_row_lies,
@@ -237,7 +284,7 @@ shapes_lie w = headed_lie (λ x. shape_row_seen w (named x shape_rows) x) (λ x.
                           drawn_lies 4,
                           (
                             drawn_lies 5,
-                            (indent_lies, (ink_lies, (room_lies, (planned_lies, (planned_lies, (planned_lies, (planned_lies, tt))))))),
+                            (indent_lies, (ink_lies, (room_lies, (present_lies w, (presentation_lies w, (planned_lies, (planned_lies, tt))))))),
                           ),
                         ),
                       ),

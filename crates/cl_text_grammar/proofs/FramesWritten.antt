@@ -263,6 +263,7 @@ module _ (w : Signatures) (names : CallsNames w) where
     key_ends key.Satisfies i a f = absurd (false_true i)
     key_ends key.Description i a f = absurd (false_true i)
     key_ends key.Separator i a f = absurd (false_true i)
+    key_ends key.SingleBox i a f = absurd (false_true i)
 
   section_ends : (d : Datum) (k : Keyed) (so_far ks : List Keyed) (ds : List Datum) → IsSection frame_keys k d
       → ((slots : SlotTable) → Fine ks → Ends (Read ks ds slots) (parse_sections w ks slots)) → (slots : SlotTable) → StandApart so_far (k ∷ ks) → Fine (k ∷ ks)

@@ -22,6 +22,7 @@ key_word key.InheritFrom = codes ":inherit-from"
 key_word key.Satisfies = codes ":satisfies"
 key_word key.Description = codes ":description"
 key_word key.Separator = codes ":separator"
+key_word key.SingleBox = codes ":single-box"
 
 section_words : (x : List ℕ) → Finds (λ k. x ≡ key_word k) (section_key x)
 section_words x =
@@ -32,7 +33,8 @@ value_words : (x : List ℕ) → Finds (λ k. x ≡ key_word k) (value_key x)
 value_words x =
     word_is key.Name x (codes ":name") (λ e. e) (word_is key.Keystroke x (codes ":keystroke") (λ e. e)
     (word_is key.InheritFrom x (codes ":inherit-from") (λ e. e) (word_is key.Satisfies x (codes ":satisfies") (λ e. e)
-    (word_is key.Description x (codes ":description") (λ e. e) (word_is key.Separator x (codes ":separator") (λ e. e) nothing)))))
+    (word_is key.Description x (codes ":description") (λ e. e) (word_is key.Separator x (codes ":separator") (λ e. e)
+    (word_is key.SingleBox x (codes ":single-box") (λ e. e) nothing))))))
 
 either_key : {P : Key → Type 0} (o p : Option Key) → Finds P o → Finds P p → Finds P (key_or o p)
 either_key (Some k) p h i = record { found = h.found }

@@ -2,6 +2,7 @@ pub mod FormWords
 pub mod Bindings
 pub mod FormParts
 pub mod FormsWritten
+pub mod PresentationsWritten
 pub mod ShapesWritten
 pub mod ActsWritten
 pub mod NamesWritten
@@ -15,6 +16,10 @@ pub mod MethodsWritten
 pub mod TextWritten
 pub mod DisplaysNamed
 pub mod FormStands
+pub mod TypePartsLie
+pub mod TypeJudging
+pub mod TypesJudged
+pub mod TypesLie
 pub mod FormsLie
 pub mod FormBounds
 pub mod FormJudging

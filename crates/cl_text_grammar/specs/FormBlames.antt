@@ -6,7 +6,8 @@ use Rattle.cl_expressions.specs.Scopes.{Names}
 use Rattle.cl_declare.specs.Names.{is_list}
 use Rattle.cl_grammar.specs.Sights.{Seen}
 use Rattle.cl_grammar.specs.Blames.{BlamesAny}
-use Rattle.cl_text_grammar.specs.FormSights.{FormSeen, expressions, form, FormSight, Misshapen, UnknownHead, PlannedHead, Sees, shape_seen, act_seen}
+use Rattle.cl_text_grammar.specs.Types.{TypePart, TypeBlames}
+use Rattle.cl_text_grammar.specs.FormSights.{FormSeen, expressions, specifier, form, FormSight, Misshapen, UnknownHead, PlannedHead, Sees, shape_seen, act_seen}
 
 mutual
   -- in the datum, which is a form of a language and sees these variables, a form is blamed with this number at this offset
@@ -24,6 +25,8 @@ mutual
   pub data FormBlamesAny (seen : Names → List Datum → FormSight) (w : Signatures) : List FormSeen → ℕ → ℕ → Type 0 where
     in_expressions : {qs : List Seen} {ps : List FormSeen} {number offset : ℕ} → BlamesAny w qs number offset
         → FormBlamesAny seen w (expressions qs ∷ ps) number offset
+    in_a_type : {ts : List TypePart} {ps : List FormSeen} {number offset : ℕ} → TypeBlames ts number offset
+        → FormBlamesAny seen w (specifier ts ∷ ps) number offset
     in_the_form : {env : Names} {d : Datum} {ps : List FormSeen} {number offset : ℕ} → FormBlames seen w env d number offset
         → FormBlamesAny seen w (form env d ∷ ps) number offset
     in_a_later : {p : FormSeen} {ps : List FormSeen} {number offset : ℕ} → FormBlamesAny seen w ps number offset

@@ -1,5 +1,5 @@
 -- What a display form or a statement sees of its parts, in the order of the text; or what is wrong with the form itself.
-use Rattle.std.specs.Prelude.{ℕ, ◌==◌, if◌then◌else◌, List, [], ◌∷◌, length, Option, Some, None, codes}
+use Rattle.std.specs.Prelude.{ℕ, ◌==◌, is_some, if◌then◌else◌, List, [], ◌∷◌, length, Option, Some, None, codes}
 use Rattle.std.specs.Str.{bytes_eq}
 use Rattle.cl_table.specs.Names.{named}
 use Rattle.cl_forms.specs.Datum.{Datum, number, literal, word, quoted, stray, list, parts_of, offset}
@@ -8,12 +8,15 @@ use Rattle.cl_words.specs.Signatures.{display_in}
 use Rattle.cl_words.specs.declared.signatures.Signatures.{Signatures}
 use Rattle.cl_expressions.specs.Scopes.{Names, among}
 use Rattle.cl_expressions.specs.Expressions.{is_binding, is_binding_list}
+use Rattle.cl_bodies.specs.Presentations.{single_box_in}
 use Rattle.cl_grammar.specs.Heads.{fixed_heads}
 use Rattle.cl_grammar.specs.Sights.{Seen, expression, slot_name, all_seen, names_behind, value_seen, names_bound, values_seen}
+use Rattle.cl_text_grammar.specs.Types.{TypePart, type_seen}
 
--- what is looked at: expressions and names, or a form of the same language, with the variables that it sees
+-- what is looked at: expressions and names, what is looked at of a type, or a form of the same language, with the variables that it sees
 pub data FormSeen : Type 0 where
   expressions : List Seen → FormSeen
+  specifier : List TypePart → FormSeen
   form : Names → Datum → FormSeen
 
 -- what a form sees
@@ -98,14 +101,30 @@ ink_seen h env (a ∷ ds) = Sees (expressions (expression env a ∷ []) ∷ form
 abbrev pub room_seen : Row
 room_seen h env ds = Sees (forms_seen env ds)
 
+-- `(present E SPECIFIER)`: a display has no parameters of types
+abbrev pub present_seen : Signatures → Row
+present_seen w h env (a ∷ b ∷ []) = Sees (expressions (expression env a ∷ []) ∷ specifier (type_seen w [] b) ∷ [])
+present_seen w h env ds = Misshapen
+
+-- `E SPECIFIER KEY VALUE ...`, with keys that may stand there, and the forms of a body
+abbrev pub presented_seen : Signatures → Names → List Datum → List Datum → FormSight
+presented_seen w env (e ∷ s ∷ keys) ds =
+    if is_some (single_box_in keys) then Sees (expressions (expression env e ∷ []) ∷ specifier (type_seen w [] s) ∷ forms_seen env ds) else Misshapen
+presented_seen w env parts ds = Misshapen
+
+-- `(with-output-as-presentation (E SPECIFIER :single-box BOOL) FORM ...)`
+abbrev pub presentation_seen : Signatures → Row
+presentation_seen w h env [] = Misshapen
+presentation_seen w h env (a ∷ ds) = presented_seen w env (parts_of a) ds
+
 -- `(DISPLAY E ...)`: as many parts as the display has parameters
 abbrev pub call_seen : Option (Option ℕ) → Row
 call_seen None h env ds = UnknownHead h
 call_seen (Some count) h env ds = if fits count (length ds) then Sees (expressions (all_seen env ds) ∷ []) else Misshapen
 
 -- the rows of display forms by their words
-abbrev pub shape_rows : List (List ℕ × Row)
-shape_rows =
+abbrev pub shape_rows : Signatures → List (List ℕ × Row)
+shape_rows w =
     (codes "if", if_seen)
     ∷ (codes "when", when_seen)
     ∷ (codes "let", let_seen)
@@ -121,8 +140,8 @@ shape_rows =
     ∷ (codes "indenting-output", indent_seen)
     ∷ (codes "with-ink", ink_seen)
     ∷ (codes "with-room-for-graphics", room_seen)
-    ∷ (codes "present", planned_seen)
-    ∷ (codes "with-output-as-presentation", planned_seen)
+    ∷ (codes "present", present_seen w)
+    ∷ (codes "with-output-as-presentation", presentation_seen w)
     ∷ (codes "updating-output", planned_seen)
     ∷ (codes "formatting-table", planned_seen)
     ∷ []
@@ -186,7 +205,7 @@ headed_seen row env (list es h ∷ ds) = Misshapen
 
 -- what the display form of these parts sees
 abbrev pub shape_seen : Signatures → Names → List Datum → FormSight
-shape_seen w = headed_seen (λ x. shape_row_seen w (named x shape_rows) x)
+shape_seen w = headed_seen (λ x. shape_row_seen w (named x (shape_rows w)) x)
 
 -- what the statement of these parts sees
 abbrev pub act_seen : Names → List Datum → FormSight

@@ -5,7 +5,8 @@ use Rattle.cl_words.specs.declared.signatures.Signatures.{Signatures}
 use Rattle.cl_expressions.specs.Scopes.{Names}
 use Rattle.cl_grammar.specs.Sights.{Seen}
 use Rattle.cl_grammar.specs.Unnamed.{UnnamedAny}
-use Rattle.cl_text_grammar.specs.FormSights.{FormSeen, expressions, form, FormSight, Sees, shape_seen, act_seen}
+use Rattle.cl_text_grammar.specs.Types.{TypePart, TypeUnnamed}
+use Rattle.cl_text_grammar.specs.FormSights.{FormSeen, expressions, specifier, form, FormSight, Sees, shape_seen, act_seen}
 
 mutual
   -- in the datum, which is a form of a language and sees these variables, a name at this offset is not declared
@@ -16,6 +17,7 @@ mutual
   -- in one of the parts
   pub data FormUnnamedAny (seen : Names → List Datum → FormSight) (w : Signatures) : List FormSeen → ℕ → Type 0 where
     in_expressions : {qs : List Seen} {ps : List FormSeen} {offset : ℕ} → UnnamedAny w qs offset → FormUnnamedAny seen w (expressions qs ∷ ps) offset
+    in_a_type : {ts : List TypePart} {ps : List FormSeen} {offset : ℕ} → TypeUnnamed w ts offset → FormUnnamedAny seen w (specifier ts ∷ ps) offset
     in_the_form : {env : Names} {d : Datum} {ps : List FormSeen} {offset : ℕ} → FormUnnamed seen w env d offset
         → FormUnnamedAny seen w (form env d ∷ ps) offset
     in_a_later : {p : FormSeen} {ps : List FormSeen} {offset : ℕ} → FormUnnamedAny seen w ps offset → FormUnnamedAny seen w (p ∷ ps) offset

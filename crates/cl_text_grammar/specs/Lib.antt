@@ -1,6 +1,7 @@
 pub mod Displays
 pub mod WritesShapes
 pub mod WritesActs
+pub mod Types
 pub mod FormSights
 pub mod FormBlames
 pub mod FormUnnamed

@@ -82,7 +82,7 @@ pub data WritesDeclared (w : Signatures) (at : ℕ) : Declaration → List Datum
       → WritesDeclared w at (of_function (record { name = x; parameters = xs; body = t; at = at })) (word (codes "define-function") h ∷ n ∷ ps ∷ e ∷ [])
   -- (define-display NAME (PARAMETER ...) FORM ...)
   a_display : {x : List ℕ} {xs : Names} {fs : List ShapeTree} {n ps : Datum} {ds : List Datum} {h : ℕ} → name_in n ≡ Some x → WritesNameList xs ps
-      → WritesShapes (shape_trees_of fs) ds
+      → WritesShapes w (shape_trees_of fs) ds
       → WritesDeclared w at (of_display (record { name = x; parameters = xs; body = fs; at = at })) (word (codes "define-display") h ∷ n ∷ ps ∷ ds)
   -- (define-command NAME () STATEMENT ...)
   a_command : {x : List ℕ} {ss : List ActTree} {n : Datum} {ds : List Datum} {list_at h : ℕ} → WritesCommandName x n → WritesActs (act_trees_of ss) ds

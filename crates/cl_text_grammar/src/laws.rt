@@ -31,14 +31,14 @@ pub fn declared_displays_have_names()
 #[tactic(auto, using(crate::proofs::ShapesWritten::shape_written))]
 pub fn read_shape_is_written()
     ensures { (w : Signatures) (d : Datum) (env : Names) (u v : Notes) (f : ShapeTree) → CallsNames w → CallsDisplays w
-        → parse_shape w d env u ≡ Ok (f, v) → WritesShape f d }
+        → parse_shape w d env u ≡ Ok (f, v) → WritesShape w f d }
 {}
 
 /// What is read of data as a body of display forms is written so.
 #[tactic(auto, using(crate::proofs::ShapesWritten::shapes_written))]
 pub fn read_shapes_are_written()
     ensures { (w : Signatures) (ds : Datums) (env : Names) (u v : Notes) (fs : List ShapeTree) → CallsNames w → CallsDisplays w
-        → parse_shapes w ds env u ≡ Ok (fs, v) → WritesShapes (shape_trees_of fs) (in_order ds) }
+        → parse_shapes w ds env u ≡ Ok (fs, v) → WritesShapes w (shape_trees_of fs) (in_order ds) }
 {}
 
 /// What is read of a datum as a statement is written so.

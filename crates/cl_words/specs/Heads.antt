@@ -162,13 +162,15 @@ abbrev pub setting_named : List ℕ → Option Setting
 setting_named word =
     if bytes_eq word (codes "indenting-output") then Some setting.Indent
     else (if bytes_eq word (codes "with-ink") then Some setting.Ink
-    else (if bytes_eq word (codes "with-room-for-graphics") then Some setting.Room else None))
+    else (if bytes_eq word (codes "with-room-for-graphics") then Some setting.Room
+    else (if bytes_eq word (codes "with-output-as-presentation") then Some setting.Presentation else None)))
 
 -- the display forms that write
 abbrev pub writing_named : List ℕ → Option Writing
 writing_named word =
     if bytes_eq word (codes "write-text") then Some writing.WriteText
-    else (if bytes_eq word (codes "newline") then Some writing.Newline else None)
+    else (if bytes_eq word (codes "newline") then Some writing.Newline
+    else (if bytes_eq word (codes "present") then Some writing.Present else None))
 
 -- the statements that change or answer something
 abbrev pub change_named : List ℕ → Option Change
@@ -179,10 +181,8 @@ change_named word =
 -- what is not built yet
 abbrev pub planned_display : List ℕ → Option Planned
 planned_display word =
-    if bytes_eq word (codes "present") then Some planned.Display
-    else (if bytes_eq word (codes "with-output-as-presentation") then Some planned.Display
-    else (if bytes_eq word (codes "updating-output") then Some planned.Display
-    else (if bytes_eq word (codes "formatting-table") then Some planned.Display else None)))
+    if bytes_eq word (codes "updating-output") then Some planned.Display
+    else (if bytes_eq word (codes "formatting-table") then Some planned.Display else None)
 
 abbrev pub planned_other : List ℕ → Option Planned
 planned_other word =

@@ -36,6 +36,8 @@ pub enum Setting {
     Ink,
     /// `(with-room-for-graphics FORM ...)`
     Room,
+    /// `(with-output-as-presentation (E SPEC :single-box BOOL) FORM ...)`
+    Presentation,
 }
 
 /// The heads of the display forms that write.
@@ -45,6 +47,8 @@ pub enum Writing {
     WriteText,
     /// `(newline)`
     Newline,
+    /// `(present E SPEC)`
+    Present,
 }
 
 /// The heads of the statements that change or answer something.
@@ -177,6 +181,8 @@ fn setting_named(word: &[u8]) -> Option<Setting>
         Some(Setting::Ink)
     } else if word == b"with-room-for-graphics".as_slice() {
         Some(Setting::Room)
+    } else if word == b"with-output-as-presentation".as_slice() {
+        Some(Setting::Presentation)
     } else {
         None
     }
@@ -189,6 +195,8 @@ fn writing_named(word: &[u8]) -> Option<Writing>
         Some(Writing::WriteText)
     } else if word == b"newline".as_slice() {
         Some(Writing::Newline)
+    } else if word == b"present".as_slice() {
+        Some(Writing::Present)
     } else {
         None
     }
@@ -209,11 +217,7 @@ fn change_named(word: &[u8]) -> Option<Change>
 fn planned_display(word: &[u8]) -> Option<Planned>
     ensures { result ≡ planned_display word.now }
 {
-    if word == b"present".as_slice() {
-        Some(Planned::Display)
-    } else if word == b"with-output-as-presentation".as_slice() {
-        Some(Planned::Display)
-    } else if word == b"updating-output".as_slice() {
+    if word == b"updating-output".as_slice() {
         Some(Planned::Display)
     } else if word == b"formatting-table".as_slice() {
         Some(Planned::Display)

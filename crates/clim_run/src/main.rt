@@ -9,6 +9,7 @@ ghost use Rattle.cl_invocation.specs.Words.{invocation_of};
 ghost use Rattle.cl_outside.specs.Causes.{Rose};
 ghost use Rattle.cl_program.specs.Command.{IsCheck, IsNoCommand, IsRun, Names};
 ghost use Rattle.cl_program.specs.Commands.{KeptBy};
+ghost use Rattle.cl_program.specs.Hosts.{hosts_of};
 ghost use Rattle.cl_program.specs.Statuses.{DeclaresApplication, EndsWith, HasFewLines, HasManyLines, HasRefusal};
 ghost use Rattle.cl_program.specs.Surroundings.{placed, streams};
 
@@ -79,7 +80,7 @@ fn run<H: Hosts, P: Place, G: Source, O: Sink>(
     gestures: &mut G,
     out: &mut O,
 ) -> ExitCode
-    ensures ends { (spent : ℕ) × EndsWith (H.bounds hosts.now) (map (λ w. w.now) words.now) (placed (P.file place.old)
+    ensures ends { (spent : ℕ) × EndsWith (hosts_of H.bounds H.entries hosts.now) (map (λ w. w.now) words.now) (placed (P.file place.old)
         (P.app_faults place.old) (P.making_faults place.old)
         (wire_of (P.taken place.old) (P.writing_faults place.old) (P.tells place.old)))
         (placed (P.file place.new) (P.app_faults place.new) (P.making_faults place.new)

@@ -1,10 +1,13 @@
 //! Displays within budgets and depths that no application has: their items, or the kind of their trap, and their cost, worked out by hand.
+ghost use Rattle.std.specs.Prelude.{◌≤◌};
+
 use super::reading::{display_forms, loaded, variables};
 use super::saying::put_bytes;
 use cl_display::{History, Shown, display};
-use cl_eval::{Env, Limits};
+use cl_eval::{Env, Limits, Program, Slots, Types};
 use cl_load::Loaded;
 use cl_outside::own_steps;
+use cl_ptext::{HostTypes, TypeBook};
 use cl_syntax::{Expr, Shape, Shapes};
 use cl_value::{Text, Value};
 use std::alloc::Global;
@@ -83,7 +86,21 @@ fn words_and_cost(alloc: Global, shown: &Shown, cost: u64) -> Result<String, Fai
     Ok(said)
 }
 
-/// What display forms show in an application, and how many steps that took, in words.
+/// What display forms of a program show, and how many steps that took, in words.
+fn come_to_by<T: Types>(
+    program: &Program<'_, T>,
+    forms: &Shapes,
+    env: &Env,
+    slots: &Slots,
+) -> Result<String, Fail>
+    requires { program.now.limits.depth ≤ 512 }
+{
+    let mut steps = own_steps();
+    let shown = display(program, forms.as_slice(), env, slots, &mut steps);
+    words_and_cost(program.alloc, &shown, steps.ledger().seen())
+}
+
+/// What display forms show in an application, in words.
 fn come_to_in(
     alloc: Global,
     budget: u64,
@@ -92,14 +109,18 @@ fn come_to_in(
     loaded: &Loaded,
     env: &Env,
 ) -> Result<String, Fail> {
-    let limits = Limits {
-        budget,
-        depth: depth.min(512),
+    let hosts = HostTypes { types: &[] };
+    let types = TypeBook::new(alloc, &loaded.app, &loaded.lattice, &hosts);
+    let program = Program {
+        alloc,
+        app: &loaded.app,
+        types: &types,
+        limits: Limits {
+            budget,
+            depth: depth.min(512),
+        },
     };
-    let (app, slots) = (&loaded.app, &loaded.slots);
-    let mut steps = own_steps();
-    let shown = display(alloc, app, forms.as_slice(), env, slots, limits, &mut steps);
-    words_and_cost(alloc, &shown, steps.ledger().seen())
+    come_to_by(&program, forms, env, &loaded.slots)
 }
 
 fn come_to_loaded(

@@ -34,6 +34,8 @@ fn put_gesture(told: &mut String, gesture: Gesture) -> Result<(), AllocError> {
     match gesture {
         Gesture::Type(text) => put_text(told, "type ", text.as_slice()),
         Gesture::Return => Ok(told.push_str("return")?),
+        Gesture::Rubout => Ok(told.push_str("rubout")?),
+        Gesture::Clear => Ok(told.push_str("clear")?),
         Gesture::Frame => Ok(told.push_str("frame")?),
         Gesture::Inks => Ok(told.push_str("inks")?),
         Gesture::Force => Ok(told.push_str("force")?),
@@ -102,6 +104,21 @@ fn verbs_are_read_with_what_stands_behind(rt: HostRuntime) -> Result<(), Fail> {
     assert_eq!(rt;
         answers(alloc, &mut gestures)?.as_str(),
         "force\nbad 2\nbad 3\nbad 4\nbad 5\nbad 6\nbad 7\nbad 8\nbad 9\nbad 10\ninks\nend"
+    );
+    Ok(())
+}
+
+const TAKEN_AWAY: &[u8] =
+    b"rubout\nrubout \nrubout x\nRubout\nrubout\r\nclear\nclear \nclear 1\n clear\nclear\r\nclea\nrubout";
+
+#[test]
+fn what_takes_away_stands_alone(rt: HostRuntime) -> Result<(), Fail> {
+    let alloc = rt.alloc();
+    let source = MemSource::new(TAKEN_AWAY.to_vec(alloc)?, Vec::new(alloc));
+    let mut gestures = Gestures::new(alloc, source)?;
+    assert_eq!(rt;
+        answers(alloc, &mut gestures)?.as_str(),
+        "rubout\nbad 2\nbad 3\nbad 4\nrubout\nclear\nbad 7\nbad 8\nbad 9\nclear\nbad 11\nrubout\nend"
     );
     Ok(())
 }

@@ -11,17 +11,20 @@ use Rattle.cl_syntax.specs.declared.display_forms.Shape.{Shape}
 use Rattle.cl_eval.specs.Scope.{variables_of}
 use Rattle.cl_eval.specs.Standpoint.{meaning_at}
 use Rattle.cl_display.specs.Drawings.{drawing_of}
+use Rattle.cl_display.specs.Fresh.{presents_body}
 use Rattle.cl_display.specs.Settings.{indent, leave_room, restore_ink, restore_margin, set_ink}
-use Rattle.cl_display.specs.Place.{allowance_at, draws_at}
+use Rattle.cl_display.specs.declared.parts.Part.{Part}
+use Rattle.cl_display.specs.Place.{allowance_at, draws_at, scene_at, texts_at}
 use Rattle.cl_display.proofs.FormLemmas.{draws-entered, grows-at, stop-call, stop-choice, stop-dolist, stop-draws_in, stop-draws_to}
-use Rattle.cl_display.proofs.FormLemmas.{stop-figure}
+use Rattle.cl_display.proofs.FormLemmas.{grows-presents_body, grows-texts_at, stop-as_presentation, stop-figure, stop-present}
+use Rattle.cl_display.proofs.PresentationLemmas.{ends-figure, member-checked, stop-member, stop-opened}
 use Rattle.cl_display.proofs.FormLemmas.{stop-for_each, stop-in_order, stop-indent, stop-ink, stop-set, stop-when}
 use Rattle.cl_display.proofs.forms.+draw.Goals as goal
 
 pub draw-returns-clause-meaning : goal.draw-returns-clause-meaning
 draw-returns-clause-meaning g t c =
-    rw (draws-entered c.args.place.now.here.left (allowance_at c.args.place.now) c.args.place.now.here.context.now.app.now
-    c.args.place.now.here.context.now.slots.now c.args.place.now.here.level (variables_of c.args.place.now.here.scope.now) c.args.form.now
+    rw (draws-entered c.args.place.now.here.left (allowance_at c.args.place.now) (scene_at g.T.Types.holds g.T.Types.presents c.args.place.now)
+    c.args.place.now.here.level (variables_of c.args.place.now.here.scope.now) c.args.form.now
     (drawing_of c.args.drawing.now)
     c.args.meter.now.cost c.args.meter.now.deepest _ _ c.in_ok-enter.ensures.meaning)
     c.draw_parts.ensures.meaning
@@ -34,7 +37,7 @@ draw_all-returns-in_err-draw-clause-meaning g t c =
     let step : drop at c.args.forms.now ≡ c.form-item.result ∷ rest =
     drop-cons c.args.forms.now at c.form-item.result c.loop-form-test.true ∙ ap (λ (a : Shape). a ∷ rest) (sym c.form-item.is) in
     rw (p.1, p.2, ← c.loop-form.invariant.meaning, step)
-    (stop-in_order (draws_at c.args.place.now) (grows-at c.args.place.now) c.args.place.now.here.level
+    (stop-in_order (draws_at g.T.Types.holds g.T.Types.presents c.args.place.now) (grows-at g.T.Types.holds g.T.Types.presents c.args.place.now) c.args.place.now.here.level
     (variables_of c.args.place.now.here.scope.now)
     c.form-item.result (shape_trees_of rest) (drawing_of c.loop-form.drawing) (drawing_of c.draw.new.drawing)
     c.in_err-draw.field-0.0 c.draw.new.meter c.loop-form.meter.cost c.loop-form.meter.deepest c.in_err-draw.ensures.meaning)
@@ -47,7 +50,7 @@ draw_each-returns-in_err-draw_all-clause-meaning g t c =
     let step : drop at c.args.list.now ≡ c.item-item.result ∷ rest =
     drop-cons c.args.list.now at c.item-item.result c.loop-item-test.true ∙ ap (λ (a : Value). a ∷ rest) (sym c.item-item.is) in
     rw (p.1, p.2, ← c.loop-item.invariant.meaning, step)
-    (stop-for_each (draws_at c.args.place.now) (grows-at c.args.place.now) c.args.place.now.here.level
+    (stop-for_each (draws_at g.T.Types.holds g.T.Types.presents c.args.place.now) (grows-at g.T.Types.holds g.T.Types.presents c.args.place.now) c.args.place.now.here.level
     (variables_of c.args.place.now.here.scope.now)
     c.args.name.now (shape_trees_of c.args.body.now) (data_of c.item-item.result) (map data_of rest) (drawing_of c.loop-item.drawing)
     (drawing_of c.draw_all.new.drawing)
@@ -57,7 +60,7 @@ pub draw_in-returns-in_err-frame-clause-meaning : goal.draw_in-returns-in_err-fr
 draw_in-returns-in_err-frame-clause-meaning g t c =
     let p = err_from_is_err_and c.from_residual.result c.from_residual.ensures.1 in
     rw (p.1, p.2)
-    (stop-draws_in (meaning_at c.args.place.now.here) (draws_at c.args.place.now) (grows-at c.args.place.now) c.args.place.now.here.level
+    (stop-draws_in (meaning_at c.args.place.now.here) (draws_at g.T.Types.holds g.T.Types.presents c.args.place.now) (grows-at g.T.Types.holds g.T.Types.presents c.args.place.now) c.args.place.now.here.level
     (bindings_of c.args.bindings.now) (shape_trees_of c.args.body.now) (variables_of c.args.place.now.here.scope.now)
     (variables_of c.args.place.now.here.scope.now) (drawing_of c.args.drawing.now) (drawing_of c.args.drawing.now)
     c.in_err-frame.field-0.0 c.evaluate_bindings.new.meter c.args.meter.now.cost c.args.meter.now.deepest c.in_err-frame.ensures.meaning)
@@ -69,8 +72,8 @@ draw_parts-returns-in_err-evaluate_test-in-If-clause-meaning g t c =
     sym c.form.view_is ∙ ap shape_tree_of c.in-If.is in
     let stop = rw c.deref-in-If.ensures at c.in_err-evaluate_test-in-If.ensures.meaning in
     rw (p.1, p.2, whole)
-    (stop-choice c.args.place.now.here.context.now.app.now (allowance_at c.args.place.now) (meaning_at c.args.place.now.here)
-    (draws_at c.args.place.now) (grows-at c.args.place.now)
+    (stop-choice (scene_at g.T.Types.holds g.T.Types.presents c.args.place.now) (allowance_at c.args.place.now) (meaning_at c.args.place.now.here)
+    (texts_at g.T.Types.holds g.T.Types.presents c.args.place.now) (draws_at g.T.Types.holds g.T.Types.presents c.args.place.now) (grows-at g.T.Types.holds g.T.Types.presents c.args.place.now)
     c.args.place.now.here.level (variables_of c.args.place.now.here.scope.now) c.in-If.choice.value.test c.in-If.choice.value.then
     c.in-If.choice.value.other
     (drawing_of c.args.drawing.now) (drawing_of c.args.drawing.now)
@@ -83,8 +86,8 @@ draw_parts-returns-in_err-evaluate_test-in-When-clause-meaning g t c =
     let whole : c.args.form.now ≡ shape.When c.in-When.test (shape_trees_of c.in-When.body) =
     sym c.form.view_is ∙ ap shape_tree_of c.in-When.is in
     rw (p.1, p.2, whole)
-    (stop-when c.args.place.now.here.context.now.app.now (allowance_at c.args.place.now) (meaning_at c.args.place.now.here)
-    (draws_at c.args.place.now) (grows-at c.args.place.now)
+    (stop-when (scene_at g.T.Types.holds g.T.Types.presents c.args.place.now) (allowance_at c.args.place.now) (meaning_at c.args.place.now.here)
+    (texts_at g.T.Types.holds g.T.Types.presents c.args.place.now) (draws_at g.T.Types.holds g.T.Types.presents c.args.place.now) (grows-at g.T.Types.holds g.T.Types.presents c.args.place.now)
     c.args.place.now.here.level (variables_of c.args.place.now.here.scope.now) c.in-When.test (shape_trees_of c.in-When.body)
     (drawing_of c.args.drawing.now)
     (drawing_of c.args.drawing.now)
@@ -97,8 +100,8 @@ draw_parts-returns-in_err-list-in-Dolist-clause-meaning g t c =
     let whole : c.args.form.now ≡ shape.Dolist c.in-Dolist.name c.in-Dolist.list (shape_trees_of c.in-Dolist.body) =
     sym c.form.view_is ∙ ap shape_tree_of c.in-Dolist.is in
     rw (p.1, p.2, whole)
-    (stop-dolist c.args.place.now.here.context.now.app.now (allowance_at c.args.place.now) (meaning_at c.args.place.now.here)
-    (draws_at c.args.place.now) (grows-at c.args.place.now)
+    (stop-dolist (scene_at g.T.Types.holds g.T.Types.presents c.args.place.now) (allowance_at c.args.place.now) (meaning_at c.args.place.now.here)
+    (texts_at g.T.Types.holds g.T.Types.presents c.args.place.now) (draws_at g.T.Types.holds g.T.Types.presents c.args.place.now) (grows-at g.T.Types.holds g.T.Types.presents c.args.place.now)
     c.args.place.now.here.level (variables_of c.args.place.now.here.scope.now) c.in-Dolist.name c.in-Dolist.list
     (shape_trees_of c.in-Dolist.body)
     (drawing_of c.args.drawing.now) (drawing_of c.args.drawing.now)
@@ -111,8 +114,8 @@ draw_parts-returns-in_err-values-in-Call-clause-meaning g t c =
     let whole : c.args.form.now ≡ shape.Call c.in-Call.name (expr_trees_of c.in-Call.parts.items) =
     sym c.form.view_is ∙ ap shape_tree_of c.in-Call.is in
     rw (p.1, p.2, whole)
-    (stop-call c.args.place.now.here.context.now.app.now (allowance_at c.args.place.now) (meaning_at c.args.place.now.here)
-    (draws_at c.args.place.now) (grows-at c.args.place.now)
+    (stop-call (scene_at g.T.Types.holds g.T.Types.presents c.args.place.now) (allowance_at c.args.place.now) (meaning_at c.args.place.now.here)
+    (texts_at g.T.Types.holds g.T.Types.presents c.args.place.now) (draws_at g.T.Types.holds g.T.Types.presents c.args.place.now) (grows-at g.T.Types.holds g.T.Types.presents c.args.place.now)
     c.args.place.now.here.level (variables_of c.args.place.now.here.scope.now) c.in-Call.name (expr_trees_of c.in-Call.parts.items)
     (drawing_of c.args.drawing.now) (drawing_of c.args.drawing.now)
     c.in_err-values-in-Call.field-0.0 c.evaluate_each-in-Call.new.meter c.args.meter.now.cost c.args.meter.now.deepest (rw
@@ -124,8 +127,8 @@ draw_parts-returns-in_err-values-in-Draw-clause-meaning g t c =
     let whole : c.args.form.now ≡ shape.Draw c.in-Draw.figure (expr_trees_of c.in-Draw.parts.items) =
     sym c.form.view_is ∙ ap shape_tree_of c.in-Draw.is in
     rw (p.1, p.2, whole)
-    (stop-figure c.args.place.now.here.context.now.app.now (allowance_at c.args.place.now) (meaning_at c.args.place.now.here)
-    (draws_at c.args.place.now) c.args.place.now.here.level
+    (stop-figure (scene_at g.T.Types.holds g.T.Types.presents c.args.place.now) (allowance_at c.args.place.now) (meaning_at c.args.place.now.here)
+    (texts_at g.T.Types.holds g.T.Types.presents c.args.place.now) (draws_at g.T.Types.holds g.T.Types.presents c.args.place.now) c.args.place.now.here.level
     (variables_of c.args.place.now.here.scope.now) c.in-Draw.figure (expr_trees_of c.in-Draw.parts.items) (drawing_of c.args.drawing.now)
     (drawing_of c.args.drawing.now)
     c.in_err-values-in-Draw.field-0.0 c.evaluate_each.new.meter c.args.meter.now.cost c.args.meter.now.deepest (rw c.deref.ensures.value at
@@ -137,8 +140,8 @@ draw_parts-returns-in_err-number-in-Indent-clause-meaning g t c =
     let whole : c.args.form.now ≡ shape.Indent c.in-Indent.number (shape_trees_of c.in-Indent.body) =
     sym c.form.view_is ∙ ap shape_tree_of c.in-Indent.is in
     rw (p.1, p.2, whole)
-    (stop-indent c.args.place.now.here.context.now.app.now (allowance_at c.args.place.now) (meaning_at c.args.place.now.here)
-    (draws_at c.args.place.now) (grows-at c.args.place.now)
+    (stop-indent (scene_at g.T.Types.holds g.T.Types.presents c.args.place.now) (allowance_at c.args.place.now) (meaning_at c.args.place.now.here)
+    (texts_at g.T.Types.holds g.T.Types.presents c.args.place.now) (draws_at g.T.Types.holds g.T.Types.presents c.args.place.now) (grows-at g.T.Types.holds g.T.Types.presents c.args.place.now)
     c.args.place.now.here.level (variables_of c.args.place.now.here.scope.now) c.in-Indent.number (shape_trees_of c.in-Indent.body)
     (drawing_of c.args.drawing.now) (drawing_of c.args.drawing.now)
     c.in_err-number-in-Indent.field-0.0 c.evaluate-in-Indent.new.meter c.args.meter.now.cost c.args.meter.now.deepest
@@ -150,8 +153,8 @@ draw_parts-returns-in_err-number-in-Ink-clause-meaning g t c =
     let whole : c.args.form.now ≡ shape.Ink c.in-Ink.number (shape_trees_of c.in-Ink.body) =
     sym c.form.view_is ∙ ap shape_tree_of c.in-Ink.is in
     rw (p.1, p.2, whole)
-    (stop-ink c.args.place.now.here.context.now.app.now (allowance_at c.args.place.now) (meaning_at c.args.place.now.here)
-    (draws_at c.args.place.now) (grows-at c.args.place.now)
+    (stop-ink (scene_at g.T.Types.holds g.T.Types.presents c.args.place.now) (allowance_at c.args.place.now) (meaning_at c.args.place.now.here)
+    (texts_at g.T.Types.holds g.T.Types.presents c.args.place.now) (draws_at g.T.Types.holds g.T.Types.presents c.args.place.now) (grows-at g.T.Types.holds g.T.Types.presents c.args.place.now)
     c.args.place.now.here.level (variables_of c.args.place.now.here.scope.now) c.in-Ink.number (shape_trees_of c.in-Ink.body)
     (drawing_of c.args.drawing.now)
     (drawing_of c.args.drawing.now)
@@ -162,7 +165,7 @@ pub draw_indented-returns-in_err-indent-clause-meaning : goal.draw_indented-retu
 draw_indented-returns-in_err-indent-clause-meaning g t c =
     let p = err_from_is_err_and c.from_residual.result c.from_residual.ensures.1 in
     rw (p.1, p.2)
-    (stop-set (draws_at c.args.place.now) (grows-at c.args.place.now) c.args.place.now.here.level
+    (stop-set (draws_at g.T.Types.holds g.T.Types.presents c.args.place.now) (grows-at g.T.Types.holds g.T.Types.presents c.args.place.now) c.args.place.now.here.level
     (variables_of c.args.place.now.here.scope.now)
     (shape_trees_of c.args.body.now) (indent (data_of c.args.number.now) (drawing_of c.args.drawing.now))
     (restore_margin (drawing_of c.args.drawing.now).ambient) (drawing_of c.indent.new.self) (drawing_of c.indent.new.self)
@@ -172,7 +175,7 @@ pub draw_indented-returns-in_err-draw_all-clause-meaning : goal.draw_indented-re
 draw_indented-returns-in_err-draw_all-clause-meaning g t c =
     let p = err_from_is_err_and c.from_residual-in_err-draw_all.result c.from_residual-in_err-draw_all.ensures.1 in
     rw (p.1, p.2, c.in_ok-indent.ensures)
-    (stop-draws_to (draws_at c.args.place.now) c.args.place.now.here.level (variables_of c.args.place.now.here.scope.now)
+    (stop-draws_to (draws_at g.T.Types.holds g.T.Types.presents c.args.place.now) c.args.place.now.here.level (variables_of c.args.place.now.here.scope.now)
     (shape_trees_of c.args.body.now) (drawing_of c.indent.new.self) (restore_margin (drawing_of c.args.drawing.now).ambient)
     (drawing_of c.draw_all.new.drawing)
     c.in_err-draw_all.field-0.0 c.draw_all.new.meter c.args.meter.now.cost c.args.meter.now.deepest c.in_err-draw_all.ensures.meaning)
@@ -181,7 +184,7 @@ pub draw_in_ink-returns-in_err-set_ink-clause-meaning : goal.draw_in_ink-returns
 draw_in_ink-returns-in_err-set_ink-clause-meaning g t c =
     let p = err_from_is_err_and c.from_residual.result c.from_residual.ensures.1 in
     rw (p.1, p.2)
-    (stop-set (draws_at c.args.place.now) (grows-at c.args.place.now) c.args.place.now.here.level
+    (stop-set (draws_at g.T.Types.holds g.T.Types.presents c.args.place.now) (grows-at g.T.Types.holds g.T.Types.presents c.args.place.now) c.args.place.now.here.level
     (variables_of c.args.place.now.here.scope.now)
     (shape_trees_of c.args.body.now) (set_ink (data_of c.args.number.now) (drawing_of c.args.drawing.now))
     (restore_ink (drawing_of c.args.drawing.now).ambient) (drawing_of c.set_ink.new.self) (drawing_of c.set_ink.new.self)
@@ -191,7 +194,7 @@ pub draw_in_ink-returns-in_err-draw_all-clause-meaning : goal.draw_in_ink-return
 draw_in_ink-returns-in_err-draw_all-clause-meaning g t c =
     let p = err_from_is_err_and c.from_residual-in_err-draw_all.result c.from_residual-in_err-draw_all.ensures.1 in
     rw (p.1, p.2, c.in_ok-set_ink.ensures)
-    (stop-draws_to (draws_at c.args.place.now) c.args.place.now.here.level (variables_of c.args.place.now.here.scope.now)
+    (stop-draws_to (draws_at g.T.Types.holds g.T.Types.presents c.args.place.now) c.args.place.now.here.level (variables_of c.args.place.now.here.scope.now)
     (shape_trees_of c.args.body.now) (drawing_of c.set_ink.new.self) (restore_ink (drawing_of c.args.drawing.now).ambient)
     (drawing_of c.draw_all.new.drawing)
     c.in_err-draw_all.field-0.0 c.draw_all.new.meter c.args.meter.now.cost c.args.meter.now.deepest c.in_err-draw_all.ensures.meaning)
@@ -200,8 +203,77 @@ pub draw_in_room-returns-in_err-draw_all-clause-meaning : goal.draw_in_room-retu
 draw_in_room-returns-in_err-draw_all-clause-meaning g t c =
     let p = err_from_is_err_and c.from_residual.result c.from_residual.ensures.1 in
     rw (p.1, p.2, ← c.enter_room-outer.ensures.inside)
-    (stop-draws_to (draws_at c.args.place.now) c.args.place.now.here.level (variables_of c.args.place.now.here.scope.now)
+    (stop-draws_to (draws_at g.T.Types.holds g.T.Types.presents c.args.place.now) c.args.place.now.here.level (variables_of c.args.place.now.here.scope.now)
     (shape_trees_of c.args.body.now) (drawing_of c.enter_room-outer.new.self)
     (leave_room (drawing_of c.args.drawing.now).ambient (drawing_of c.args.drawing.now).part)
     (drawing_of c.draw_all.new.drawing)
     c.in_err-draw_all.field-0.0 c.draw_all.new.meter c.args.meter.now.cost c.args.meter.now.deepest c.in_err-draw_all.ensures.meaning)
+
+pub draw_parts-returns-in_err-object-in-Present-clause-meaning : goal.draw_parts-returns-in_err-object-in-Present-clause-meaning
+draw_parts-returns-in_err-object-in-Present-clause-meaning g t c =
+    let p = err_from_is_err_and c.from_residual-in_err-object-in-Present.result c.from_residual-in_err-object-in-Present.ensures.1 in
+    let whole : c.args.form.now ≡ shape.Present c.in-Present.object c.in-Present.spec.value =
+    sym c.form.view_is ∙ ap shape_tree_of c.in-Present.is in
+    rw (p.1, p.2, whole)
+    (stop-present (scene_at g.T.Types.holds g.T.Types.presents c.args.place.now) (allowance_at c.args.place.now) (meaning_at c.args.place.now.here)
+    (texts_at g.T.Types.holds g.T.Types.presents c.args.place.now) (grows-texts_at g.T.Types.holds g.T.Types.presents c.args.place.now)
+    (draws_at g.T.Types.holds g.T.Types.presents c.args.place.now) c.args.place.now.here.level (variables_of c.args.place.now.here.scope.now)
+    c.in-Present.object c.in-Present.spec.value (drawing_of c.args.drawing.now) (drawing_of c.args.drawing.now)
+    c.in_err-object-in-Present.field-0.0 c.evaluate-in-Present.new.meter c.args.meter.now.cost c.args.meter.now.deepest
+    c.in_err-object-in-Present.ensures.meaning)
+
+pub draw_parts-returns-in_err-object-in-AsPresentation-clause-meaning : goal.draw_parts-returns-in_err-object-in-AsPresentation-clause-meaning
+draw_parts-returns-in_err-object-in-AsPresentation-clause-meaning g t c =
+    let p = err_from_is_err_and c.from_residual-in_err-object-in-AsPresentation.result
+    c.from_residual-in_err-object-in-AsPresentation.ensures.1 in
+    let whole : c.args.form.now ≡ shape.AsPresentation c.in-AsPresentation.presentation (shape_trees_of c.in-AsPresentation.body) =
+    sym c.form.view_is ∙ ap shape_tree_of c.in-AsPresentation.is in
+    rw (p.1, p.2, whole)
+    (stop-as_presentation (scene_at g.T.Types.holds g.T.Types.presents c.args.place.now) (allowance_at c.args.place.now)
+    (meaning_at c.args.place.now.here) (texts_at g.T.Types.holds g.T.Types.presents c.args.place.now)
+    (draws_at g.T.Types.holds g.T.Types.presents c.args.place.now) (grows-at g.T.Types.holds g.T.Types.presents c.args.place.now)
+    c.args.place.now.here.level (variables_of c.args.place.now.here.scope.now) c.in-AsPresentation.presentation
+    (shape_trees_of c.in-AsPresentation.body) (drawing_of c.args.drawing.now) (drawing_of c.args.drawing.now)
+    c.in_err-object-in-AsPresentation.field-0.0 c.evaluate-in-AsPresentation.new.meter c.args.meter.now.cost c.args.meter.now.deepest
+    (rw c.object.ensures at c.in_err-object-in-AsPresentation.ensures.meaning))
+
+pub draw_parts-returns-in_ok-values-in-Draw-clause-meaning : goal.draw_parts-returns-in_ok-values-in-Draw-clause-meaning
+draw_parts-returns-in_ok-values-in-Draw-clause-meaning g t c =
+    let whole : c.args.form.now ≡ shape.Draw c.in-Draw.figure (expr_trees_of c.in-Draw.parts.items) =
+    sym c.form.view_is ∙ ap shape_tree_of c.in-Draw.is in
+    rw whole
+    (ends-figure (scene_at g.T.Types.holds g.T.Types.presents c.args.place.now) (allowance_at c.args.place.now)
+    (meaning_at c.args.place.now.here) (texts_at g.T.Types.holds g.T.Types.presents c.args.place.now)
+    (draws_at g.T.Types.holds g.T.Types.presents c.args.place.now) c.args.place.now.here.level (variables_of c.args.place.now.here.scope.now)
+    c.in-Draw.figure (expr_trees_of c.in-Draw.parts.items) (drawing_of c.args.drawing.now) (drawing_of c.figure.new.self)
+    (map data_of c.in_ok-values-in-Draw.values.items) c.figure.result c.evaluate_each.new.meter c.args.meter.now.cost c.args.meter.now.deepest
+    (rw c.deref.ensures.value at c.in_ok-values-in-Draw.ensures.meaning) (rw c.as_slice.ensures.value at c.figure.ensures))
+
+pub draw_presented-returns-in_err-check_member-clause-meaning : goal.draw_presented-returns-in_err-check_member-clause-meaning
+draw_presented-returns-in_err-check_member-clause-meaning g t c =
+    let p = err_from_is_err_and c.from_residual.result c.from_residual.ensures.1 in
+    let holds = g.T.Types.holds c.args.place.now.types.now in
+    let go = draws_at g.T.Types.holds g.T.Types.presents c.args.place.now in
+    rw (p.1, p.2)
+    (stop-member holds c.args.presentation.now.spec (data_of c.args.object)
+    (presents_body c.args.place.now.max_weight go c.args.place.now.here.level (variables_of c.args.place.now.here.scope.now)
+    c.args.presentation.now (shape_trees_of c.args.body.now) (drawing_of c.args.drawing.now) (data_of c.args.object))
+    (grows-presents_body c.args.place.now.max_weight go (grows-at g.T.Types.holds g.T.Types.presents c.args.place.now)
+    c.args.place.now.here.level (variables_of c.args.place.now.here.scope.now) c.args.presentation.now (shape_trees_of c.args.body.now)
+    (drawing_of c.args.drawing.now) (data_of c.args.object))
+    (drawing_of c.args.drawing.now) c.in_err-check_member.field-0.0 c.args.meter.now
+    (rw (c.deref.ensures, c.spec.ensures) at c.in_err-check_member.ensures))
+
+pub draw_presented-returns-in_err-outer-clause-meaning : goal.draw_presented-returns-in_err-outer-clause-meaning
+draw_presented-returns-in_err-outer-clause-meaning g t c =
+    let p = err_from_is_err_and c.from_residual-in_err-outer.result c.from_residual-in_err-outer.ensures.1 in
+    let holds = g.T.Types.holds c.args.place.now.types.now in
+    rw (p.1, p.2)
+    (stop-opened Part holds c.args.place.now.max_weight (draws_at g.T.Types.holds g.T.Types.presents c.args.place.now)
+    (grows-at g.T.Types.holds g.T.Types.presents c.args.place.now) c.args.place.now.here.level
+    (variables_of c.args.place.now.here.scope.now) c.args.presentation.now (shape_trees_of c.args.body.now) (data_of c.args.object)
+    (drawing_of c.args.drawing.now) (drawing_of c.enter_presentation.new.self) (drawing_of c.enter_presentation.new.self)
+    c.in_err-outer.field-0.0 c.args.meter.now
+    (member-checked (holds (data_of c.args.object) c.args.presentation.now.spec) c.in_ok-check_member.field-0
+    (rw (c.deref.ensures, c.spec.ensures) at c.in_ok-check_member.ensures))
+    c.in_err-outer.ensures.inside)

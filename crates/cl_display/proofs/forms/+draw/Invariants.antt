@@ -30,23 +30,26 @@ decreases-draw_in_ink g l = l.place.now.here.left * 2 ^ 66 + 3
 abbrev pub decreases-draw_in_room : goal.decreases-draw_in_room
 decreases-draw_in_room g l = l.place.now.here.left * 2 ^ 66 + 3
 
+abbrev pub decreases-draw_presented : goal.decreases-draw_presented
+decreases-draw_presented g l = l.place.now.here.left * 2 ^ 66 + 3
+
 abbrev pub decreases-call : goal.decreases-call
 decreases-call g l = l.place.now.here.left * 2 ^ 66 + 3
 
 abbrev pub invariant-draw_all-loop-form : goal.invariant-draw_all-loop-form
 invariant-draw_all-loop-form g l = record {
-  meaning : (draw_from l.place in_order (shape_trees_of (drop l.form-index l.forms)) (drawing_of l.drawing) l.meter.cost
+  meaning : (draw_from g.T.Types.holds g.T.Types.presents l.place in_order (shape_trees_of (drop l.form-index l.forms)) (drawing_of l.drawing) l.meter.cost
       l.meter.deepest).outcome
-      ≡ (draw_from l.place in_order (shape_trees_of l.forms) (drawing_of l.initial.drawing) l.initial.meter.cost
+      ≡ (draw_from g.T.Types.holds g.T.Types.presents l.place in_order (shape_trees_of l.forms) (drawing_of l.initial.drawing) l.initial.meter.cost
       l.initial.meter.deepest).outcome;
   ledger : l.steps + l.initial.meter.cost ≡ l.initial.steps + l.meter.cost;
 }
 
 abbrev pub invariant-draw_each-loop-item : goal.invariant-draw_each-loop-item
 invariant-draw_each-loop-item g l = record {
-  meaning : (draw_from l.place for_each l.name (shape_trees_of l.body) (map data_of (drop l.item-index l.list)) (drawing_of l.drawing)
+  meaning : (draw_from g.T.Types.holds g.T.Types.presents l.place for_each l.name (shape_trees_of l.body) (map data_of (drop l.item-index l.list)) (drawing_of l.drawing)
       l.meter.cost l.meter.deepest).outcome
-      ≡ (draw_from l.place for_each l.name (shape_trees_of l.body) (map data_of l.list) (drawing_of l.initial.drawing) l.initial.meter.cost
+      ≡ (draw_from g.T.Types.holds g.T.Types.presents l.place for_each l.name (shape_trees_of l.body) (map data_of l.list) (drawing_of l.initial.drawing) l.initial.meter.cost
       l.initial.meter.deepest).outcome;
   ledger : l.steps + l.initial.meter.cost ≡ l.initial.steps + l.meter.cost;
 }

@@ -1,4 +1,4 @@
 use Rattle.cl_program.proofs.commands.run_application.Goals as goal
 
 pub returns-clause-ran : goal.returns-clause-ran
-returns-clause-ran g c = rw (c.new-types.ensures.app, c.new-types.ensures.lattice) at c.run_types.ensures.ran
+returns-clause-ran g c = rw (c.new-types.ensures.app, c.new-types.ensures.lattice, c.new-types.ensures.hosts) at c.run_types.ensures.ran

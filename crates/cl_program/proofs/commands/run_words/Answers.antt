@@ -5,6 +5,7 @@ use Rattle.cl_invocation.specs.declared.invocation.Invocation.TheVariants as var
 use Rattle.cl_invocation.specs.Words.{Invocation, check, invocation_of, run}
 use Rattle.cl_program.specs.Commands.{KeptBy}
 use Rattle.cl_frame.specs.Sending.{wire_of}
+use Rattle.cl_program.specs.Hosts.{hosts_of}
 use Rattle.cl_program.specs.Surroundings.{placed}
 use Rattle.cl_program.proofs.CommandLemmas.{KeepsFiles-read, Ran-check, Ran-text, wire_same}
 use Rattle.cl_program.proofs.commands.run_words.Goals as goal
@@ -15,7 +16,7 @@ returns-in-Text-clause-ran g c =
     let is : invocation_of words ≡ Some (run c.in-Some-Run.application.now (option_map (λ (w : Bor (List ℕ)). w.now) c.in-Some-Run.wire) c.in-Some-Run.budget) =
     let read : c.in-Ok.read ≡ Some (variant.Run c.in-Some-Run.application c.in-Some-Run.wire c.in-Some-Run.budget) = search rules in
     sym c.in-Ok.ensures ∙ ap (option_map invocation) read in
-    Ran-text _ words c.in-Some-Run.application.now (option_map (λ (w : Bor (List ℕ)). w.now) c.in-Some-Run.wire) c.in-Some-Run.budget is _ _ _ _ _ c.in-Text.text.items c.run_text.result
+    Ran-text (hosts_of g.H.Hosts.bounds g.H.Hosts.entries c.args.hosts.now) words c.in-Some-Run.application.now (option_map (λ (w : Bor (List ℕ)). w.now) c.in-Some-Run.wire) c.in-Some-Run.budget is _ _ _ _ _ c.in-Text.text.items c.run_text.result
     c.in-Text.ensures.text (wire_same _ _ _ _ _ _ c.in-Text.ensures.taken c.in-Text.ensures.writing c.in-Text.ensures.tells) c.in-Text.ensures.making
     (rw (c.as_slice.ensures.value, c.limits_of.ensures) at c.run_text.ensures.ran)
 
@@ -41,6 +42,6 @@ returns-in-Text-read_text-clause-ran g c =
     let is : invocation_of words ≡ Some (check c.in-Some-Check.application.now) =
     let read : c.in-Ok.read ≡ Some (variant.Check c.in-Some-Check.application) = search rules in
     sym c.in-Ok.ensures ∙ ap (option_map invocation) read in
-    Ran-check _ words c.in-Some-Check.application.now _ _ _ _ c.in-Text-read_text.text.items c.check_text.result is c.in-Text-read_text.ensures.text
+    Ran-check (hosts_of g.H.Hosts.bounds g.H.Hosts.entries c.args.hosts.now) words c.in-Some-Check.application.now _ _ _ _ c.in-Text-read_text.text.items c.check_text.result is c.in-Text-read_text.ensures.text
     (rw c.as_slice-in-Text-read_text.ensures.value at
     (c.check_text.ensures.checked (g.G.Source.left c.args.gestures.now) (g.G.Source.faults c.args.gestures.now) c.args.steps.now))

@@ -1,4 +1,4 @@
-use Rattle.cl_ptext.proofs.LawLemmas.{wider_text}
+use Rattle.cl_ptext.specs.TextLaws.{wider_text}
 use Rattle.cl_ptext.proofs.laws.text_limits_can_be_wider.Goals as goal
 
 pub returns : goal.returns

@@ -1,4 +1,4 @@
-use Rattle.cl_ptext.proofs.LawLemmas.{kept_text}
+use Rattle.cl_ptext.specs.TextLaws.{kept_text}
 use Rattle.cl_ptext.proofs.laws.texts_keep_to_their_limits.Goals as goal
 
 pub returns : goal.returns

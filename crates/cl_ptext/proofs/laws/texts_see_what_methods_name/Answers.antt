@@ -1,4 +1,4 @@
-use Rattle.cl_ptext.proofs.LawLemmas.{same_slots}
+use Rattle.cl_ptext.specs.TextLaws.{same_slots}
 use Rattle.cl_ptext.proofs.laws.texts_see_what_methods_name.Goals as goal
 
 pub returns : goal.returns

@@ -3,7 +3,7 @@ use Rattle.std.proofs.Common.{ℕ, Bool, true, false, List, [], ◌∷◌, ◌++
 use Rattle.std.specs.Prelude.{Option, Some, None}
 use Rattle.cl_application.specs.App.{present_method}
 use Rattle.cl_application.specs.declared.declarations.MethodDecl.{MethodDecl}
-use Rattle.cl_ptext.proofs.KeepLemmas.{GoKeeps, Keeps, keeps-choice, keeps-give, keeps-lift, keeps-then}
+use Rattle.cl_eval.proofs.KeepLemmas.{GoKeeps, Keeps, keeps-choice, keeps-give, keeps-lift, keeps-then}
 use Rattle.cl_eval.specs.Meaning.{Go}
 use Rattle.cl_eval.specs.Outcome.{give, lift}
 use Rattle.cl_lattice.specs.Expanded.{Expanded, ExpandedTypes}

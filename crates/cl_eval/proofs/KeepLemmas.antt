@@ -1,4 +1,4 @@
--- What an expression comes to keeps to its limits: neither its cost nor its reach passes them.
+-- What an expression comes to keeps to its limits, up to a trap too: neither its cost nor its reach passes them.
 use Rattle.std.proofs.Common.{◌≡◌, ap, ℕ, zero, suc, ◌+◌, ◌≤◌, ◌==◌, Bool, true, false, if◌then◌else◌, nat_le, List, [], ◌∷◌, ◌++◌, length, Option, Some, None, Result, Ok, Err, arith, refl}
 use Rattle.std.specs.Prelude.{max}
 use Rattle.std.proofs.lemmas.Bool.Decides.{nat_tests}
@@ -13,36 +13,32 @@ use Rattle.cl_eval.specs.Slots.{Slots, Env, value_named, bind_parameters}
 use Rattle.cl_eval.specs.Operators.{within_limits, or_trap, truth, elements, operate}
 use Rattle.cl_eval.specs.Meaning.{Go, entering, truth_of, parts_of_list, each, every, some, bind_each, let_in, map_each, filter_each, fold_each, call_function, parts, means}
 
+-- the cost and the deepest level at the end or at the trap are within the limits
+abbrev pub Kept : {A : Type 0} → ℕ → ℕ → Outcome A → Type 0
+Kept budget depth (Gives x cost reach) = (cost ≤ budget) × (reach ≤ depth)
+Kept budget depth (Traps kind cost reach) = (cost ≤ budget) × (reach ≤ depth)
+
 -- a run that begins within the limits ends within them
 abbrev pub Keeps : {A : Type 0} → ℕ → ℕ → Run A → Type 0
-Keeps {A} budget depth r = (c d : ℕ) (v : A) (n l : ℕ) → c ≤ budget → d ≤ depth → r c d ≡ Gives v n l → (n ≤ budget) × (l ≤ depth)
-
-abbrev reach_of : {A : Type 0} → Outcome A → ℕ
-reach_of (Gives x cost reach) = reach
-reach_of (Traps kind cost reach) = reach
+Keeps budget depth r = (c d : ℕ) → c ≤ budget → d ≤ depth → Kept budget depth (r c d)
 
 pub keeps-give : {A : Type 0} (budget depth : ℕ) (x : A) → Keeps budget depth (give x)
-keeps-give budget depth x c d v n l h k p =
-    let cost : c ≡ n = ap cost_of p in
-    let reach : d ≡ l = ap reach_of p in
-    (omega (arith, cost, h), omega (arith, reach, k))
+keeps-give budget depth x c d h k = (h, k)
 
-keeps-trap : {A : Type 0} (budget depth kind : ℕ) → Keeps {A = A} budget depth (trap kind)
-keeps-trap budget depth kind c d v n l h k p = cc
+keeps-trap : (A : Type 0) (budget depth kind : ℕ) → Keeps {A = A} budget depth (trap kind)
+keeps-trap A budget depth kind c d h k = (h, k)
 
 pub keeps-lift : {A : Type 0} (budget depth : ℕ) (r : Result A ℕ) → Keeps budget depth (lift r)
 keeps-lift budget depth (Ok x) = keeps-give budget depth x
-keeps-lift budget depth (Err kind) = keeps-trap budget depth kind
+keeps-lift budget depth (Err kind) = λ c d h k. (h, k)
 
-after-keeps : {A B : Type 0} (budget depth : ℕ) (m : Run A) (f : A → Run B) → Keeps budget depth m → ((x : A) → Keeps budget depth (f x))
-    → (c d : ℕ) (o : Outcome A) → m c d ≡ o → (v : B) (n l : ℕ) → c ≤ budget → d ≤ depth → after o f ≡ Gives v n l → (n ≤ budget) × (l ≤ depth)
-after-keeps budget depth m f g h c d (Gives x i j) q v n l a b p =
-    let first = g c d x i j a b q in
-    h x i j v n l first.0 first.1 p
-after-keeps budget depth m f g h c d (Traps k i j) q v n l a b p = cc
+after-keeps : {A B : Type 0} (budget depth : ℕ) (f : A → Run B) → ((x : A) → Keeps budget depth (f x)) → (o : Outcome A) → Kept budget depth o
+    → Kept budget depth (after o f)
+after-keeps budget depth f h (Gives x c d) k = h x c d k.0 k.1
+after-keeps budget depth f h (Traps kind c d) k = k
 
 pub keeps-then : {A B : Type 0} (budget depth : ℕ) (m : Run A) (f : A → Run B) → Keeps budget depth m → ((x : A) → Keeps budget depth (f x)) → Keeps budget depth (m >>= f)
-keeps-then budget depth m f g h c d v n l a b p = after-keeps budget depth m f g h c d (m c d) refl v n l a b p
+keeps-then budget depth m f g h c d a b = after-keeps budget depth f h (m c d) (g c d a b)
 
 pub keeps-choice : {A : Type 0} (budget depth : ℕ) (b : Bool) (r s : Run A) → Keeps budget depth r → Keeps budget depth s → Keeps budget depth (if b then r else s)
 keeps-choice budget depth true r s g h = g
@@ -120,10 +116,10 @@ keeps-folded budget depth go level g env x y t (e ∷ ds) a =
 keeps-called : (budget depth : ℕ) (go : Go) → (level : ℕ) → GoKeeps budget depth level go → (f : Option FunctionDecl) (ds : List Data) → Keeps budget depth
     (call_function go level f ds)
 keeps-called budget depth go level g None ds =
-    keeps-trap budget depth 1
+    keeps-trap Data budget depth 1
 keeps-called budget depth go level g (Some f) ds =
     keeps-choice budget depth (length ds == length f.parameters) (go level (bind_parameters f.parameters ds) f.body) (trap 1) (g (bind_parameters f.parameters ds) f.body)
-    (keeps-trap budget depth 1)
+    (keeps-trap Data budget depth 1)
 
 -- what follows in each row
 
@@ -195,29 +191,29 @@ keeps-parts budget depth app slots go level g env (expr.Call f ts) =
 
 -- ---- expressions
 
-entered-by : (b e : Bool) (budget depth level c d : ℕ) (v : Unit {0}) (n l : ℕ) → (b ≡ false → c + 1 ≤ budget) → level + 1 ≤ depth → d ≤ depth
-    → (if b then Traps 5 c d else (if e then Traps 6 c d else Gives tt (c + 1) (max d (level + 1)))) ≡ Gives v n l → (n ≤ budget) × (l ≤ depth)
-entered-by true e budget depth level c d v n l paid room h p = cc
-entered-by false true budget depth level c d v n l paid room h p = cc
-entered-by false false budget depth level c d v n l paid room h p =
-    let cost : c + 1 ≡ n = ap cost_of p in
-    let reach : max d (level + 1) ≡ l = ap reach_of p in
-    (omega (arith, cost, paid refl), omega (arith, reach, room, h))
+entered-by : (b e : Bool) (budget depth level c d : ℕ) → c ≤ budget → (b ≡ false → c + 1 ≤ budget) → level + 1 ≤ depth → d ≤ depth
+    → Kept {A = Unit {0}} budget depth (if b then Traps 5 c d else (if e then Traps 6 c d else Gives tt (c + 1) (max d (level + 1))))
+entered-by true e budget depth level c d h paid room k = (h, k)
+entered-by false true budget depth level c d h paid room k = (h, k)
+entered-by false false budget depth level c d h paid room k = (paid refl, omega (arith, room, k))
 
 keeps-entering : (left budget depth level : ℕ) → level + 1 ≤ depth → Keeps budget depth (entering left budget level)
-keeps-entering left budget depth level room c d v n l h k p =
-    entered-by (nat_le budget c) (left == 0) budget depth level c d v n l (λ e. grind (arith, nat_tests, e)) room k p
+keeps-entering left budget depth level room c d h k =
+    entered-by (nat_le budget c) (left == 0) budget depth level c d h (λ e. grind (arith, nat_tests, e)) room k
 
--- where no level is left, no form gives a value
-never : {A : Type 0} (o : Outcome (Unit {0})) (v : A) (n l : ℕ) → after o (λ _. trap 6) ≡ Gives v n l → ⊥
-never (Gives x i j) v n l p = cc
-never (Traps k i j) v n l p = cc
+-- the trap on entering a form where no level is left
+abbrev blocked : Bool → ℕ → ℕ → Outcome (Unit {0})
+blocked b c d = if b then Traps 5 c d else Traps 6 c d
+
+never-entered : (A : Type 0) (b : Bool) (budget depth c d : ℕ) → c ≤ budget → d ≤ depth → Kept {A = A} budget depth (after (blocked b c d) (λ _. trap 6))
+never-entered A true budget depth c d h k = (h, k)
+never-entered A false budget depth c d h k = (h, k)
 
 pub keeps-means : (left budget : ℕ) (app : App) (slots : Slots) (level : ℕ) (env : Env) (t : ExprTree) → Keeps budget (level + left) (means left budget app slots level env t)
-keeps-means zero budget app slots level env t c d v n l h k p = absurd (never (entering 0 budget level c d) v n l p)
-keeps-means (suc left) budget app slots level env t c d v n l h k p =
+keeps-means zero budget app slots level env t c d h k = never-entered Data (nat_le budget c) budget (level + 0) c d h k
+keeps-means (suc left) budget app slots level env t c d h k =
     let deeper : level + 1 + left ≡ level + suc left = omega arith in
     keeps-then budget (level + suc left) (entering (suc left) budget level) (λ _. parts app slots (means left budget app slots) (level + 1) env t)
     (keeps-entering (suc left) budget (level + suc left) level (omega arith))
     (λ _. rw (← deeper) (keeps-parts budget (level + 1 + left) app slots (means left budget app slots) (level + 1) (keeps-means left budget app slots (level + 1)) env t))
-    c d v n l h k p
+    c d h k

@@ -1,6 +1,6 @@
 -- What is looked at of a type: what makes a specifier wrong by itself, at its own offset; else quotes that stand before no name, the name of a type
 -- that is not declared, and the specifiers in it, from left to right.
-use Rattle.std.specs.Prelude.{ℕ, ◌==◌, nat_le, if◌then◌else◌, List, [], ◌∷◌, ◌++◌, length, map, Option, Some, None}
+use Rattle.std.specs.Prelude.{◌≡◌, ◌⊎◌, ℕ, ◌==◌, nat_le, if◌then◌else◌, List, [], ◌∷◌, ◌++◌, length, map, Option, Some, None}
 use Rattle.cl_syntax.specs.declared.type_specs.TypeOptions.{TypeOptions}
 use Rattle.cl_forms.specs.Datum.{Datum, Datums, number, literal, word, quoted, stray, list, none, item, offset}
 use Rattle.cl_forms.specs.Naming.{fits, name_in}
@@ -12,12 +12,42 @@ use Rattle.cl_bodies.specs.declared.specifiers.Takes.{Takes}
 use Rattle.cl_bodies.specs.declared.specifiers.Takes.TheVariants as takes
 use Rattle.cl_bodies.specs.declared.type_arguments.Wanted.{Wanted}
 use Rattle.cl_bodies.specs.declared.type_arguments.Wanted.TheVariants as wanted
-use Rattle.cl_declaration_grammar.specs.Parts.{Part, refused, type_name, wrong}
+
+-- a part of a specifier that is looked at
+pub data TypePart : Type 0 where
+  -- a specifier or a quote that is refused by itself, with the number of the refusal and its offset
+  refused : ℕ → ℕ → TypePart
+  -- the name of a type, with its offset
+  type_name : List ℕ → ℕ → TypePart
+
+-- the part is blamed with this number at this offset
+abbrev pub TypePartBlames : TypePart → ℕ → ℕ → Type 0
+TypePartBlames (refused refusal at) n o = (n ≡ refusal) × (o ≡ at)
+TypePartBlames (type_name x at) n o = ⊥
+
+-- one of the parts is blamed so
+abbrev pub TypeBlames : List TypePart → ℕ → ℕ → Type 0
+TypeBlames [] n o = ⊥
+TypeBlames (p ∷ ps) n o = TypePartBlames p n o ⊎ TypeBlames ps n o
+
+-- the part is a name at this offset that is not declared
+abbrev pub TypePartUnnamed : Signatures → TypePart → ℕ → Type 0
+TypePartUnnamed w (refused refusal at) o = ⊥
+TypePartUnnamed w (type_name x at) o = (takes_named w x ≡ None) × (o ≡ at)
+
+-- one of the parts is such a name
+abbrev pub TypeUnnamed : Signatures → List TypePart → ℕ → Type 0
+TypeUnnamed w [] o = ⊥
+TypeUnnamed w (p ∷ ps) o = TypePartUnnamed w p o ⊎ TypeUnnamed w ps o
+
+-- the specifier at this offset has counts, kinds or keys that it may not have
+abbrev pub wrong : ℕ → List TypePart
+wrong at = refused 6 at ∷ []
 
 -- an argument, and what is looked at of it where it is a specifier
 pub record Sighted : Type 0 where
   pub shape : Datum
-  pub seen : List Part
+  pub seen : List TypePart
 
 abbrev pub shapes_sighted : List Sighted → List Datum
 shapes_sighted ss = map (λ s. s.shape) ss
@@ -25,43 +55,43 @@ shapes_sighted ss = map (λ s. s.shape) ss
 -- ---- rows
 
 -- quotes that stand before no name
-abbrev pub strays_seen : List Datum → List Part
+abbrev pub strays_seen : List Datum → List TypePart
 strays_seen [] = []
 strays_seen (d ∷ ds) = if is_stray d then refused 6 (offset d) ∷ strays_seen ds else strays_seen ds
 
 -- constants of a kind
-abbrev pub constants_seen : Names → Wanted → ℕ → List Datum → List Part
+abbrev pub constants_seen : Names → Wanted → ℕ → List Datum → List TypePart
 constants_seen ps kind at ds = if may_all_stand ps kind ds then strays_seen ds else wrong at
 
-abbrev pub at_most_seen : ℕ → Names → Wanted → ℕ → List Datum → List Part
+abbrev pub at_most_seen : ℕ → Names → Wanted → ℕ → List Datum → List TypePart
 at_most_seen most ps kind at ds = if nat_le (length ds) most then constants_seen ps kind at ds else wrong at
 
 -- as many as are asked for, each a constant or `*`
-abbrev pub given_seen : Option ℕ → Names → ℕ → List Datum → List Part
+abbrev pub given_seen : Option ℕ → Names → ℕ → List Datum → List TypePart
 given_seen count ps at ds = if fits count (length ds) then constants_seen ps wanted.ConstantOrStar at ds else wrong at
 
-abbrev pub nothing_seen : ℕ → List Datum → List Part
+abbrev pub nothing_seen : ℕ → List Datum → List TypePart
 nothing_seen at [] = []
 nothing_seen at (d ∷ ds) = wrong at
 
 -- all arguments are specifiers
-abbrev pub each_type_seen : List Sighted → List Part
+abbrev pub each_type_seen : List Sighted → List TypePart
 each_type_seen [] = []
 each_type_seen (s ∷ ss) = s.seen ++ each_type_seen ss
 
-abbrev pub one_type_seen : ℕ → List Sighted → List Part
+abbrev pub one_type_seen : ℕ → List Sighted → List TypePart
 one_type_seen at ss = if length ss == 1 then each_type_seen ss else wrong at
 
-abbrev pub some_types_seen : ℕ → List Sighted → List Part
+abbrev pub some_types_seen : ℕ → List Sighted → List TypePart
 some_types_seen at ss = if length ss == 0 then wrong at else each_type_seen ss
 
 -- `(NAME ...) SPECIFIER`
-abbrev pub tokens_and_type_seen : ℕ → List Sighted → List Part
+abbrev pub tokens_and_type_seen : ℕ → List Sighted → List TypePart
 tokens_and_type_seen at (n ∷ s ∷ []) = elim (tokens_in n.shape) [ None ↦ wrong at | Some xs ↦ s.seen ]
 tokens_and_type_seen at ss = wrong at
 
 -- what stands behind the name of a type, by what it takes
-abbrev pub arguments_seen : Names → Takes → ℕ → List Sighted → List Part
+abbrev pub arguments_seen : Names → Takes → ℕ → List Sighted → List TypePart
 arguments_seen ps takes.Nothing at ss = nothing_seen at (shapes_sighted ss)
 arguments_seen ps takes.Bounds at ss = at_most_seen 2 ps wanted.NumberOrStar at (shapes_sighted ss)
 arguments_seen ps takes.Length at ss = at_most_seen 1 ps wanted.Number at (shapes_sighted ss)
@@ -72,21 +102,21 @@ arguments_seen ps takes.SomeTypes at ss = some_types_seen at ss
 arguments_seen ps takes.TokensAndType at ss = tokens_and_type_seen at ss
 
 -- what stands behind a name that is not declared is not looked at
-abbrev pub known_type_seen : Names → Option Takes → List ℕ → ℕ → ℕ → List Sighted → List Part
+abbrev pub known_type_seen : Names → Option Takes → List ℕ → ℕ → ℕ → List Sighted → List TypePart
 known_type_seen ps None x name_at at ss = type_name x name_at ∷ []
 known_type_seen ps (Some t) x name_at at ss = arguments_seen ps t at ss
 
 -- a type begins with its name
-abbrev pub headed_type_seen : Signatures → Names → ℕ → Datum → List Sighted → List Part
+abbrev pub headed_type_seen : Signatures → Names → ℕ → Datum → List Sighted → List TypePart
 headed_type_seen w ps at h ss = elim (name_in h) [ None ↦ wrong at | Some x ↦ known_type_seen ps (takes_named w x) x (offset h) at ss ]
 
 -- options behind a name and its arguments
-abbrev pub optioned_type_seen : ℕ → Option TypeOptions → List Part → List Part
+abbrev pub optioned_type_seen : ℕ → Option TypeOptions → List TypePart → List TypePart
 optioned_type_seen at None inner = wrong at
 optioned_type_seen at (Some o) inner = inner
 
 -- a list by its first part: a list of a name and arguments, or a name
-abbrev pub first_type_seen : Signatures → Names → ℕ → Datum → List Part → List Sighted → List Part
+abbrev pub first_type_seen : Signatures → Names → ℕ → Datum → List TypePart → List Sighted → List TypePart
 first_type_seen w ps at (list es inner_at) inner ss = optioned_type_seen at (options_in (shapes_sighted ss)) inner
 first_type_seen w ps at (word x name_at) inner ss = headed_type_seen w ps at (word x name_at) ss
 first_type_seen w ps at (number z part_at) inner ss = wrong at
@@ -98,7 +128,7 @@ first_type_seen w ps at (stray part_at) inner ss = wrong at
 
 abbrev mutual
   -- `NAME`, `(NAME ARGUMENT ...)` or `((NAME ARGUMENT ...) KEY VALUE ...)`, where these are the parameters of the declaration around
-  pub type_seen : Signatures → Names → Datum → List Part
+  pub type_seen : Signatures → Names → Datum → List TypePart
   type_seen w ps (number z at) = wrong at
   type_seen w ps (literal s at) = wrong at
   type_seen w ps (word x at) = headed_type_seen w ps at (word x at) []
@@ -106,11 +136,11 @@ abbrev mutual
   type_seen w ps (stray at) = wrong at
   type_seen w ps (list ds at) = listed_type_seen w ps at ds
 
-  pub listed_type_seen : Signatures → Names → ℕ → Datums → List Part
+  pub listed_type_seen : Signatures → Names → ℕ → Datums → List TypePart
   listed_type_seen w ps at none = wrong at
   listed_type_seen w ps at (item d more) = first_type_seen w ps at d (inner_type_seen w ps at d) (types_seen w ps more)
 
-  pub inner_type_seen : Signatures → Names → ℕ → Datum → List Part
+  pub inner_type_seen : Signatures → Names → ℕ → Datum → List TypePart
   inner_type_seen w ps at (list es inner_at) = type_parts_seen w ps at es
   inner_type_seen w ps at (number z part_at) = wrong at
   inner_type_seen w ps at (literal s part_at) = wrong at
@@ -118,7 +148,7 @@ abbrev mutual
   inner_type_seen w ps at (quoted x part_at name_at) = wrong at
   inner_type_seen w ps at (stray part_at) = wrong at
 
-  pub type_parts_seen : Signatures → Names → ℕ → Datums → List Part
+  pub type_parts_seen : Signatures → Names → ℕ → Datums → List TypePart
   type_parts_seen w ps at none = wrong at
   type_parts_seen w ps at (item h more) = headed_type_seen w ps at h (types_seen w ps more)
 
