@@ -74,7 +74,8 @@ pub fn figures_have_the_area_of_their_parts()
         ≡ draw_shape most (vline_leaf (shape_area s.ambient x y (pos 1) length)) (shape_area s.ambient x y (pos 1) length) s }
     ensures outline { (most : ℕ) (x y width height : ℤ) (s : DrawingAt) → draw_figure most figure.Outline (value.int x ∷ value.int y ∷ value.int width ∷ value.int height ∷ []) s
         ≡ draw_shape most (box_leaf (shape_area s.ambient x y width height)) (shape_area s.ambient x y width height) s }
-    ensures filled { (most : ℕ) (x y width height : ℤ) (byte : ℕ) (s : DrawingAt) → draw_figure most figure.Filled (value.int x ∷ value.int y ∷ value.int width ∷ value.int height ∷ value.text (byte ∷ []) ∷ []) s
+    ensures filled { (most : ℕ) (x y width height : ℤ) (byte : ℕ) (s : DrawingAt)
+        → draw_figure most figure.Filled (value.int x ∷ value.int y ∷ value.int width ∷ value.int height ∷ value.text (byte ∷ []) ∷ []) s
         ≡ draw_shape most (fill_leaf (shape_area s.ambient x y width height) byte) (shape_area s.ambient x y width height) s }
 {}
 
@@ -91,11 +92,14 @@ pub fn margin_and_origin_are_used_by_few_forms()
         → EndsWith (UsesMargin s) (shape_parts scene allowed value text go level env shape.Newline s cost deepest).outcome }
     ensures room { (scene : Scene) (allowed : Allowance) (value : Go) (text : Texts) (go : Draws) (level : ℕ) (env : Env) (body : ShapeTrees) (s : DrawingAt) (cost deepest : ℕ)
         → EndsWith (UsesMargin s) (shape_parts scene allowed value text go level env (shape.Room body) s cost deepest).outcome }
-    ensures indent { (left : ℕ) (allowed : Allowance) (scene : Scene) (value : Go) (text : Texts) (level : ℕ) (env : Env) (t : ExprTree) (body : ShapeTrees) (s : DrawingAt) (cost deepest : ℕ)
+    ensures indent { (left : ℕ) (allowed : Allowance) (scene : Scene) (value : Go) (text : Texts) (level : ℕ) (env : Env)
+        (t : ExprTree) (body : ShapeTrees) (s : DrawingAt) (cost deepest : ℕ)
         → EndsWith HasUsedMargin (shape_parts scene allowed value text (draws left allowed scene) level env (shape.Indent t body) s cost deepest).outcome }
-    ensures indent_alone { (scene : Scene) (allowed : Allowance) (value : Go) (text : Texts) (go : Draws) (level : ℕ) (env : Env) (t : ExprTree) (body : ShapeTrees) (s : DrawingAt) (cost deepest : ℕ)
+    ensures indent_alone { (scene : Scene) (allowed : Allowance) (value : Go) (text : Texts) (go : Draws) (level : ℕ) (env : Env)
+        (t : ExprTree) (body : ShapeTrees) (s : DrawingAt) (cost deepest : ℕ)
         → NoneUses go → EndsWith (UsesMargin s) (shape_parts scene allowed value text go level env (shape.Indent t body) s cost deepest).outcome }
-    ensures figure { (scene : Scene) (allowed : Allowance) (value : Go) (text : Texts) (go : Draws) (level : ℕ) (env : Env) (figure : Figure) (ts : ExprTrees) (s : DrawingAt) (cost deepest : ℕ)
+    ensures figure { (scene : Scene) (allowed : Allowance) (value : Go) (text : Texts) (go : Draws) (level : ℕ) (env : Env)
+        (figure : Figure) (ts : ExprTrees) (s : DrawingAt) (cost deepest : ℕ)
         → EndsWith (UsesOrigin s) (shape_parts scene allowed value text go level env (shape.Draw figure ts) s cost deepest).outcome }
     ensures others { (scene : Scene) (allowed : Allowance) (value : Go) (text : Texts) (go : Draws) (level : ℕ) (env : Env) (f : ShapeTree) (s : DrawingAt) (cost deepest : ℕ)
         → IsPlain f → NoneUses go → EndsWith (UsesNeither s) (shape_parts scene allowed value text go level env f s cost deepest).outcome }

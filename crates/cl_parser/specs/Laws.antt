@@ -23,4 +23,5 @@ DefaultsHold s (a ∷ args) = ((d : Data) → default_value s.app a ≡ Some d �
 
 -- what is parsed are members of the arguments' types, where the defaults are
 abbrev pub ParsesMembers : Type 0
-ParsesMembers = (s : Scene) (line : List Element) (ts : List Token) (args : List Argument) (ds : List Data) → DefaultsHold s args → parse s line ts args ≡ Arguments ds → AreMembers s ds args
+ParsesMembers = (s : Scene) (line : List Element) (ts : List Token) (args : List Argument) (ds : List Data)
+    → DefaultsHold s args → parse s line ts args ≡ Arguments ds → AreMembers s ds args
