@@ -5,19 +5,20 @@ use Rattle.std.specs.Str.{str_eq_ignore_ascii_case}
 use Rattle.cl_application.specs.Panes.{panes_of}
 use Rattle.cl_application.specs.declared.declarations.CommandDecl.{CommandDecl}
 use Rattle.cl_application.specs.declared.declarations.PaneDecl.{PaneDecl}
-use Rattle.cl_command.specs.declared.lines.Finished.{Finished}
-use Rattle.cl_command.specs.declared.lines.Finished.TheVariants as finished
-use Rattle.cl_command.specs.Line.{finish_of, without_last}
-use Rattle.cl_command.specs.Naming.{line_names}
 use Rattle.cl_eval.specs.Outcome.{Outcome, Gives, Traps}
 use Rattle.cl_eval.specs.declared.effects.Effects.{Effects}
 use Rattle.cl_frame.specs.Ground.{Ground}
 use Rattle.cl_frame.specs.Panes.{PaneMarks}
 use Rattle.cl_gesture.specs.declared.answers.Gesture.{Gesture}
 use Rattle.cl_gesture.specs.declared.answers.Gesture.TheVariants as gesture
-use Rattle.cl_table.specs.Names.{declared_at}
+use Rattle.cl_line.specs.Elements.{typed}
+use Rattle.cl_line.specs.Lines.{without_last}
+use Rattle.cl_line.specs.declared.elements.Element.{Element}
+use Rattle.cl_line.specs.declared.lines.TheConstants.{MAX_ELEMENTS}
+use Rattle.cl_line.specs.declared.tokens.Token.{Token}
 use Rattle.cl_session.specs.Handling.{KeepsSlots}
-use Rattle.cl_session.specs.Step.{Handled, command_outcome, command_trap_line, finish_line, handled, handled_or_not, history_rows, refuse, run_command, run_named, tell, tell_history}
+use Rattle.cl_session.specs.Naming.{command_of_line, tokens_of_line}
+use Rattle.cl_session.specs.Step.{Handled, command_outcome, command_trap_line, finish_by, finish_named, handled, handled_or_not, history_rows, refuse, run_command, tell, tell_history}
 use Rattle.cl_session.specs.World.{World}
 
 -- The panes stay; slots change only where a command commits; and where the one reply is the line of a trap, slots and line stay.
@@ -33,7 +34,7 @@ keeps_told w cost replies = record { panes = refl; slots = refl; trapped = λ ki
 none_is_one : {A : Type 0} (x : A) → ◌≡◌ {A = List A} [] (x ∷ []) → ⊥
 none_is_one x e = cc
 
-keeps_line : (w : World) (line : List ℕ) → Keeps w (tell (record w { line = line }) 0 [])
+keeps_line : (w : World) (line : List Element) → Keeps w (tell (record w { line = line }) 0 [])
 keeps_line w line = record { panes = refl; slots = refl; trapped = λ kind e. absurd (none_is_one (command_trap_line kind) e) }
 
 keeps_if : (w : World) (b : Bool) (h k : Handled) → Keeps w h → Keeps w k → Keeps w (if b then h else k)
@@ -49,14 +50,13 @@ keeps_run : (name : List ℕ) (w : World) (o : Outcome Effects) → Keeps w (run
 keeps_run name w (Gives effects cost deepest) = record { panes = refl; slots = tt; trapped = λ kind e. absurd (ok_is_no_trap name _ kind e) }
 keeps_run name w (Traps kind cost deepest) = keeps_told w cost (command_trap_line kind ∷ [])
 
-keeps_named : (g : Ground) (w : World) (c : Option CommandDecl) → Keeps w (run_named g w c)
-keeps_named g w None = keeps_told w 0 (codes "! unknown" ∷ [])
-keeps_named g w (Some command) = keeps_run command.line_name w (command_outcome g command w.slots)
+keeps_named : (g : Ground) (w : World) (command : CommandDecl) (ts : List Token) → Keeps w (finish_named g w command ts)
+keeps_named g w command [] = keeps_run command.line_name w (command_outcome g command w.slots)
+keeps_named g w command (t ∷ ts) = keeps_told w 0 (codes "! surplus" ∷ [])
 
-keeps_finished : (g : Ground) (w : World) (f : Finished) → Keeps w (finish_line g w f)
-keeps_finished g w (finished.Command place) = keeps_named g w (declared_at place g.app.commands)
-keeps_finished g w finished.Unknown = keeps_told w 0 (codes "! unknown" ∷ [])
-keeps_finished g w finished.Surplus = keeps_told w 0 (codes "! surplus" ∷ [])
+keeps_finished : (g : Ground) (w : World) (c : Option CommandDecl) → Keeps w (finish_by g w c)
+keeps_finished g w None = keeps_told w 0 (codes "! unknown" ∷ [])
+keeps_finished g w (Some command) = keeps_named g w command (tokens_of_line command w.line)
 
 keeps_history : (w : World) (ds : List PaneDecl) (ms : List PaneMarks) (name : List ℕ) → Keeps w (tell_history w ds ms name)
 keeps_history w [] ms name = keeps_told w 0 (codes "! pane" ∷ [])
@@ -67,9 +67,9 @@ keeps_history w (d ∷ ds) (m ∷ ms) name =
 
 pub keeps_handled : (g : Ground) (w : World) (act : Gesture) → Keeps w (handled g w act)
 keeps_handled g w (gesture.«Type» text) =
-    keeps_if w (nat_le (length w.line + length text) 256) (tell (record w { line = w.line ++ text }) 0 []) (refuse w 0 (codes "! full"))
-    (keeps_line w (w.line ++ text)) (keeps_told w 0 (codes "! full" ∷ []))
-keeps_handled g w gesture.Return = keeps_finished g w (finish_of (line_names g.app.commands) w.line)
+    keeps_if w (nat_le (length (w.line ++ typed text)) MAX_ELEMENTS) (tell (record w { line = w.line ++ typed text }) 0 [])
+    (refuse w 0 (codes "! full")) (keeps_line w (w.line ++ typed text)) (keeps_told w 0 (codes "! full" ∷ []))
+keeps_handled g w gesture.Return = keeps_finished g w (command_of_line g.app w.line)
 keeps_handled g w gesture.Rubout = keeps_line w (without_last w.line)
 keeps_handled g w gesture.Clear = keeps_line w []
 keeps_handled g w gesture.Frame = keeps_told w 0 (handled g w gesture.Frame).replies

@@ -16,6 +16,7 @@ use Rattle.cl_frame.specs.declared.frames.Frame.{Frame}
 use Rattle.cl_frame.specs.declared.panes.Pane.{Pane}
 use Rattle.cl_frame.specs.declared.reports.PaneReport.{PaneReport}
 use Rattle.cl_frame.specs.declared.settling.Which.TheVariants as which
+use Rattle.cl_line.specs.declared.elements.Element.{Element}
 use Rattle.cl_session.specs.Current.{IsCurrent}
 use Rattle.cl_session.specs.Handling.{world_at}
 use Rattle.cl_session.specs.Laws.{AllFalse}
@@ -80,8 +81,8 @@ module _ (g : Ground) (slots : Slots) where
       let nothing = settle_nothing g which.All slots (panes_of g.app) (marks_of_frame old) (map met_memory (reports_of_frame new)) (none_met (reports_of_frame new) none) in
       let marks : marks_of_frame new ≡ map (script_of g slots) (panes_of g.app) =
       s.marks ∙ (ap (λ (ss : List PaneStep). map marks_after ss) nothing ∙ scripts_shown (panes_of g.app) (marks_of_frame old) n) in
-      let world_by : List ℕ → List PaneMarks → World = λ l ms. record { slots = slots; line = l; panes = ms; stale = new.screen.stale } in
-      ap (λ (l : List ℕ). world_by l (marks_of_frame new)) line ∙ ap (λ (ms : List PaneMarks). world_by [] ms) marks
+      let world_by : List Element → List PaneMarks → World = λ l ms. record { slots = slots; line = l; panes = ms; stale = new.screen.stale } in
+      ap (λ (l : List Element). world_by l (marks_of_frame new)) line ∙ ap (λ (ms : List PaneMarks). world_by [] ms) marks
 
   pub opening_paid : (old new : Frame) (from to : ℕ) → AreAsMany (panes_of g.app) (marks_of_frame old)
       → SpendsPanes (settle_panes g which.All slots (panes_of g.app) (marks_of_frame old) (map met_memory (reports_of_frame new))) from to

@@ -6,10 +6,6 @@ use Rattle.std.specs.Str.{str_eq_ignore_ascii_case}
 use Rattle.cl_application.specs.Panes.{panes_of}
 use Rattle.cl_application.specs.declared.declarations.CommandDecl.{CommandDecl}
 use Rattle.cl_application.specs.declared.declarations.PaneDecl.{PaneDecl}
-use Rattle.cl_command.specs.declared.lines.Finished.{Finished}
-use Rattle.cl_command.specs.declared.lines.Finished.TheVariants as finished
-use Rattle.cl_command.specs.Line.{finish_of}
-use Rattle.cl_command.specs.Naming.{line_names}
 use Rattle.cl_display.specs.Drawings.{DrawingAt}
 use Rattle.cl_display.specs.Script.{pane_fresh}
 use Rattle.cl_eval.specs.Outcome.{Gives, Outcome, Traps}
@@ -21,11 +17,14 @@ use Rattle.cl_frame.specs.Settling.{PaneStep, is_due, marks_after, report_after,
 use Rattle.cl_frame.specs.declared.settling.Which.{Which}
 use Rattle.cl_gesture.specs.declared.answers.Gesture.{Gesture}
 use Rattle.cl_gesture.specs.declared.answers.Gesture.TheVariants as gesture
+use Rattle.cl_line.specs.Elements.{typed}
+use Rattle.cl_line.specs.declared.lines.TheConstants.{MAX_ELEMENTS}
+use Rattle.cl_line.specs.declared.tokens.Token.{Token}
 use Rattle.cl_record.specs.Counts.{count_of}
 use Rattle.cl_redisplay.specs.Shown.{Shown, digit_in, glyph_in, row_from, rows_from, shown_at, told_row}
-use Rattle.cl_table.specs.Names.{declared_at}
 use Rattle.cl_session.specs.Laws.{IsToldByLines}
-use Rattle.cl_session.specs.Step.{Handled, command_outcome, command_trap_line, finish_line, handled, handled_or_not, history_rows, memory_line, next_behind, pane_lines, refuse, report_line, report_lines, report_tail, run_command, run_named, settled_behind, shown_in, tell, tell_history, trap_line, which_after, wire_lines}
+use Rattle.cl_session.specs.Naming.{command_of_line, tokens_of_line}
+use Rattle.cl_session.specs.Step.{Handled, command_outcome, command_trap_line, finish_by, finish_named, handled, handled_or_not, history_rows, memory_line, next_behind, pane_lines, refuse, report_line, report_lines, report_tail, run_command, settled_behind, shown_in, tell, tell_history, trap_line, which_after, wire_lines}
 use Rattle.cl_session.specs.World.{World}
 
 abbrev memory_said : List ℕ
@@ -215,14 +214,13 @@ not_run : (name : List ℕ) (w : World) (o : Outcome Effects) → IsNotMemory (r
 not_run name w (Gives effects cost deepest) = differ_at 0 memory_said (codes "ok " ++ name) (λ no. omega (arith, no))
 not_run name w (Traps kind cost deepest) = differ_at 2 memory_said (command_trap_line kind) (λ no. omega (arith, no))
 
-not_named : (g : Ground) (w : World) (c : Option CommandDecl) → IsNotMemory (run_named g w c).replies
-not_named g w None = not_unknown
-not_named g w (Some command) = not_run command.line_name w (command_outcome g command w.slots)
+not_named : (g : Ground) (w : World) (command : CommandDecl) (ts : List Token) → IsNotMemory (finish_named g w command ts).replies
+not_named g w command [] = not_run command.line_name w (command_outcome g command w.slots)
+not_named g w command (t ∷ ts) = not_surplus
 
-not_finished : (g : Ground) (w : World) (f : Finished) → IsNotMemory (finish_line g w f).replies
-not_finished g w (finished.Command place) = not_named g w (declared_at place g.app.commands)
-not_finished g w finished.Unknown = not_unknown
-not_finished g w finished.Surplus = not_surplus
+not_finished : (g : Ground) (w : World) (c : Option CommandDecl) → IsNotMemory (finish_by g w c).replies
+not_finished g w None = not_unknown
+not_finished g w (Some command) = not_named g w command (tokens_of_line command w.line)
 
 not_rows : (name : List ℕ) (marks : PaneMarks) → IsNotMemory (history_rows name marks)
 not_rows name marks = differ_at 0 memory_said (codes "history " ++ (name ++ 32 ∷ _)) (λ no. omega (arith, no))
@@ -306,10 +304,10 @@ apart_told : (g : Ground) (w : World) (act : Gesture) (ms ns : List Bool) (x y :
 apart_told g w (gesture.«Type» text) ms ns x y e =
     let h = handled g w (gesture.«Type» text) in
     absurd (told_apart g h ns y h.replies _
-    (not_memory_if (nat_le (length w.line + length text) 256) (tell (record w { line = w.line ++ text }) 0 []) (refuse w 0 (codes "! full")) tt not_full) e)
+    (not_memory_if (nat_le (length (w.line ++ typed text)) MAX_ELEMENTS) (tell (record w { line = w.line ++ typed text }) 0 []) (refuse w 0 (codes "! full")) tt not_full) e)
 apart_told g w gesture.Return ms ns x y e =
     let h = handled g w gesture.Return in
-    absurd (told_apart g h ns y h.replies _ (not_finished g w (finish_of (line_names g.app.commands) w.line)) e)
+    absurd (told_apart g h ns y h.replies _ (not_finished g w (command_of_line g.app w.line)) e)
 apart_told g w gesture.Rubout ms ns x y e =
     let h = handled g w gesture.Rubout in
     absurd (told_apart g h ns y h.replies _ tt e)

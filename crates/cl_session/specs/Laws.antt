@@ -6,6 +6,7 @@ use Rattle.cl_frame.specs.Ground.{Ground}
 use Rattle.cl_gesture.specs.Lines.{Piece}
 use Rattle.cl_gesture.specs.declared.answers.Gesture.{Gesture}
 use Rattle.cl_gesture.specs.declared.answers.Gesture.TheVariants as gesture
+use Rattle.cl_line.specs.declared.lines.TheConstants.{MAX_ELEMENTS}
 use Rattle.cl_session.specs.Current.{IsCurrent}
 use Rattle.cl_session.specs.Step.{Met, command_trap_line, handled, next}
 use Rattle.cl_session.specs.Streams.{SpendsAll, transcript, worlds}
@@ -75,7 +76,7 @@ IsUnchangedByFailure = (g : Ground) (w : World) (act : Gesture) (met : Met) → 
 
 -- where the line has room for a byte, typing it and rubbing it out leaves the world as it was
 abbrev pub IsTakenBack : Type 0
-IsTakenBack = (g : Ground) (w : World) (byte : ℕ) → length w.line < 256
+IsTakenBack = (g : Ground) (w : World) (byte : ℕ) → length w.line < MAX_ELEMENTS
     → (handled g (handled g w (gesture.«Type» (byte ∷ []))).world gesture.Rubout).world ≡ w
 
 -- ---- faults of the wire are told

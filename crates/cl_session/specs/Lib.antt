@@ -1,5 +1,6 @@
 pub mod World
 pub mod Current
+pub mod Naming
 pub mod Step
 pub mod Replies
 pub mod Handling

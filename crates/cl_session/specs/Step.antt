@@ -2,7 +2,6 @@
 use Rattle.std.specs.Prelude.{◌≡◌, ℕ, ◌+◌, Bool, true, false, nat_le, if◌then◌else◌, List, [], ◌∷◌, ◌++◌, length, map, Option, Some, None, codes}
 use Rattle.std.specs.Fmt.{decimal}
 use Rattle.std.specs.Str.{str_eq_ignore_ascii_case}
-use Rattle.cl_table.specs.Names.{declared_at}
 use Rattle.cl_application.specs.Panes.{panes_of}
 use Rattle.cl_application.specs.declared.declarations.CommandDecl.{CommandDecl}
 use Rattle.cl_application.specs.declared.declarations.PaneDecl.{PaneDecl}
@@ -12,10 +11,6 @@ use Rattle.cl_eval.specs.Executed.{outcome_of_exec}
 use Rattle.cl_eval.specs.declared.effects.Effects.{Effects}
 use Rattle.cl_record.specs.Lines.{item_line, lines_from}
 use Rattle.cl_redisplay.specs.Shown.{Shown, shown_ink_rows, shown_rows}
-use Rattle.cl_command.specs.declared.lines.Finished.{Finished}
-use Rattle.cl_command.specs.declared.lines.Finished.TheVariants.{Command, Unknown, Surplus}
-use Rattle.cl_command.specs.Line.{finish_of, without_last}
-use Rattle.cl_command.specs.Naming.{line_names}
 use Rattle.cl_frame.specs.Ground.{Ground}
 use Rattle.cl_frame.specs.Panes.{PaneMarks, marks_in, shown_panes}
 use Rattle.cl_frame.specs.Sending.{update_bytes}
@@ -26,8 +21,13 @@ use Rattle.cl_frame.specs.declared.settling.Which.{Which}
 use Rattle.cl_frame.specs.declared.settling.Which.TheVariants as which
 use Rattle.cl_gesture.specs.declared.answers.Gesture.{Gesture}
 use Rattle.cl_gesture.specs.declared.answers.Gesture.TheVariants as gesture
+use Rattle.cl_line.specs.Elements.{typed}
+use Rattle.cl_line.specs.Lines.{without_last}
+use Rattle.cl_line.specs.declared.lines.TheConstants.{MAX_ELEMENTS}
+use Rattle.cl_line.specs.declared.tokens.Token.{Token}
 use Rattle.cl_session.specs.declared.handling.After.{After}
 use Rattle.cl_session.specs.declared.handling.After.TheVariants as after
+use Rattle.cl_session.specs.Naming.{command_of_line, tokens_of_line}
 use Rattle.cl_session.specs.World.{World}
 
 -- What met want of memory in a gesture: its handling, and the settling of each pane, in order; and whether the device failed.
@@ -56,8 +56,8 @@ refuse w cost reply = tell w cost (reply ∷ [])
 -- the characters stand behind the line, where that has room for them
 abbrev pub type_text : World → List ℕ → Handled
 type_text w text =
-    if nat_le (length w.line + length text) 256
-    then tell (record w { line = w.line ++ text }) 0 []
+    if nat_le (length (w.line ++ typed text)) MAX_ELEMENTS
+    then tell (record w { line = w.line ++ typed text }) 0 []
     else refuse w 0 (codes "! full")
 
 -- the line loses its last element
@@ -94,15 +94,18 @@ run_command name w (Traps kind cost deepest) = refuse w cost (command_trap_line 
 abbrev pub command_outcome : Ground → CommandDecl → Slots → Outcome Effects
 command_outcome g command slots = outcome_of_exec g.limits g.app g.types.holds command.body [] slots
 
--- the command in a place of the order, from 0, is run
-abbrev pub run_named : Ground → World → Option CommandDecl → Handled
-run_named g w None = refuse w 0 (codes "! unknown")
-run_named g w (Some command) = run_command command.line_name w (command_outcome g command w.slots)
+-- a command with the tokens behind its name: it takes no argument, so the first of them is one too many
+abbrev pub finish_named : Ground → World → CommandDecl → List Token → Handled
+finish_named g w command [] = run_command command.line_name w (command_outcome g command w.slots)
+finish_named g w command (t ∷ ts) = refuse w 0 (codes "! surplus")
 
-abbrev pub finish_line : Ground → World → Finished → Handled
-finish_line g w (Command place) = run_named g w (declared_at place g.app.commands)
-finish_line g w Unknown = refuse w 0 (codes "! unknown")
-finish_line g w Surplus = refuse w 0 (codes "! surplus")
+-- the command that the line names, if it names one
+abbrev pub finish_by : Ground → World → Option CommandDecl → Handled
+finish_by g w None = refuse w 0 (codes "! unknown")
+finish_by g w (Some command) = finish_named g w command (tokens_of_line command w.line)
+
+abbrev pub finish_line : Ground → World → Handled
+finish_line g w = finish_by g w (command_of_line g.app w.line)
 
 -- what the screen shows, and where
 abbrev pub shown_in : Ground → World → List Shown
@@ -132,7 +135,7 @@ tell_history w (d ∷ ds) (m ∷ ms) name =
 
 abbrev pub handled : Ground → World → Gesture → Handled
 handled g w (gesture.«Type» text) = type_text w text
-handled g w gesture.Return = finish_line g w (finish_of (line_names g.app.commands) w.line)
+handled g w gesture.Return = finish_line g w
 handled g w gesture.Rubout = rub_out w
 handled g w gesture.Clear = clear_line w
 handled g w gesture.Frame = tell w 0 (glyph_rows g w)

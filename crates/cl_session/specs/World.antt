@@ -7,11 +7,12 @@ use Rattle.cl_eval.specs.Outcome.{cost_of}
 use Rattle.cl_eval.specs.Slots.{Slots}
 use Rattle.cl_frame.specs.Ground.{Ground}
 use Rattle.cl_frame.specs.Panes.{PaneMarks}
+use Rattle.cl_line.specs.declared.elements.Element.{Element}
 
 -- the slots, the command line, the marks of each pane, and whether the screen is stale: its device may show anything else
 pub record World : Type 0 where
   pub slots : Slots
-  pub line : List ℕ
+  pub line : List Element
   pub panes : List PaneMarks
   pub stale : Bool
 

@@ -1,21 +1,22 @@
 //! How a gesture is handled, before panes are settled.
 ghost use Rattle.std.specs.Prelude.{◌≡◌, ◌≤◌, ◌++◌, ◌∷◌, [], IfOk};
-ghost use Rattle.cl_command.specs.Line.{finish_of};
-ghost use Rattle.cl_command.specs.Naming.{line_names};
 ghost use Rattle.cl_eval.specs.Outcome.{RisesBy};
 ghost use Rattle.cl_application.specs.Panes.{panes_of};
 ghost use Rattle.cl_frame.specs.Frames.{IsFrameOf, marks_of_frame};
 ghost use Rattle.cl_frame.specs.Ground.{ground_of};
-ghost use Rattle.cl_session.specs.Step.{clear_line, command_outcome, command_trap_line, finish_line, handled, ok_lines, rub_out, run_command, tell_history, type_text, which_after};
+ghost use Rattle.cl_session.specs.Naming.{sight_in, tokens_of_line};
+ghost use Rattle.cl_session.specs.Step.{clear_line, command_outcome, command_trap_line, finish_line, finish_named, handled, ok_lines, rub_out, run_command, tell_history, type_text, which_after};
 ghost use Rattle.cl_session.specs.Handling.{HandlesTo, IsReply, ToldOf, after_of, handling_met, world_at};
 
+use crate::naming::{command_of_line, token_behind};
 use crate::telling::{frame_lines, history_lines, ink_lines, place_of_pane};
 use cl_application::{App, CommandDecl};
-use cl_command::{Finished, Line, Pushed};
 use cl_eval::{Env, Executed, Lines, Program, Slots, Types, exec};
 use cl_frame::{Frame, Which};
 use cl_gesture::Gesture;
+use cl_line::{Line, Pushed};
 use cl_outside::{Ledger, Steps};
+use cl_tables::Tables;
 use cl_value::Text;
 use std::alloc::{AllocError, Global};
 
@@ -63,12 +64,14 @@ impl Handling {
 pub fn handle<T: Types, L: Ledger>(
     program: &Program<'_, T>,
     gesture: &Gesture,
+    tables: &Tables,
     frame: &Frame,
     slots: &mut Slots,
     desk: &mut Desk,
     steps: &mut Steps<L>,
 ) -> Handling
     requires depth { program.now.limits.depth ≤ 512 }
+    requires tables { tables.now ≡ sight_in program.now.app.now }
     requires frame { IsFrameOf program.now.app.now frame.now }
     ensures handles { HandlesTo (handled (ground_of T.holds T.presents program.now)
         (world_at slots.old desk.old frame.now) gesture.now) frame.now result slots.old slots.new
@@ -80,7 +83,7 @@ pub fn handle<T: Types, L: Ledger>(
     let (alloc, app) = (program.alloc, program.app);
     match gesture {
         Gesture::Type(text) => type_text(alloc, text.as_slice(), frame, slots, desk),
-        Gesture::Return => finish_line(program, frame, slots, desk, steps),
+        Gesture::Return => finish_line(program, tables, frame, slots, desk, steps),
         Gesture::Rubout => rub_out(alloc, frame, slots, desk),
         Gesture::Clear => clear_line(alloc, frame, slots, desk),
         Gesture::Frame => told(frame_lines(alloc, app, frame)),
@@ -151,28 +154,49 @@ fn clear_line(alloc: Global, frame: &Frame, slots: &Slots, desk: &mut Desk) -> H
 
 fn finish_line<T: Types, L: Ledger>(
     program: &Program<'_, T>,
+    tables: &Tables,
+    frame: &Frame,
+    slots: &mut Slots,
+    desk: &mut Desk,
+    steps: &mut Steps<L>,
+) -> Handling
+    requires depth { program.now.limits.depth ≤ 512 }
+    requires tables { tables.now ≡ sight_in program.now.app.now }
+    ensures handles { HandlesTo (finish_line (ground_of T.holds T.presents program.now)
+        (world_at slots.old desk.old frame.now)) frame.now result slots.old slots.new desk.old
+        desk.new }
+    ensures ledger { RisesBy (handling_met result) steps.old steps.new
+        (finish_line (ground_of T.holds T.presents program.now)
+        (world_at slots.old desk.old frame.now)).cost }
+{
+    match command_of_line(program.app, tables, &desk.line) {
+        None => reply(program.alloc, b"! unknown"),
+        Some(command) => finish_named(program, command, frame, slots, desk, steps),
+    }
+}
+
+// A command takes no argument: a token behind its name is one too many.
+fn finish_named<T: Types, L: Ledger>(
+    program: &Program<'_, T>,
+    command: &CommandDecl,
     frame: &Frame,
     slots: &mut Slots,
     desk: &mut Desk,
     steps: &mut Steps<L>,
 ) -> Handling
     requires { program.now.limits.depth ≤ 512 }
-    ensures handles { HandlesTo (finish_line (ground_of T.holds T.presents program.now)
-        (world_at slots.old desk.old frame.now)
-        (finish_of (line_names program.now.app.now.commands) desk.old.line)) frame.now result
-        slots.old slots.new desk.old desk.new }
+    ensures handles { HandlesTo (finish_named (ground_of T.holds T.presents program.now)
+        (world_at slots.old desk.old frame.now) command.now
+        (tokens_of_line command.now desk.old.line)) frame.now result slots.old slots.new desk.old
+        desk.new }
     ensures ledger { RisesBy (handling_met result) steps.old steps.new
-        (finish_line (ground_of T.holds T.presents program.now)
-        (world_at slots.old desk.old frame.now)
-        (finish_of (line_names program.now.app.now.commands) desk.old.line)).cost }
+        (finish_named (ground_of T.holds T.presents program.now)
+        (world_at slots.old desk.old frame.now) command.now
+        (tokens_of_line command.now desk.old.line)).cost }
 {
-    match desk.line.finish(&program.app.commands) {
-        Finished::Unknown => reply(program.alloc, b"! unknown"),
-        Finished::Surplus => reply(program.alloc, b"! surplus"),
-        Finished::Command(place) => match program.app.commands.at(place) {
-            None => reply(program.alloc, b"! unknown"),
-            Some(command) => run_command(program, command, frame, slots, desk, steps),
-        },
+    match token_behind(command, &desk.line) {
+        Some(_) => reply(program.alloc, b"! surplus"),
+        None => run_command(program, command, frame, slots, desk, steps),
     }
 }
 

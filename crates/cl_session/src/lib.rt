@@ -4,6 +4,7 @@
 mod answers;
 mod handling;
 mod laws;
+mod naming;
 mod serving;
 mod sessions;
 mod speaking;

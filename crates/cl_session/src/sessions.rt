@@ -14,20 +14,23 @@ ghost use Rattle.cl_session.specs.World.{opening};
 
 use crate::answers::Replies;
 use crate::handling::{Desk, Handling, handle};
-use cl_command::Line;
+use crate::naming::tables_of;
 use cl_eval::{Lines, Program, Slots, Types};
 use cl_frame::{Frame, Which};
 use cl_gesture::Gesture;
+use cl_line::Line;
 use cl_outside::{Device, Ledger, Steps};
 use cl_redisplay::Painted;
+use cl_tables::Tables;
 use std::alloc::{AllocError, Global};
 
 /// How many forms may be entered and not left.
 pub const DEPTH: u32 = 512;
 
-/// An application's frame between two gestures, and what lies on its desk. The slots stand apart.
+/// An application's frame between two gestures, what lies on its desk, and what its command table sees. The slots stand apart.
 #[derive(Drop)]
 pub struct Session {
+    pub tables: Tables,
     pub desk: Desk,
     pub frame: Frame,
 }
@@ -67,6 +70,7 @@ impl Session {
         ensures lent { D.lent device.new ≡ D.lent device.old }
         ensures device_later { D.faults device.old ≤ D.faults device.new }
     {
+        let tables = tables_of(program.alloc, program.app)?;
         let desk = Desk {
             line: Line::new(program.alloc)?,
         };
@@ -75,7 +79,11 @@ impl Session {
         if frame.met_memory() {
             return Err(AllocError);
         }
-        Ok(Session { desk, frame })
+        Ok(Session {
+            tables,
+            desk,
+            frame,
+        })
     }
 
     /// Handles one gesture, and settles all panes where a command committed or where it is `force`,
@@ -112,7 +120,15 @@ impl Session {
         ensures breaks { self.new.frame.screen.stale ≡ true → D.broken device.new ≡ true }
         ensures lent { D.lent device.new ≡ D.lent device.old }
     {
-        let handling = handle(program, gesture, &self.frame, slots, &mut self.desk, steps);
+        let handling = handle(
+            program,
+            gesture,
+            &self.tables,
+            &self.frame,
+            slots,
+            &mut self.desk,
+            steps,
+        );
         let which = handling.which();
         let painted = self.frame.update(program, which, slots, device, steps);
         replies_of(program.alloc, handling, painted)

@@ -1,12 +1,10 @@
 -- What a table sees, by its indexes.
 use Rattle.std.proofs.Common.{◌≡◌, ◌≤◌, ◌<◌, ◌+◌, Bool, true, false, cond, ℕ, List, [], ◌∷◌, length, get_or, take, Option, Some, None, refl, subst, arith}
-use Rattle.std.specs.Prelude.{All, is_some, option_map, ◌||◌, find, filter}
+use Rattle.std.specs.Prelude.{is_some, option_map, ◌||◌, find}
 use Rattle.std.specs.List.{list_any}
-use Rattle.std.proofs.lemmas.List.Elements.{All-nil, All-append, All-weaker, All-map, All-more, All-filter}
-use Rattle.cl_tables.specs.Accessible.{AreShort, CommandPlaces, commands_of, commands_in, stands_in}
+use Rattle.std.proofs.lemmas.List.Elements.{All-weaker, All-more}
 use Rattle.cl_tables.specs.Indexes.{AreWithin}
 use Rattle.cl_tables.specs.declared.declarations.CommandPlace.{CommandPlace}
-use Rattle.cl_tables.specs.declared.declarations.TheConstants.{MAX_LINE_NAME}
 
 pub some_map : {A B : Type 0} (f : A → B) (o : Option A) → is_some (option_map f o) ≡ is_some o
 some_map f None = refl
@@ -21,14 +19,6 @@ any_found {A} p (x ∷ xs) = by (p x) (any_found p xs)
     by false rest = rest
 
 -- ---- names within a length
-
-all_in : (P : CommandPlace → Type 0) (order : List (List ℕ)) (commands : List CommandPlace) → All P commands → All P (commands_in order commands)
-all_in P [] commands h = All-nil P
-all_in P (x ∷ xs) commands h = All-append P (filter (stands_in x) commands) (commands_in xs commands) (All-filter (stands_in x) P commands h) (all_in P xs commands h)
-
-pub short_in : (order : List (List ℕ)) (places : CommandPlaces) → AreShort places → AreWithin MAX_LINE_NAME (commands_in order (commands_of places))
-short_in order places h =
-    all_in (λ c. length c.line_name ≤ MAX_LINE_NAME) order (commands_of places) (All-map (λ (c : CommandPlace). length c.line_name ≤ MAX_LINE_NAME) (λ (e : List ℕ × CommandPlace). e.1) places h)
 
 pub longer : (commands : List CommandPlace) (most more : ℕ) → most ≤ more → AreWithin most commands → AreWithin more commands
 longer commands most more l h = All-weaker (λ c. length c.line_name ≤ most) (λ c. length c.line_name ≤ more) (λ c k. omega (arith, l, k)) commands h

@@ -3,7 +3,6 @@ use Rattle.std.specs.Prelude.{◌≡◌, ◌≤◌, ◌<◌, ℕ, Bool, true, Al
 use Rattle.std.specs.Str.{str_to_ascii_lowercase}
 use Rattle.cl_table.specs.Names.{named, with_first}
 use Rattle.cl_tables.specs.Lookups.{begins, is_key}
-use Rattle.cl_tables.specs.declared.declarations.TheConstants.{MAX_LINE_NAME}
 use Rattle.cl_tables.specs.declared.declarations.CommandPlace.{CommandPlace}
 use Rattle.cl_tables.specs.declared.indexes.Key.{Key}
 use Rattle.cl_tables.specs.declared.indexes.Key.TheVariants.{Name, LineName, Keystroke}
@@ -44,10 +43,9 @@ AreWithin most commands = All (λ c. length c.line_name ≤ most) commands
 abbrev pub BeginWithin : ℕ → List ℕ → List CommandPlace → Type 0
 BeginWithin most line commands = All (λ c. begins line c ≡ true → length c.line_name < most) commands
 
--- the commands are found by each of their keys, and no command-line name is longer than the longest, nor that than allowed
+-- the commands are found by each of their keys, and no command-line name is longer than the longest
 pub record IsIndexed (commands : List CommandPlace) (by_name by_line_name by_keystroke : Index) (longest : ℕ) : Type 0 where
   pub names : IsIndex Name commands by_name
   pub line_names : IsIndex LineName commands by_line_name
   pub keystrokes : IsIndex Keystroke commands by_keystroke
   pub within : AreWithin longest commands
-  pub short : longest ≤ MAX_LINE_NAME

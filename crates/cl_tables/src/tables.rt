@@ -1,15 +1,15 @@
 //! What a frame's command table sees.
 ghost use Rattle.std.specs.Prelude.{◌≡◌, ◌≤◌, ◌<◌, IfOk, IsTrue, ◌+◌, find, length, max, option_map, take};
 ghost use Rattle.std.specs.Str.{str_to_ascii_lowercase};
-ghost use Rattle.cl_tables.specs.Accessible.{AreShort};
 ghost use Rattle.cl_tables.specs.Indexes.{AreWithin, BeginWithin};
 ghost use Rattle.cl_tables.specs.Lookups.{begins_with, ends_before, is_accessible, line_command, sight_of, stroke_command, symbol_and_length};
 ghost use Rattle.cl_tables.specs.Rings.{HasNoRing};
 
-use crate::declarations::{CommandPlace, MAX_LINE_NAME, TableDecl};
+use crate::declarations::{CommandPlace, TableDecl};
 use crate::groups::commands_in;
 use crate::indexes::{Index, Key, command_under, index_of};
 use crate::inheritance::inheritance;
+use cl_line::{Characters, MAX_ELEMENTS};
 use cl_table::{Names, Table};
 use cl_value::Text;
 use std::alloc::{AllocError, Global};
@@ -45,8 +45,7 @@ impl Tables {
         places: &Table<CommandPlace>,
         root: &[u8],
     ) -> Result<Tables, AllocError>
-        requires no_ring { HasNoRing tables.now }
-        requires short { AreShort places.now }
+        requires { HasNoRing tables.now }
         ensures { IfOk result (λ t. t ≡ sight_of tables.now places.now root.now) }
     {
         let order = inheritance(alloc, tables, root)?;
@@ -93,13 +92,13 @@ impl Tables {
         }
     }
 
-    /// The symbol of the command that a line names, and the length of its name in bytes. Where the line has objects, it is
-    /// given up to the first of them: a name ends there too.
-    pub fn find_name(&self, line: &[u8]) -> Option<(&Text, usize)>
+    /// The symbol of the command that a line names, and the length of its name in bytes. The line is given by its front:
+    /// where it has objects, a name ends before the first of them too.
+    pub fn find_name(&self, front: &Characters) -> Option<(&Text, usize)>
         ensures { option_map (λ found. (found.0.now, found.1)) result
-            ≡ option_map symbol_and_length (line_command line.now self.now.commands) }
+            ≡ option_map symbol_and_length (line_command front.now.items self.now.commands) }
     {
-        match self.line_command(line) {
+        match self.line_command(front.as_slice()) {
             Some(command) => Some((&command.name, command.line_name.as_slice().len())),
             None => None,
         }
@@ -107,9 +106,10 @@ impl Tables {
 
     // The command that a line names.
     fn line_command(&self, line: &[u8]) -> Option<&CommandPlace>
+        requires { length line.now ≤ 256 }
         ensures { option_map (λ c. c.now) result ≡ line_command line.now self.now.commands }
     {
-        let mut letters = [0; MAX_LINE_NAME];
+        let mut letters = [0; MAX_ELEMENTS];
         let count = line.len().min(self.longest);
         letters[..count].copy_from_slice(&line[..count]);
         letters[..count].make_ascii_lowercase();
@@ -158,9 +158,7 @@ fn ends_before(rest: &[u8]) -> bool
 
 // The length of the longest name, in bytes.
 fn longest_name(commands: &[CommandPlace]) -> usize
-    requires { AreWithin MAX_LINE_NAME commands.now }
-    ensures within { AreWithin result commands.now }
-    ensures short { result ≤ MAX_LINE_NAME }
+    ensures { AreWithin result commands.now }
 {
     let mut most = 0;
     for command in commands {

@@ -1,5 +1,6 @@
 //! Tables, names, keystrokes and switches, with memory for all.
 use crate::{CommandPlace, Enabled, TableDecl, Tables, first_on_a_ring, names_are_short};
+use cl_line::Line;
 use cl_table::{Names, Table};
 use cl_value::Text;
 use std::alloc::{AllocError, Global};
@@ -116,11 +117,17 @@ fn seen_from_app(alloc: Global) -> Result<Option<Tables>, AllocError> {
     seen(alloc, &tables, &places)
 }
 
-fn named<'a>(tables: &'a Tables, line: &str) -> Option<(&'a [u8], usize)> {
-    match tables.find_name(line.as_bytes()) {
+fn named<'a>(
+    alloc: Global,
+    tables: &'a Tables,
+    text: &str,
+) -> Result<Option<(&'a [u8], usize)>, AllocError> {
+    let mut line = Line::new(alloc)?;
+    let _ = line.push_text(text.as_bytes());
+    Ok(match tables.find_name(&line.front()) {
         Some((symbol, length)) => Some((symbol.as_slice(), length)),
         None => None,
-    }
+    })
 }
 
 fn stroked<'a>(tables: &'a Tables, stroke: &str) -> Option<&'a [u8]> {
@@ -166,18 +173,19 @@ fn the_first_command_of_a_keystroke_counts(rt: HostRuntime) -> Result<(), Fail> 
 
 #[test]
 fn the_longest_name_of_a_line_counts(rt: HostRuntime) -> Result<(), Fail> {
-    let tables = seen_from_app(rt.alloc())?.expect(&rt, "no ring, and no long name");
+    let alloc = rt.alloc();
+    let tables = seen_from_app(alloc)?.expect(&rt, "no ring, and no long name");
     assert_eq!(rt;
-        named(&tables, "open file now"),
+        named(alloc, &tables, "open file now")?,
         Some((b"com-open-file".as_slice(), 9))
     );
     assert_eq!(rt;
-        named(&tables, "Open filet"),
+        named(alloc, &tables, "Open filet")?,
         Some((b"com-shout".as_slice(), 4))
     );
-    assert_eq!(rt; named(&tables, "openly"), None);
-    assert_eq!(rt; named(&tables, "hidden"), None);
-    assert_eq!(rt; named(&tables, ""), Some((b"com-nothing".as_slice(), 0)));
+    assert_eq!(rt; named(alloc, &tables, "openly")?, None);
+    assert_eq!(rt; named(alloc, &tables, "hidden")?, None);
+    assert_eq!(rt; named(alloc, &tables, "")?, Some((b"com-nothing".as_slice(), 0)));
     Ok(())
 }
 

@@ -5,7 +5,6 @@ mod execution;
 mod forms;
 mod frames;
 mod gesture;
-mod lines;
 mod medium;
 mod outside;
 mod phases;

@@ -1,7 +1,0 @@
-//! Command lines.
-#![tactic(auto)]
-
-mod lines;
-mod naming;
-
-pub use lines::{Finished, Line, Pushed};
