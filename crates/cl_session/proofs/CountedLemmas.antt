@@ -1,11 +1,9 @@
 -- Faults of the device are told at most as often as its count rose.
-use Rattle.std.proofs.Common.{◌≡◌, ℕ, ◌+◌, ◌-◌, ◌^◌, ◌≤◌, min, Bool, true, false, if◌then◌else◌, List, [], ◌∷◌, ap, arith}
+use Rattle.std.proofs.Common.{ℕ, ◌+◌, ◌-◌, ◌^◌, ◌≤◌, min, Bool, true, false, if◌then◌else◌, [], ◌∷◌, ap, arith}
 use Rattle.cl_frame.specs.Ground.{Ground}
 use Rattle.cl_gesture.specs.Gesture.{LineKind, idle, bad, does, kind_of}
-use Rattle.cl_gesture.specs.Lines.{Piece}
-use Rattle.cl_session.specs.Laws.{AreCountedByFaults, wires_in, wires_told}
-use Rattle.cl_session.specs.Streams.{SpendsAll}
-use Rattle.cl_session.specs.Transcript.{Meters, RoseIf, Spent, SpentOfPiece, Went, lost, said_of_piece, stepped, world_after_piece}
+use Rattle.cl_session.specs.Laws.{AreCountedByFaults, wires_in}
+use Rattle.cl_session.specs.Transcript.{Meters, RoseIf, Spent, Went, lost, stepped, world_after_piece}
 use Rattle.cl_session.specs.World.{World}
 
 one_told : (met : Bool) (old new : ℕ) → RoseIf met old new → min (old + (if met then 1 else 0)) (2 ^ 64 - 1) ≤ new

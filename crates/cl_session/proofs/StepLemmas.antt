@@ -1,5 +1,5 @@
 -- A step, by its handling and by what became of the panes.
-use Rattle.std.proofs.Common.{◌≡◌, ℕ, Bool, true, false, not, Option, List, [], ◌∷◌, ◌++◌, map, refl, sym, ◌∙◌, ap, subst}
+use Rattle.std.proofs.Common.{◌≡◌, ◌≤◌, ℕ, Bool, true, false, not, Option, List, [], ◌∷◌, ◌++◌, map, refl, sym, ◌∙◌, ap, subst}
 use Rattle.std.specs.Prelude.{codes}
 use Rattle.cl_application.specs.Panes.{panes_of}
 use Rattle.cl_eval.specs.Outcome.{RisesBy}
@@ -14,6 +14,7 @@ use Rattle.cl_frame.specs.declared.reports.PaneReport.{PaneReport}
 use Rattle.cl_gesture.specs.declared.answers.Gesture.{Gesture}
 use Rattle.cl_outside.specs.Device as device
 use Rattle.cl_raster.specs.Raster.{Picture}
+use Rattle.cl_line.specs.declared.elements.Element.{Element}
 use Rattle.cl_redisplay.specs.Screens.{Agree, BreaksAt, PaintedRose, is_fault}
 use Rattle.cl_redisplay.specs.declared.screens.Painted.{Painted}
 use Rattle.cl_redisplay.specs.declared.screens.Painted.TheVariants as painted
@@ -31,7 +32,7 @@ use Rattle.cl_session.specs.declared.handling.Handling.TheVariants as handling
 use Rattle.cl_session.specs.declared.sessions.Session.{Session}
 
 -- a world by its parts
-abbrev world_by : Slots → List ℕ → List PaneMarks → Bool → World
+abbrev world_by : Slots → List Element → List PaneMarks → Bool → World
 world_by slots line panes stale = record { slots = slots; line = line; panes = panes; stale = stale }
 
 -- what each pane of a frame met
@@ -95,6 +96,11 @@ own_of handling.Memory p r a = refl
 none_of : (h : Handling) (p : Painted) (r : Replies) → AreRepliesOf h p r → r.memory ≡ true → r.own ≡ []
 none_of (handling.Replied replies follows) p r a e = let no : false ≡ true = sym a.1 ∙ e in cc
 none_of handling.Memory p r a e = a.0
+
+-- no count falls
+pub never_less : (p : Painted) (x y : ℕ) → PaintedRose x y p → x ≤ y
+never_less painted.Done x y r = r
+never_less painted.DeviceFault x y r = r.0
 
 rose_if : (p : Painted) (x y : ℕ) → PaintedRose x y p → RoseIf (is_fault p) x y
 rose_if painted.Done x y h = h

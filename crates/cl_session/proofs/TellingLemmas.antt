@@ -14,14 +14,13 @@ use Rattle.cl_application.specs.Panes.{declared_by, panes_of}
 use Rattle.cl_application.specs.declared.applications.App.{App}
 use Rattle.cl_application.specs.declared.declarations.PaneDecl.{PaneDecl}
 use Rattle.cl_frame.specs.Frames.{IsFrameOf, marks_of_frame}
-use Rattle.cl_frame.specs.Panes.{area_of, area_of_pane, marks_in, marks_of_pane, report_of_pane, shown_of_pane, shown_panes}
+use Rattle.cl_frame.specs.Panes.{report_of_pane, shown_of_pane, shown_panes}
 use Rattle.cl_frame.specs.declared.frames.Frame.{Frame}
 use Rattle.cl_frame.specs.declared.panes.Pane.{Pane}
 use Rattle.cl_frame.specs.declared.reports.PaneReport.{PaneReport}
 use Rattle.cl_frame.proofs.SettledPanes.{drop_at}
 use Rattle.cl_frame.proofs.ShownFrames.{frame_shown}
 use Rattle.cl_redisplay.specs.Shown.{Shown, shown_ink_row, shown_row}
-use Rattle.cl_redisplay.specs.declared.areas.Area.{Area}
 use Rattle.cl_session.specs.Step.{pane_lines, report_lines}
 use Rattle.cl_session.specs.Telling.{is_pane_named}
 use Rattle.cl_session.specs.Transcript.{line_bytes}

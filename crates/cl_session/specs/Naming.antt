@@ -1,5 +1,5 @@
 -- The commands of an application, as lines name them.
-use Rattle.std.specs.Prelude.{ℕ, ◌+◌, List, [], ◌∷◌, length, map, Option, Some, None, codes}
+use Rattle.std.specs.Prelude.{ℕ, ◌+◌, List, [], length, map, Option, Some, None, codes}
 use Rattle.cl_application.specs.App.{command_named}
 use Rattle.cl_application.specs.declared.applications.App.{App}
 use Rattle.cl_application.specs.declared.declarations.CommandDecl.{CommandDecl}

@@ -1,4 +1,4 @@
-use Rattle.std.proofs.Common.{◌≡◌, ◌++◌, ◌+◌, ◌∙◌, arith, drop}
+use Rattle.std.proofs.Common.{◌++◌, ◌+◌, ◌∙◌, arith, drop}
 use Rattle.cl_application.specs.Panes.{panes_of}
 use Rattle.cl_frame.specs.Frames.{reports_of_frame}
 use Rattle.cl_frame.proofs.DeclaredPanes.{declared_pane, stands_at}

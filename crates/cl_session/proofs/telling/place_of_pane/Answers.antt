@@ -1,4 +1,4 @@
-use Rattle.std.proofs.Common.{◌≡◌, ◌∙◌, sym}
+use Rattle.std.proofs.Common.{◌∙◌, sym}
 use Rattle.cl_application.specs.Panes.{panes_of}
 use Rattle.cl_frame.proofs.DeclaredPanes.{declared_pane}
 use Rattle.cl_session.specs.Telling.{is_pane_named}

@@ -1,7 +1,7 @@
-use Rattle.std.proofs.Common.{◌≡◌, sym, ◌∙◌}
+use Rattle.std.proofs.Common.{sym, ◌∙◌}
 use Rattle.cl_frame.specs.Ground.{ground_of}
 use Rattle.cl_session.proofs.OpeningLemmas.{frame_as_many, none_told, opening_fits, opening_most, opening_paid, opening_world}
-use Rattle.cl_session.proofs.StepLemmas.{broken_after}
+use Rattle.cl_session.proofs.StepLemmas.{broken_after, never_less}
 use Rattle.cl_session.proofs.sessions.Session.new.Goals as goal
 
 pub returns-then-met_memory-clause-at_most : goal.returns-then-met_memory-clause-at_most
@@ -9,6 +9,10 @@ returns-then-met_memory-clause-at_most g c =
     let own = ground_of g.T.Types.holds g.T.Types.presents c.args.program.now in
     opening_most own c.args.slots.now c.in_ok-frame.frame _ c.args.steps.now c.update.new.steps (frame_as_many own c.in_ok-frame.frame c.in_ok-frame.ensures.frame)
     c.update.ensures.ledger
+
+pub returns-then-met_memory-clause-device_later : goal.returns-then-met_memory-clause-device_later
+returns-then-met_memory-clause-device_later g c =
+    never_less c.update.result (g.D.Device.faults c.args.device.now) (g.D.Device.faults c.update.new.device) c.update.ensures.cause
 
 pub returns-clause-world : goal.returns-clause-world
 returns-clause-world g c =

@@ -1,4 +1,4 @@
-use Rattle.std.proofs.Common.{◌≡◌, ◌∙◌, subst, sym}
+use Rattle.std.proofs.Common.{◌∙◌, subst, sym}
 use Rattle.cl_frame.specs.Ground.{ground_of}
 use Rattle.cl_frame.specs.Sending.{wire_of}
 use Rattle.cl_session.specs.Current.{IsCurrent}

@@ -5,7 +5,6 @@ use Rattle.cl_gesture.specs.Gesture.{bad, does}
 use Rattle.cl_gesture.specs.Reader.{count_of, progress_of}
 use Rattle.cl_outside.specs.Lent.{Lent}
 use Rattle.cl_session.specs.Session.{world_of}
-use Rattle.cl_session.specs.Step.{next}
 use Rattle.cl_session.specs.Replies.{lines_of, met_of}
 use Rattle.cl_session.specs.World.{World}
 use Rattle.cl_session.specs.Transcript.{bad_line, line_bytes, lost, meters, stepped}

@@ -1,4 +1,3 @@
-use Rattle.std.proofs.Common.{[]}
 use Rattle.cl_session.proofs.WritingLemmas.{Puts-after, Puts-flushless, Puts-said}
 use Rattle.cl_session.proofs.writing.Outgoing.put.Goals as goal
 
