@@ -185,7 +185,10 @@ fn the_longest_name_of_a_line_counts(rt: HostRuntime) -> Result<(), Fail> {
     );
     assert_eq!(rt; named(alloc, &tables, "openly")?, None);
     assert_eq!(rt; named(alloc, &tables, "hidden")?, None);
-    assert_eq!(rt; named(alloc, &tables, "")?, Some((b"com-nothing".as_slice(), 0)));
+    assert_eq!(rt;
+        named(alloc, &tables, "")?,
+        Some((b"com-nothing".as_slice(), 0))
+    );
     Ok(())
 }
 
