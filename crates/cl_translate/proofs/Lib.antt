@@ -1,0 +1,3 @@
+mod CandidateLemmas
+mod FirstLemmas
+mod GivesLemmas

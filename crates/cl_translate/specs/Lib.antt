@@ -1,0 +1,4 @@
+pub mod Heads
+pub mod Scenes
+pub mod Applies
+pub mod Choices

@@ -1,0 +1,184 @@
+//! The choice at a place: the first that applies.
+ghost use Rattle.std.specs.Prelude.{◌<◌, ◌^◌, ◌++◌, ◌∷◌, [], IfOk, filter, length, map, option_map, reverse};
+ghost use Rattle.std.specs.List.{flat_map};
+ghost use Rattle.cl_record.specs.Marks.{history_marks};
+ghost use Rattle.cl_record.specs.TouchWalks.{touch_of};
+ghost use Rattle.cl_record.specs.Touches.{touch_of_label, touched};
+ghost use Rattle.cl_syntax.specs.TypeSpecTree.{name_of};
+ghost use Rattle.cl_translate.specs.Applies.{precedence_of};
+ghost use Rattle.cl_translate.specs.Choices.{First, Gives, PlaceGives, TrialGives, Tried, blank_area, candidates, gathered, gathered_high, given_of, identities, translators_for, trials, trials_in};
+ghost use Rattle.cl_translate.specs.Scenes.{scene_of};
+ghost use Rattle.cl_translators.specs.Order.{digits, is_for};
+ghost use Rattle.cl_value.specs.Value.{data_of};
+
+use crate::candidates::{blank_object, blank_type};
+use crate::choosers::{Chooser, Point};
+use cl_eval::Types;
+use cl_medium::Leaf;
+use cl_record::{History, Touch};
+use cl_syntax::TypeSpec;
+use cl_translators::{GestureName, TranslatorPlace};
+use cl_value::{Text, Value};
+use std::alloc::AllocError;
+
+/// What was chosen: the number of the context, counted from 0, and the value that is given in it.
+#[derive(Drop)]
+pub struct Choice {
+    pub number: usize,
+    pub value: Value,
+}
+
+impl<T: Types> Chooser<'_, T> {
+    /// The choice for a gesture at a place of a pane: for each context, the innermost first, and each candidate, the presentation
+    /// that began latest first and the place itself last, the translators are tried in their order; the first that applies counts.
+    /// `None` exactly where none applies.
+    pub fn choose<L: Leaf>(
+        &self,
+        history: &History<L>,
+        point: &Point<'_>,
+        contexts: &[TypeSpec],
+        gesture: GestureName,
+    ) -> Result<Option<Choice>, AllocError>
+        requires { length (touched L.bounds point.now.x point.now.y (history_marks L.moved_by history.now)) < 2 ^ 32 }
+        ensures { IfOk result (λ o. First (Tried (scene_of T.holds self.now)) (trials (scene_of T.holds self.now) gesture 0 contexts.now
+            (candidates (touched L.bounds point.now.x point.now.y (history_marks L.moved_by history.now))
+            (blank_area point.now.pane.now point.now.x point.now.y))) (option_map given_of o)) }
+    {
+        let (object, spec) = (blank_object(self.alloc, point)?, blank_type(self.alloc)?);
+        let blank = Touch {
+            object: &object,
+            spec: &spec,
+        };
+        for number in 0..contexts.len() {
+            let found = self.in_context(&contexts[number], history, point, blank, gesture)?;
+            if let Some(value) = found {
+                return Ok(Some(Choice { number, value }));
+            }
+        }
+        Ok(None)
+    }
+
+    // The first in a context.
+    fn in_context<L: Leaf>(
+        &self,
+        context: &TypeSpec,
+        history: &History<L>,
+        point: &Point<'_>,
+        blank: Touch<'_>,
+        gesture: GestureName,
+    ) -> Result<Option<Value>, AllocError>
+        requires { length (touched L.bounds point.now.x point.now.y (history_marks L.moved_by history.now)) < 2 ^ 32 }
+        ensures { IfOk result (λ o. First (TrialGives (scene_of T.holds self.now) context.now) (trials_in (scene_of T.holds self.now) gesture
+            (candidates (touched L.bounds point.now.x point.now.y (history_marks L.moved_by history.now)) (touch_of blank.entry)))
+            (option_map data_of o)) }
+    {
+        let mut k = 0;
+        while let Some(touch) = history.touched(point.x, point.y, k) {
+            let found = self.of_candidate(context, touch, gesture)?;
+            if found.is_some() {
+                return Ok(found);
+            }
+            k += 1;
+        }
+        self.of_candidate(context, blank, gesture)
+    }
+
+    // The first for a candidate.
+    fn of_candidate(
+        &self,
+        context: &TypeSpec,
+        candidate: Touch<'_>,
+        gesture: GestureName,
+    ) -> Result<Option<Value>, AllocError>
+        ensures { IfOk result (λ o. First (Gives (scene_of T.holds self.now) context.now (touch_of candidate.entry))
+            (translators_for (scene_of T.holds self.now) gesture (name_of candidate.entry.spec.now)) (option_map data_of o)) }
+    {
+        let precedence = self.precedence_of(candidate.spec);
+        let found = self.of_gathered(context, candidate, gesture, precedence)?;
+        if found.is_some() {
+            return Ok(found);
+        }
+        self.of_identities(context, candidate, gesture)
+    }
+
+    // The identity translator, for a gesture that has it.
+    fn of_identities(
+        &self,
+        context: &TypeSpec,
+        candidate: Touch<'_>,
+        gesture: GestureName,
+    ) -> Result<Option<Value>, AllocError>
+        ensures { IfOk result (λ o. First (Gives (scene_of T.holds self.now) context.now (touch_of candidate.entry)) (identities gesture)
+            (option_map data_of o)) }
+    {
+        match gesture {
+            GestureName::Select => self.of_identity(context, candidate),
+            GestureName::Describe => Ok(None),
+            GestureName::Menu => Ok(None),
+            GestureName::Edit => Ok(None),
+            GestureName::Delete => Ok(None),
+        }
+    }
+
+    // The first of the declared translators for a precedence list.
+    fn of_gathered(
+        &self,
+        context: &TypeSpec,
+        candidate: Touch<'_>,
+        gesture: GestureName,
+        precedence: &[Text],
+    ) -> Result<Option<Value>, AllocError>
+        ensures { IfOk result (λ o. First (PlaceGives (scene_of T.holds self.now) context.now (touch_of candidate.entry))
+            (gathered self.now.translators.now gesture precedence.now) (option_map data_of o)) }
+    {
+        for step in 0..10 {
+            let found = self.of_high(context, candidate, gesture, precedence, 9 - step)?;
+            if found.is_some() {
+                return Ok(found);
+            }
+        }
+        Ok(None)
+    }
+
+    // The first of those with one high part.
+    fn of_high(
+        &self,
+        context: &TypeSpec,
+        candidate: Touch<'_>,
+        gesture: GestureName,
+        precedence: &[Text],
+        high: u8,
+    ) -> Result<Option<Value>, AllocError>
+        requires { high < 10 }
+        ensures { IfOk result (λ o. First (PlaceGives (scene_of T.holds self.now) context.now (touch_of candidate.entry))
+            (gathered_high self.now.translators.now gesture precedence.now high) (option_map data_of o)) }
+    {
+        for from in precedence {
+            let places = self.translators.group(gesture, from, high);
+            let found = self.of_places(context, candidate, places)?;
+            if found.is_some() {
+                return Ok(found);
+            }
+        }
+        Ok(None)
+    }
+
+    // The first of these translators.
+    fn of_places(
+        &self,
+        context: &TypeSpec,
+        candidate: Touch<'_>,
+        places: &[TranslatorPlace],
+    ) -> Result<Option<Value>, AllocError>
+        ensures { IfOk result (λ o. First (PlaceGives (scene_of T.holds self.now) context.now (touch_of candidate.entry))
+            places.now (option_map data_of o)) }
+    {
+        for place in places {
+            let found = self.of_place(context, candidate, place)?;
+            if found.is_some() {
+                return Ok(found);
+            }
+        }
+        Ok(None)
+    }
+}

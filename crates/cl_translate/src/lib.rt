@@ -1,0 +1,16 @@
+//! Which translator applies to a presentation in an input context, and which is chosen at a place, after the CLIM II specification's
+//! chapter on presentation translators. The order in which they are tried is our own profile.
+#![tactic(auto)]
+
+mod applying;
+mod candidates;
+mod choosers;
+mod choosing;
+mod declarations;
+mod evaluating;
+mod heads;
+mod running;
+
+pub use choosers::{Chooser, Point};
+pub use choosing::Choice;
+pub use declarations::{TranslatorDecl, TranslatorDecls};
