@@ -1,5 +1,5 @@
 //! The choice at a place: the first that applies.
-ghost use Rattle.std.specs.Prelude.{◌<◌, ◌^◌, ◌++◌, ◌∷◌, [], IfOk, filter, length, map, option_map, reverse};
+ghost use Rattle.std.specs.Prelude.{◌≡◌, ◌<◌, ◌+◌, IfOk, filter, length, map, option_map, reverse};
 ghost use Rattle.std.specs.List.{flat_map};
 ghost use Rattle.cl_record.specs.Marks.{history_marks};
 ghost use Rattle.cl_record.specs.TouchWalks.{touch_of};
@@ -31,7 +31,8 @@ pub struct Choice {
 impl<T: Types> Chooser<'_, T> {
     /// The choice for a gesture at a place of a pane: for each context, the innermost first, and each candidate, the presentation
     /// that began latest first and the place itself last, the translators are tried in their order; the first that applies counts.
-    /// `None` exactly where none applies.
+    /// `None` exactly where none applies. It fails for want of memory, and where 2^32 presentations are touched, more than memory
+    /// holds.
     pub fn choose<L: Leaf>(
         &self,
         history: &History<L>,
@@ -39,7 +40,6 @@ impl<T: Types> Chooser<'_, T> {
         contexts: &[TypeSpec],
         gesture: GestureName,
     ) -> Result<Option<Choice>, AllocError>
-        requires { length (touched L.bounds point.now.x point.now.y (history_marks L.moved_by history.now)) < 2 ^ 32 }
         ensures { IfOk result (λ o. First (Tried (scene_of T.holds self.now)) (trials (scene_of T.holds self.now) gesture 0 contexts.now
             (candidates (touched L.bounds point.now.x point.now.y (history_marks L.moved_by history.now))
             (blank_area point.now.pane.now point.now.x point.now.y))) (option_map given_of o)) }
@@ -67,7 +67,6 @@ impl<T: Types> Chooser<'_, T> {
         blank: Touch<'_>,
         gesture: GestureName,
     ) -> Result<Option<Value>, AllocError>
-        requires { length (touched L.bounds point.now.x point.now.y (history_marks L.moved_by history.now)) < 2 ^ 32 }
         ensures { IfOk result (λ o. First (TrialGives (scene_of T.holds self.now) context.now) (trials_in (scene_of T.holds self.now) gesture
             (candidates (touched L.bounds point.now.x point.now.y (history_marks L.moved_by history.now)) (touch_of blank.entry)))
             (option_map data_of o)) }
@@ -78,7 +77,7 @@ impl<T: Types> Chooser<'_, T> {
             if found.is_some() {
                 return Ok(found);
             }
-            k += 1;
+            k = next_number(k)?;
         }
         self.of_candidate(context, blank, gesture)
     }
@@ -180,5 +179,15 @@ impl<T: Types> Chooser<'_, T> {
             }
         }
         Ok(None)
+    }
+}
+
+// One more.
+fn next_number(k: u32) -> Result<u32, AllocError>
+    ensures { IfOk result (λ n. n ≡ k + 1) }
+{
+    match k.checked_add(1) {
+        Some(next) => Ok(next),
+        None => Err(AllocError),
     }
 }

@@ -31,16 +31,6 @@ returns-then-is_some g c =
     (touch_here ls (touch_of c.args.blank) c.loop-touch.k t is) c.loop-touch.invariant.leads (of_trials s c.args.context.now c.args.gesture t (Some r) h))
     c.in_ok-found.ensures
 
-pub overflow_add-k : goal.overflow_add-k
-overflow_add-k g c =
-    let across : SFits w64 c.args.point.now.x = search rules in
-    let down : SFits w64 c.args.point.now.y = search rules in
-    let is = spot_is (λ (x y : ℤ). touched_at g.L.Leaf.bounds x y c.loop-touch.k (history_marks g.L.Leaf.moved_by c.args.history.now) ≡ Some (touch_of c.in-Some.touch))
-    c.args.point.now.x c.args.point.now.y _ _ (to_z-of_z w64 _ across) (to_z-of_z w64 _ down) (sym c.in-Some.ensures) in
-    let ls = touched g.L.Leaf.bounds c.args.point.now.x c.args.point.now.y (history_marks g.L.Leaf.moved_by c.args.history.now) in
-    let within = touch_within ls c.loop-touch.k (touch_of c.in-Some.touch) is in
-    omega (arith, within, c.requires)
-
 pub loop-touch-smaller : goal.loop-touch-smaller
 loop-touch-smaller g c =
     let across : SFits w64 c.args.point.now.x = search rules in
@@ -62,13 +52,13 @@ loop-touch-preserved g c =
     let cs = candidates ls (touch_of c.args.blank) in
     let t = touch_of c.in-Some.touch in
     let within = touch_within ls c.loop-touch.k t is in
-    record {
+    rw c.in_ok-k.ensures (record {
       within = omega (arith, within);
       leads = part_passed (TrialGives s c.args.context.now) (trials_of s c.args.gesture) cs c.loop-touch.k t
           (touch_here ls (touch_of c.args.blank) c.loop-touch.k t is) c.loop-touch.invariant.leads
           (is_none data_of (First (TrialGives s c.args.context.now) (trials_of s c.args.gesture t)) c.in_ok-found.found (sym c.is_some.ensures ∙ c.if-is_some.false)
           (of_trials s c.args.context.now c.args.gesture t (option_map data_of c.in_ok-found.found) c.in_ok-found.ensures));
-    }
+    })
 
 pub returns : goal.returns
 returns g c =

@@ -1,0 +1,53 @@
+//! Answers what is chosen at places of panes: reads applications with translators and questions from standard input, and writes a line
+//! for each answer.
+//!
+//! Among the lines of an application, `: TABLE PARENT ...` declares a command table, of which the first is that of the frame;
+//! `! NAME TABLE GESTURE PRIORITY` declares a translator, and `! NAME TABLE GESTURE PRIORITY COMMAND` one to a command; `- COMMAND`
+//! disables a command. All commands stand in `global-command-table`. The types of a translator are those of the slots `NAME-from` and
+//! `NAME-to`; its body calls the function `NAME-body` on the object, and its tester, if there is one, the function `NAME-test`.
+//!
+//! `? PANE GESTURE X Y CONTEXT ...` asks what is chosen at a place when the application has just opened. A context is the type of the
+//! slot of that name, or `command`. The answer is the number of the context and the value, or `nothing`.
+#![tactic(auto)]
+
+mod answering;
+mod declaring;
+mod faults;
+mod sheets;
+
+use crate::answering::answer_sheet;
+use crate::faults::Fault;
+use crate::sheets::{Sheet, sheets_in};
+use std::io;
+use std::process::ExitCode;
+
+/// Ends with status 0 where all questions are answered, 1 where an application is refused, 2 where the text cannot be read or a
+/// line is wrong, 5 where the output fails, and 7 where memory runs out.
+fn main(rt: HostRuntime) -> ExitCode {
+    ExitCode::from(match run(&rt) {
+        Ok(()) => 0,
+        Err(Fault::Refused) => 1,
+        Err(Fault::Unreadable | Fault::Wrong) => 2,
+        Err(Fault::Output) => 5,
+        Err(Fault::Memory) => 7,
+    })
+}
+
+// Reads standard input, and answers its questions in their order.
+fn run(rt: &(impl Input + Print + AllocGlobal)) -> Result<(), Fault> {
+    let Ok(text) = io::read_to_string(rt.alloc(), rt.reader()) else {
+        return Err(Fault::Unreadable);
+    };
+    for sheet in &sheets_in(rt.alloc(), text.as_str())? {
+        print_answers(rt, sheet)?;
+    }
+    Ok(())
+}
+
+fn print_answers(rt: &(impl Print + AllocGlobal), sheet: &Sheet) -> Result<(), Fault> {
+    let answers = answer_sheet(rt.alloc(), sheet)?;
+    if rt.print(answers.as_str()).is_err() {
+        return Err(Fault::Output);
+    }
+    Ok(())
+}
