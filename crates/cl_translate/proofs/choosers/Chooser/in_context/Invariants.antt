@@ -12,8 +12,10 @@ abbrev pub invariant-loop-touch : goal.invariant-loop-touch
 invariant-loop-touch g l = record {
   within : l.k ≤ length (touched g.L.Leaf.bounds l.point.x l.point.y (history_marks g.L.Leaf.moved_by l.history));
   leads : Leads (TrialGives (scene_of g.T.Types.holds l.self) l.context)
-      (flat_map (trials_of (scene_of g.T.Types.holds l.self) l.gesture) (drop l.k (candidates (touched g.L.Leaf.bounds l.point.x l.point.y (history_marks g.L.Leaf.moved_by l.history)) (touch_of l.blank))))
-      (trials_in (scene_of g.T.Types.holds l.self) l.gesture (candidates (touched g.L.Leaf.bounds l.point.x l.point.y (history_marks g.L.Leaf.moved_by l.history)) (touch_of l.blank)));
+      (flat_map (trials_of (scene_of g.T.Types.holds l.self) l.gesture)
+      (drop l.k (candidates (touched g.L.Leaf.bounds l.point.x l.point.y (history_marks g.L.Leaf.moved_by l.history)) (touch_of l.blank))))
+      (trials_in (scene_of g.T.Types.holds l.self) l.gesture
+      (candidates (touched g.L.Leaf.bounds l.point.x l.point.y (history_marks g.L.Leaf.moved_by l.history)) (touch_of l.blank)));
 }
 
 abbrev pub decreases-loop-touch : goal.decreases-loop-touch

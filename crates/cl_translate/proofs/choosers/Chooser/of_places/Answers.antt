@@ -14,7 +14,8 @@ returns-then-is_some g c =
     let gives = PlaceGives (scene_of g.T.Types.holds c.args.self.now) c.args.context.now (touch_of c.args.candidate) in
     is_there data_of (Answers (gives c.place-item.result)) (First gives c.args.places.now) c.in_ok-found.found (sym c.is_some.ensures ∙ c.if-is_some.true)
     (λ r h. one_found gives c.args.places.now c.loop-place.place-index c.place-item.result r
-    (item_here c.args.places.now c.loop-place.place-index c.place-item.result c.loop-place-test.true c.place-item.is) c.loop-place.invariant (of_one gives c.place-item.result (Some r) h))
+    (item_here c.args.places.now c.loop-place.place-index c.place-item.result c.loop-place-test.true c.place-item.is) c.loop-place.invariant
+    (of_one gives c.place-item.result (Some r) h))
     c.in_ok-found.ensures
 
 pub loop-place-preserved : goal.loop-place-preserved
@@ -22,7 +23,8 @@ loop-place-preserved g c =
     let gives = PlaceGives (scene_of g.T.Types.holds c.args.self.now) c.args.context.now (touch_of c.args.candidate) in
     one_passed gives c.args.places.now c.loop-place.place-index c.place-item.result
     (item_here c.args.places.now c.loop-place.place-index c.place-item.result c.loop-place-test.true c.place-item.is) c.loop-place.invariant
-    (of_one gives c.place-item.result None (is_none data_of (Answers (gives c.place-item.result)) c.in_ok-found.found (sym c.is_some.ensures ∙ c.if-is_some.false) c.in_ok-found.ensures))
+    (of_one gives c.place-item.result None
+    (is_none data_of (Answers (gives c.place-item.result)) c.in_ok-found.found (sym c.is_some.ensures ∙ c.if-is_some.false) c.in_ok-found.ensures))
 
 pub returns : goal.returns
 returns g c =
