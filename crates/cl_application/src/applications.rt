@@ -4,7 +4,7 @@ ghost use Rattle.cl_application.specs.App.{record_named, function_named, display
 
 use crate::declarations::{
     CommandDecl, Commands, DisplayDecl, Displays, FrameDecl, FunctionDecl, Functions, HostDecls,
-    MethodDecl, Methods, PaneDecl,
+    MethodDecl, Methods, PaneDecl, TableDecls,
 };
 use cl_syntax::{RecordDecl, Records, Shape, TypeSpec, UserTypes};
 use cl_value::Text;
@@ -19,6 +19,7 @@ pub struct App {
     pub accept_methods: Methods,
     pub functions: Functions,
     pub displays: Displays,
+    pub tables: TableDecls,
     pub commands: Commands,
     pub frame: FrameDecl,
 }

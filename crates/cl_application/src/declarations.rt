@@ -1,6 +1,7 @@
 //! What an application text declares. In each declaration `at` is its offset in the text in bytes.
 use cl_syntax::{Acts, Expr, Shapes, TypeSpec};
 use cl_table::{Declared, Names, Table};
+use cl_tables::TableDecl;
 use cl_value::Text;
 
 /// `(define-function NAME (PARAMETER ...) BODY)`
@@ -53,6 +54,12 @@ pub type Displays = Table<DisplayDecl>;
 /// The commands of an application by name.
 pub type Commands = Table<CommandDecl>;
 
+/// The arguments of a command by name, in order.
+pub type ArgumentDecls = Table<ArgumentDecl>;
+
+/// The command tables of an application by name.
+pub type TableDecls = Table<TableDecl>;
+
 /// The slots of a frame by name.
 pub type SlotDecls = Table<SlotDecl>;
 
@@ -99,6 +106,14 @@ impl Declared for CommandDecl {
     }
 }
 
+impl Declared for ArgumentDecl {
+    ghost own_name = { λ d. d.name };
+
+    fn name(&self) -> &Text {
+        &self.name
+    }
+}
+
 impl Declared for SlotDecl {
     ghost own_name = { λ d. d.name };
 
@@ -115,18 +130,41 @@ impl Declared for PaneDecl {
     }
 }
 
-/// `(define-command NAME () STATEMENT ...)`. The command-line name is made from the symbol: a leading
-/// `com-` is dropped, hyphens become spaces, and the first letter of each word becomes a capital.
+/// `(define-command (NAME :command-table TABLE :name LINE-NAME :keystroke NAME) (ARGUMENT ...) STATEMENT ...)`.
+/// A command-line name that is not given is made from the symbol: a leading `com-` is dropped, hyphens become
+/// spaces, and the first letter of each word becomes a capital.
 #[derive(Drop)]
 pub struct CommandDecl {
     pub name: Text,
+    pub table: Text,
     pub line_name: Text,
+    pub keystroke: Option<Text>,
+    pub arguments: ArgumentDecls,
     pub body: Acts,
     pub at: u32,
 }
 
-/// `(define-application-frame NAME (:size WIDTH HEIGHT) (:slots SLOT ...) (:panes PANE ...))`, sizes in
-/// cells.
+/// `(NAME TYPE :default E :prompt TEXT)`. A prompt that is not given is made from the name as a command-line
+/// name is.
+#[derive(Drop)]
+pub struct ArgumentDecl {
+    pub name: Text,
+    pub spec: TypeSpec,
+    pub default: Option<DefaultDecl>,
+    pub prompt: Text,
+    pub at: u32,
+}
+
+/// What an argument without a token takes: an expression that reads no slot and no variable, evaluated each
+/// time.
+#[derive(Drop)]
+pub struct DefaultDecl {
+    pub value: Expr,
+    pub at: u32,
+}
+
+/// `(define-application-frame NAME (:size WIDTH HEIGHT) (:slots SLOT ...) (:panes PANE ...)
+/// (:command-table TABLE))`, sizes in cells.
 #[derive(Drop)]
 pub struct FrameDecl {
     pub name: Text,
@@ -134,6 +172,7 @@ pub struct FrameDecl {
     pub height: u16,
     pub slots: SlotDecls,
     pub panes: PaneDecls,
+    pub table: Text,
     pub at: u32,
 }
 

@@ -1,4 +1,4 @@
-//! What an application text declares: types with their methods, functions, displays, commands and a frame.
+//! What an application text declares: types with their methods, functions, displays, command tables, commands and a frame.
 #![tactic(auto)]
 
 mod applications;
@@ -6,6 +6,7 @@ mod declarations;
 
 pub use applications::App;
 pub use declarations::{
-    CommandDecl, Commands, DisplayDecl, Displays, FrameDecl, FunctionDecl, Functions, HostDecl,
-    HostDecls, MethodDecl, Methods, PaneDecl, PaneDecls, SlotDecl, SlotDecls,
+    ArgumentDecl, ArgumentDecls, CommandDecl, Commands, DefaultDecl, DisplayDecl, Displays,
+    FrameDecl, FunctionDecl, Functions, HostDecl, HostDecls, MethodDecl, Methods, PaneDecl,
+    PaneDecls, SlotDecl, SlotDecls, TableDecls,
 };

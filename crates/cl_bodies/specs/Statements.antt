@@ -1,5 +1,5 @@
 -- The statements that display forms do not have. Each row says first what makes the form itself wrong, and then its parts from left to right.
-use Rattle.std.specs.Prelude.{ℕ, if◌then◌else◌, List, [], ◌∷◌, codes}
+use Rattle.std.specs.Prelude.{ℕ, Bool, true, false, if◌then◌else◌, List, [], ◌∷◌, codes}
 use Rattle.std.specs.Str.{bytes_eq}
 use Rattle.cl_syntax.specs.Expr.{bindings_of}
 use Rattle.cl_syntax.specs.ActTree as act
@@ -7,7 +7,7 @@ use Rattle.cl_syntax.specs.ActTree.{ActTree, act_trees_of}
 use Rattle.cl_forms.specs.Datum.{Datum, Datums, offset, parts_of}
 use Rattle.cl_expressions.specs.Load.{Load, ◌>>=◌, give, refuse, noted}
 use Rattle.cl_expressions.specs.Scopes.{Names}
-use Rattle.cl_words.specs.Signatures.{slot_in}
+use Rattle.cl_words.specs.Signatures.{slot_in, command_in}
 use Rattle.cl_forms.specs.Naming.{symbol_of}
 use Rattle.cl_expressions.specs.Expressions.{Sub, named_part}
 use Rattle.cl_words.specs.declared.heads.Head.{Head}
@@ -39,10 +39,21 @@ abbrev pub parse_reply : ℕ → List Sub → Names → Load ActTree
 parse_reply at (a ∷ []) env = a.expr env >>= λ t. give (act.Reply t)
 parse_reply at subs env = refuse 6 at
 
+-- the name of a command, which is noted where no such command is declared
+abbrev pub parse_command_name : Signatures → ℕ → Datum → Load (List ℕ)
+parse_command_name w at d = named_part at d >>= λ x. noted (command_in w x) (offset d) >>= λ u. give x
+
+-- `(enable COMMAND)` where it is switched on, `(disable COMMAND)` where it is switched off
+abbrev pub parse_switch : Signatures → Bool → ℕ → List Sub → Load ActTree
+parse_switch w on at (a ∷ []) = parse_command_name w at a.shape >>= λ x. give (act.Switch x on)
+parse_switch w on at subs = refuse 6 at
+
 -- the statements that change or answer something
 abbrev pub parse_change : Signatures → Change → ℕ → List Sub → Names → Load ActTree
 parse_change w change.Setf at subs env = parse_setf w at subs env
 parse_change w change.Reply at subs env = parse_reply at subs env
+parse_change w change.Enable at subs env = parse_switch w true at subs
+parse_change w change.Disable at subs env = parse_switch w false at subs
 
 -- a statement that is not built yet is refused as such; what heads no statement, as a word that is not known
 abbrev pub parse_own : Signatures → Head → ℕ → ℕ → List Sub → Names → Load (Own ActTree (Unit {0}) (Unit {0}))

@@ -5,7 +5,7 @@ ghost use Rattle.cl_forms.specs.DatumView.{datum_of};
 ghost use Rattle.cl_expressions.specs.Load.{Gives, itself};
 ghost use Rattle.cl_expressions.specs.Scopes.{variables_of};
 ghost use Rattle.cl_expressions.specs.Expressions.{subs};
-ghost use Rattle.cl_bodies.specs.Statements.{parse_act, parse_acts, parse_own, parse_change, parse_setf, parse_place, parse_place_name, parse_reply};
+ghost use Rattle.cl_bodies.specs.Statements.{parse_act, parse_acts, parse_own, parse_change, parse_setf, parse_place, parse_place_name, parse_reply, parse_switch, parse_command_name};
 
 use crate::bodies::{parse_body, parse_form};
 use crate::languages::Language;
@@ -139,6 +139,8 @@ fn parse_change(
     match change {
         Change::Setf => parse_setf(reader, at, parts, notes),
         Change::Reply => parse_reply(reader, at, parts, notes),
+        Change::Enable => parse_switch(reader, true, at, parts, notes),
+        Change::Disable => parse_switch(reader, false, at, parts, notes),
     }
 }
 
@@ -222,4 +224,42 @@ fn parse_reply(
         [] => Err(LoadRefusal::Refused(6, at)),
         [_, _, ..] => Err(LoadRefusal::Refused(6, at)),
     }
+}
+
+/// `(enable COMMAND)` where it is switched on, `(disable COMMAND)` where it is switched off.
+#[tactic(auto, using(crate::proofs::StatementCounts::switch_counts))]
+fn parse_switch(
+    reader: &Reader,
+    on: bool,
+    at: u32,
+    parts: &[Datum],
+    notes: &mut Notes,
+) -> Result<Act, LoadRefusal>
+    ensures { Gives itself result notes.new
+        (parse_switch reader.now.signatures.now on at (subs reader.now.signatures.now (datums_of (map datum_of parts.now)))
+        notes.old) }
+{
+    match parts {
+        [command] => Ok(Act::switch(parse_command_name(reader, at, command, notes)?, on)),
+        [] => Err(LoadRefusal::Refused(6, at)),
+        [_, _, ..] => Err(LoadRefusal::Refused(6, at)),
+    }
+}
+
+/// The name of a command. Where no such command is declared, it is noted.
+fn parse_command_name(
+    reader: &Reader,
+    at: u32,
+    datum: &Datum,
+    notes: &mut Notes,
+) -> Result<Text, LoadRefusal>
+    ensures { Gives itself result notes.new
+        (parse_command_name reader.now.signatures.now at (datum_of datum.now) notes.old) }
+{
+    let name = named_part(at, datum)?;
+    notes.note(
+        reader.signatures.has_command(name.as_slice()),
+        datum.offset(),
+    );
+    Ok(name)
 }

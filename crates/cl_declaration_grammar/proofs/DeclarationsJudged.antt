@@ -1,5 +1,5 @@
 -- The readings of declarations answer to what is looked at of them.
-use Rattle.std.proofs.Common.{ℕ, Bool, true, false, ◌&&◌, ◌||◌, is_some, if◌then◌else◌, List, [], ◌∷◌, ◌++◌}
+use Rattle.std.proofs.Common.{ℕ, Bool, true, false, ◌&&◌, ◌||◌, is_some, if◌then◌else◌, List, [], ◌∷◌}
 use Rattle.std.specs.Prelude.{Option, Some, None, map, codes}
 use Rattle.std.specs.Str.{bytes_eq}
 use Rattle.cl_table.specs.Names.{named}
@@ -7,7 +7,8 @@ use Rattle.cl_forms.specs.Datum.{Datum, number, literal, word, quoted, stray, li
 use Rattle.cl_forms.specs.Naming.{are_names, name_in}
 use Rattle.cl_forms.specs.Outer.{declared_or, kind_or, kind_named, outer_listed, outer_in}
 use Rattle.cl_forms.specs.declared.outer.DeclarationKind.{DeclarationKind}
-use Rattle.cl_forms.specs.declared.outer.DeclarationKind.TheVariants.{Record, PresentationType, HostType, PresentMethod, AcceptMethod, Function, Display, Command, Frame}
+use Rattle.cl_forms.specs.declared.outer.DeclarationKind.TheVariants.{Record, PresentationType, HostType, PresentMethod, AcceptMethod, Function, Display, CommandTable, Command}
+use Rattle.cl_forms.specs.declared.outer.DeclarationKind.TheVariants.{Frame}
 use Rattle.cl_forms.specs.declared.outer.OuterKind.{OuterKind}
 use Rattle.cl_forms.specs.declared.outer.OuterKind.TheVariants.{Planned, Unknown}
 use Rattle.cl_words.specs.declared.signatures.Signatures.{Signatures}
@@ -16,24 +17,24 @@ use Rattle.cl_application.specs.declared.declarations.MethodDecl.{MethodDecl}
 use Rattle.cl_expressions.specs.Expressions.{parse_expression}
 use Rattle.cl_expressions.specs.Load.{◌>>=◌, give}
 use Rattle.cl_declare.specs.Callees.{parse_record, parse_function, parse_display}
-use Rattle.cl_declare.specs.Commands.{CommandHead, command_head, no_arguments, parse_headed, parse_command}
 use Rattle.cl_declare.specs.Methods.{parse_named_method, parse_method}
 use Rattle.cl_declare.specs.Types.{parse_host_type}
 use Rattle.cl_declare.specs.TypeShapes.{name_alone}
 use Rattle.cl_declare.specs.Declarations.{parse_kind, parse_declaration, parse_each_declaration}
-use Rattle.cl_declare.specs.Names.{is_list, is_name_list, variables_in}
+use Rattle.cl_declare.specs.Names.{is_name_list, variables_in}
 use Rattle.cl_declare.specs.declared.declarations.Declarations.{Declarations}
 use Rattle.cl_grammar.specs.Sights.{expression}
 use Rattle.cl_grammar.proofs.Judging.{Any}
-use Rattle.cl_text_grammar.specs.FormSights.{forms_seen}
-use Rattle.cl_declaration_grammar.specs.Parts.{method_name, expressions, acts, planned_keys, planned_parts}
-use Rattle.cl_declaration_grammar.specs.Declarations.{Row, record_seen, host_type_seen, method_named_seen, method_seen, function_seen, display_seen, headed_seen}
-use Rattle.cl_declaration_grammar.specs.Declarations.{command_seen, planned_seen, rows, row_seen, listed_seen, declaration_seen}
+use Rattle.cl_declaration_grammar.specs.Parts.{method_name, expressions}
+use Rattle.cl_declaration_grammar.specs.Commands.{command_seen, command_table_seen}
+use Rattle.cl_declaration_grammar.specs.Declarations.{Row, record_seen, host_type_seen, method_named_seen, method_seen, function_seen, display_seen}
+use Rattle.cl_declaration_grammar.specs.Declarations.{planned_seen, rows, row_seen, listed_seen, declaration_seen}
 use Rattle.cl_declaration_grammar.specs.UserTypes.{user_type_seen}
 use Rattle.cl_declaration_grammar.specs.Frames.{frame_seen}
 use Rattle.cl_declaration_grammar.specs.Texts.{text_seen}
 use Rattle.cl_declaration_grammar.proofs.Judging.{Judges, joined, then_given, ended, refused_first}
-use Rattle.cl_declaration_grammar.proofs.PartsJudged.{expression_part, chosen, is_wrong, keys_judged, method_name_judged, shapes_part, acts_part}
+use Rattle.cl_declaration_grammar.proofs.PartsJudged.{expression_part, chosen, is_wrong, method_name_judged, shapes_part}
+use Rattle.cl_declaration_grammar.proofs.CommandsJudged.{command_judged, command_table_judged}
 use Rattle.cl_declaration_grammar.proofs.FramesJudged.{frame_judged}
 use Rattle.cl_declaration_grammar.proofs.UserTypesJudged.{user_type_judged}
 
@@ -81,24 +82,6 @@ module _ (w : Signatures) where
   display_judged at h [] = is_wrong w at
   display_judged at h (n ∷ []) = is_wrong w at
 
-  arguments_judged : (ds : List Datum) → Judges w (planned_parts ds) Any (no_arguments ds)
-  arguments_judged [] = ended w
-  arguments_judged (d ∷ ds) = refused_first w 0 (offset d) (planned_parts ds)
-
-  headed_judged : (at : ℕ) (c : Option CommandHead) (arguments body : List Datum)
-      → Judges w (headed_seen at c arguments body) Any (parse_headed w at c arguments body)
-  headed_judged at None arguments body = is_wrong w at
-  headed_judged at (Some c) arguments body =
-      joined w (planned_keys c.keys) (planned_parts arguments ++ acts (forms_seen [] body) ∷ []) (keys_judged w c.keys) λ u i.
-      joined w (planned_parts arguments) (acts (forms_seen [] body) ∷ []) (arguments_judged arguments) λ v j.
-      then_given w _ (acts_part w body [])
-
-  command_judged : (at h : ℕ) (ds : List Datum) → Judges w (command_seen at h ds) Any (parse_command w at ds)
-  command_judged at h (c ∷ arguments ∷ body) =
-      chosen w (is_list arguments) (headed_judged at (command_head c) (parts_of arguments) body) (is_wrong w at)
-  command_judged at h [] = is_wrong w at
-  command_judged at h (c ∷ []) = is_wrong w at
-
   -- ---- by their heads
 
   module _ (at h : ℕ) (ds : List Datum) (s : Declarations) where
@@ -107,28 +90,28 @@ module _ (w : Signatures) where
     Answers row kind = Judges w (row_seen row at h ds) Any (parse_kind w kind at ds s)
 
     -- heads of declarations that are not built yet, or of none
-    planned_answers : (a b c d e : Bool)
+    planned_answers : (a b c d : Bool)
         → Answers
-        (if a then Some planned_seen else (if b then Some planned_seen else (if c then Some planned_seen else (if d then Some planned_seen
-        else (if e then Some planned_seen else None)))))
-        (if a || b || c || d || e then Planned h else Unknown h)
-    planned_answers true b c d e = refused_first w 0 h []
-    planned_answers false true c d e = refused_first w 0 h []
-    planned_answers false false true d e = refused_first w 0 h []
-    planned_answers false false false true e = refused_first w 0 h []
-    planned_answers false false false false true = refused_first w 0 h []
-    planned_answers false false false false false = refused_first w 5 h []
+        (if a then Some planned_seen else (if b then Some planned_seen else (if c then Some planned_seen else (if d then Some planned_seen else None))))
+        (if a || b || c || d then Planned h else Unknown h)
+    planned_answers true b c d = refused_first w 0 h []
+    planned_answers false true c d = refused_first w 0 h []
+    planned_answers false false true d = refused_first w 0 h []
+    planned_answers false false false true = refused_first w 0 h []
+    planned_answers false false false false = refused_first w 5 h []
 
-    declared_answers : (a b c d : Bool) (row : Option Row) (kind : OuterKind) → Answers row kind
+    declared_answers : (a b c d e : Bool) (row : Option Row) (kind : OuterKind) → Answers row kind
         → Answers
-        (if a then Some function_seen else (if b then Some display_seen else (if c then Some command_seen
-        else (if d then Some (λ at h parts. frame_seen w at parts) else row))))
-        (kind_or (if a then Some Function else (if b then Some Display else (if c then Some Command else (if d then Some Frame else None)))) kind)
-    declared_answers true b c d row kind k = then_given w _ (function_judged at h ds)
-    declared_answers false true c d row kind k = then_given w _ (display_judged at h ds)
-    declared_answers false false true d row kind k = then_given w _ (command_judged at h ds)
-    declared_answers false false false true row kind k = then_given w _ (frame_judged w at ds)
-    declared_answers false false false false row kind k = k
+        (if a then Some function_seen else (if b then Some display_seen else (if c then Some (λ at h parts. command_table_seen at parts)
+        else (if d then Some (λ at h parts. command_seen w at parts) else (if e then Some (λ at h parts. frame_seen w at parts) else row)))))
+        (kind_or (if a then Some Function else (if b then Some Display else (if c then Some CommandTable
+        else (if d then Some Command else (if e then Some Frame else None))))) kind)
+    declared_answers true b c d e row kind k = then_given w _ (function_judged at h ds)
+    declared_answers false true c d e row kind k = then_given w _ (display_judged at h ds)
+    declared_answers false false true d e row kind k = then_given w _ (command_table_judged w at ds)
+    declared_answers false false false true e row kind k = then_given w _ (command_judged w at ds)
+    declared_answers false false false false true row kind k = then_given w _ (frame_judged w at ds)
+    declared_answers false false false false false row kind k = k
 
     -- heads of declarations of types and of their methods
     type_answers : (a b c d e : Bool) (row : Option Row) (declared : Option DeclarationKind) (kind : OuterKind) → Answers row (kind_or declared kind)
@@ -149,8 +132,8 @@ module _ (w : Signatures) where
         type_answers (bytes_eq x (codes "define-record")) (bytes_eq x (codes "define-presentation-type")) (bytes_eq x (codes "define-host-type"))
         (bytes_eq x (codes "define-present-method")) (bytes_eq x (codes "define-accept-method")) _ _ _
         (declared_answers (bytes_eq x (codes "define-function")) (bytes_eq x (codes "define-display"))
-        (bytes_eq x (codes "define-command")) (bytes_eq x (codes "define-application-frame")) _ _
-        (planned_answers (bytes_eq x (codes "define-command-table")) (bytes_eq x (codes "define-presentation-translator"))
+        (bytes_eq x (codes "define-command-table")) (bytes_eq x (codes "define-command")) (bytes_eq x (codes "define-application-frame")) _ _
+        (planned_answers (bytes_eq x (codes "define-presentation-translator"))
         (bytes_eq x (codes "define-presentation-to-command-translator")) (bytes_eq x (codes "define-drag-and-drop-translator"))
         (bytes_eq x (codes "define-dialog"))))
 

@@ -1,55 +1,41 @@
 -- What is looked at of types, declarations and texts lies in them.
-use Rattle.std.proofs.Common.{ℕ, ◌+◌, ◌≤◌, Bool, true, false, ◌&&◌, is_some, if◌then◌else◌, List, [], ◌∷◌, ◌++◌, arith}
+use Rattle.std.proofs.Common.{ℕ, ◌+◌, ◌≤◌, Bool, true, false, ◌&&◌, is_some, if◌then◌else◌, List, [], ◌∷◌, arith}
 use Rattle.std.specs.Prelude.{Option, Some, None}
 use Rattle.std.specs.Option.{IfSome}
 use Rattle.std.specs.Str.{bytes_eq}
 use Rattle.cl_table.specs.Names.{named}
-use Rattle.cl_forms.specs.Datum.{Datum, number, literal, word, quoted, stray, list, in_order, parts_of, offset}
-use Rattle.cl_forms.specs.Keys.{Keyed, keyed_sections, keyed_pairs}
+use Rattle.cl_forms.specs.Datum.{Datum, number, literal, word, quoted, stray, list, parts_of, offset}
+use Rattle.cl_forms.specs.Keys.{Keyed, keyed_sections}
 use Rattle.cl_forms.specs.Naming.{are_names, name_in}
 use Rattle.cl_forms.specs.declared.keys.Key.{Key}
 use Rattle.cl_forms.specs.declared.keys.Key.TheVariants as key
 use Rattle.cl_words.specs.declared.signatures.Signatures.{Signatures}
-use Rattle.cl_declare.specs.Commands.{CommandHead, command_keys, head_of, listed_head, command_head}
 use Rattle.cl_declare.specs.Frames.{frame_keys, frame_shape}
-use Rattle.cl_declare.specs.Names.{is_list, is_name_list, variables_in}
+use Rattle.cl_declare.specs.Names.{is_name_list, variables_in}
 use Rattle.cl_declare.specs.TypeShapes.{name_alone}
 use Rattle.cl_grammar.specs.Lies.{Lies}
 use Rattle.cl_grammar.specs.Sights.{expression}
 use Rattle.cl_grammar.proofs.Bounds.{Within}
-use Rattle.cl_grammar.proofs.Lying.{LieList, list_lies, own_lies, datum_rises, datum_earlier}
+use Rattle.cl_grammar.proofs.Lying.{LieList, own_lies, datum_rises, datum_earlier}
 use Rattle.cl_text_grammar.specs.FormSights.{forms_seen}
 use Rattle.cl_text_grammar.proofs.FormsLie.{forms_lie}
 use Rattle.cl_text_grammar.proofs.TypesLie.{type_lies}
-use Rattle.cl_declaration_grammar.specs.Parts.{refused, display_name, expressions, shapes, acts, wrong, planned, planned_keys, planned_parts}
+use Rattle.cl_declaration_grammar.specs.Parts.{refused, display_name, expressions, shapes, wrong, planned}
+use Rattle.cl_declaration_grammar.specs.Commands.{tables_seen, command_table_seen, command_seen}
 use Rattle.cl_declaration_grammar.specs.Frames.{slot_seen, slots_seen, pane_display_seen, pane_seen, panes_seen, section_seen, sections_seen}
 use Rattle.cl_declaration_grammar.specs.Frames.{keyed_frame_seen, frame_seen}
-use Rattle.cl_declaration_grammar.specs.Declarations.{Row, record_seen, host_type_seen, method_named_seen, method_seen, function_seen, display_seen, command_seen}
-use Rattle.cl_declaration_grammar.specs.Declarations.{headed_seen, planned_seen, rows, row_seen, listed_seen, declaration_seen}
+use Rattle.cl_declaration_grammar.specs.Declarations.{Row, record_seen, host_type_seen, method_named_seen, method_seen, function_seen, display_seen}
+use Rattle.cl_declaration_grammar.specs.Declarations.{planned_seen, rows, row_seen, listed_seen, declaration_seen}
 use Rattle.cl_declaration_grammar.specs.UserTypes.{user_type_seen}
 use Rattle.cl_declaration_grammar.specs.Texts.{text_seen}
-use Rattle.cl_declaration_grammar.proofs.PartsLie.{LieParts, parts_earlier, parts_joined, one_lies, when_lies, list_rises, planned_lie}
+use Rattle.cl_declaration_grammar.proofs.PartsLie.{LieParts, parts_earlier, parts_joined, one_lies, when_lies, list_rises}
+use Rattle.cl_declaration_grammar.proofs.CommandsLie.{tables_lie, command_table_lies, command_lies}
 use Rattle.cl_declaration_grammar.proofs.UserTypesLie.{user_type_lies}
-use Rattle.cl_declaration_grammar.proofs.KeysLie.{LieKey, LieKeys, list_earlier, planned_keys_lie, sections_lie, pairs_lie}
-
-head_lies : (name : Option (List ℕ)) (ks : Option (List Keyed)) (from to : ℕ) → IfSome ks (λ s. LieKeys from s to)
-    → IfSome (head_of name ks) (λ c. LieKeys from c.keys to)
-head_lies (Some x) (Some ks) from to h = h
-head_lies (Some x) None from to h = tt
-head_lies None ks from to h = tt
+use Rattle.cl_declaration_grammar.proofs.KeysLie.{LieKey, LieKeys, list_earlier, sections_lie, inside}
 
 -- ---- frames
 
 module _ (w : Signatures) where
-  -- parts of a datum stand in it
-  inside : (d : Datum) (from to : ℕ) → Lies from d to → LieList from (parts_of d) to
-  inside (list ds at) from to h = list_earlier (in_order ds) from (at + 1) to (omega (arith, h.0)) (list_lies ds (at + 1) to h.2)
-  inside (number z at) from to h = omega (arith, h.0, h.1)
-  inside (literal s at) from to h = omega (arith, h.0, h.1)
-  inside (word s at) from to h = omega (arith, h.0, h.1)
-  inside (quoted s at name_at) from to h = omega (arith, h.0, h.1, h.2)
-  inside (stray at) from to h = omega (arith, h.0, h.1)
-
   slot_lies : (ds : List Datum) (from to : ℕ) → LieList from ds to → LieParts from (slot_seen w ds) to
   slot_lies (n ∷ t ∷ e ∷ []) from to h =
       (h.2.0, type_lies w [] t from h.2.0 (datum_earlier t from h.0 h.2.0 (datum_rises n from h.0 h.1) h.2.1), (to, h.2.2, omega arith))
@@ -97,7 +83,7 @@ module _ (w : Signatures) where
       → LieParts from (section_seen w (record { key = k; at = at; values = ds })) to
   section_lies key.Slots at ds from to h = parts_earlier (slots_seen w ds) from (at + 1) to (omega (arith, h.0.0)) (slots_lie ds (at + 1) to h.1)
   section_lies key.Panes at ds from to h = parts_earlier (panes_seen ds) from (at + 1) to (omega (arith, h.0.0)) (panes_lie ds (at + 1) to h.1)
-  section_lies key.CommandTable at ds from to h = one_lies (planned at) from to h.0
+  section_lies key.CommandTable at ds from to h = parts_earlier (tables_seen ds) from (at + 1) to (omega (arith, h.0.0)) (tables_lie ds (at + 1) to h.1)
   section_lies key.Size at ds from to h = omega (arith, h.0.0, h.0.1)
   section_lies key.Name at ds from to h = omega (arith, h.0.0, h.0.1)
   section_lies key.Keystroke at ds from to h = omega (arith, h.0.0, h.0.1)
@@ -106,6 +92,8 @@ module _ (w : Signatures) where
   section_lies key.Description at ds from to h = omega (arith, h.0.0, h.0.1)
   section_lies key.Separator at ds from to h = omega (arith, h.0.0, h.0.1)
   section_lies key.SingleBox at ds from to h = omega (arith, h.0.0, h.0.1)
+  section_lies key.Default at ds from to h = omega (arith, h.0.0, h.0.1)
+  section_lies key.Prompt at ds from to h = omega (arith, h.0.0, h.0.1)
 
   pub frame_sections_lie : (ks : List Keyed) (from to : ℕ) → LieKeys from ks to → LieParts from (sections_seen w ks) to
   frame_sections_lie [] from to h = h
@@ -177,37 +165,11 @@ module _ (w : Signatures) where
   display_lies at h [] from to a b k = one_lies (refused 6 at) from to a
   display_lies at h (n ∷ []) from to a b k = one_lies (refused 6 at) from to a
 
-  -- the keys of a command's head
-  listed_head_lies : (ds : List Datum) (from to : ℕ) → LieList from ds to → IfSome (listed_head ds) (λ c. LieKeys from c.keys to)
-  listed_head_lies [] from to h = tt
-  listed_head_lies (n ∷ ks) from to h =
-      head_lies (name_in n) (keyed_pairs command_keys [] ks) from to (pairs_lie command_keys [] ks from h.0 to (datum_rises n from h.0 h.1) h.2)
+  command_table_row_lies : LieRow (λ at h ds. command_table_seen at ds)
+  command_table_row_lies at h ds from to a b k = command_table_lies at ds from to a k
 
-  command_head_lies : (d : Datum) (from to : ℕ) → Lies from d to → IfSome (command_head d) (λ c. LieKeys from c.keys to)
-  command_head_lies (list ds at) from to h = listed_head_lies (in_order ds) from to (inside (list ds at) from to h)
-  command_head_lies (word x at) from to h = head_lies (name_in (word x at)) (Some []) from to (omega (arith, h.0, h.1))
-  command_head_lies (number z at) from to h = tt
-  command_head_lies (literal s at) from to h = tt
-  command_head_lies (quoted x at name_at) from to h = tt
-  command_head_lies (stray at) from to h = tt
-
-  headed_command_lies : (at : ℕ) (c : Option CommandHead) (arguments : Datum) (body : List Datum) (from middle next to : ℕ) → Within from at to
-      → IfSome c (λ e. LieKeys from e.keys middle) → Lies middle arguments next → LieList next body to
-      → LieParts from (headed_seen at c (parts_of arguments) body) to
-  headed_command_lies at None arguments body from middle next to a h i k = one_lies (refused 6 at) from to a
-  headed_command_lies at (Some c) arguments body from middle next to a h i k =
-      parts_joined (planned_keys c.keys) (planned_parts (parts_of arguments) ++ acts (forms_seen [] body) ∷ []) from middle to
-      (planned_keys_lie c.keys from middle h)
-      (parts_joined (planned_parts (parts_of arguments)) (acts (forms_seen [] body) ∷ []) middle next to
-      (planned_lie (parts_of arguments) middle next (inside arguments middle next i)) (to, forms_lie [] body next to k, omega arith))
-
-  command_lies : LieRow command_seen
-  command_lies at h (c ∷ arguments ∷ body) from to a b k =
-      when_lies (is_list arguments) (headed_seen at (command_head c) (parts_of arguments) body) (wrong at) from to
-      (headed_command_lies at (command_head c) arguments body from k.0 k.2.0 to a (command_head_lies c from k.0 k.1) k.2.1 k.2.2)
-      (one_lies (refused 6 at) from to a)
-  command_lies at h [] from to a b k = one_lies (refused 6 at) from to a
-  command_lies at h (c ∷ []) from to a b k = one_lies (refused 6 at) from to a
+  command_row_lies : LieRow (λ at h ds. command_seen w at ds)
+  command_row_lies at h ds from to a b k = command_lies w at ds from to a k
 
   planned_row_lies : LieRow planned_seen
   planned_row_lies at h ds from to a b k = one_lies (planned h) from to b
@@ -246,8 +208,8 @@ module _ (w : Signatures) where
                   (
                     display_lies,
                     (
-                      command_lies,
-                      (frame_lies, (planned_row_lies, (planned_row_lies, (planned_row_lies, (planned_row_lies, (planned_row_lies, tt)))))),
+                      command_table_row_lies,
+                      (command_row_lies, (frame_lies, (planned_row_lies, (planned_row_lies, (planned_row_lies, (planned_row_lies, tt)))))),
                     ),
                   ),
                 ),

@@ -17,8 +17,9 @@ use Rattle.cl_text_grammar.specs.Types.{type_seen}
 use Rattle.cl_declaration_grammar.specs.Parts.{specifier, expressions, wrong}
 use Rattle.cl_declaration_grammar.specs.Frames.{slot_seen, slots_seen, pane_display_seen, pane_seen, panes_seen, section_seen, sections_seen}
 use Rattle.cl_declaration_grammar.specs.Frames.{keyed_frame_seen, frame_seen}
-use Rattle.cl_declaration_grammar.proofs.Judging.{Judges, joined, then_given, ended, refused_first}
+use Rattle.cl_declaration_grammar.proofs.Judging.{Judges, joined, then_given, ended}
 use Rattle.cl_declaration_grammar.proofs.PartsJudged.{expression_part, type_part, is_wrong, display_name_judged}
+use Rattle.cl_declaration_grammar.proofs.CommandsJudged.{tables_judged}
 
 module _ (w : Signatures) where
   slot_judged : (at : ℕ) (ds : List Datum) (slots : SlotTable) → Judges w (slot_seen w ds) Any (parse_slot w at ds slots)
@@ -56,7 +57,7 @@ module _ (w : Signatures) where
       → Judges w (section_seen w (record { key = k; at = at; values = ds })) Any (parse_section w (record { key = k; at = at; values = ds }) slots)
   section_judged key.Slots at ds slots = slots_judged ds slots
   section_judged key.Panes at ds slots = then_given w (λ u. slots) (panes_judged ds)
-  section_judged key.CommandTable at ds slots = refused_first w 0 at []
+  section_judged key.CommandTable at ds slots = then_given w (λ u. slots) (tables_judged w ds)
   section_judged key.Size at ds slots = ended w
   section_judged key.Name at ds slots = ended w
   section_judged key.Keystroke at ds slots = ended w
@@ -65,6 +66,8 @@ module _ (w : Signatures) where
   section_judged key.Description at ds slots = ended w
   section_judged key.Separator at ds slots = ended w
   section_judged key.SingleBox at ds slots = ended w
+  section_judged key.Default at ds slots = ended w
+  section_judged key.Prompt at ds slots = ended w
 
   sections_judged : (ks : List Keyed) (slots : SlotTable) → Judges w (sections_seen w ks) Any (parse_sections w ks slots)
   sections_judged [] slots = ended w

@@ -2,14 +2,13 @@
 use Rattle.std.proofs.Common.{ℕ, ◌+◌, ◌≤◌, Bool, true, false, if◌then◌else◌, List, [], ◌∷◌, ◌++◌, arith}
 use Rattle.std.specs.Prelude.{Option, Some, None, option_and_then}
 use Rattle.std.specs.Option.{IfSome}
-use Rattle.cl_forms.specs.Datum.{Datum, number, literal, word, quoted, stray, list, none, item, in_order, offset}
-use Rattle.cl_forms.specs.Keys.{Keyed, has_key, key_in, keyed_as, section_in, pair_in, with_keyed, keyed_sections, keyed_pairs}
+use Rattle.cl_forms.specs.Datum.{Datum, number, literal, word, quoted, stray, list, none, item, in_order, offset, parts_of}
+use Rattle.cl_forms.specs.Keys.{Keyed, same_key, has_key, values_of, key_in, keyed_as, section_in, pair_in, with_keyed, keyed_sections, keyed_pairs}
 use Rattle.cl_forms.specs.declared.keys.Key.{Key}
 use Rattle.cl_grammar.specs.Lies.{Lies}
 use Rattle.cl_grammar.proofs.Bounds.{Within}
 use Rattle.cl_grammar.proofs.Lying.{LieList, list_lies, own_lies, datum_rises, datum_earlier}
-use Rattle.cl_declaration_grammar.specs.Parts.{planned_keys}
-use Rattle.cl_declaration_grammar.proofs.PartsLie.{LieParts, list_rises}
+use Rattle.cl_declaration_grammar.proofs.PartsLie.{list_rises}
 
 -- a key, and what stands behind it
 abbrev pub LieKey : ℕ → Keyed → ℕ → Type 0
@@ -18,10 +17,6 @@ LieKey from k to = Within from k.at to × LieList (k.at + 1) k.values to
 abbrev pub LieKeys : ℕ → List Keyed → ℕ → Type 0
 LieKeys from [] to = from ≤ to
 LieKeys from (k ∷ ks) to = (next : ℕ) × LieKey from k next × LieKeys next ks to
-
-pub planned_keys_lie : (ks : List Keyed) (from to : ℕ) → LieKeys from ks to → LieParts from (planned_keys ks) to
-planned_keys_lie [] from to h = h
-planned_keys_lie (k ∷ ks) from to h = (h.0, h.1.0, planned_keys_lie ks h.0 to h.2)
 
 keys_later : (ks : List Keyed) (from to behind : ℕ) → to ≤ behind → LieKeys from ks to → LieKeys from ks behind
 keys_later [] from to behind e h = omega (arith, e, h)
@@ -93,3 +88,38 @@ pairs_lie may_have so_far (k ∷ v ∷ ds) start from to h i =
     then_lies (λ more. keyed_pairs may_have more ds) (with_keyed (pair_in may_have k v) so_far) start i.2.0 to
     (with_lies (pair_in may_have k v) so_far start from i.2.0 (pair_lies may_have k v from i.0 i.2.0 i.1 i.2.1) h)
     (λ more j. pairs_lie may_have more ds start i.2.0 to j i.2.2)
+
+-- ---- what stands in a datum, and behind a key
+
+-- parts of a datum stand in it
+pub inside : (d : Datum) (from to : ℕ) → Lies from d to → LieList from (parts_of d) to
+inside (list ds at) from to h = list_earlier (in_order ds) from (at + 1) to (omega (arith, h.0)) (list_lies ds (at + 1) to h.2)
+inside (number z at) from to h = omega (arith, h.0, h.1)
+inside (literal s at) from to h = omega (arith, h.0, h.1)
+inside (word s at) from to h = omega (arith, h.0, h.1)
+inside (quoted s at name_at) from to h = omega (arith, h.0, h.1, h.2)
+inside (stray at) from to h = omega (arith, h.0, h.1)
+
+pub keys_rise : (ks : List Keyed) (from to : ℕ) → LieKeys from ks to → from ≤ to
+keys_rise [] from to h = h
+keys_rise (k ∷ ks) from to h = omega (arith, h.1.0.0, h.1.0.1, keys_rise ks h.0 to h.2)
+
+list_later : (ds : List Datum) (from to behind : ℕ) → to ≤ behind → LieList from ds to → LieList from ds behind
+list_later [] from to behind e h = omega (arith, e, h)
+list_later (d ∷ ds) from to behind e h = (h.0, h.1, list_later ds h.0 to behind e h.2)
+
+values_earlier : (o : Option (List Datum)) (before from to : ℕ) → before ≤ from → IfSome o (λ vs. LieList from vs to) → IfSome o (λ vs. LieList before vs to)
+values_earlier None before from to e h = tt
+values_earlier (Some vs) before from to e h = list_earlier vs before from to e h
+
+first_lies : (b : Bool) (vs : List Datum) (o : Option (List Datum)) (from to : ℕ) → LieList from vs to → IfSome o (λ es. LieList from es to)
+    → IfSome (if b then Some vs else o) (λ es. LieList from es to)
+first_lies true vs o from to h i = h
+first_lies false vs o from to h i = i
+
+pub values_lie : (j : Key) (ks : List Keyed) (from to : ℕ) → LieKeys from ks to → IfSome (values_of j ks) (λ vs. LieList from vs to)
+values_lie j [] from to h = tt
+values_lie j (k ∷ ks) from to h =
+    let own : LieList from k.values h.0 = list_earlier k.values from (k.at + 1) h.0 (omega (arith, h.1.0.0)) h.1.1 in
+    first_lies (same_key j k.key) k.values (values_of j ks) from to (list_later k.values from h.0 to (keys_rise ks h.0 to h.2) own)
+    (values_earlier (values_of j ks) from h.0 to (omega (arith, h.1.0.0, h.1.0.1)) (values_lie j ks h.0 to h.2))

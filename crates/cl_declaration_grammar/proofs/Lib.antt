@@ -3,8 +3,10 @@ pub mod KeysLie
 pub mod Judging
 pub mod PartsJudged
 pub mod UserTypesLie
+pub mod CommandsLie
 pub mod DeclarationsLie
 pub mod UserTypesJudged
+pub mod CommandsJudged
 pub mod FramesJudged
 pub mod DeclarationsJudged
 pub mod TextVerdicts

@@ -3,15 +3,13 @@ use Rattle.std.proofs.Common.{◌≡◌, ℕ, ◌⊎◌, inl, inr, Bool, true, f
 use Rattle.std.specs.Prelude.{Result, Option, Some, None, is_some}
 use Rattle.std.proofs.Math.Path.{subst}
 use Rattle.cl_forms.specs.Datum.{Datum, datums_of, in_order}
-use Rattle.cl_forms.specs.Keys.{Keyed}
 use Rattle.cl_forms.proofs.Data.{data_in_order}
-use Rattle.cl_words.specs.Signatures.{display_in, function_in, type_in}
+use Rattle.cl_words.specs.Signatures.{display_in, function_in, table_in, type_in}
 use Rattle.cl_words.specs.declared.signatures.Signatures.{Signatures}
 use Rattle.cl_expressions.specs.Load.{Load, Notes, Fault, refuse, noted}
 use Rattle.cl_expressions.specs.Scopes.{Names}
 use Rattle.cl_expressions.specs.Expressions.{parse_expression}
 use Rattle.cl_bodies.specs.DisplayForms.{parse_shapes}
-use Rattle.cl_bodies.specs.PlannedKeys.{no_keys}
 use Rattle.cl_bodies.specs.Specifiers.{parse_type}
 use Rattle.cl_bodies.specs.Statements.{parse_acts}
 use Rattle.cl_declare.specs.Methods.{may_have_methods}
@@ -23,10 +21,10 @@ use Rattle.cl_text_grammar.specs.FormSights.{forms_seen}
 use Rattle.cl_text_grammar.proofs.ActsJudged.{acts_judged}
 use Rattle.cl_text_grammar.proofs.ShapesJudged.{shapes_judged}
 use Rattle.cl_text_grammar.proofs.TypesJudged.{type_judged}
-use Rattle.cl_declaration_grammar.specs.Parts.{Part, specifier, method_name, function_name, display_name, expressions, shapes, acts, wrong, planned_keys}
+use Rattle.cl_declaration_grammar.specs.Parts.{Part, specifier, method_name, function_name, display_name, table_name, expressions, shapes, acts, wrong}
 use Rattle.cl_declaration_grammar.specs.Parts.{PartBlames, PartUnnamed}
 use Rattle.cl_declaration_grammar.proofs.PartsLie.{LiePart}
-use Rattle.cl_declaration_grammar.proofs.Judging.{Judges, Blamed, Missing, ended, refused_first}
+use Rattle.cl_declaration_grammar.proofs.Judging.{Judges, Blamed, Missing, refused_first}
 
 -- one part, or nothing behind it
 only : {A : Type 0} → A ⊎ ⊥ → A
@@ -63,11 +61,6 @@ module _ (w : Signatures) where
   -- a wrong form
   pub is_wrong : {A : Type 0} (at : ℕ) → Judges w {A = A} (wrong at) Any (refuse 6 at)
   is_wrong at = refused_first w 6 at []
-
-  -- keys that are not built yet
-  pub keys_judged : (ks : List Keyed) → Judges w (planned_keys ks) Any (no_keys ks)
-  keys_judged [] = ended w
-  keys_judged (k ∷ ks) = refused_first w 0 k.at (planned_keys ks)
 
   -- ---- names
 
@@ -106,6 +99,14 @@ module _ (w : Signatures) where
   pub method_name_judged : (x : List ℕ) (at : ℕ) → Judges w (method_name x at ∷ []) Any (noted (may_have_methods (type_in w x)) at)
   method_name_judged x at =
       part_judged (method_name x at) Any (noted (may_have_methods (type_in w x)) at) λ from to lie u. method_known (may_have_methods (type_in w x)) x at refl u
+
+  table_known : (b : Bool) (x : List ℕ) (at : ℕ) → table_in w x ≡ b → (u : Notes)
+      → Verdict {A = Unit {0}} (λ n o. PartBlames w n o (table_name x at)) (λ o. PartUnnamed w o (table_name x at)) Any u (noted b at u)
+  table_known false x at e u = (tt, λ n o b. b, noted_one (λ o. PartUnnamed w o (table_name x at)) u.unknown at (e, refl) (λ o b. b.1))
+  table_known true x at e u = (tt, λ n o b. b, noted_none (λ o. PartUnnamed w o (table_name x at)) u.unknown (λ o b. true_false (sym e ∙ b.0)))
+
+  pub table_name_judged : (x : List ℕ) (at : ℕ) → Judges w (table_name x at ∷ []) Any (noted (table_in w x) at)
+  table_name_judged x at = part_judged (table_name x at) Any (noted (table_in w x) at) λ from to lie u. table_known (table_in w x) x at refl u
 
   -- ---- bodies
 

@@ -5,7 +5,7 @@ use Rattle.cl_grammar.proofs.Bounds.{Within}
 use Rattle.cl_grammar.proofs.Lying.{LieSeen, LieList, own_lies, seen_rises, seen_earlier}
 use Rattle.cl_text_grammar.proofs.TypePartsLie.{LieType, type_rises, type_earlier}
 use Rattle.cl_text_grammar.proofs.FormsLie.{LieForms, forms_rise, forms_earlier}
-use Rattle.cl_declaration_grammar.specs.Parts.{Part, refused, specifier, method_name, function_name, display_name, expressions, shapes, acts, planned_parts}
+use Rattle.cl_declaration_grammar.specs.Parts.{Part, refused, specifier, method_name, function_name, display_name, table_name, expressions, shapes, acts}
 
 -- the part stands from one place up to another
 abbrev pub LiePart : ℕ → Part → ℕ → Type 0
@@ -14,6 +14,7 @@ LiePart from (specifier ts) to = LieType from ts to
 LiePart from (method_name x at) to = Within from at to
 LiePart from (function_name x at) to = Within from at to
 LiePart from (display_name x at) to = Within from at to
+LiePart from (table_name x at) to = Within from at to
 LiePart from (expressions qs) to = LieSeen from qs to
 LiePart from (shapes fs) to = LieForms from fs to
 LiePart from (acts fs) to = LieForms from fs to
@@ -29,6 +30,7 @@ part_rises (specifier ts) from to h = type_rises ts from to h
 part_rises (method_name x at) from to h = omega (arith, h.0, h.1)
 part_rises (function_name x at) from to h = omega (arith, h.0, h.1)
 part_rises (display_name x at) from to h = omega (arith, h.0, h.1)
+part_rises (table_name x at) from to h = omega (arith, h.0, h.1)
 part_rises (expressions qs) from to h = seen_rises qs from to h
 part_rises (shapes fs) from to h = forms_rise fs from to h
 part_rises (acts fs) from to h = forms_rise fs from to h
@@ -43,6 +45,7 @@ part_earlier (specifier ts) before from to e h = type_earlier ts before from to 
 part_earlier (method_name x at) before from to e h = (omega (arith, e, h.0), h.1)
 part_earlier (function_name x at) before from to e h = (omega (arith, e, h.0), h.1)
 part_earlier (display_name x at) before from to e h = (omega (arith, e, h.0), h.1)
+part_earlier (table_name x at) before from to e h = (omega (arith, e, h.0), h.1)
 part_earlier (expressions qs) before from to e h = seen_earlier qs before from to e h
 part_earlier (shapes fs) before from to e h = forms_earlier fs before from to e h
 part_earlier (acts fs) before from to e h = forms_earlier fs before from to e h
@@ -79,7 +82,3 @@ pub list_rises : (ds : List Datum) (from to : ℕ) → LieList from ds to → fr
 list_rises [] from to h = h
 list_rises (d ∷ ds) from to h =
     let own : Within from (offset d) h.0 = own_lies d from h.0 h.1 in omega (arith, own.0, own.1, list_rises ds h.0 to h.2)
-
-pub planned_lie : (ds : List Datum) (from to : ℕ) → LieList from ds to → LieParts from (planned_parts ds) to
-planned_lie [] from to h = h
-planned_lie (d ∷ ds) from to h = (h.0, own_lies d from h.0 h.1, planned_lie ds h.0 to h.2)

@@ -47,6 +47,8 @@ module _ (w : Signatures) where
     type_key_judged key.Description at ds i = ended w
     type_key_judged key.Separator at ds i = ended w
     type_key_judged key.SingleBox at ds i = ended w
+    type_key_judged key.Default at ds i = ended w
+    type_key_judged key.Prompt at ds i = ended w
 
     type_keys_judged : (ks : List Keyed) (i : Inherited) → Judges w (type_keys_seen w ps ks) Any (parse_type_keys w ps ks i)
     type_keys_judged [] i = ended w

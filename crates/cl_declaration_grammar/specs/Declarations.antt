@@ -1,15 +1,15 @@
 -- What is looked at of a declaration.
-use Rattle.std.specs.Prelude.{ℕ, ◌&&◌, is_some, if◌then◌else◌, List, [], ◌∷◌, ◌++◌, Option, Some, None, codes}
+use Rattle.std.specs.Prelude.{ℕ, ◌&&◌, is_some, if◌then◌else◌, List, [], ◌∷◌, Option, Some, None, codes}
 use Rattle.cl_table.specs.Names.{named}
 use Rattle.cl_forms.specs.Datum.{Datum, number, literal, word, quoted, stray, list, parts_of, offset}
 use Rattle.cl_forms.specs.Naming.{are_names, name_in}
 use Rattle.cl_words.specs.declared.signatures.Signatures.{Signatures}
-use Rattle.cl_declare.specs.Commands.{CommandHead, command_head}
-use Rattle.cl_declare.specs.Names.{is_list, is_name_list, variables_in}
+use Rattle.cl_declare.specs.Names.{is_name_list, variables_in}
 use Rattle.cl_declare.specs.TypeShapes.{name_alone}
 use Rattle.cl_grammar.specs.Sights.{expression}
 use Rattle.cl_text_grammar.specs.FormSights.{forms_seen}
-use Rattle.cl_declaration_grammar.specs.Parts.{Part, refused, method_name, expressions, shapes, acts, wrong, planned, planned_keys, planned_parts}
+use Rattle.cl_declaration_grammar.specs.Parts.{Part, refused, method_name, expressions, shapes, wrong, planned}
+use Rattle.cl_declaration_grammar.specs.Commands.{command_seen, command_table_seen}
 use Rattle.cl_declaration_grammar.specs.Frames.{frame_seen}
 use Rattle.cl_declaration_grammar.specs.UserTypes.{user_type_seen}
 
@@ -49,16 +49,6 @@ abbrev pub display_seen : Row
 display_seen at h (n ∷ ps ∷ body) = if is_some (name_in n) && is_name_list ps then shapes (forms_seen (variables_in ps) body) ∷ [] else wrong at
 display_seen at h parts = wrong at
 
--- the head of a command, its arguments and its body, which sees no variable
-abbrev pub headed_seen : ℕ → Option CommandHead → List Datum → List Datum → List Part
-headed_seen at None arguments body = wrong at
-headed_seen at (Some c) arguments body = planned_keys c.keys ++ (planned_parts arguments ++ acts (forms_seen [] body) ∷ [])
-
--- `(define-command NAME () STATEMENT ...)`, where the name may be `(NAME KEY VALUE ...)`
-abbrev pub command_seen : Row
-command_seen at h (c ∷ arguments ∷ body) = if is_list arguments then headed_seen at (command_head c) (parts_of arguments) body else wrong at
-command_seen at h parts = wrong at
-
 -- what is not built yet
 abbrev pub planned_seen : Row
 planned_seen at h parts = planned h ∷ []
@@ -73,9 +63,9 @@ rows w =
     ∷ (codes "define-accept-method", method_seen)
     ∷ (codes "define-function", function_seen)
     ∷ (codes "define-display", display_seen)
-    ∷ (codes "define-command", command_seen)
+    ∷ (codes "define-command-table", λ at h parts. command_table_seen at parts)
+    ∷ (codes "define-command", λ at h parts. command_seen w at parts)
     ∷ (codes "define-application-frame", λ at h parts. frame_seen w at parts)
-    ∷ (codes "define-command-table", planned_seen)
     ∷ (codes "define-presentation-translator", planned_seen)
     ∷ (codes "define-presentation-to-command-translator", planned_seen)
     ∷ (codes "define-drag-and-drop-translator", planned_seen)

@@ -1,4 +1,4 @@
--- What is looked at of a frame: the types and opening values of its slots, the names of displays, and what is not built yet.
+-- What is looked at of a frame: the types and opening values of its slots, the names of displays and that of its command table.
 use Rattle.std.specs.Prelude.{ℕ, is_some, if◌then◌else◌, List, [], ◌∷◌, ◌++◌, Option, Some, None}
 use Rattle.cl_forms.specs.Datum.{Datum, parts_of, offset}
 use Rattle.cl_forms.specs.Keys.{Keyed, keyed_sections}
@@ -8,7 +8,8 @@ use Rattle.cl_words.specs.declared.signatures.Signatures.{Signatures}
 use Rattle.cl_declare.specs.Frames.{frame_keys, frame_shape}
 use Rattle.cl_grammar.specs.Sights.{expression}
 use Rattle.cl_text_grammar.specs.Types.{type_seen}
-use Rattle.cl_declaration_grammar.specs.Parts.{Part, specifier, display_name, expressions, wrong, planned}
+use Rattle.cl_declaration_grammar.specs.Parts.{Part, specifier, display_name, expressions, wrong}
+use Rattle.cl_declaration_grammar.specs.Commands.{tables_seen}
 
 -- `NAME TYPE E`: an opening value sees no variable
 abbrev pub slot_seen : Signatures → List Datum → List Part
@@ -38,7 +39,7 @@ abbrev pub section_seen : Signatures → Keyed → List Part
 section_seen w k = elim k.key [
   | key.Slots ↦ slots_seen w k.values
   | key.Panes ↦ panes_seen k.values
-  | key.CommandTable ↦ planned k.at ∷ []
+  | key.CommandTable ↦ tables_seen k.values
   | key.Size ↦ []
   | key.Name ↦ []
   | key.Keystroke ↦ []
@@ -47,6 +48,8 @@ section_seen w k = elim k.key [
   | key.Description ↦ []
   | key.Separator ↦ []
   | key.SingleBox ↦ []
+  | key.Default ↦ []
+  | key.Prompt ↦ []
 ]
 
 abbrev pub sections_seen : Signatures → List Keyed → List Part

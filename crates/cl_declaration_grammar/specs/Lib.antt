@@ -1,4 +1,5 @@
 pub mod Parts
+pub mod Commands
 pub mod Frames
 pub mod UserTypes
 pub mod Declarations

@@ -1,8 +1,6 @@
 -- The parts of a text that are looked at, in the order of the text: which of them is to blame, and which name is not declared.
 use Rattle.std.specs.Prelude.{◌≡◌, ◌⊎◌, ℕ, false, List, [], ◌∷◌, None}
-use Rattle.cl_forms.specs.Datum.{Datum, offset}
-use Rattle.cl_forms.specs.Keys.{Keyed}
-use Rattle.cl_words.specs.Signatures.{display_in, function_in, type_in}
+use Rattle.cl_words.specs.Signatures.{display_in, function_in, table_in, type_in}
 use Rattle.cl_words.specs.declared.signatures.Signatures.{Signatures}
 use Rattle.cl_declare.specs.Methods.{may_have_methods}
 use Rattle.cl_grammar.specs.Sights.{Seen}
@@ -25,6 +23,8 @@ pub data Part : Type 0 where
   function_name : List ℕ → ℕ → Part
   -- the name of a display, with its offset
   display_name : List ℕ → ℕ → Part
+  -- the name of a command table, with its offset
+  table_name : List ℕ → ℕ → Part
   -- expressions
   expressions : List Seen → Part
   -- display forms
@@ -44,6 +44,7 @@ PartBlames w n o (specifier ts) = TypeBlames ts n o
 PartBlames w n o (method_name x at) = ⊥
 PartBlames w n o (function_name x at) = ⊥
 PartBlames w n o (display_name x at) = ⊥
+PartBlames w n o (table_name x at) = ⊥
 PartBlames w n o (expressions qs) = BlamesAny w qs n o
 PartBlames w n o (shapes fs) = FormBlamesAny (shape_seen w) w fs n o
 PartBlames w n o (acts fs) = FormBlamesAny act_seen w fs n o
@@ -55,6 +56,7 @@ PartUnnamed w o (specifier ts) = TypeUnnamed w ts o
 PartUnnamed w o (method_name x at) = (may_have_methods (type_in w x) ≡ false) × (o ≡ at)
 PartUnnamed w o (function_name x at) = (function_in w x ≡ None) × (o ≡ at)
 PartUnnamed w o (display_name x at) = (display_in w x ≡ None) × (o ≡ at)
+PartUnnamed w o (table_name x at) = (table_in w x ≡ false) × (o ≡ at)
 PartUnnamed w o (expressions qs) = UnnamedAny w qs o
 PartUnnamed w o (shapes fs) = FormUnnamedAny (shape_seen w) w fs o
 PartUnnamed w o (acts fs) = FormUnnamedAny act_seen w fs o
@@ -66,13 +68,3 @@ wrong at = refused 6 at ∷ []
 -- what is not built yet stands at this offset
 abbrev pub planned : ℕ → Part
 planned at = refused 0 at
-
--- keys that are not built yet
-abbrev pub planned_keys : List Keyed → List Part
-planned_keys [] = []
-planned_keys (k ∷ ks) = planned k.at ∷ planned_keys ks
-
--- parts that are not built yet
-abbrev pub planned_parts : List Datum → List Part
-planned_parts [] = []
-planned_parts (d ∷ ds) = planned (offset d) ∷ planned_parts ds

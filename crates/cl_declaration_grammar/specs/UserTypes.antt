@@ -39,6 +39,8 @@ type_key_seen w ps k = elim k.key [
   | key.Description ↦ []
   | key.Separator ↦ []
   | key.SingleBox ↦ []
+  | key.Default ↦ []
+  | key.Prompt ↦ []
 ]
 
 abbrev pub type_keys_seen : Signatures → Names → List Keyed → List Part

@@ -5,12 +5,13 @@ use Rattle.cl_table.specs.Names.{with_first}
 use Rattle.cl_forms.specs.Datum.{Datum}
 use Rattle.cl_forms.specs.Outer.{Outer}
 use Rattle.cl_forms.specs.declared.outer.DeclarationKind.{DeclarationKind}
-use Rattle.cl_forms.specs.declared.outer.DeclarationKind.TheVariants.{Record, PresentationType, HostType, PresentMethod, AcceptMethod, Function, Display, Command, Frame}
+use Rattle.cl_forms.specs.declared.outer.DeclarationKind.TheVariants.{Record, PresentationType, HostType, PresentMethod, AcceptMethod, Function, Display, CommandTable, Command, Frame}
 use Rattle.cl_forms.specs.declared.outer.OuterKind.{OuterKind}
 use Rattle.cl_forms.specs.declared.outer.OuterKind.TheVariants.{Declared, Planned, Unknown, Headless}
 use Rattle.cl_words.specs.declared.signatures.Signatures.{Signatures}
 use Rattle.cl_expressions.specs.Load.{Load, ◌>>=◌, give, refuse}
 use Rattle.cl_declare.specs.Callees.{parse_record, parse_function, parse_display}
+use Rattle.cl_declare.specs.CommandTables.{parse_table}
 use Rattle.cl_declare.specs.Commands.{parse_command}
 use Rattle.cl_declare.specs.Methods.{parse_method}
 use Rattle.cl_declare.specs.Sections.{parse_frame}
@@ -26,6 +27,7 @@ parse_declared w PresentMethod at parts s = parse_method w at parts >>= λ d. gi
 parse_declared w AcceptMethod at parts s = parse_method w at parts >>= λ d. give (record s { accept_methods = with_first (λ e. e.name) s.accept_methods d })
 parse_declared w Function at parts s = parse_function w at parts >>= λ d. give (record s { functions = with_first (λ e. e.name) s.functions d })
 parse_declared w Display at parts s = parse_display w at parts >>= λ d. give (record s { displays = with_first (λ e. e.name) s.displays d })
+parse_declared w CommandTable at parts s = parse_table w at parts >>= λ d. give (record s { tables = with_first (λ e. e.name) s.tables d })
 parse_declared w Command at parts s = parse_command w at parts >>= λ d. give (record s { commands = with_first (λ e. e.name) s.commands d })
 parse_declared w Frame at parts s = parse_frame w at parts >>= λ d. give (record s { frames = s.frames ++ d ∷ [] })
 
@@ -44,7 +46,7 @@ parse_each_declaration w [] s = give s
 parse_each_declaration w (o ∷ os) s = parse_declaration w o s >>= λ t. parse_each_declaration w os t
 
 abbrev pub nothing_declared : Declarations
-nothing_declared = record { records = []; types = []; hosts = []; present_methods = []; accept_methods = []; functions = []; displays = []; commands = []; frames = [] }
+nothing_declared = record { records = []; types = []; hosts = []; present_methods = []; accept_methods = []; functions = []; displays = []; tables = []; commands = []; frames = [] }
 
 -- what the outermost forms of a text declare
 abbrev pub parse_declarations : Signatures → List Outer → Load Declarations

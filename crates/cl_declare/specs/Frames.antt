@@ -7,6 +7,8 @@ use Rattle.cl_forms.specs.declared.keys.Key.{Key}
 use Rattle.cl_forms.specs.declared.keys.Key.TheVariants as key
 use Rattle.cl_words.specs.Signatures.{display_in}
 use Rattle.cl_words.specs.declared.signatures.Signatures.{Signatures}
+use Rattle.cl_declare.specs.CommandTables.{table_or_global}
+use Rattle.cl_declare.specs.TypeShapes.{name_behind}
 use Rattle.cl_declare.specs.declared.frames.FrameShape.{FrameShape}
 use Rattle.cl_declare.specs.declared.pane_forms.PaneForm.{PaneForm}
 use Rattle.cl_declare.specs.declared.frames.Place.{Place}
@@ -89,11 +91,12 @@ abbrev pub some_panes : Signatures → List Datum → Option (List PaneForm)
 some_panes w [] = None
 some_panes w (d ∷ ds) = all_panes w (d ∷ ds)
 
-abbrev pub shape_of : Option (List ℕ) → Option Size → Option (List PaneForm) → Option FrameShape
-shape_of (Some x) (Some s) (Some ps) = Some (record { name = x; size = s; panes = ps })
-shape_of (Some x) (Some s) None = None
-shape_of (Some x) None panes = None
-shape_of None size panes = None
+abbrev pub shape_of : Option (List ℕ) → Option Size → Option (List PaneForm) → Option (Option (List ℕ)) → Option FrameShape
+shape_of (Some x) (Some s) (Some ps) (Some table) = Some (record { name = x; size = s; panes = ps; table = table_or_global table })
+shape_of (Some x) (Some s) (Some ps) None = None
+shape_of (Some x) (Some s) None table = None
+shape_of (Some x) None panes table = None
+shape_of None size panes table = None
 
 abbrev pub or_nothing : Option (List Datum) → List Datum
 or_nothing None = []
@@ -103,9 +106,9 @@ or_nothing (Some ds) = ds
 abbrev pub behind : Key → List Keyed → List Datum
 behind k ks = or_nothing (values_of k ks)
 
--- the name, the size and the panes; None where the frame is wrong by itself
+-- the name, the size, the panes and the command table; None where the frame is wrong by itself
 abbrev pub frame_shape : Signatures → Datum → List Keyed → Option FrameShape
 frame_shape w n ks =
     if are_slots (behind key.Slots ks)
-    then shape_of (name_in n) (size_in (behind key.Size ks)) (some_panes w (behind key.Panes ks))
+    then shape_of (name_in n) (size_in (behind key.Size ks)) (some_panes w (behind key.Panes ks)) (name_behind (values_of key.CommandTable ks))
     else None

@@ -3,8 +3,9 @@ pub mod Callees
 pub mod TypeShapes
 pub mod Types
 pub mod Methods
+pub mod CommandTables
+pub mod CommandShapes
 pub mod Commands
-pub mod CommandView
 pub mod Frames
 pub mod Sections
 pub mod Declarations

@@ -1,4 +1,4 @@
--- The sections of a frame in the order of the text: types and opening values of slots, the names of displays, and what is not built yet.
+-- The sections of a frame in the order of the text: types and opening values of slots, the names of displays and of the command table.
 use Rattle.std.specs.Prelude.{ℕ, is_some, List, [], ◌∷◌, Option, Some, None}
 use Rattle.cl_table.specs.Names.{with_first}
 use Rattle.cl_forms.specs.Datum.{Datum, parts_of, offset}
@@ -11,6 +11,7 @@ use Rattle.cl_expressions.specs.Load.{Load, ◌>>=◌, give, refuse, noted}
 use Rattle.cl_expressions.specs.Expressions.{parse_expression}
 use Rattle.cl_bodies.specs.Specifiers.{parse_type}
 use Rattle.cl_application.specs.declared.declarations.SlotDecl.{SlotDecl}
+use Rattle.cl_declare.specs.CommandTables.{note_tables}
 use Rattle.cl_declare.specs.Frames.{frame_keys, frame_shape}
 use Rattle.cl_declare.specs.declared.frames.FrameForm.{FrameForm}
 use Rattle.cl_declare.specs.declared.frames.FrameShape.{FrameShape}
@@ -46,7 +47,7 @@ abbrev pub parse_section : Signatures → Keyed → SlotTable → Load SlotTable
 parse_section w k slots = elim k.key [
   | key.Slots ↦ parse_slots w k.values slots
   | key.Panes ↦ note_panes w k.values >>= λ u. give slots
-  | key.CommandTable ↦ refuse 0 k.at
+  | key.CommandTable ↦ note_tables w k.values >>= λ u. give slots
   | key.Size ↦ give slots
   | key.Name ↦ give slots
   | key.Keystroke ↦ give slots
@@ -55,6 +56,8 @@ parse_section w k slots = elim k.key [
   | key.Description ↦ give slots
   | key.Separator ↦ give slots
   | key.SingleBox ↦ give slots
+  | key.Default ↦ give slots
+  | key.Prompt ↦ give slots
 ]
 
 abbrev pub parse_sections : Signatures → List Keyed → SlotTable → Load SlotTable
@@ -62,7 +65,7 @@ parse_sections w [] slots = give slots
 parse_sections w (k ∷ ks) slots = parse_section w k slots >>= λ more. parse_sections w ks more
 
 abbrev pub frame_of : FrameShape → SlotTable → ℕ → FrameForm
-frame_of f slots at = record { name = f.name; width = f.size.width; height = f.size.height; slots = slots; panes = f.panes; at = at }
+frame_of f slots at = record { name = f.name; width = f.size.width; height = f.size.height; slots = slots; panes = f.panes; table = f.table; at = at }
 
 abbrev pub parse_shaped : Signatures → ℕ → List Keyed → Option FrameShape → Load FrameForm
 parse_shaped w at ks None = refuse 6 at

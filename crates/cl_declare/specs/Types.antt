@@ -48,6 +48,8 @@ parse_type_key w ps k i = elim k.key [
   | key.Description ↦ give i
   | key.Separator ↦ give i
   | key.SingleBox ↦ give i
+  | key.Default ↦ give i
+  | key.Prompt ↦ give i
 ]
 
 abbrev pub parse_type_keys : Signatures → Names → List Keyed → Inherited → Load Inherited

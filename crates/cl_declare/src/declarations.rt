@@ -7,12 +7,13 @@ ghost use Rattle.cl_declare.specs.Declarations.{parse_declared, parse_kind, pars
 ghost use Rattle.cl_expressions.specs.Leaves.{Leaves};
 
 use crate::callees::{parse_display, parse_function, parse_record};
+use crate::command_tables::parse_table;
 use crate::commands::parse_command;
 use crate::in_order::FrameForms;
 use crate::methods::parse_method;
 use crate::sections::parse_frame;
 use crate::types::{parse_host_type, parse_user_type};
-use cl_application::{Commands, Displays, Functions, HostDecls, Methods};
+use cl_application::{Commands, Displays, Functions, HostDecls, Methods, TableDecls};
 use cl_expressions::{Notes, Reader};
 use cl_forms::{Datum, DeclarationKind, LoadRefusal, Outer, OuterKind};
 use cl_syntax::{Records, UserTypes};
@@ -27,6 +28,7 @@ pub struct Declarations {
     pub accept_methods: Methods,
     pub functions: Functions,
     pub displays: Displays,
+    pub tables: TableDecls,
     pub commands: Commands,
     pub frames: FrameForms,
 }
@@ -49,6 +51,7 @@ pub fn parse_declarations(
         accept_methods: Methods::new(reader.alloc),
         functions: Functions::new(reader.alloc),
         displays: Displays::new(reader.alloc),
+        tables: TableDecls::new(reader.alloc),
         commands: Commands::new(reader.alloc),
         frames: FrameForms::new(reader.alloc),
     };
@@ -118,6 +121,10 @@ fn parse_declared(
         DeclarationKind::Display => {
             let display = parse_display(reader, at, parts, notes)?;
             declarations.displays.add_first(display)?
+        }
+        DeclarationKind::CommandTable => {
+            let table = parse_table(reader, at, parts, notes)?;
+            declarations.tables.add_first(table)?
         }
         DeclarationKind::Command => {
             let command = parse_command(reader, at, parts, notes)?;

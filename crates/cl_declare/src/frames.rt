@@ -5,7 +5,9 @@ ghost use Rattle.cl_forms.specs.DatumView.{datum_of};
 ghost use Rattle.cl_forms.specs.KeyedView.{keyed_of};
 ghost use Rattle.cl_declare.specs.Frames.{number_in, size_in, is_slot, are_slots, takes_none, place_in, pane_of, pane_listed, some_panes, behind, frame_shape};
 
+use crate::command_tables::table_or_global;
 use crate::pane_forms::{PaneForm, PaneForms};
+use crate::type_shapes::name_behind;
 use cl_application::SlotDecls;
 use cl_forms::{Datum, Key, Keyed, fits, name_in, values_of};
 use cl_value::Text;
@@ -23,6 +25,7 @@ pub struct FrameForm {
     pub height: i64,
     pub slots: SlotDecls,
     pub panes: PaneForms,
+    pub table: Text,
     pub at: u32,
 }
 
@@ -48,9 +51,10 @@ pub struct FrameShape {
     pub name: Text,
     pub size: Size,
     pub panes: PaneForms,
+    pub table: Text,
 }
 
-/// The name, the size and the panes of a frame; None where the frame is wrong by itself.
+/// The name, the size, the panes and the command table of a frame; None where the frame is wrong by itself.
 pub fn frame_shape(
     alloc: Global,
     signatures: &Signatures,
@@ -72,12 +76,21 @@ pub fn frame_shape(
     let Some(panes) = some_panes(alloc, signatures, behind(Key::Panes, sections))? else {
         return Ok(None);
     };
+    let Some(table) = name_behind(values_of(Key::CommandTable, sections)) else {
+        return Ok(None);
+    };
+    let table = table_or_global(alloc, table)?;
     let name = name.copy()?;
-    Ok(Some(FrameShape { name, size, panes }))
+    Ok(Some(FrameShape {
+        name,
+        size,
+        panes,
+        table,
+    }))
 }
 
 /// What stands behind a key; nothing where the frame has no such section.
-fn behind<'a>(key: Key, sections: &[Keyed<'a>]) -> &'a [Datum]
+pub fn behind<'a>(key: Key, sections: &[Keyed<'a>]) -> &'a [Datum]
     ensures { map datum_of result.now ≡ behind key (map keyed_of sections.now) }
 {
     match values_of(key, sections) {

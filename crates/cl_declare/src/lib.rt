@@ -1,8 +1,10 @@
-//! What the declarations of an application text say: types and their methods, functions, displays, commands
-//! and frames, with their exact refusals. Begin with `specs/Declarations.antt`.
+//! What the declarations of an application text say: types and their methods, functions, displays, command
+//! tables, commands and frames, with their exact refusals. Begin with `specs/Declarations.antt`.
 #![tactic(auto)]
 
 mod callees;
+mod command_shapes;
+mod command_tables;
 mod commands;
 mod declarations;
 mod frames;

@@ -8,6 +8,7 @@ ghost use Rattle.cl_expressions.specs.Load.{Gives, Notes as Noted, itself};
 ghost use Rattle.cl_expressions.specs.Leaves.{Leaves, LeavesNotes};
 ghost use Rattle.cl_declare.specs.Sections.{parse_slot, parse_slots, note_display, note_pane, note_panes, parse_section, parse_sections, parse_frame};
 
+use crate::command_tables::note_tables;
 use crate::frames::{FRAME_KEYS, FrameForm, frame_shape};
 use cl_application::{SlotDecl, SlotDecls};
 use cl_bodies::parse_type;
@@ -43,6 +44,7 @@ pub fn parse_frame(
         height: shape.size.height,
         slots,
         panes: shape.panes,
+        table: shape.table,
         at,
     })
 }
@@ -78,7 +80,10 @@ fn parse_section(
             note_panes(reader, section.values, notes);
             Ok(())
         }
-        Key::CommandTable => Err(LoadRefusal::Refused(0, section.at)),
+        Key::CommandTable => {
+            note_tables(reader, section.values, notes);
+            Ok(())
+        }
         Key::Size => Ok(()),
         Key::Name => Ok(()),
         Key::Keystroke => Ok(()),
@@ -87,6 +92,8 @@ fn parse_section(
         Key::Description => Ok(()),
         Key::Separator => Ok(()),
         Key::SingleBox => Ok(()),
+        Key::Default => Ok(()),
+        Key::Prompt => Ok(()),
     }
 }
 

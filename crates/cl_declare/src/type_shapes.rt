@@ -89,7 +89,7 @@ pub fn name_alone(parts: &[Datum]) -> Option<&Text>
 }
 
 /// The name behind a key, where the key stands; None where something else stands behind it.
-fn name_behind<'a>(values: Option<&'a [Datum]>) -> Option<Option<&'a Text>>
+pub fn name_behind<'a>(values: Option<&'a [Datum]>) -> Option<Option<&'a Text>>
     ensures { option_map (λ o. option_map (λ n. n.now) o) result
         ≡ name_behind (option_map (λ v. map datum_of v.now) values.entry) }
 {

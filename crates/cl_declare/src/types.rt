@@ -107,6 +107,8 @@ fn parse_type_key(
         Key::Description => Ok(()),
         Key::Separator => Ok(()),
         Key::SingleBox => Ok(()),
+        Key::Default => Ok(()),
+        Key::Prompt => Ok(()),
     }
 }
 

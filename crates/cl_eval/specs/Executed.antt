@@ -20,23 +20,23 @@ Decides held.Memory b = Unit {0}
 
 -- no statement was run yet
 abbrev pub no_effects : Slots → Effects
-no_effects slots = record { slots = slots; replies = []; reply_bytes = 0 }
+no_effects slots = record { slots = slots; replies = []; reply_bytes = 0; switches = [] }
 
 -- a body of statements, from no cost
 unfoldable pub outcome_of_exec : Limits → App → Member → List ActTree → Env → Slots → Outcome Effects
 outcome_of_exec limits app member body env slots =
     in_turn (does limits.depth limits.budget app member) 0 env (act_trees_of body) (no_effects slots) 0 0
 
--- the slots and the replies of an end without a trap, or the trap's kind; each with the cost
+-- the effects of an end without a trap, or the trap's kind; each with the cost
 abbrev pub Executes : Executed → Outcome Effects → Type 0
-Executes (executed.Done s lines cost) (Gives e c deepest) = (s ≡ e.slots) × (lines ≡ e.replies) × (cost ≡ c)
-Executes (executed.Done s lines cost) (Traps kind c deepest) = ⊥
+Executes (executed.Done s cost) (Gives e c deepest) = (s ≡ e) × (cost ≡ c)
+Executes (executed.Done s cost) (Traps kind c deepest) = ⊥
 Executes (executed.Trap k cost) (Gives e c deepest) = ⊥
 Executes (executed.Trap k cost) (Traps kind c deepest) = (k ≡ kind) × (cost ≡ c)
 Executes executed.Memory o = Unit {0}
 
 -- whether an answer is out of memory
 abbrev pub met_memory : Executed → Bool
-met_memory (executed.Done s lines cost) = false
+met_memory (executed.Done s cost) = false
 met_memory (executed.Trap k cost) = false
 met_memory executed.Memory = true

@@ -36,6 +36,10 @@ abbrev pub reply_with : Effects → Data → Result Effects ℕ
 reply_with s (text t) = if nat_le (s.reply_bytes + length t) MAX_REPLY_BYTES then Ok (add_reply t s) else Err 7
 reply_with s d = Err 1
 
+-- one command more that is switched on or off
+abbrev pub add_switch : List ℕ → Bool → Effects → Effects
+add_switch x on s = record s { switches = s.switches ++ (x, on) ∷ [] }
+
 -- statements in order, each from the effects of the ones before it
 abbrev pub in_turn : Does → ℕ → Env → ActTrees → Effects → Run Effects
 in_turn go level env none s = give s
@@ -54,6 +58,7 @@ acts_in value go level bs body env s = bind_each value level bs env >>= λ inner
 abbrev pub act_parts : App → Member → (Slots → Go) → Does → ℕ → Env → ActTree → Effects → Run Effects
 act_parts app member value go level env (act.Setf x t) s = value s.slots level env t >>= λ d. lift (assigned member x (slot_type x app) s d)
 act_parts app member value go level env (act.Reply t) s = value s.slots level env t >>= λ d. lift (reply_with s d)
+act_parts app member value go level env (act.Switch x on) s = give (add_switch x on s)
 act_parts app member value go level env (act.If t a b) s =
     truth_of (value s.slots) level env t >>= λ yes. if yes then go level env a s else go level env b s
 act_parts app member value go level env (act.When t body) s =

@@ -1,5 +1,5 @@
--- What the types of an application say of values: which are members of a type, and what their texts are.
-use Rattle.std.specs.Prelude.{◌≡◌, ◌≤◌, ℕ, List, [], ◌∷◌, Some}
+-- What the types of an application say of values: which are members of a type, what their texts are, and what texts read as.
+use Rattle.std.specs.Prelude.{◌≡◌, ◌≤◌, ℕ, true, List, [], ◌∷◌, Option, Some}
 use Rattle.cl_value.specs.Data.{Data, text}
 use Rattle.cl_syntax.specs.TypeSpecTree.{TypeSpecTree}
 use Rattle.cl_application.specs.App.{present_method}
@@ -14,6 +14,10 @@ use Rattle.cl_eval.specs.Uses.{AgreeOn}
 -- the text of a value by a type, on slots and under limits: the value that it is with its cost and its reach, or a trap
 abbrev pub Presents : Type 0
 Presents = Limits → Slots → TypeSpecTree → Data → Outcome Data
+
+-- the object that a text reads as by a type, on slots; none where it reads as nothing, or an accept method ends with a trap
+abbrev pub Reads : Type 0
+Reads = Slots → TypeSpecTree → List ℕ → Option Data
 
 pub record TypeMeanings : Type 0 where
   pub holds : Member
@@ -43,3 +47,9 @@ pub record AreTexts (app : App) (presents : Presents) : Type 0 where
       → presents wider slots s d ≡ Gives x cost reach
   pub sees : (limits : Limits) (slots other : Slots) → AgreeInMethods app slots other → (s : TypeSpecTree) (d : Data)
       → presents limits slots s d ≡ presents limits other s d
+
+-- ---- what reading keeps to
+
+-- what a text reads as is a member of the type
+abbrev pub AreObjects : Member → Reads → Type 0
+AreObjects holds reads = (slots : Slots) (s : TypeSpecTree) (x : List ℕ) (d : Data) → reads slots s x ≡ Some d → holds d s ≡ true

@@ -3,7 +3,7 @@ ghost use Rattle.std.specs.Prelude.{◌≡◌, Ok, IfOk, [], ◌∷◌, ◌++◌
 ghost use Rattle.cl_value.specs.Value.{data_of};
 ghost use Rattle.cl_eval.specs.Agrees.{Comes, always};
 ghost use Rattle.cl_eval.specs.Executed.{no_effects};
-ghost use Rattle.cl_eval.specs.Statements.{reply_with};
+ghost use Rattle.cl_eval.specs.Statements.{add_switch, reply_with};
 
 use crate::metering::Stop;
 use crate::slot_table::Slots;
@@ -55,12 +55,55 @@ impl Lines {
     }
 }
 
-/// What statements did so far: the slots as they are now, the texts of the replies, and how many bytes these have together.
+/// Commands switched on or off in a row, which contracts see as their list.
+#[derive(Drop)]
+pub struct Switches {
+    items: Vec<(Text, bool)>,
+}
+
+impl Model for Switches {
+    ghost use Rattle.std.specs.Prelude.{ℕ, Bool, List};
+
+    ghost Value = { List (List ℕ × Bool) };
+
+    ghost view = { λ s. s.items.items };
+}
+
+impl Switches {
+    /// No switch.
+    pub fn new(alloc: Global) -> Switches
+        ensures { result ≡ [] }
+    {
+        Switches {
+            items: Vec::new(alloc),
+        }
+    }
+
+    // One command more that is switched on or off, behind the others.
+    fn push(&mut self, command: Text, on: bool) -> Result<(), AllocError>
+        ensures ok { OnOk result (self.new ≡ self.old ++ (command, on) ∷ []) }
+        ensures err { OnErr result (self.new ≡ self.old) }
+    {
+        self.items.push((command, on))?;
+        Ok(())
+    }
+
+    /// The switches in their order.
+    pub fn as_slice(&self) -> &[(Text, bool)]
+        ensures { result.now ≡ self.now }
+    {
+        self.items.as_slice()
+    }
+}
+
+/// What statements did so far: the slots as they are now, the texts of the replies, how many bytes these have together, and
+/// the commands switched on or off.
 #[derive(Drop)]
 pub struct Effects {
     pub slots: Slots,
     pub replies: Lines,
     pub reply_bytes: usize,
+    pub switches: Switches,
 }
 
 impl Effects {
@@ -72,6 +115,7 @@ impl Effects {
             slots: slots.copy(alloc)?,
             replies: Lines::new(alloc),
             reply_bytes: 0,
+            switches: Switches::new(alloc),
         })
     }
 }
@@ -91,5 +135,13 @@ pub fn reply(effects: &mut Effects, value: Value) -> Result<(), Stop>
     }
     effects.replies.push(text)?;
     effects.reply_bytes += length;
+    Ok(())
+}
+
+/// One command more that is switched on or off.
+pub fn switch(effects: &mut Effects, command: &Text, on: bool) -> Result<(), Stop>
+    ensures { Comes (always effects.new) result (Ok (add_switch command.now on effects.old)) }
+{
+    effects.switches.push(command.copy()?, on)?;
     Ok(())
 }

@@ -10,7 +10,7 @@ ghost use Rattle.cl_eval.specs.Stage.{doing_on, meaning_on, played_on};
 ghost use Rattle.cl_eval.specs.Agrees.{Agrees, always, itself};
 ghost use Rattle.cl_eval.specs.Executed.{Executes, met_memory, outcome_of_exec};
 
-use crate::effects::{Effects, Lines, reply};
+use crate::effects::{Effects, reply, switch};
 use crate::metering::{Meter, Stop};
 use crate::programs::{Program, Stage, assign, frame_of, is_true, list_of, value_of};
 use crate::slot_table::Slots;
@@ -23,8 +23,8 @@ use cl_value::{Text, Value};
 /// What the statements of a command come to.
 #[derive(Drop)]
 pub enum Executed {
-    /// The slots that they leave, the texts of their replies, and the cost.
-    Done(Slots, Lines, u64),
+    /// What they did, and the cost.
+    Done(Effects, u64),
     /// The kind of their trap, and the cost up to it.
     Trap(u8, u64),
     /// There was no memory.
@@ -67,7 +67,7 @@ pub fn exec<T: Types, L: Ledger>(
         &mut meter,
         steps,
     ) {
-        Ok(()) => Executed::Done(effects.slots, effects.replies, meter.cost),
+        Ok(()) => Executed::Done(effects, meter.cost),
         Err(Stop::Trap(kind)) => Executed::Trap(kind, meter.cost),
         Err(Stop::Memory) => Executed::Memory,
     }
@@ -121,6 +121,7 @@ fn act_parts<T: Types, L: Ledger>(
             let text = value_of(here, text, &effects.slots, meter, steps)?;
             reply(effects, text)
         }
+        ActKind::Switch(command, on) => switch(effects, command, *on),
         ActKind::If(choice) => {
             if is_true(here, &choice.test, &effects.slots, meter, steps)? {
                 act(here, &choice.then, effects, meter, steps)

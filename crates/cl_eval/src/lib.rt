@@ -22,7 +22,7 @@ mod types;
 mod variables;
 
 pub use bindings::evaluate_bindings;
-pub use effects::{Effects, Lines};
+pub use effects::{Effects, Lines, Switches};
 pub use evaluating::{Evaluated, eval};
 pub use evaluation::{Context, Standpoint, evaluate, evaluate_each, evaluate_list, evaluate_test};
 pub use execution::{Executed, exec};

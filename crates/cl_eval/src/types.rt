@@ -1,5 +1,5 @@
 //! What an application's types say of values.
-ghost use Rattle.std.specs.Prelude.{◌≤◌};
+ghost use Rattle.std.specs.Prelude.{◌≡◌, ◌≤◌, IfOk, option_map};
 ghost use Rattle.cl_value.specs.Value.{data_of};
 ghost use Rattle.cl_eval.specs.Outcome.{RisesBy, cost_of};
 ghost use Rattle.cl_eval.specs.Evaluated.{Evaluates, met_memory};
@@ -11,13 +11,14 @@ use crate::slot_table::Slots;
 use cl_outside::{Ledger, Steps};
 use cl_syntax::TypeSpec;
 use cl_value::{Held, Value};
+use std::alloc::AllocError;
 
 /// The types of an application. Which values are members of a type depends on the value and the type alone. The laws say what
-/// the texts of values keep to.
+/// the texts of values keep to, and that what a text reads as is a member.
 pub trait Types {
     ghost use Rattle.cl_application.specs.declared.applications.App.{App};
     ghost use Rattle.cl_eval.specs.Statements.{Member};
-    ghost use Rattle.cl_eval.specs.TypeMeanings.{AreTexts, Presents};
+    ghost use Rattle.cl_eval.specs.TypeMeanings.{AreObjects, AreTexts, Presents, Reads};
 
     // the application that declares them
     ghost app: { Self → App };
@@ -27,6 +28,9 @@ pub trait Types {
 
     // the text of a value by a type, on these slots
     ghost presents: { Self → Presents };
+
+    // the object that a text reads as by a type, on these slots
+    ghost reads: { Self → Reads };
 
     /// Whether a value is a member of a type, as far as there is memory to find it.
     fn member(&self, value: &Value, spec: &TypeSpec) -> Held
@@ -48,5 +52,12 @@ pub trait Types {
         ensures ledger { RisesBy (met_memory result) steps.old steps.new
             (cost_of (presents self.now limits slots.now spec.now (data_of value.now))) };
 
+    /// The object that a text reads as by a type, on these slots; None where it reads as nothing, or an accept method ends with a
+    /// trap.
+    fn read(&self, text: &[u8], spec: &TypeSpec, slots: &Slots) -> Result<Option<Value>, AllocError>
+        ensures { IfOk result (λ o. option_map data_of o ≡ reads self.now slots.now spec.now text.now) };
+
     ghost are_texts: { (t : Self) → AreTexts (app t) (presents t) };
+
+    ghost are_objects: { (t : Self) → AreObjects (holds t) (reads t) };
 }

@@ -1,51 +1,26 @@
 -- The faults of a declaration stand in it.
-use Rattle.std.proofs.Common.{inr, ℕ, Bool, true, false, ◌&&◌, is_some, if◌then◌else◌, List, [], ◌∷◌, refl}
+use Rattle.std.proofs.Common.{ℕ, Bool, true, false, ◌&&◌, is_some, if◌then◌else◌, List, [], ◌∷◌, refl}
 use Rattle.std.specs.Prelude.{Option, Some, None}
-use Rattle.std.specs.Option.{IfSome}
-use Rattle.cl_forms.specs.Datum.{Datum, number, literal, word, quoted, stray, list, in_order, parts_of, offset, datums_of}
-use Rattle.cl_forms.specs.Keys.{Keyed, keyed_pairs}
+use Rattle.cl_forms.specs.Datum.{Datum, word, parts_of, offset, datums_of}
 use Rattle.cl_forms.specs.Naming.{are_names, name_in}
 use Rattle.cl_forms.specs.Outer.{declaration_named, is_planned, kind_or, kind_named, outer_listed, outer_in}
 use Rattle.cl_forms.specs.declared.outer.DeclarationKind.{DeclarationKind}
-use Rattle.cl_forms.specs.declared.outer.DeclarationKind.TheVariants.{Record, PresentationType, HostType, PresentMethod, AcceptMethod, Function, Display, Command, Frame}
+use Rattle.cl_forms.specs.declared.outer.DeclarationKind.TheVariants.{Record, PresentationType, HostType, PresentMethod, AcceptMethod, Function, Display, CommandTable, Command}
+use Rattle.cl_forms.specs.declared.outer.DeclarationKind.TheVariants.{Frame}
 use Rattle.cl_forms.specs.declared.outer.OuterKind.{OuterKind}
 use Rattle.cl_forms.specs.declared.outer.OuterKind.TheVariants.{Planned, Unknown}
 use Rattle.cl_words.specs.declared.signatures.Signatures.{Signatures}
 use Rattle.cl_declare.specs.Callees.{parse_record, parse_function, parse_display}
-use Rattle.cl_declare.specs.Commands.{CommandHead, command_keys, head_of, listed_head, command_head, no_arguments, parse_headed, parse_command}
 use Rattle.cl_declare.specs.Declarations.{parse_declared, parse_kind, parse_declaration}
-use Rattle.cl_declare.specs.Names.{is_list, is_name_list, variables_in}
+use Rattle.cl_declare.specs.Names.{is_name_list, variables_in}
 use Rattle.cl_declare.specs.declared.declarations.Declarations.{Declarations}
 use Rattle.cl_faults.proofs.FaultLemmas.{FaultsAt, gives, refuses, binds, chooses}
 use Rattle.cl_faults.proofs.ExpressionFaults.{Covers, covers_offset, expr_faults}
-use Rattle.cl_faults.proofs.DataFaults.{CoversEach, covers_order, covers_parts, covers_datums}
+use Rattle.cl_faults.proofs.DataFaults.{CoversEach, covers_parts, covers_datums}
 use Rattle.cl_faults.proofs.DisplayFaults.{shapes_faults}
-use Rattle.cl_faults.proofs.StatementFaults.{acts_faults}
-use Rattle.cl_faults.proofs.KeyFaults.{CoversKeys, pairs_covered, keys_faults}
+use Rattle.cl_faults.proofs.CommandFaults.{command_table_faults, command_faults}
 use Rattle.cl_faults.proofs.FrameFaults.{frame_faults}
 use Rattle.cl_faults.proofs.UserTypeFaults.{user_type_faults, host_type_faults, method_faults}
-
--- ---- the keys of a command
-
-module _ (P : ℕ → Type 0) where
-  head_covered : (name : Option (List ℕ)) (ks : Option (List Keyed)) → IfSome ks (CoversKeys P)
-      → IfSome (head_of name ks) (λ h. CoversKeys P h.keys)
-  head_covered (Some x) (Some ks) c = c
-  head_covered (Some x) None c = tt
-  head_covered None ks c = tt
-
-  listed_covered : (ds : List Datum) → CoversEach P ds → IfSome (listed_head ds) (λ h. CoversKeys P h.keys)
-  listed_covered [] c = tt
-  listed_covered (n ∷ keys) c =
-      head_covered (name_in n) (keyed_pairs command_keys [] keys) (pairs_covered P command_keys [] keys tt c.1)
-
-  command_covered : (d : Datum) → Covers P d → IfSome (command_head d) (λ h. CoversKeys P h.keys)
-  command_covered (list ds at) c = listed_covered (in_order ds) (covers_order ds (λ o s. c o (inr s)))
-  command_covered (word x at) c = head_covered (name_in (word x at)) (Some []) tt
-  command_covered (number z at) c = tt
-  command_covered (literal s at) c = tt
-  command_covered (quoted x at name_at) c = tt
-  command_covered (stray at) c = tt
 
 module _ {P : ℕ → Type 0} where
   -- ---- records, functions and displays
@@ -67,27 +42,6 @@ module _ {P : ℕ → Type 0} where
       chooses (is_some (name_in n) && is_name_list ps)
       (binds (shapes_faults w (datums_of body) (variables_in ps) (covers_datums P body c.1.1)) λ fs. gives) (refuses h)
 
-  -- ---- commands
-
-  arguments_faults : (ds : List Datum) → CoversEach P ds → FaultsAt P (no_arguments ds)
-  arguments_faults [] c = gives
-  arguments_faults (d ∷ ds) c = refuses (covers_offset d c.0)
-
-  headed_faults : (w : Signatures) (at : ℕ) (head : Option CommandHead) (arguments body : List Datum) → P at
-      → IfSome head (λ h. CoversKeys P h.keys) → CoversEach P arguments → CoversEach P body
-      → FaultsAt P (parse_headed w at head arguments body)
-  headed_faults w at None arguments body h c a b = refuses h
-  headed_faults w at (Some head) arguments body h c a b =
-      binds (keys_faults head.keys c) λ u. binds (arguments_faults arguments a) λ v.
-      binds (acts_faults w (datums_of body) [] (covers_datums P body b)) λ acts. gives
-
-  pub command_faults : (w : Signatures) (at : ℕ) (ds : List Datum) → P at → CoversEach P ds → FaultsAt P (parse_command w at ds)
-  command_faults w at [] h c = refuses h
-  command_faults w at (n ∷ []) h c = refuses h
-  command_faults w at (n ∷ arguments ∷ body) h c =
-      chooses (is_list arguments)
-      (headed_faults w at (command_head n) (parts_of arguments) body h (command_covered P n c.0) (covers_parts arguments c.1.0) c.1.1) (refuses h)
-
   -- ---- declarations
 
   declared_faults : (w : Signatures) (kind : DeclarationKind) (at : ℕ) (ds : List Datum) (s : Declarations) → P at → CoversEach P ds
@@ -99,6 +53,7 @@ module _ {P : ℕ → Type 0} where
   declared_faults w AcceptMethod at ds s h c = binds (method_faults w at ds h c) λ d. gives
   declared_faults w Function at ds s h c = binds (function_faults w at ds h c) λ d. gives
   declared_faults w Display at ds s h c = binds (display_faults w at ds h c) λ d. gives
+  declared_faults w CommandTable at ds s h c = binds (command_table_faults w at ds h) λ d. gives
   declared_faults w Command at ds s h c = binds (command_faults w at ds h c) λ d. gives
   declared_faults w Frame at ds s h c = binds (frame_faults w at ds h c) λ d. gives
 

@@ -5,7 +5,8 @@ use Rattle.std.proofs.lemmas.List.Elements.{All-nil, All-cons, All-contains, All
 use Rattle.cl_forms.specs.Datum.{Datum}
 use Rattle.cl_forms.specs.Outer.{outer_in, outers_of}
 use Rattle.cl_forms.specs.declared.outer.DeclarationKind.{DeclarationKind}
-use Rattle.cl_forms.specs.declared.outer.DeclarationKind.TheVariants.{Record, PresentationType, HostType, PresentMethod, AcceptMethod, Function, Display, Command, Frame}
+use Rattle.cl_forms.specs.declared.outer.DeclarationKind.TheVariants.{Record, PresentationType, HostType, PresentMethod, AcceptMethod, Function, Display, CommandTable, Command}
+use Rattle.cl_forms.specs.declared.outer.DeclarationKind.TheVariants.{Frame}
 use Rattle.cl_forms.specs.declared.outer.OuterKind.{OuterKind}
 use Rattle.cl_forms.specs.declared.outer.OuterKind.TheVariants.{Declared, Planned, Unknown, Headless}
 use Rattle.cl_expressions.specs.Load.{Load, Notes, Fault, after, ◌>>=◌, give}
@@ -15,7 +16,8 @@ use Rattle.cl_declare.specs.declared.declarations.Declarations.{Declarations}
 use Rattle.cl_faults.specs.Faults.{StandsIn, IsBefore, AreInOrder, HasFault, IsLeastFault}
 use Rattle.cl_faults.proofs.FaultLemmas.{FaultsAt, outcome}
 use Rattle.cl_faults.proofs.DataFaults.{CoversEach}
-use Rattle.cl_faults.proofs.DeclarationFaults.{record_faults, function_faults, display_faults, command_faults, declaration_faults}
+use Rattle.cl_faults.proofs.DeclarationFaults.{record_faults, function_faults, display_faults, declaration_faults}
+use Rattle.cl_faults.proofs.CommandFaults.{command_table_faults, command_faults}
 use Rattle.cl_faults.proofs.FrameFaults.{frame_faults}
 use Rattle.cl_faults.proofs.UserTypeFaults.{user_type_faults, host_type_faults, method_faults}
 
@@ -79,6 +81,7 @@ declared_same w PresentMethod at ds s t = row_same _ _ (method_faults w at ds tt
 declared_same w AcceptMethod at ds s t = row_same _ _ (method_faults w at ds tt (anywhere ds))
 declared_same w Function at ds s t = row_same _ _ (function_faults w at ds tt (anywhere ds))
 declared_same w Display at ds s t = row_same _ _ (display_faults w at ds tt (anywhere ds))
+declared_same w CommandTable at ds s t = row_same _ _ (command_table_faults w at ds tt)
 declared_same w Command at ds s t = row_same _ _ (command_faults w at ds tt (anywhere ds))
 declared_same w Frame at ds s t = row_same _ _ (frame_faults w at ds tt (anywhere ds))
 

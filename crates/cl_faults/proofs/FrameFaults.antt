@@ -18,6 +18,7 @@ use Rattle.cl_faults.proofs.ExpressionFaults.{expr_faults}
 use Rattle.cl_faults.proofs.DataFaults.{CoversEach, covers_parts}
 use Rattle.cl_faults.proofs.KeyFaults.{CoversKeys, sections_covered}
 use Rattle.cl_faults.proofs.TypeFaults.{type_faults}
+use Rattle.cl_faults.proofs.CommandFaults.{tables_faults}
 
 module _ {P : ℕ → Type 0} where
   slot_faults : (w : Signatures) (at : ℕ) (ds : List Datum) (slots : SlotTable) → CoversEach P ds → FaultsAt P (parse_slot w at ds slots)
@@ -45,7 +46,7 @@ module _ {P : ℕ → Type 0} where
       → FaultsAt P (parse_section w (record { key = k; at = at; values = ds }) slots)
   section_faults w key.Slots at ds slots h c = slots_faults w ds slots c
   section_faults w key.Panes at ds slots h c = binds (panes_faults w ds) λ u. gives
-  section_faults w key.CommandTable at ds slots h c = refuses h
+  section_faults w key.CommandTable at ds slots h c = binds (tables_faults w ds) λ u. gives
   section_faults w key.Size at ds slots h c = gives
   section_faults w key.Name at ds slots h c = gives
   section_faults w key.Keystroke at ds slots h c = gives
@@ -54,6 +55,8 @@ module _ {P : ℕ → Type 0} where
   section_faults w key.Description at ds slots h c = gives
   section_faults w key.Separator at ds slots h c = gives
   section_faults w key.SingleBox at ds slots h c = gives
+  section_faults w key.Default at ds slots h c = gives
+  section_faults w key.Prompt at ds slots h c = gives
 
   sections_faults : (w : Signatures) (ks : List Keyed) (slots : SlotTable) → CoversKeys P ks → FaultsAt P (parse_sections w ks slots)
   sections_faults w [] slots c = gives

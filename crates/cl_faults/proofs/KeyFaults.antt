@@ -3,10 +3,8 @@ use Rattle.std.proofs.Common.{ℕ, Bool, true, false, if◌then◌else◌, List,
 use Rattle.std.specs.Prelude.{Option, Some, None, option_and_then}
 use Rattle.std.specs.Option.{IfSome}
 use Rattle.cl_forms.specs.Datum.{Datum, offset, parts_of}
-use Rattle.cl_forms.specs.Keys.{Keyed, has_key, key_in, keyed_as, section_of, section_in, pair_in, with_keyed, keyed_sections, keyed_pairs}
+use Rattle.cl_forms.specs.Keys.{Keyed, same_key, has_key, values_of, key_in, keyed_as, section_of, section_in, pair_in, with_keyed, keyed_sections, keyed_pairs}
 use Rattle.cl_forms.specs.declared.keys.Key.{Key}
-use Rattle.cl_bodies.specs.PlannedKeys.{no_keys}
-use Rattle.cl_faults.proofs.FaultLemmas.{FaultsAt, gives, refuses}
 use Rattle.cl_faults.proofs.ExpressionFaults.{Covers, covers_offset}
 use Rattle.cl_faults.proofs.DataFaults.{CoversEach, covers_parts}
 
@@ -65,7 +63,13 @@ module _ (P : ℕ → Type 0) where
       then_covered (λ more. keyed_pairs may_have more ds) (with_keyed (pair_in may_have d e) so_far)
       (with_covered (pair_in may_have d e) so_far (pair_covered may_have d e c.0 c.1.0) h) (λ more k. pairs_covered may_have more ds k c.1.1)
 
--- keys that are not built yet
-pub keys_faults : {P : ℕ → Type 0} (ks : List Keyed) → CoversKeys P ks → FaultsAt P (no_keys ks)
-keys_faults [] c = gives
-keys_faults (k ∷ ks) c = refuses c.0.0
+  -- ---- what stands behind one of the keys
+
+  first_covered : (b : Bool) (vs : List Datum) (o : Option (List Datum)) → CoversEach P vs → IfSome o (CoversEach P)
+      → IfSome (if b then Some vs else o) (CoversEach P)
+  first_covered true vs o c h = c
+  first_covered false vs o c h = h
+
+  pub values_covered : (j : Key) (ks : List Keyed) → CoversKeys P ks → IfSome (values_of j ks) (CoversEach P)
+  values_covered j [] c = tt
+  values_covered j (k ∷ ks) c = first_covered (same_key j k.key) k.values (values_of j ks) c.0.1 (values_covered j ks c.1)

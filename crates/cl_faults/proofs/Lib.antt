@@ -6,6 +6,7 @@ pub mod DisplayFaults
 pub mod StatementFaults
 pub mod TypeFaults
 pub mod KeyFaults
+pub mod CommandFaults
 pub mod FrameFaults
 pub mod UserTypeFaults
 pub mod DeclarationFaults

@@ -55,6 +55,8 @@ module _ {P : ℕ → Type 0} where
   type_key_faults w ps key.Description at ds i c = gives
   type_key_faults w ps key.Separator at ds i c = gives
   type_key_faults w ps key.SingleBox at ds i c = gives
+  type_key_faults w ps key.Default at ds i c = gives
+  type_key_faults w ps key.Prompt at ds i c = gives
 
   type_keys_faults : (w : Signatures) (ps : Names) (ks : List Keyed) (i : Inherited) → CoversKeys P ks → FaultsAt P (parse_type_keys w ps ks i)
   type_keys_faults w ps [] i c = gives

@@ -6,7 +6,7 @@ use denote.Enum.Bare.{sameb}
 use Rattle.cl_forms.specs.Datum.{Datum, offset, parts_of}
 use Rattle.cl_forms.specs.Naming.{symbol_of}
 use Rattle.cl_forms.specs.declared.keys.Key.{Key}
-use Rattle.cl_forms.specs.declared.keys.Key.TheVariants.{Size, Slots, Panes, CommandTable, Name, Keystroke, InheritFrom, Satisfies, Description, Separator, SingleBox}
+use Rattle.cl_forms.specs.declared.keys.Key.TheVariants.{Size, Slots, Panes, CommandTable, Name, Keystroke, InheritFrom, Satisfies, Description, Separator, SingleBox, Default, Prompt}
 use Rattle.cl_forms.specs.contracts.keys.Key.{the_type}
 
 -- a key with its offset and what stands behind it
@@ -32,7 +32,9 @@ value_key word =
     else (if bytes_eq word (codes ":satisfies") then Some Satisfies
     else (if bytes_eq word (codes ":description") then Some Description
     else (if bytes_eq word (codes ":separator") then Some Separator
-    else (if bytes_eq word (codes ":single-box") then Some SingleBox else None))))))
+    else (if bytes_eq word (codes ":single-box") then Some SingleBox
+    else (if bytes_eq word (codes ":default") then Some Default
+    else (if bytes_eq word (codes ":prompt") then Some Prompt else None))))))))
 
 abbrev pub key_or : Option Key → Option Key → Option Key
 key_or (Some key) other = Some key

@@ -4,7 +4,7 @@ use Rattle.std.specs.Str.{bytes_eq}
 use Rattle.cl_forms.specs.Datum.{Datum, number, literal, word, quoted, stray, list, in_order, offset, parts_of}
 use Rattle.cl_forms.specs.Naming.{name_in}
 use Rattle.cl_forms.specs.declared.outer.DeclarationKind.{DeclarationKind}
-use Rattle.cl_forms.specs.declared.outer.DeclarationKind.TheVariants.{Record, PresentationType, HostType, PresentMethod, AcceptMethod, Function, Display, Command, Frame}
+use Rattle.cl_forms.specs.declared.outer.DeclarationKind.TheVariants.{Record, PresentationType, HostType, PresentMethod, AcceptMethod, Function, Display, CommandTable, Command, Frame}
 use Rattle.cl_forms.specs.declared.outer.OuterKind.{OuterKind}
 use Rattle.cl_forms.specs.declared.outer.OuterKind.TheVariants.{Declared, Planned, Unknown, Headless}
 
@@ -30,8 +30,9 @@ abbrev pub declared_by : List ℕ → Option DeclarationKind
 declared_by x =
     if bytes_eq x (codes "define-function") then Some Function
     else (if bytes_eq x (codes "define-display") then Some Display
+    else (if bytes_eq x (codes "define-command-table") then Some CommandTable
     else (if bytes_eq x (codes "define-command") then Some Command
-    else (if bytes_eq x (codes "define-application-frame") then Some Frame else None)))
+    else (if bytes_eq x (codes "define-application-frame") then Some Frame else None))))
 
 abbrev pub declared_or : Option DeclarationKind → Option DeclarationKind → Option DeclarationKind
 declared_or (Some kind) other = Some kind
@@ -43,7 +44,7 @@ declaration_named x = declared_or (type_declared x) (declared_by x)
 -- declarations that are not built yet
 abbrev pub is_planned : List ℕ → Bool
 is_planned x =
-    bytes_eq x (codes "define-command-table") || bytes_eq x (codes "define-presentation-translator")
+    bytes_eq x (codes "define-presentation-translator")
     || bytes_eq x (codes "define-presentation-to-command-translator") || bytes_eq x (codes "define-drag-and-drop-translator")
     || bytes_eq x (codes "define-dialog")
 
@@ -88,6 +89,7 @@ outer_name (Declared PresentMethod) ds = first_of ds
 outer_name (Declared AcceptMethod) ds = first_of ds
 outer_name (Declared Function) ds = first_of ds
 outer_name (Declared Display) ds = first_of ds
+outer_name (Declared CommandTable) ds = first_of ds
 outer_name (Declared Frame) ds = first_of ds
 outer_name (Planned at) ds = first_of ds
 outer_name (Unknown at) ds = first_of ds

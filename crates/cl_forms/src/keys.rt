@@ -9,7 +9,7 @@ use crate::datum::Datum;
 use crate::naming::symbol_of;
 use std::alloc::{AllocError, Global};
 
-/// The keys of declarations, of types and of presentations.
+/// The keys of declarations, of arguments, of types and of presentations.
 #[derive(Clone, Copy, PartialEq, Eq)]
 pub enum Key {
     Size,
@@ -23,6 +23,8 @@ pub enum Key {
     Description,
     Separator,
     SingleBox,
+    Default,
+    Prompt,
 }
 
 /// A key with what stands behind it.
@@ -79,6 +81,10 @@ fn value_key(word: &[u8]) -> Option<Key>
         Some(Key::Separator)
     } else if word == b":single-box".as_slice() {
         Some(Key::SingleBox)
+    } else if word == b":default".as_slice() {
+        Some(Key::Default)
+    } else if word == b":prompt".as_slice() {
+        Some(Key::Prompt)
     } else {
         None
     }

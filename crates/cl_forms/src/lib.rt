@@ -23,7 +23,9 @@ pub use line_names::line_name_of;
 pub use naming::{
     are_names, fits, list_counted, name_in, named_part, names_counted, symbol_of, symbol_text,
 };
-pub use outer::{DeclarationKind, Outer, OuterKind, behind_first, first_of, outer_in, outers_of};
+pub use outer::{
+    DeclarationKind, Outer, OuterKind, behind_first, first_of, first_or_itself, outer_in, outers_of,
+};
 pub use parse::all_forms;
 pub use refusals::LoadRefusal;
 pub use words::{is_constant, is_key, is_name};

@@ -19,6 +19,7 @@ pub enum DeclarationKind {
     AcceptMethod,
     Function,
     Display,
+    CommandTable,
     Command,
     Frame,
 }
@@ -177,6 +178,8 @@ fn declared_by(word: &[u8]) -> Option<DeclarationKind>
         Some(DeclarationKind::Function)
     } else if word == b"define-display".as_slice() {
         Some(DeclarationKind::Display)
+    } else if word == b"define-command-table".as_slice() {
+        Some(DeclarationKind::CommandTable)
     } else if word == b"define-command".as_slice() {
         Some(DeclarationKind::Command)
     } else if word == b"define-application-frame".as_slice() {
@@ -189,8 +192,7 @@ fn declared_by(word: &[u8]) -> Option<DeclarationKind>
 fn is_planned(word: &[u8]) -> bool
     ensures { result ≡ is_planned word.now }
 {
-    word == b"define-command-table".as_slice()
-        || word == b"define-presentation-translator".as_slice()
+    word == b"define-presentation-translator".as_slice()
         || word == b"define-presentation-to-command-translator".as_slice()
         || word == b"define-drag-and-drop-translator".as_slice()
         || word == b"define-dialog".as_slice()
@@ -209,6 +211,7 @@ fn outer_name(kind: OuterKind, parts: &[Datum]) -> Option<&Datum>
         OuterKind::Declared(DeclarationKind::AcceptMethod) => first_of(parts),
         OuterKind::Declared(DeclarationKind::Function) => first_of(parts),
         OuterKind::Declared(DeclarationKind::Display) => first_of(parts),
+        OuterKind::Declared(DeclarationKind::CommandTable) => first_of(parts),
         OuterKind::Declared(DeclarationKind::Frame) => first_of(parts),
         OuterKind::Planned(_) => first_of(parts),
         OuterKind::Unknown(_) => first_of(parts),
@@ -227,7 +230,7 @@ fn command_name(parts: &[Datum]) -> Option<&Datum>
 }
 
 /// The first part of a list; an atom itself.
-fn first_or_itself(datum: &Datum) -> Option<&Datum>
+pub fn first_or_itself(datum: &Datum) -> Option<&Datum>
     ensures { option_map (λ d. datum_of d.now) result ≡ first_or_itself (datum_of datum.now) }
 {
     match datum {

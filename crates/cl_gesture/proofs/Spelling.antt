@@ -9,7 +9,7 @@ use Rattle.std.proofs.lemmas.List.Elements.{All-nil, All-cons, All-head, All-tai
 use Rattle.std.proofs.lemmas.Bool.{and_parts, and_from, ne_eqb}
 use Rattle.cl_gesture.specs.declared.answers.Gesture.{Gesture}
 use Rattle.cl_gesture.specs.declared.answers.Gesture.TheVariants as gesture
-use Rattle.cl_gesture.specs.Gesture.{idle, bad, does, is_idle, is_printable, is_typable, is_no_space, is_word, verb_of, rest_of, alone, asking, typing, verb_says, says, spelling_of, IsNoSpace, IsPrintable, IsTypable, AreSpelled}
+use Rattle.cl_gesture.specs.Gesture.{idle, bad, does, is_idle, is_printable, is_typable, is_no_space, is_word, verb_of, rest_of, alone, asking, pressing, typing, verb_says, says, spelling_of, IsNoSpace, IsPrintable, IsTypable, AreSpelled}
 use Rattle.cl_gesture.proofs.Verbs.{behind, rejoin}
 
 is_printable-true : (byte : ℕ) → is_printable byte ≡ true → IsPrintable byte
@@ -82,6 +82,16 @@ asking_spelled : (verb : List ℕ) (rest : Option (List ℕ)) (h : Gesture) → 
 asking_spelled verb None h is same = absurd (cc)
 asking_spelled verb (Some name) h is same = asking_by verb name h (is_word name) refl is same
 
+pressing_by : (verb name : List ℕ) (h : Gesture) (word : Bool) → is_word name ≡ word → verb ≡ codes "stroke" → cond word (does (gesture.Stroke name)) bad ≡ does h
+    → (verb ++ 32 ∷ name ≡ spelling_of h) × IsTypable h
+pressing_by verb name h true word is same =
+    same_gesture (verb ++ 32 ∷ name) (gesture.Stroke name) h (cc) (ap (λ v. v ++ 32 ∷ name) is, is_word-true name word)
+pressing_by verb name h false word is same = absurd (cc)
+
+pressing_spelled : (verb : List ℕ) (rest : Option (List ℕ)) (h : Gesture) → verb ≡ codes "stroke" → pressing rest ≡ does h → (verb ++ behind rest ≡ spelling_of h) × IsTypable h
+pressing_spelled verb None h is same = absurd (cc)
+pressing_spelled verb (Some name) h is same = pressing_by verb name h (is_word name) refl is same
+
 typing_by : (verb text : List ℕ) (h : Gesture) (typable : Bool) → is_typable text ≡ typable → verb ≡ codes "type" → cond typable (does (gesture.«Type» text)) bad ≡ does h
     → (verb ++ 32 ∷ text ≡ spelling_of h) × IsTypable h
 typing_by verb text h true typable is same =
@@ -92,21 +102,23 @@ typing_spelled : (verb : List ℕ) (rest : Option (List ℕ)) (h : Gesture) → 
 typing_spelled verb None h is same = absurd (cc)
 typing_spelled verb (Some text) h is same = typing_by verb text h (is_typable text) refl is same
 
-verb_spelled : (verb : List ℕ) (rest : Option (List ℕ)) (g : Gesture) (r u l f i o n t : Bool)
+verb_spelled : (verb : List ℕ) (rest : Option (List ℕ)) (g : Gesture) (r u l f i o n k t : Bool)
     → (r ≡ true → verb ≡ codes "return") → (u ≡ true → verb ≡ codes "rubout") → (l ≡ true → verb ≡ codes "clear") → (f ≡ true → verb ≡ codes "frame")
-    → (i ≡ true → verb ≡ codes "inks") → (o ≡ true → verb ≡ codes "force") → (n ≡ true → verb ≡ codes "history") → (t ≡ true → verb ≡ codes "type")
+    → (i ≡ true → verb ≡ codes "inks") → (o ≡ true → verb ≡ codes "force") → (n ≡ true → verb ≡ codes "history") → (k ≡ true → verb ≡ codes "stroke")
+    → (t ≡ true → verb ≡ codes "type")
     → cond r (alone gesture.Return rest) (cond u (alone gesture.Rubout rest) (cond l (alone gesture.Clear rest) (cond f (alone gesture.Frame rest)
-    (cond i (alone gesture.Inks rest) (cond o (alone gesture.Force rest) (cond n (asking rest) (cond t (typing rest) bad))))))) ≡ does g
+    (cond i (alone gesture.Inks rest) (cond o (alone gesture.Force rest) (cond n (asking rest) (cond k (pressing rest) (cond t (typing rest) bad)))))))) ≡ does g
     → (verb ++ behind rest ≡ spelling_of g) × IsTypable g
-verb_spelled verb rest g true u l f i o n t is_r is_u is_l is_f is_i is_o is_n is_t same = alone_spelled verb rest gesture.Return g (is_r refl) tt same
-verb_spelled verb rest g false true l f i o n t is_r is_u is_l is_f is_i is_o is_n is_t same = alone_spelled verb rest gesture.Rubout g (is_u refl) tt same
-verb_spelled verb rest g false false true f i o n t is_r is_u is_l is_f is_i is_o is_n is_t same = alone_spelled verb rest gesture.Clear g (is_l refl) tt same
-verb_spelled verb rest g false false false true i o n t is_r is_u is_l is_f is_i is_o is_n is_t same = alone_spelled verb rest gesture.Frame g (is_f refl) tt same
-verb_spelled verb rest g false false false false true o n t is_r is_u is_l is_f is_i is_o is_n is_t same = alone_spelled verb rest gesture.Inks g (is_i refl) tt same
-verb_spelled verb rest g false false false false false true n t is_r is_u is_l is_f is_i is_o is_n is_t same = alone_spelled verb rest gesture.Force g (is_o refl) tt same
-verb_spelled verb rest g false false false false false false true t is_r is_u is_l is_f is_i is_o is_n is_t same = asking_spelled verb rest g (is_n refl) same
-verb_spelled verb rest g false false false false false false false true is_r is_u is_l is_f is_i is_o is_n is_t same = typing_spelled verb rest g (is_t refl) same
-verb_spelled verb rest g false false false false false false false false is_r is_u is_l is_f is_i is_o is_n is_t same = absurd (cc)
+verb_spelled verb rest g true u l f i o n k t is_r is_u is_l is_f is_i is_o is_n is_k is_t same = alone_spelled verb rest gesture.Return g (is_r refl) tt same
+verb_spelled verb rest g false true l f i o n k t is_r is_u is_l is_f is_i is_o is_n is_k is_t same = alone_spelled verb rest gesture.Rubout g (is_u refl) tt same
+verb_spelled verb rest g false false true f i o n k t is_r is_u is_l is_f is_i is_o is_n is_k is_t same = alone_spelled verb rest gesture.Clear g (is_l refl) tt same
+verb_spelled verb rest g false false false true i o n k t is_r is_u is_l is_f is_i is_o is_n is_k is_t same = alone_spelled verb rest gesture.Frame g (is_f refl) tt same
+verb_spelled verb rest g false false false false true o n k t is_r is_u is_l is_f is_i is_o is_n is_k is_t same = alone_spelled verb rest gesture.Inks g (is_i refl) tt same
+verb_spelled verb rest g false false false false false true n k t is_r is_u is_l is_f is_i is_o is_n is_k is_t same = alone_spelled verb rest gesture.Force g (is_o refl) tt same
+verb_spelled verb rest g false false false false false false true k t is_r is_u is_l is_f is_i is_o is_n is_k is_t same = asking_spelled verb rest g (is_n refl) same
+verb_spelled verb rest g false false false false false false false true t is_r is_u is_l is_f is_i is_o is_n is_k is_t same = pressing_spelled verb rest g (is_k refl) same
+verb_spelled verb rest g false false false false false false false false true is_r is_u is_l is_f is_i is_o is_n is_k is_t same = typing_spelled verb rest g (is_t refl) same
+verb_spelled verb rest g false false false false false false false false false is_r is_u is_l is_f is_i is_o is_n is_k is_t same = absurd (cc)
 
 line_by : (bytes : List ℕ) (g : Gesture) (quiet : Bool) → cond quiet idle (verb_says (verb_of bytes) (rest_of bytes)) ≡ does g
     → (bytes ≡ spelling_of g) × IsTypable g
@@ -114,10 +126,10 @@ line_by bytes g true same = absurd (cc)
 line_by bytes g false same =
     let verb = verb_of bytes in
     let spelled = verb_spelled verb (rest_of bytes) g (bytes_eq verb (codes "return")) (bytes_eq verb (codes "rubout")) (bytes_eq verb (codes "clear"))
-    (bytes_eq verb (codes "frame")) (bytes_eq verb (codes "inks")) (bytes_eq verb (codes "force")) (bytes_eq verb (codes "history")) (bytes_eq verb (codes "type"))
+    (bytes_eq verb (codes "frame")) (bytes_eq verb (codes "inks")) (bytes_eq verb (codes "force")) (bytes_eq verb (codes "history")) (bytes_eq verb (codes "stroke")) (bytes_eq verb (codes "type"))
     (bytes_eq-Decides verb (codes "return")).0 (bytes_eq-Decides verb (codes "rubout")).0 (bytes_eq-Decides verb (codes "clear")).0
     (bytes_eq-Decides verb (codes "frame")).0 (bytes_eq-Decides verb (codes "inks")).0 (bytes_eq-Decides verb (codes "force")).0
-    (bytes_eq-Decides verb (codes "history")).0 (bytes_eq-Decides verb (codes "type")).0 same in
+    (bytes_eq-Decides verb (codes "history")).0 (bytes_eq-Decides verb (codes "stroke")).0 (bytes_eq-Decides verb (codes "type")).0 same in
     (rejoin bytes ∙ spelled.0, spelled.1)
 
 -- ---- a spelling is said
@@ -130,6 +142,7 @@ backward gesture.Frame h = refl
 backward gesture.Inks h = refl
 backward gesture.Force h = refl
 backward (gesture.History name) h = rw (is_word-yes name h)
+backward (gesture.Stroke name) h = rw (is_word-yes name h)
 backward (gesture.«Type» text) h = rw (is_typable-yes text h)
 
 pub are_spelled : AreSpelled

@@ -56,6 +56,11 @@ abbrev pub asking : Option (List ℕ) → LineKind
 asking None = bad
 asking (Some name) = if is_word name then does (gesture.History name) else bad
 
+-- the name of a keystroke: one word
+abbrev pub pressing : Option (List ℕ) → LineKind
+pressing None = bad
+pressing (Some name) = if is_word name then does (gesture.Stroke name) else bad
+
 -- a text that can be typed
 abbrev pub typing : Option (List ℕ) → LineKind
 typing None = bad
@@ -71,7 +76,8 @@ verb_says verb rest =
     (if bytes_eq verb (codes "inks") then alone gesture.Inks rest else
     (if bytes_eq verb (codes "force") then alone gesture.Force rest else
     (if bytes_eq verb (codes "history") then asking rest else
-    (if bytes_eq verb (codes "type") then typing rest else bad)))))))
+    (if bytes_eq verb (codes "stroke") then pressing rest else
+    (if bytes_eq verb (codes "type") then typing rest else bad))))))))
 
 -- what a line says, byte for byte
 abbrev pub says : List ℕ → LineKind
@@ -93,6 +99,7 @@ spelling_of gesture.Frame = codes "frame"
 spelling_of gesture.Inks = codes "inks"
 spelling_of gesture.Force = codes "force"
 spelling_of (gesture.History name) = codes "history " ++ name
+spelling_of (gesture.Stroke name) = codes "stroke " ++ name
 spelling_of (gesture.«Type» text) = codes "type " ++ text
 
 abbrev pub IsPrintable : ℕ → Type 0
@@ -110,6 +117,7 @@ IsTypable gesture.Frame = Unit {0}
 IsTypable gesture.Inks = Unit {0}
 IsTypable gesture.Force = Unit {0}
 IsTypable (gesture.History name) = (0 < length name) × All IsNoSpace name
+IsTypable (gesture.Stroke name) = (0 < length name) × All IsNoSpace name
 IsTypable (gesture.«Type» text) = (0 < length text) × All IsPrintable text
 
 -- a line does a gesture exactly where it is the spelling of that gesture

@@ -21,6 +21,8 @@ pub enum Gesture {
     /// Asked for the history of the pane of this name, 1 or more bytes without a space, as it was
     /// written.
     History(Text),
+    /// Pressed the keystroke of this name, 1 or more bytes without a space, as it was written.
+    Stroke(Text),
 }
 
 /// What the next line is, or why there is none.

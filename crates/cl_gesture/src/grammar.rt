@@ -3,7 +3,7 @@ ghost use Rattle.std.specs.Prelude.{◌≡◌, option_copied, position};
 ghost use Rattle.std.specs.List.{list_all};
 ghost use Rattle.cl_gesture.specs.declared.answers.Gesture.TheVariants as gesture;
 ghost use Rattle.cl_gesture.specs.Gesture.{is_idle, is_no_space, is_printable, is_space, is_typable, is_word, without_return};
-ghost use Rattle.cl_gesture.specs.Gesture.{alone, asking, does, rest_of, says, typing, verb_of, verb_says};
+ghost use Rattle.cl_gesture.specs.Gesture.{alone, asking, does, pressing, rest_of, says, typing, verb_of, verb_says};
 ghost use Rattle.cl_gesture.specs.Said.{SaidOf, AnswerOf};
 
 use crate::answers::{Gesture, Next};
@@ -129,6 +129,26 @@ fn read_history(alloc: Global, rest: Option<&[u8]>) -> Said
     }
 }
 
+/// What `stroke` says of the keystroke of this name.
+fn pressed(alloc: Global, name: &[u8]) -> Said
+    ensures { SaidOf (does (gesture.Stroke name.now)) result }
+{
+    match Text::from_slice(alloc, name) {
+        Ok(name) => Said::Gesture(Gesture::Stroke(name)),
+        Err(_) => Said::Memory,
+    }
+}
+
+/// What `stroke` says with what stands behind it.
+fn read_stroke(alloc: Global, rest: Option<&[u8]>) -> Said
+    ensures { SaidOf (pressing (option_copied rest.entry)) result }
+{
+    match rest {
+        Some(name) if is_word(name) => pressed(alloc, name),
+        _ => Said::Bad,
+    }
+}
+
 /// What `type` says with this text.
 fn typed(alloc: Global, text: &[u8]) -> Said
     ensures { SaidOf (does (gesture.«Type» text.now)) result }
@@ -167,6 +187,8 @@ fn read_verb(alloc: Global, verb: &[u8], rest: Option<&[u8]>) -> Said
         read_alone(Gesture::Force, rest)
     } else if verb == b"history".as_slice() {
         read_history(alloc, rest)
+    } else if verb == b"stroke".as_slice() {
+        read_stroke(alloc, rest)
     } else if verb == b"type".as_slice() {
         read_type(alloc, rest)
     } else {

@@ -17,7 +17,7 @@ use Rattle.cl_forms.specs.declared.outer.OuterKind.{OuterKind}
 use Rattle.cl_forms.specs.declared.outer.OuterKind.TheVariants.{Declared, Planned, Unknown, Headless}
 use Rattle.cl_words.specs.Heads.{is_operator}
 use Rattle.cl_words.specs.TypeNames.{is_standard_type}
-use Rattle.cl_words.specs.Signatures.{parameters_counted, with_callee, with_type, with_slot, with_slot_of, with_slots, with_sections}
+use Rattle.cl_words.specs.Signatures.{parameters_counted, with_callee, with_type, with_slot, with_slot_of, with_slots, with_sections, is_global_table, with_command, with_table}
 use Rattle.cl_words.specs.Signatures.{with_declaration, with_outer_kind, with_outer, with_outers, signatures_of, nothing_declared, function_count}
 use Rattle.cl_words.specs.declared.signatures.Signatures.{Signatures}
 use Rattle.cl_words.specs.declared.signatures.Callee.{Callee}
@@ -82,6 +82,14 @@ slot_named : (w : Signatures) (name : Option (List ℕ)) → DeclaresNamed w →
 slot_named w None h = h
 slot_named w (Some x) h = h
 
+table_named : (w : Signatures) (name : Option (List ℕ)) → DeclaresNamed w → DeclaresNamed (with_table w name)
+table_named w None h = h
+table_named w (Some x) h = either_named (is_global_table x) w _ h h
+
+command_named : (w : Signatures) (name : Option (List ℕ)) → DeclaresNamed w → DeclaresNamed (with_command w name)
+command_named w None h = h
+command_named w (Some x) h = h
+
 slot_of_named : (w : Signatures) (ds : List Datum) → DeclaresNamed w → DeclaresNamed (with_slot_of w ds)
 slot_of_named w [] h = h
 slot_of_named w (n ∷ more) h = slot_named w (name_in n) h
@@ -106,7 +114,8 @@ declaration_named w PresentMethod o h = h
 declaration_named w AcceptMethod o h = h
 declaration_named w kind.Function o h = callee_named w Function (declared_name o) (parameters_counted (behind_name o)) h (outer_named o.name)
 declaration_named w kind.Display o h = callee_named w Display (declared_name o) (parameters_counted (behind_name o)) h (outer_named o.name)
-declaration_named w Command o h = h
+declaration_named w kind.CommandTable o h = table_named w (declared_name o) h
+declaration_named w Command o h = command_named w (declared_name o) h
 declaration_named w Frame o h = sections_named w (behind_name o) h
 
 kind_named : (w : Signatures) (k : OuterKind) (o : Outer) → DeclaresNamed w → DeclaresNamed (with_outer_kind w k o)

@@ -12,7 +12,7 @@ use Rattle.cl_load.specs.Loads.{Concludes}
 use Rattle.cl_load.specs.Outcome.{Comes, IsVerdict, Settled, parse}
 use Rattle.cl_lattice.specs.World.{World}
 use Rattle.cl_load.specs.Refusals.{app_in, first_fault, form_faults, frame_faults, type_faults}
-use Rattle.cl_load.specs.Settling.{BuildsTypes, FrameSettled, Settles}
+use Rattle.cl_load.specs.Settling.{Builds, FrameSettled, Settles}
 use Rattle.cl_load.specs.Types.{Bounds, FindsLarge, FindsMisfit, FindsRing}
 use Rattle.cl_load.specs.declared.application.Opened.{Opened}
 
@@ -97,7 +97,7 @@ large_so bounds size ds s notes at none ring misfit large = record {
 }
 
 refused_so : (bounds : Bounds) (size : ℕ) (ds : List Datum) (s : Declarations) (notes : Notes) (number at : ℕ) → first_fault (form_faults ds notes) ≡ None
-    → BuildsTypes (Err (Refused number at)) bounds s notes → Settled bounds size ds s notes (Err (number, at))
+    → Builds (Err (Refused number at)) bounds s notes → Settled bounds size ds s notes (Err (number, at))
 refused_so bounds size ds s notes number at none (inl ring) =
     subst (λ (n : ℕ). Settled bounds size ds s notes (Err (n, at))) (sym ring.0) (ring_so bounds size ds s notes at none ring.1)
 refused_so bounds size ds s notes number at none (inr (inl misfit)) =
@@ -106,7 +106,7 @@ refused_so bounds size ds s notes number at none (inr (inr large)) =
     subst (λ (n : ℕ). Settled bounds size ds s notes (Err (n, at))) (sym large.0) (large_so bounds size ds s notes at none large.1 large.2 large.3)
 
 pub refused_types : (e : LoadRefusal) (bounds : Bounds) (size : ℕ) (ds : List Datum) (s : Declarations) (notes : Notes) → parse ds nothing_noted ≡ Ok (s, notes)
-    → first_fault (form_faults ds notes) ≡ None → BuildsTypes (Err e) bounds s notes → Concludes (Err e) bounds size ds
+    → first_fault (form_faults ds notes) ≡ None → Builds (Err e) bounds s notes → Concludes (Err e) bounds size ds
 refused_types (Refused number at) bounds size ds s notes p none h =
     subst (λ r. Comes bounds size ds r (Err (number, at))) (sym p) (refused_so bounds size ds s notes number at none h)
 refused_types Memory bounds size ds s notes p none h = tt
@@ -129,7 +129,7 @@ settled_so bounds size ds s notes o none ring misfit large f = record {
 
 -- where the types have none either, the frame decides
 pub settled_forms : (r : Result Opened LoadRefusal) (bounds : Bounds) (size : ℕ) (ds : List Datum) (s : Declarations) (notes : Notes) (w : World) → parse ds nothing_noted ≡ Ok (s, notes)
-    → first_fault (form_faults ds notes) ≡ None → BuildsTypes (Ok w) bounds s notes → Settles r bounds size s → Concludes r bounds size ds
+    → first_fault (form_faults ds notes) ≡ None → Builds (Ok w) bounds s notes → Settles r bounds size s → Concludes r bounds size ds
 settled_forms (Ok opened) bounds size ds s notes w p none types f =
     (subst (λ r. Comes bounds size ds r (Ok opened.app)) (sym p) (settled_so bounds size ds s notes (Ok opened.app) none types.1 types.2 types.3 f.0), f.1)
 settled_forms (Err (Refused number at)) bounds size ds s notes w p none types f =

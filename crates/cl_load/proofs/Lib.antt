@@ -4,4 +4,7 @@ pub mod PlacingLemmas
 pub mod SettlingLemmas
 pub mod ConcludeLemmas
 pub mod TypeLemmas
-pub mod OneOutcome
+pub mod RingLemmas
+pub mod DefaultLemmas
+pub mod FramingLemmas
+mod OneOutcome

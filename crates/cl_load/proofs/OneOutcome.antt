@@ -17,10 +17,11 @@ use Rattle.cl_load.specs.Application.{AreForms, IsUnreadable, ComesTo, HasOutcom
 use Rattle.cl_load.specs.Outcome.{Comes, IsVerdict, Outcome, Settled, parse}
 use Rattle.cl_lattice.specs.Firsts.{offset_of}
 use Rattle.cl_phases.specs.Earlier.{earlier}
-use Rattle.cl_load.specs.Readings.{Finds, FindsReading, IsFirstReading, NoneReads, TypeReads}
+use Rattle.cl_load.specs.Readings.{CommandReads, Finds, FindsReading, IsFirstReading, NoneReads, TypeReads, command_offset}
 use Rattle.cl_load.specs.Refusals.{app_in, faults, first_fault, form_faults, frame_faults, numbered, type_faults}
 use Rattle.cl_load.specs.Types.{Bounds}
-use Rattle.cl_load.proofs.TypeLemmas.{large_once, list_once, misfit_once, ring_once}
+use Rattle.cl_load.proofs.TypeLemmas.{large_once, list_once, misfit_once}
+use Rattle.cl_load.proofs.RingLemmas.{ring_once}
 
 -- trees in a row
 abbrev parse_in : Trees → List Tree
@@ -70,7 +71,10 @@ reading_once : (s : Declarations) (r q : Option ℕ) → FindsReading s r → Fi
 reading_once s r q x y =
     let frame : x.frame ≡ y.frame = found_once s.functions s.frames x.frame y.frame x.frame_found y.frame_found in
     let user_type : x.user_type ≡ y.user_type = list_once (TypeReads s.functions) offset_of s.types x.user_type y.user_type x.type_found y.type_found in
-    x.first ∙ ap (λ (o : Option ℕ). earlier o x.user_type) frame ∙ ap (earlier y.frame) user_type ∙ sym y.first
+    let command : x.command ≡ y.command =
+    list_once (CommandReads s.functions) command_offset s.commands x.command y.command x.command_found y.command_found in
+    x.first ∙ ap (λ (o : Option ℕ). earlier o (earlier x.user_type x.command)) frame
+    ∙ ap (λ (o : Option ℕ). earlier y.frame (earlier o x.command)) user_type ∙ ap (λ (o : Option ℕ). earlier y.frame (earlier y.user_type o)) command ∙ sym y.first
 
 same_app : (app : Option App) (a b : App) → app ≡ Some a → app ≡ Some b → ◌≡◌ {A = Result App Fault} (Ok a) (Ok b)
 same_app app a b p q = cc

@@ -1,14 +1,15 @@
--- The frames and the user types that are left at a place among them.
+-- The frames, the user types and the commands that are left at a place among them.
 use Rattle.std.proofs.Common.{◌≡◌, ◌+◌, ◌<◌, inl, inr, ℕ, zero, suc, length, drop, get_or, List, [], ◌∷◌, refl, sym, ap, ◌∙◌, subst, arith}
 use Rattle.std.specs.Prelude.{◌↔◌, Bool, false, IsTrue, Option, Some, None}
 use Rattle.std.proofs.lemmas.List.{drop_more}
 use Rattle.cl_declare.specs.declared.frames.FrameForm.{FrameForm}
 use Rattle.cl_syntax.specs.declared.type_decls.TypeDecl.{TypeDecl}
+use Rattle.cl_application.specs.declared.declarations.CommandDecl.{CommandDecl}
 use Rattle.cl_table.specs.Names.{declared_at}
 use Rattle.cl_eval.specs.Uses.{Functions}
 use Rattle.cl_lattice.specs.Firsts.{IsFirst, offset_of}
-use Rattle.cl_phases.specs.SlotReads.{AnyReads}
-use Rattle.cl_load.specs.Readings.{IsFirstReading, NoneReads, PredicateReads, TypeReads}
+use Rattle.cl_phases.specs.SlotReads.{AnyReads, DefaultsRead}
+use Rattle.cl_load.specs.Readings.{CommandReads, IsFirstReading, NoneReads, PredicateReads, TypeReads, command_offset}
 
 -- what the frames from a place on say of all frames
 pub record Same (fs : Functions) (frames left : List FrameForm) : Type 0 where
@@ -90,3 +91,60 @@ types_done fs types left = left.first None (types_end fs types)
 pub reads_not : (b : Bool) (fs gs : Functions) (d : TypeDecl) → b ≡ false → fs ≡ gs → IsTrue b ↔ PredicateReads fs d.satisfies → PredicateReads gs d.satisfies → ⊥
 reads_not b fs gs d answered same reads p =
     let yes : IsTrue b = reads.1 (subst (λ (hs : Functions). PredicateReads hs d.satisfies) (sym same) p) in cc
+
+-- ---- commands
+
+abbrev pub CommandTable : Type 0
+CommandTable = List (List ℕ × CommandDecl)
+
+-- what the commands from a place on say of all of them
+pub record CommandsLeft (fs : Functions) (commands left : CommandTable) : Type 0 where
+  pub first : (r : Option ℕ) → IsFirst (CommandReads fs) command_offset left r → IsFirst (CommandReads fs) command_offset commands r
+
+pub commands_start : (fs : Functions) (commands : CommandTable) → CommandsLeft fs commands commands
+commands_start fs commands = record { first = λ r x. x }
+
+-- the command at a place has no default that reads a slot, and so the others decide
+command_on : (fs : Functions) (commands : CommandTable) (i : ℕ) (d : CommandDecl) → Some d ≡ declared_at i commands → (DefaultsRead fs d.arguments → ⊥) → (r : Option ℕ)
+    → IsFirst (CommandReads fs) command_offset (drop (suc i) commands) r → IsFirst (CommandReads fs) command_offset (drop i commands) r
+command_on fs [] zero d h n r x = cc
+command_on fs [] (suc i) d h n r x = cc
+command_on fs (e ∷ commands) zero d h n None x =
+    let same : d ≡ e.1 = cc in (subst (λ (c : CommandDecl). DefaultsRead fs c.arguments → ⊥) same n, x)
+command_on fs (e ∷ commands) zero d h n (Some k) x =
+    let same : d ≡ e.1 = cc in inr (subst (λ (c : CommandDecl). DefaultsRead fs c.arguments → ⊥) same n, x)
+command_on fs (e ∷ commands) (suc i) d h n r x = command_on fs commands i d h n r x
+
+pub commands_next : (fs : Functions) (commands : CommandTable) (i : ℕ) (d : CommandDecl) → Some d ≡ declared_at i commands → (DefaultsRead fs d.arguments → ⊥)
+    → CommandsLeft fs commands (drop i commands) → CommandsLeft fs commands (drop (i + 1) commands)
+commands_next fs commands i d h n left =
+    let next : i + 1 ≡ suc i = omega arith in
+    subst (λ (k : ℕ). CommandsLeft fs commands (drop k commands)) (sym next) (record { first = λ r x. left.first r (command_on fs commands i d h n r x) })
+
+-- the command at a place is the first that has one
+command_here : (fs : Functions) (commands : CommandTable) (i : ℕ) (d : CommandDecl) → Some d ≡ declared_at i commands → DefaultsRead fs d.arguments
+    → IsFirst (CommandReads fs) command_offset (drop i commands) (Some d.at)
+command_here fs [] zero d h p = cc
+command_here fs [] (suc i) d h p = cc
+command_here fs (e ∷ commands) zero d h p =
+    let same : d ≡ e.1 = cc in inl (subst (λ (c : CommandDecl). DefaultsRead fs c.arguments) same p, ap (λ (c : CommandDecl). c.at) (sym same))
+command_here fs (e ∷ commands) (suc i) d h p = command_here fs commands i d h p
+
+-- past the last none does
+commands_end : (fs : Functions) (commands : CommandTable) → IsFirst (CommandReads fs) command_offset (drop (length commands) commands) None
+commands_end fs [] = tt
+commands_end fs (e ∷ commands) = commands_end fs commands
+
+pub commands_here : (fs : Functions) (commands : CommandTable) (i : ℕ) (d : CommandDecl) → Some d ≡ declared_at i commands → DefaultsRead fs d.arguments
+    → CommandsLeft fs commands (drop i commands) → IsFirst (CommandReads fs) command_offset commands (Some d.at)
+commands_here fs commands i d h p left = left.first (Some d.at) (command_here fs commands i d h p)
+
+pub commands_done : (fs : Functions) (commands : CommandTable) → CommandsLeft fs commands (drop (length commands) commands)
+    → IsFirst (CommandReads fs) command_offset commands None
+commands_done fs commands left = left.first None (commands_end fs commands)
+
+-- the answer no
+pub command_reads_not : (b : Bool) (fs gs : Functions) (d : CommandDecl) → b ≡ false → fs ≡ gs → IsTrue b ↔ DefaultsRead fs d.arguments
+    → DefaultsRead gs d.arguments → ⊥
+command_reads_not b fs gs d answered same reads p =
+    let yes : IsTrue b = reads.1 (subst (λ (hs : Functions). DefaultsRead hs d.arguments) (sym same) p) in cc

@@ -1,5 +1,5 @@
 -- What a lattice that is built, or refused, says of the types that are declared.
-use Rattle.std.proofs.Common.{◌≡◌, ◌+◌, inl, inr, ℕ, zero, suc, ℤ, true, false, drop, List, [], ◌∷◌, refl, sym, ap, ◌∙◌, subst, arith}
+use Rattle.std.proofs.Common.{◌≡◌, ◌+◌, ◌++◌, take, inl, inr, ℕ, zero, suc, ℤ, true, false, drop, List, [], ◌∷◌, refl, sym, ap, ◌∙◌, subst, arith}
 use Rattle.std.specs.Prelude.{All, not, is_some, if◌then◌else◌, Option, Some, None, Result, Ok, Err}
 use Rattle.std.proofs.lemmas.List.Elements.{All-head, All-tail}
 use Rattle.cl_table.specs.Names.{declared_at}
@@ -9,6 +9,8 @@ use Rattle.cl_syntax.specs.declared.type_decls.HostBound.{HostBound}
 use Rattle.cl_syntax.specs.declared.type_decls.PlacedSpec.{PlacedSpec}
 use Rattle.cl_syntax.specs.declared.type_decls.TypeDecl.{TypeDecl}
 use Rattle.cl_syntax.specs.declared.type_names.StandardType.{StandardType}
+use Rattle.cl_syntax.specs.TypeSpecTree.{TypeSpecTree}
+use Rattle.cl_application.specs.declared.declarations.ArgumentDecl.{ArgumentDecl}
 use Rattle.cl_application.specs.declared.declarations.HostDecl.{HostDecl}
 use Rattle.cl_expressions.specs.Load.{Notes}
 use Rattle.cl_forms.specs.declared.refusals.LoadRefusal.{LoadRefusal}
@@ -23,7 +25,7 @@ use Rattle.cl_lattice.specs.declared.declared_types.TypeKind.{TypeKind}
 use Rattle.cl_lattice.specs.declared.declared_types.TypeKind.TheVariants as kind
 use Rattle.cl_arguments.specs.Misfits.{IsMisfit}
 use Rattle.cl_load.specs.Settling.{BuildsTypes, Fits}
-use Rattle.cl_load.specs.Types.{Bounds, FindsLarge, FindsMisfit, FindsRing, bound_with, command_types, declared_types, first_missing, host_bound, host_bounds}
+use Rattle.cl_load.specs.Types.{Bounds, FindsLarge, FindsMisfit, argument_types, bound_with, command_types, declared_types, first_missing, host_bound, host_bounds}
 
 -- ---- there is one first
 
@@ -46,9 +48,6 @@ module _ {A : Type 0} where
   not_first P at all n x y =
       let same : ◌≡◌ {A = Option ℕ} (Some n) None = list_once P at all (Some n) None x y in
       cc
-
-pub ring_once : (bounds : Bounds) (s : Declarations) (r q : Option ℕ) → FindsRing bounds s r → FindsRing bounds s q → r ≡ q
-ring_once bounds s r q x y = list_once (StandsOnRing (declared_types bounds s)) offset_of s.types r q x y
 
 abbrev at_of : PlacedSpec → ℕ
 at_of p = p.at
@@ -187,3 +186,13 @@ missing_here bounds hosts i d h same gone =
     let one : first_missing bounds (drop i hosts) ≡ Some d.at =
     missing_next bounds hosts i d h ∙ ap (λ b. if b then first_missing bounds (drop (suc i) hosts) else Some d.at) gone in
     sym one ∙ same
+
+-- ---- the types of arguments
+
+-- of one argument more
+pub types_more : (t : List (List ℕ × ArgumentDecl)) (i : ℕ) (d : ArgumentDecl) → Some d ≡ declared_at i t
+    → argument_types (take (suc i) t) ≡ argument_types (take i t) ++ d.spec ∷ []
+types_more [] zero d h = cc
+types_more [] (suc i) d h = cc
+types_more (a ∷ t) zero d h = grind arith
+types_more (a ∷ t) (suc i) d h = ap (λ (ts : List TypeSpecTree). a.1.spec ∷ ts) (types_more t i d h)

@@ -1,10 +1,14 @@
--- The opening values of the slots.
+-- The opening values of the slots, and the defaults of arguments.
 use Rattle.std.specs.Prelude.{◌≡◌, ℕ, Bool, true, false, if◌then◌else◌, List, [], ◌∷◌, Option, Some, None, Result, Ok, Err}
 use Rattle.cl_value.specs.Data.{Data, null}
 use Rattle.cl_value.specs.Value.{data_of}
 use Rattle.cl_value.specs.declared.Value.{Value}
 use Rattle.cl_application.specs.declared.applications.App.{App}
+use Rattle.cl_application.specs.declared.declarations.ArgumentDecl.{ArgumentDecl}
+use Rattle.cl_application.specs.declared.declarations.CommandDecl.{CommandDecl}
+use Rattle.cl_application.specs.declared.declarations.DefaultDecl.{DefaultDecl}
 use Rattle.cl_application.specs.declared.declarations.SlotDecl.{SlotDecl}
+use Rattle.cl_syntax.specs.ExprTree.{ExprTree}
 use Rattle.cl_syntax.specs.TypeSpecTree.{TypeSpecTree}
 use Rattle.cl_eval.specs.declared.metering.Limits.{Limits}
 use Rattle.cl_eval.specs.Evaluated.{outcome_of_eval}
@@ -12,19 +16,28 @@ use Rattle.cl_eval.specs.Outcome.{Outcome, Gives, Traps}
 use Rattle.cl_eval.specs.Slots.{Slots, put}
 use Rattle.cl_forms.specs.declared.refusals.LoadRefusal.{LoadRefusal}
 use Rattle.cl_forms.specs.declared.refusals.LoadRefusal.TheVariants.{Refused, Memory}
+use Rattle.cl_phases.specs.Earlier.{earlier}
 
--- the limits of an opening value
+-- the limits of an opening value and of a default
 abbrev pub opening_limits : Limits
 opening_limits = record { budget = 10000; depth = 512 }
 
--- an opening value is evaluated on no slots and no variables
+-- an expression on no slots and no variables
+abbrev pub constant_of : App → ExprTree → Outcome Data
+constant_of app e = outcome_of_eval opening_limits app [] [] e
+
 abbrev pub opening_of : App → SlotDecl → Outcome Data
-opening_of app d = outcome_of_eval opening_limits app [] [] d.opening
+opening_of app d = constant_of app d.opening
 
 -- a value; no opening value of an application that loads traps
 abbrev pub value_in : Outcome Data → Data
 value_in (Gives d cost deepest) = d
 value_in (Traps kind cost deepest) = null
+
+-- an offset that is there, or the other
+abbrev pub there_or : Option ℕ → Option ℕ → Option ℕ
+there_or None other = other
+there_or (Some at) other = Some at
 
 -- whether a value is a member of a type
 abbrev pub Holds : Type 0
@@ -36,9 +49,32 @@ is_fit holds (Gives d cost deepest) spec = holds d spec
 is_fit holds (Traps kind cost deepest) spec = false
 
 -- the offset of the first opening value that traps or is no member of its slot's type
-abbrev pub first_unfit : Holds → App → List (List ℕ × SlotDecl) → Option ℕ
-first_unfit holds app [] = None
-first_unfit holds app (s ∷ more) = if is_fit holds (opening_of app s.1) s.1.spec then first_unfit holds app more else Some s.1.opening_at
+abbrev pub first_unfit_opening : Holds → App → List (List ℕ × SlotDecl) → Option ℕ
+first_unfit_opening holds app [] = None
+first_unfit_opening holds app (s ∷ more) =
+    if is_fit holds (opening_of app s.1) s.1.spec then first_unfit_opening holds app more else Some s.1.opening_at
+
+-- the offset of a default that traps or is no member of its argument's type
+abbrev pub unfit_default : Holds → App → Option DefaultDecl → TypeSpecTree → Option ℕ
+unfit_default holds app None spec = None
+unfit_default holds app (Some d) spec = if is_fit holds (constant_of app d.value) spec then None else Some d.at
+
+abbrev pub unfit_argument : Holds → App → ArgumentDecl → Option ℕ
+unfit_argument holds app a = unfit_default holds app a.default a.spec
+
+-- that of the first of the arguments with such a one
+abbrev pub first_unfit_argument : Holds → App → List (List ℕ × ArgumentDecl) → Option ℕ
+first_unfit_argument holds app [] = None
+first_unfit_argument holds app (a ∷ more) = there_or (unfit_argument holds app a.1) (first_unfit_argument holds app more)
+
+-- that of the first of the commands with such an argument
+abbrev pub first_unfit_command : Holds → App → List (List ℕ × CommandDecl) → Option ℕ
+first_unfit_command holds app [] = None
+first_unfit_command holds app (c ∷ more) = there_or (first_unfit_argument holds app c.1.arguments) (first_unfit_command holds app more)
+
+-- the offset of the first opening value or default that traps or is no member of its type
+unfoldable pub first_unfit : Holds → App → Option ℕ
+first_unfit holds app = earlier (first_unfit_opening holds app app.frame.slots) (first_unfit_command holds app app.commands)
 
 -- each slot with its opening value, beside those that stand
 abbrev pub opened : App → List (List ℕ × SlotDecl) → Slots → Slots
@@ -62,8 +98,14 @@ OpensValue (Ok v) holds o d = (data_of v ≡ value_in o) × (is_fit holds o d.sp
 OpensValue (Err (Refused number at)) holds o d = (number ≡ 12) × (at ≡ d.opening_at) × (is_fit holds o d.spec ≡ false)
 OpensValue (Err Memory) holds o d = Unit {0}
 
+-- the slots, as far as their own values decide
+abbrev pub OpensValues : Result Slots LoadRefusal → Holds → App → Type 0
+OpensValues (Ok slots) holds app = (first_unfit_opening holds app app.frame.slots ≡ None) × (slots ≡ opening_slots app)
+OpensValues (Err (Refused number at)) holds app = (number ≡ 12) × (first_unfit_opening holds app app.frame.slots ≡ Some at)
+OpensValues (Err Memory) holds app = Unit {0}
+
 -- the slots
 abbrev pub OpensSlots : Result Slots LoadRefusal → Holds → App → Type 0
-OpensSlots (Ok slots) holds app = (first_unfit holds app app.frame.slots ≡ None) × (slots ≡ opening_slots app)
-OpensSlots (Err (Refused number at)) holds app = (number ≡ 12) × (first_unfit holds app app.frame.slots ≡ Some at)
+OpensSlots (Ok slots) holds app = (first_unfit holds app ≡ None) × (slots ≡ opening_slots app)
+OpensSlots (Err (Refused number at)) holds app = (number ≡ 12) × (first_unfit holds app ≡ Some at)
 OpensSlots (Err Memory) holds app = Unit {0}

@@ -60,7 +60,7 @@ place_panes width height [] placed = Ok placed
 place_panes width height (p ∷ ps) placed = unless_fault (place_pane width height p placed) (λ more. place_panes width height ps more)
 
 abbrev pub frame_with : FrameForm → (width height : ℕ) → PaneTable → FrameDecl
-frame_with f width height panes = record { name = f.name; width = width; height = height; slots = f.slots; panes = panes; at = f.at }
+frame_with f width height panes = record { name = f.name; width = width; height = height; slots = f.slots; panes = panes; table = f.table; at = f.at }
 
 abbrev pub place_on : FrameForm → Option ℕ → Option ℕ → Result FrameDecl Fault
 place_on f (Some w) (Some h) = unless_fault (place_panes w h f.panes []) (λ panes. Ok (frame_with f w h panes))

@@ -1,12 +1,13 @@
 -- Opening values and predicates read no slot, through calls too.
 use Rattle.std.specs.Prelude.{◌≡◌, ◌⊎◌, ℕ, List, [], ◌∷◌, Option, Some, None}
 use Rattle.cl_syntax.specs.declared.type_decls.TypeDecl.{TypeDecl}
+use Rattle.cl_application.specs.declared.declarations.CommandDecl.{CommandDecl}
 use Rattle.cl_declare.specs.declared.declarations.Declarations.{Declarations}
 use Rattle.cl_declare.specs.declared.frames.FrameForm.{FrameForm}
 use Rattle.cl_eval.specs.Uses.{Functions}
 use Rattle.cl_lattice.specs.Firsts.{IsFirst, offset_of}
 use Rattle.cl_phases.specs.Earlier.{earlier}
-use Rattle.cl_phases.specs.SlotReads.{AnyReads, FunctionReads}
+use Rattle.cl_phases.specs.SlotReads.{AnyReads, DefaultsRead, FunctionReads}
 
 -- ---- frames
 
@@ -34,12 +35,24 @@ PredicateReads fs (Some f) = FunctionReads fs f
 abbrev pub TypeReads : Functions → List ℕ × TypeDecl → Type 0
 TypeReads fs e = PredicateReads fs e.1.satisfies
 
+-- ---- commands
+
+-- a command with a default that reads a slot
+abbrev pub CommandReads : Functions → List ℕ × CommandDecl → Type 0
+CommandReads fs e = DefaultsRead fs e.1.arguments
+
+-- the offset of a command
+abbrev pub command_offset : List ℕ × CommandDecl → ℕ
+command_offset e = e.1.at
+
 -- ---- declarations
 
--- the offset of the first declaration with an opening value or a predicate that reads a slot
+-- the offset of the first declaration with an opening value, a default or a predicate that reads a slot
 pub record FindsReading (s : Declarations) (reading : Option ℕ) : Type 0 where
   pub frame : Option ℕ
   pub frame_found : Finds s.functions s.frames frame
   pub user_type : Option ℕ
   pub type_found : IsFirst (TypeReads s.functions) offset_of s.types user_type
-  pub first : reading ≡ earlier frame user_type
+  pub command : Option ℕ
+  pub command_found : IsFirst (CommandReads s.functions) command_offset s.commands command
+  pub first : reading ≡ earlier frame (earlier user_type command)

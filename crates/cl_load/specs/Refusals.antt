@@ -48,6 +48,7 @@ app_of s f = record {
   accept_methods = s.accept_methods;
   functions = s.functions;
   displays = s.displays;
+  tables = s.tables;
   commands = s.commands;
   frame = f;
 }
@@ -61,21 +62,22 @@ abbrev pub app_in : Declarations → List FrameForm → Option App
 app_in s [] = None
 app_in s (f ∷ more) = app_placed s (place_frame f)
 
--- an opening value that traps or is no member of its type
+-- an opening value or a default that traps or is no member of its type
 abbrev pub unfit : Bounds → Option App → Option ℕ
 unfit bounds None = None
-unfit bounds (Some app) = first_unfit (holds_in (types_in bounds app) app) app app.frame.slots
+unfit bounds (Some app) = first_unfit (holds_in (types_in bounds app) app) app
 
 -- what is past a limit; what is declared twice or reserved; the first name that is not declared
 abbrev pub form_faults : List Datum → Notes → List (Option Fault)
 form_faults ds notes =
     numbered 13 (first_past ds) ∷ numbered 7 (first_twice (outers_of ds)) ∷ numbered 8 notes.unknown ∷ []
 
--- a ring of user types; an argument that comes to stand where it is not taken; a type whose expansion is past a limit
+-- a ring of user types or of command tables; an argument that comes to stand where it is not taken; a type whose expansion is past a limit
 abbrev pub type_faults : (ring misfit large : Option ℕ) → List (Option Fault)
 type_faults ring misfit large = numbered 9 ring ∷ numbered 6 misfit ∷ numbered 13 large ∷ []
 
--- an opening value or a predicate that reads a slot; no frame or two; no place for it; no such host type; an opening value that is not fit
+-- an opening value, a default or a predicate that reads a slot; no frame or two; no place for it; no such host type; an opening value or a default
+-- that is not fit
 abbrev pub frame_faults : Bounds → ℕ → Declarations → (reading : Option ℕ) → List (Option Fault)
 frame_faults bounds length s reading =
     numbered 10 reading ∷ numbered 14 (frame_missed length s.frames) ∷ no_place s.frames ∷ numbered 16 (first_missing bounds s.hosts)

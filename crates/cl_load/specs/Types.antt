@@ -1,10 +1,11 @@
 -- The types of an application on the host types that are handed in, and what is wrong with those that declarations have.
-use Rattle.std.specs.Prelude.{ℕ, ℤ, pos, Bool, is_some, if◌then◌else◌, List, [], ◌∷◌, Option, Some, None, map}
+use Rattle.std.specs.Prelude.{◌≡◌, ℕ, ℤ, pos, Bool, is_some, if◌then◌else◌, List, [], ◌∷◌, Option, Some, None, map}
 use Rattle.cl_value.specs.Data.{Data}
 use Rattle.cl_syntax.specs.TypeSpecTree.{TypeSpecTree}
 use Rattle.cl_syntax.specs.declared.type_decls.CommandType.{CommandType}
 use Rattle.cl_syntax.specs.declared.type_decls.HostBound.{HostBound}
 use Rattle.cl_application.specs.declared.applications.App.{App}
+use Rattle.cl_application.specs.declared.declarations.ArgumentDecl.{ArgumentDecl}
 use Rattle.cl_application.specs.declared.declarations.CommandDecl.{CommandDecl}
 use Rattle.cl_application.specs.declared.declarations.HostDecl.{HostDecl}
 use Rattle.cl_expressions.specs.Load.{Notes}
@@ -14,7 +15,9 @@ use Rattle.cl_lattice.specs.Expansion.{expansion}
 use Rattle.cl_lattice.specs.Firsts.{IsFirst, IsFirstLarge, StandsOnRing, offset_of}
 use Rattle.cl_lattice.specs.Members.{is_member}
 use Rattle.cl_lattice.specs.World.{World, world_with}
+use Rattle.cl_phases.specs.Earlier.{earlier}
 use Rattle.cl_ptext.specs.Methods.{predicates_of}
+use Rattle.cl_tables.specs.Rings.{IsFirstOnRing}
 
 -- the least and the greatest number of a host type, by its name; None where there is no such host type
 abbrev pub Bounds : Type 0
@@ -31,9 +34,13 @@ host_bound bounds h = bound_with h (bounds h.name)
 abbrev pub host_bounds : Bounds → List (List ℕ × HostDecl) → List (List ℕ × HostBound)
 host_bounds bounds hosts = map (λ e. (e.0, host_bound bounds e.1)) hosts
 
--- a command with the types of its arguments, of which it has none yet
+-- the types of arguments
+abbrev pub argument_types : List (List ℕ × ArgumentDecl) → List TypeSpecTree
+argument_types arguments = map (λ e. e.1.spec) arguments
+
+-- a command with the types of its arguments
 abbrev pub command_type : CommandDecl → CommandType
-command_type c = record { name = c.name; args = []; at = c.at }
+command_type c = record { name = c.name; args = argument_types c.arguments; at = c.at }
 
 abbrev pub command_types : List (List ℕ × CommandDecl) → List (List ℕ × CommandType)
 command_types commands = map (λ e. (e.0, command_type e.1)) commands
@@ -53,8 +60,16 @@ abbrev pub declared_types : Bounds → Declarations → World
 declared_types bounds s = world_with s.records s.types (host_bounds bounds s.hosts) (command_types s.commands)
 
 -- the offset of the first declaration of a user type on a ring
-abbrev pub FindsRing : Bounds → Declarations → Option ℕ → Type 0
-FindsRing bounds s ring = IsFirst (StandsOnRing (declared_types bounds s)) offset_of s.types ring
+abbrev pub FindsTypeRing : Bounds → Declarations → Option ℕ → Type 0
+FindsTypeRing bounds s ring = IsFirst (StandsOnRing (declared_types bounds s)) offset_of s.types ring
+
+-- the offset of the first declaration of a user type or a command table on a ring
+pub record FindsRing (bounds : Bounds) (s : Declarations) (ring : Option ℕ) : Type 0 where
+  pub user_type : Option ℕ
+  pub type_found : FindsTypeRing bounds s user_type
+  pub table : Option ℕ
+  pub table_found : IsFirstOnRing s.tables s.tables table
+  pub first : ring ≡ earlier table user_type
 
 -- the offset of the first specifier with an argument that comes to stand where it is not taken
 abbrev pub FindsMisfit : Declarations → Notes → Option ℕ → Type 0

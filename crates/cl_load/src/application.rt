@@ -5,13 +5,15 @@ ghost use Rattle.cl_application.specs.Panes.{IsPlaced};
 ghost use Rattle.cl_load.specs.Apart.{LieApart-prop};
 ghost use Rattle.cl_load.specs.Application.{IsOfText};
 ghost use Rattle.cl_load.specs.Opening.{opening_slots};
+ghost use Rattle.cl_tables.specs.Rings.{HasNoRing};
 
 use cl_application::App;
 use cl_eval::Slots;
 use cl_lattice::Lattice;
 
 /// An application that loads, with its types and its opening slots: no refusal of its text applies to it. Its
-/// frame is at most 512 cells wide and 256 cells high, and its panes lie in it, each apart from the others.
+/// frame is at most 512 cells wide and 256 cells high, and its panes lie in it, each apart from the others. No
+/// command table inherits from itself.
 #[derive(Drop)]
 pub struct Loaded {
     pub app: App,
@@ -19,6 +21,7 @@ pub struct Loaded {
     pub slots: Slots,
     pub ghost of_text: { IsOfText app lattice },
     pub ghost placed: { IsPlaced app.frame } by { Prim.hlevel (props, LieApart-prop) },
+    pub ghost no_ring: { HasNoRing app.tables } by { Prim.hlevel (props) },
     pub ghost opening: { slots ≡ opening_slots app },
 }
 
@@ -29,5 +32,6 @@ pub struct Opened {
     pub lattice: Lattice,
     pub slots: Slots,
     pub ghost placed: { IsPlaced app.frame } by { Prim.hlevel (props, LieApart-prop) },
+    pub ghost no_ring: { HasNoRing app.tables } by { Prim.hlevel (props) },
     pub ghost opening: { slots ≡ opening_slots app },
 }

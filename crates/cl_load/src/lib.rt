@@ -2,12 +2,14 @@
 #![tactic(auto)]
 
 mod application;
+mod defaults;
 mod faults;
 mod laws;
 mod loading;
 mod opening;
 mod placing;
 mod readings;
+mod rings;
 mod settling;
 mod types;
 

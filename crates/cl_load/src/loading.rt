@@ -7,8 +7,8 @@ ghost use Rattle.cl_load.specs.Outcome.{parse};
 
 use crate::application::{Loaded, Opened};
 use crate::faults::pass_forms;
+use crate::rings::build;
 use crate::settling::settle;
-use crate::types::build_types;
 use cl_declare::{Declarations, parse_declarations};
 use cl_expressions::{Notes, Reader, Scope};
 use cl_forms::{Datum, Forms, LoadRefusal, all_forms, data_in, outers_of};
@@ -63,7 +63,7 @@ fn conclude<H: Hosts>(
     let mut notes = Notes::new(alloc);
     let declarations = parse(alloc, forms, &mut notes)?;
     pass_forms(alloc, forms, &notes)?;
-    let lattice = build_types(alloc, hosts, &declarations, &notes)?;
+    let lattice = build(alloc, hosts, &declarations, &notes)?;
     settle(alloc, length, hosts, declarations, lattice)
 }
 

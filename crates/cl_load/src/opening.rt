@@ -1,26 +1,49 @@
-//! The opening values of the slots.
-ghost use Rattle.std.specs.Prelude.{◌≡◌};
-ghost use Rattle.cl_load.specs.Opening.{opening_of, IsMemberOf, OpensSlots, OpensValue};
+//! The opening values of the slots, and with the defaults of arguments whether they fit their types.
+ghost use Rattle.std.specs.Prelude.{◌≡◌, Some};
+ghost use Rattle.cl_eval.specs.Evaluated.{Evaluates};
+ghost use Rattle.cl_load.specs.Opening.{constant_of, opening_of, IsMemberOf, OpensSlots, OpensValue, OpensValues};
+ghost use Rattle.cl_phases.specs.Earlier.{earlier};
 ghost use Rattle.cl_value.specs.Value.{data_of};
 
+use crate::defaults::first_unfit_command;
 use cl_application::{App, SlotDecl};
 use cl_eval::{Env, Evaluated, Limits, Slots, Types, eval};
 use cl_forms::LoadRefusal;
 use cl_outside::own_steps;
+use cl_syntax::Expr;
 use cl_value::{Held, Value};
 use std::alloc::Global;
 
-/// The limits of an opening value.
+/// The limits of an opening value and of a default.
 const LIMITS: Limits = Limits {
     budget: 10_000,
     depth: 512,
 };
 
+/// The slots with their opening values, or the refusal of the first opening value or default that traps or is
+/// no member of its type.
+#[tactic(auto, unfolding(crate::specs::Opening::first_unfit))]
+pub fn opening_slots<T: Types>(alloc: Global, app: &App, types: &T) -> Result<Slots, LoadRefusal>
+    ensures { OpensSlots result (T.holds types.now) app.now }
+{
+    let default = first_unfit_command(alloc, app, types)?;
+    match opening_values(alloc, app, types) {
+        Ok(slots) => match default {
+            None => Ok(slots),
+            Some(at) => Err(LoadRefusal::Refused(12, at)),
+        },
+        Err(LoadRefusal::Refused(number, at)) => {
+            Err(LoadRefusal::Refused(number, at_first(default, at)))
+        }
+        Err(LoadRefusal::Memory) => Err(LoadRefusal::Memory),
+    }
+}
+
 /// The slots with their opening values, or the refusal of the first value that traps or is no
 /// member of its slot's type.
 #[tactic(auto, using(crate::proofs::OpeningLemmas::unfit_next, crate::proofs::OpeningLemmas::opened_next))]
-pub fn opening_slots<T: Types>(alloc: Global, app: &App, types: &T) -> Result<Slots, LoadRefusal>
-    ensures { OpensSlots result (T.holds types.now) app.now }
+fn opening_values<T: Types>(alloc: Global, app: &App, types: &T) -> Result<Slots, LoadRefusal>
+    ensures { OpensValues result (T.holds types.now) app.now }
 {
     let declared = &app.frame.slots;
     let mut slots = Slots::new(alloc);
@@ -43,10 +66,7 @@ fn opening_value<T: Types>(
 ) -> Result<Value, LoadRefusal>
     ensures { OpensValue result (T.holds types.now) (opening_of app.now slot.now) slot.now }
 {
-    let env = Env::new(alloc);
-    let slots = Slots::new(alloc);
-    let mut steps = own_steps();
-    match eval(alloc, app, &slot.opening, &env, &slots, LIMITS, &mut steps) {
+    match constant(alloc, app, &slot.opening) {
         Evaluated::Value(value, _, _) => member(types, value, slot),
         Evaluated::Trap(_, _) => Err(LoadRefusal::Refused(12, slot.opening_at)),
         Evaluated::Memory => Err(LoadRefusal::Memory),
@@ -61,5 +81,25 @@ fn member<T: Types>(types: &T, value: Value, slot: &SlotDecl) -> Result<Value, L
         Held::Yes => Ok(value),
         Held::No => Err(LoadRefusal::Refused(12, slot.opening_at)),
         Held::Memory => Err(LoadRefusal::Memory),
+    }
+}
+
+/// What an expression without slots and variables comes to.
+pub fn constant(alloc: Global, app: &App, expr: &Expr) -> Evaluated
+    ensures { Evaluates result (constant_of app.now expr.now) }
+{
+    let env = Env::new(alloc);
+    let slots = Slots::new(alloc);
+    let mut steps = own_steps();
+    eval(alloc, app, expr, &env, &slots, LIMITS, &mut steps)
+}
+
+/// The lesser of two offsets, of which the first may not be there.
+fn at_first(first: Option<u32>, second: u32) -> u32
+    ensures { earlier (Some second) first ≡ Some result }
+{
+    match first {
+        None => second,
+        Some(at) => second.min(at),
     }
 }

@@ -36,6 +36,7 @@ pub fn place_frame(alloc: Global, frame: FrameForm) -> Result<FrameDecl, LoadRef
         height,
         slots: frame.slots,
         panes,
+        table: frame.table,
         at: frame.at,
     })
 }

@@ -1,22 +1,24 @@
-//! Opening values and predicates that read a slot.
+//! Opening values, defaults and predicates that read a slot.
 ghost use Rattle.std.specs.Prelude.{◌≡◌, ◌↔◌, IfOk, IsTrue};
 ghost use Rattle.cl_lattice.specs.Firsts.{IsFirst, offset_of};
-ghost use Rattle.cl_load.specs.Readings.{Finds, FindsReading, PredicateReads, TypeReads};
+ghost use Rattle.cl_load.specs.Readings.{CommandReads, Finds, FindsReading, PredicateReads, TypeReads, command_offset};
 
+use cl_application::Commands;
 use cl_declare::{Declarations, FrameForm};
 use cl_phases::{SlotSearch, earlier};
 use cl_syntax::{TypeDecl, UserTypes};
 use std::alloc::{AllocError, Global};
 
-/// The offset of the first declaration with an opening value or a predicate that reads a slot, through calls
-/// too. The body of each function is looked at once for all of them.
+/// The offset of the first declaration with an opening value, a default or a predicate that reads a slot, through
+/// calls too. The body of each function is looked at once for all of them.
 pub fn first_reading(alloc: Global, declarations: &Declarations) -> Result<Option<u32>, AllocError>
     ensures { IfOk result (FindsReading declarations.now) }
 {
     let mut search = SlotSearch::new(alloc, &declarations.functions);
     let frame = first_frame(&mut search, declarations.frames.as_slice())?;
     let user_type = first_type(&mut search, &declarations.types)?;
-    Ok(earlier(frame, user_type))
+    let command = first_command(&mut search, &declarations.commands)?;
+    Ok(earlier(frame, earlier(user_type, command)))
 }
 
 /// The offset of the first frame with an opening value that reads a slot.
@@ -35,7 +37,8 @@ fn first_frame(search: &mut SlotSearch, frames: &[FrameForm]) -> Result<Option<u
 /// The offset of the first user type whose predicate reads a slot.
 #[tactic(auto, using(crate::proofs::ReadingLemmas::types_here, crate::proofs::ReadingLemmas::types_next, crate::proofs::ReadingLemmas::types_done, crate::proofs::ReadingLemmas::types_start))]
 fn first_type(search: &mut SlotSearch, types: &UserTypes) -> Result<Option<u32>, AllocError>
-    ensures { IfOk result (IsFirst (TypeReads search.old) offset_of types.now) }
+    ensures found { IfOk result (IsFirst (TypeReads search.old) offset_of types.now) }
+    ensures same { search.new ≡ search.old }
 {
     for place in 0..types.len() {
         let Some(decl) = types.at(place) else {
@@ -43,6 +46,22 @@ fn first_type(search: &mut SlotSearch, types: &UserTypes) -> Result<Option<u32>,
         };
         if predicate_reads(search, decl)? {
             return Ok(Some(decl.at));
+        }
+    }
+    Ok(None)
+}
+
+/// The offset of the first command with a default that reads a slot.
+#[tactic(auto, using(crate::proofs::ReadingLemmas::commands_here, crate::proofs::ReadingLemmas::commands_next, crate::proofs::ReadingLemmas::commands_done, crate::proofs::ReadingLemmas::commands_start))]
+fn first_command(search: &mut SlotSearch, commands: &Commands) -> Result<Option<u32>, AllocError>
+    ensures { IfOk result (IsFirst (CommandReads search.old) command_offset commands.now) }
+{
+    for place in 0..commands.len() {
+        let Some(command) = commands.at(place) else {
+            unreachable!()
+        };
+        if search.command_reads_slot(command)? {
+            return Ok(Some(command.at));
         }
     }
     Ok(None)

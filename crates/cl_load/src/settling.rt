@@ -1,9 +1,10 @@
 //! The frame of declarations, and the application that they make.
-ghost use Rattle.std.specs.Prelude.{◌≡◌};
+ghost use Rattle.std.specs.Prelude.{◌≡◌, IfOk};
 ghost use Rattle.cl_application.specs.Panes.{IsPlaced};
 ghost use Rattle.cl_load.specs.Refusals.{app_of};
-ghost use Rattle.cl_load.specs.Settling.{Opens, OpensLast, Settles, TakesFrame};
+ghost use Rattle.cl_load.specs.Settling.{FramesApp, Opens, OpensLast, Settles, TakesFrame};
 ghost use Rattle.cl_load.specs.Types.{declared_types};
+ghost use Rattle.cl_tables.specs.Rings.{HasNoRing};
 
 use crate::application::Opened;
 use crate::faults::pass;
@@ -28,15 +29,25 @@ pub fn settle<H: Hosts>(
     declarations: Declarations,
     lattice: Lattice,
 ) -> Result<Opened, LoadRefusal>
-    requires { lattice ≡ declared_types (H.bounds hosts.now) declarations }
+    requires types { lattice ≡ declared_types (H.bounds hosts.now) declarations }
+    requires no_ring { HasNoRing declarations.tables }
     ensures { Settles result (H.bounds hosts.now) length declarations }
 {
     let reading = first_reading(alloc, &declarations)?;
     pass(10, reading)?;
+    let app = frame_app(alloc, length, declarations)?;
+    open(alloc, hosts, app, lattice)
+}
+
+/// The application of declarations with their one frame at its place, or the first of refusals 14 and 15.
+fn frame_app(alloc: Global, length: u32, declarations: Declarations) -> Result<App, LoadRefusal>
+    ensures framed { FramesApp result length declarations }
+    ensures placed { IfOk result (λ app. IsPlaced app.frame) }
+{
     let mut declarations = declarations;
     let frame = take_frame(length, &mut declarations.frames)?;
     let frame = place_frame(alloc, frame)?;
-    open(alloc, hosts, app_of(declarations, frame), lattice)
+    Ok(app_of(declarations, frame))
 }
 
 /// The one frame.
@@ -65,6 +76,7 @@ fn app_of(declarations: Declarations, frame: FrameDecl) -> App
         accept_methods: declarations.accept_methods,
         functions: declarations.functions,
         displays: declarations.displays,
+        tables: declarations.tables,
         commands: declarations.commands,
         frame,
     }
@@ -77,7 +89,8 @@ fn open<H: Hosts>(
     app: App,
     lattice: Lattice,
 ) -> Result<Opened, LoadRefusal>
-    requires { IsPlaced app.frame }
+    requires placed { IsPlaced app.frame }
+    requires no_ring { HasNoRing app.tables }
     ensures { Opens result (H.bounds hosts.now) app lattice }
 {
     let slots = slots_by_types(alloc, hosts, &app, &lattice)?;

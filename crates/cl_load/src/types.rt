@@ -1,9 +1,9 @@
 //! The lattice of the types that a text declares.
 ghost use Rattle.std.specs.Prelude.{◌≡◌, IfOk, is_some};
 ghost use Rattle.cl_load.specs.Settling.{BuildsTypes, Fits};
-ghost use Rattle.cl_load.specs.Types.{command_type, command_types, first_missing, host_bound, host_bounds};
+ghost use Rattle.cl_load.specs.Types.{argument_types, command_type, command_types, first_missing, host_bound, host_bounds};
 
-use cl_application::{CommandDecl, Commands, HostDecl, HostDecls};
+use cl_application::{ArgumentDecls, CommandDecl, Commands, HostDecl, HostDecls};
 use cl_arguments::first_misfit;
 use cl_declare::Declarations;
 use cl_expressions::Notes;
@@ -103,20 +103,35 @@ fn command_types(alloc: Global, commands: &Commands) -> Result<CommandTypes, All
         let Some(command) = commands.at(place) else {
             unreachable!()
         };
-        types.add_first(command_type(command)?)?;
+        types.add_first(command_type(alloc, command)?)?;
     }
     Ok(types)
 }
 
-/// A command with the types of its arguments, of which it has none.
-fn command_type(command: &CommandDecl) -> Result<CommandType, AllocError>
+/// A command with the types of its arguments.
+fn command_type(alloc: Global, command: &CommandDecl) -> Result<CommandType, AllocError>
     ensures { IfOk result (λ c. c ≡ command_type command.now) }
 {
     Ok(CommandType {
         name: command.name.copy()?,
-        args: TypeSpecs::new(),
+        args: argument_types(alloc, &command.arguments)?,
         at: command.at,
     })
+}
+
+/// The types of arguments.
+#[tactic(auto, using(crate::proofs::TypeLemmas::types_more))]
+fn argument_types(alloc: Global, arguments: &ArgumentDecls) -> Result<TypeSpecs, AllocError>
+    ensures { IfOk result (λ s. s ≡ argument_types arguments.now) }
+{
+    let mut specs = Vec::new(alloc);
+    for place in 0..arguments.len() {
+        let Some(argument) = arguments.at(place) else {
+            unreachable!()
+        };
+        specs.push(argument.spec.copy()?)?;
+    }
+    TypeSpecs::from_vec(alloc, specs)
 }
 
 /// The offset of the first declaration of a host type of which there is none.

@@ -1,11 +1,11 @@
 -- What an argument of a command is where a line has no token for it.
-use Rattle.std.specs.Prelude.{[], Option, Some, None, option_map}
+use Rattle.std.specs.Prelude.{[], Option, Some, None}
 use Rattle.cl_application.specs.declared.applications.App.{App}
+use Rattle.cl_application.specs.declared.declarations.ArgumentDecl.{ArgumentDecl}
+use Rattle.cl_application.specs.declared.declarations.DefaultDecl.{DefaultDecl}
 use Rattle.cl_eval.specs.Evaluated.{outcome_of_eval}
 use Rattle.cl_eval.specs.Outcome.{Outcome, Gives, Traps}
 use Rattle.cl_eval.specs.declared.metering.Limits.{Limits}
-use Rattle.cl_parser.specs.declared.arguments.Argument.{Argument}
-use Rattle.cl_syntax.specs.ExprTree.{ExprTree}
 use Rattle.cl_value.specs.Data.{Data}
 
 -- the limits of a default
@@ -17,10 +17,10 @@ value_in (Gives d cost deepest) = Some d
 value_in (Traps kind cost deepest) = None
 
 -- the value of a default, on no slots and no variables; none where there is no default, or where it traps
-abbrev pub value_if : App → Option ExprTree → Option Data
+abbrev pub value_if : App → Option DefaultDecl → Option Data
 value_if app None = None
-value_if app (Some e) = value_in (outcome_of_eval default_limits app [] [] e)
+value_if app (Some d) = value_in (outcome_of_eval default_limits app [] [] d.value)
 
 -- the value of an argument's default, if it has one
-abbrev pub default_value : App → Argument → Option Data
-default_value app a = value_if app (option_map (λ e. e.now) a.default)
+abbrev pub default_value : App → ArgumentDecl → Option Data
+default_value app a = value_if app a.default

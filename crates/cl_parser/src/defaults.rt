@@ -3,8 +3,7 @@ ghost use Rattle.std.specs.Prelude.{◌≡◌, IfOk, option_map};
 ghost use Rattle.cl_parser.specs.Defaults.{default_value};
 ghost use Rattle.cl_value.specs.Value.{data_of};
 
-use crate::arguments::Argument;
-use cl_application::App;
+use cl_application::{App, ArgumentDecl};
 use cl_eval::{Env, Evaluated, Limits, Slots, eval};
 use cl_outside::own_steps;
 use cl_value::Value;
@@ -20,16 +19,24 @@ const LIMITS: Limits = Limits {
 pub(crate) fn default_value(
     alloc: Global,
     app: &App,
-    argument: &Argument<'_>,
+    argument: &ArgumentDecl,
 ) -> Result<Option<Value>, AllocError>
     ensures { IfOk result (λ o. option_map data_of o ≡ default_value app.now argument.now) }
 {
-    let Some(default) = argument.default else {
+    let Some(default) = &argument.default else {
         return Ok(None);
     };
     let env = Env::new(alloc);
     let slots = Slots::new(alloc);
-    match eval(alloc, app, default, &env, &slots, LIMITS, &mut own_steps()) {
+    match eval(
+        alloc,
+        app,
+        &default.value,
+        &env,
+        &slots,
+        LIMITS,
+        &mut own_steps(),
+    ) {
         Evaluated::Value(value, _, _) => Ok(Some(value)),
         Evaluated::Trap(_, _) => Ok(None),
         Evaluated::Memory => Err(AllocError),

@@ -2,11 +2,9 @@
 //! profile of the CLIM II specification's chapter on command processing.
 #![tactic(auto)]
 
-mod arguments;
 mod defaults;
 mod laws;
 mod parsing;
 
-pub use arguments::Argument;
 pub use laws::arguments_are_members;
 pub use parsing::{Parsed, Parser};

@@ -1,16 +1,14 @@
 //! What the tokens of a line are read as.
-ghost use Rattle.std.specs.Prelude.{◌≡◌, IfOk, drop, option_map};
+ghost use Rattle.std.specs.Prelude.{◌≡◌, ◌<◌, ◌+◌, ◌∷◌, [], IfOk, drop, length, option_map};
 ghost use Rattle.cl_line.specs.Tokens.{tokens_behind};
-ghost use Rattle.cl_parser.specs.Parses.{parse, without_tokens};
-ghost use Rattle.cl_parser.specs.Tokens.{object_value, scene_of, text_value, token_value};
+ghost use Rattle.cl_parser.specs.Parses.{decls_of, parse, without_tokens};
+ghost use Rattle.cl_parser.specs.Tokens.{object_value, scene_of, token_value};
 ghost use Rattle.cl_value.specs.Value.{data_of};
 
-use crate::arguments::Argument;
 use crate::defaults::default_value;
-use cl_application::App;
+use cl_application::{App, ArgumentDecl, ArgumentDecls};
 use cl_eval::{Slots, Types};
 use cl_line::{Line, Token};
-use cl_ptext::{Accepted, Hosts, TypeBook};
 use cl_syntax::TypeSpec;
 use cl_value::{Held, Value, Values};
 use std::alloc::{AllocError, Global};
@@ -30,23 +28,23 @@ pub enum Parsed {
 
 /// What arguments are read by: an application, its types, and slots.
 #[derive(Drop)]
-pub struct Parser<'a, H> {
+pub struct Parser<'a, T> {
     pub alloc: Global,
     pub app: &'a App,
-    pub types: &'a TypeBook<'a, H>,
+    pub types: &'a T,
     pub slots: &'a Slots,
 }
 
-impl<H: Hosts> Parser<'_, H> {
+impl<T: Types> Parser<'_, T> {
     /// What the tokens of a line from the element `from` on are read as, for these arguments: a bad token comes before one too
     /// many, and that before an argument that is needed. Defaults are evaluated anew each time; one that traps counts as none.
     pub fn parse(
         &self,
         line: &Line,
         from: usize,
-        arguments: &[Argument<'_>],
+        arguments: &ArgumentDecls,
     ) -> Result<Parsed, AllocError>
-        ensures { IfOk result (λ p. p ≡ parse (scene_of H.entries self.now) line.now (tokens_behind from line.now) arguments.now) }
+        ensures { IfOk result (λ p. p ≡ parse (scene_of T.holds T.reads self.now) line.now (tokens_behind from line.now) (decls_of arguments.now)) }
     {
         let mut values = Values::new(self.alloc);
         let mut at = from;
@@ -54,7 +52,8 @@ impl<H: Hosts> Parser<'_, H> {
             let Some(token) = line.next_token(at) else {
                 return self.without_tokens(place, values, arguments);
             };
-            let Some(value) = self.token_value(line, token, arguments[place].spec)? else {
+            let Some(value) = self.token_value(line, token, &argument_at(arguments, place).spec)?
+            else {
                 return Ok(Parsed::BadArg(place + 1));
             };
             if values.push(value).is_err() {
@@ -68,17 +67,25 @@ impl<H: Hosts> Parser<'_, H> {
         }
     }
 
+    /// The defaults of all these arguments, or the first that has none.
+    pub fn defaults(&self, arguments: &ArgumentDecls) -> Result<Parsed, AllocError>
+        ensures { IfOk result (λ p. p ≡ without_tokens self.now.app.now 0 [] (decls_of arguments.now)) }
+    {
+        self.without_tokens(0, Values::new(self.alloc), arguments)
+    }
+
     // The arguments from a place on, which have no token.
     fn without_tokens(
         &self,
         first: usize,
         mut values: Values,
-        arguments: &[Argument<'_>],
+        arguments: &ArgumentDecls,
     ) -> Result<Parsed, AllocError>
-        ensures { IfOk result (λ p. p ≡ without_tokens self.now.app.now first values (drop first arguments.now)) }
+        ensures { IfOk result (λ p. p ≡ without_tokens self.now.app.now first values (decls_of (drop first arguments.now))) }
     {
         for place in first..arguments.len() {
-            let Some(value) = default_value(self.alloc, self.app, &arguments[place])? else {
+            let Some(value) = default_value(self.alloc, self.app, argument_at(arguments, place))?
+            else {
                 return Ok(Parsed::Need(place));
             };
             if values.push(value).is_err() {
@@ -95,10 +102,10 @@ impl<H: Hosts> Parser<'_, H> {
         token: Token,
         spec: &TypeSpec,
     ) -> Result<Option<Value>, AllocError>
-        ensures { IfOk result (λ o. option_map data_of o ≡ token_value (scene_of H.entries self.now) spec.now line.now token) }
+        ensures { IfOk result (λ o. option_map data_of o ≡ token_value (scene_of T.holds T.reads self.now) spec.now line.now token) }
     {
         if let Some(text) = line.text_of(token) {
-            return self.text_value(spec, text.as_slice());
+            return self.types.read(text.as_slice(), spec, self.slots);
         }
         match line.object_of(token) {
             Some(object) => self.object_value(spec, object),
@@ -106,21 +113,9 @@ impl<H: Hosts> Parser<'_, H> {
         }
     }
 
-    // What a text gives.
-    fn text_value(&self, spec: &TypeSpec, text: &[u8]) -> Result<Option<Value>, AllocError>
-        ensures { IfOk result (λ o. option_map data_of o ≡ text_value (scene_of H.entries self.now) spec.now text.now) }
-    {
-        match self.types.accept(spec, text, self.slots) {
-            Accepted::Object(value) => Ok(Some(value)),
-            Accepted::Refused => Ok(None),
-            Accepted::Trap(_) => Ok(None),
-            Accepted::Memory => Err(AllocError),
-        }
-    }
-
     // What an object gives: itself, where it is a member.
     fn object_value(&self, spec: &TypeSpec, object: &Value) -> Result<Option<Value>, AllocError>
-        ensures { IfOk result (λ o. option_map data_of o ≡ object_value (scene_of H.entries self.now) spec.now (data_of object.now)) }
+        ensures { IfOk result (λ o. option_map data_of o ≡ object_value (scene_of T.holds T.reads self.now) spec.now (data_of object.now)) }
     {
         match self.types.member(object, spec) {
             Held::Yes => Ok(Some(object.copy()?)),
@@ -128,4 +123,16 @@ impl<H: Hosts> Parser<'_, H> {
             Held::Memory => Err(AllocError),
         }
     }
+}
+
+// The argument in a place.
+#[tactic(auto, using(crate::proofs::ArgumentLemmas::argument_here, crate::proofs::ArgumentLemmas::argument_there))]
+fn argument_at(arguments: &ArgumentDecls, place: usize) -> &ArgumentDecl
+    requires { place < length arguments.now }
+    ensures { decls_of (drop place arguments.now) ≡ result.now ∷ decls_of (drop (place + 1) arguments.now) }
+{
+    let Some(argument) = arguments.at(place) else {
+        unreachable!()
+    };
+    argument
 }

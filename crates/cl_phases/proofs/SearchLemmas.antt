@@ -1,19 +1,17 @@
 -- The search for a slot through calls, from what was found and looked into before: what is found since is reached, and once all that
 -- is found was looked into, nothing else is.
-use Rattle.std.proofs.Common.{◌≡◌, ◌≤◌, ◌<◌, ◌+◌, ◌-◌, ◌++◌, ◌==◌, inl, inr, ℕ, zero, suc, Bool, true, false, cond, length, take, drop, get_or, List}
+use Rattle.std.proofs.Common.{◌≡◌, ◌≤◌, ◌<◌, ◌+◌, ◌-◌, ◌++◌, ◌==◌, ℕ, Bool, true, false, cond, length, take, get_or, List}
 use Rattle.std.proofs.Common.{[], ◌∷◌, Option, Some, None, refl, sym, ap, ◌∙◌, subst, arith}
-use Rattle.std.specs.Prelude.{All, Contains, IsTrue, is_some, if◌then◌else◌}
+use Rattle.std.specs.Prelude.{All, Contains, is_some, if◌then◌else◌}
 use Rattle.std.specs.Cmp.Lexicographic.{pointwise}
 use Rattle.std.proofs.lemmas.List.{append-nil, append_assoc, length-append, length_push, take_more, take_all, take-append-le, get_or_append_left, get_or-append_right}
 use Rattle.std.proofs.lemmas.List.Elements.{All-nil, All-cons, All-head, All-tail, All-get_or, All-push, All-append, All-contains, All-weaker, Contains-get_or}
 use Rattle.std.proofs.lemmas.Option.{slice_get-get_or}
 use Rattle.cl_syntax.specs.ExprTree.{ExprTree}
-use Rattle.cl_table.specs.Names.{named, declared_at, declared_in}
+use Rattle.cl_table.specs.Names.{named, declared_in}
 use Rattle.cl_application.specs.declared.declarations.FunctionDecl.{FunctionDecl}
-use Rattle.cl_application.specs.declared.declarations.SlotDecl.{SlotDecl}
 use Rattle.cl_phases.specs.declared.slot_reads.Reached.{Reached}
 use Rattle.cl_eval.specs.Uses.{Functions, ReadsSlot}
-use Rattle.cl_phases.specs.SlotReads.{AnyReads}
 use Rattle.cl_phases.specs.SlotSearch.{Found, names_slot, calls, with_call, with_calls, body_of, body_named, body_at, has, IsClosed, IsLookedInto, AreClear}
 use Rattle.cl_phases.proofs.Entries.{same_name, has_more, has_last, missing, missing_less}
 use Rattle.cl_phases.proofs.UseLemmas.{Reaches, itself, calling, ReachesSlot, read_is_reached, reached_is_read}
@@ -226,42 +224,3 @@ search_ends fs t old found place s l reads =
 
 pub reads_itself : (fs : Functions) (t : ExprTree) → names_slot t ≡ true → ReadsSlot fs t
 reads_itself fs t h = reached_is_read fs t (record { reached = t; reaches = itself fs t; names = h })
-
--- ---- one opening value behind the other
-
-pub none_found : (fs : Functions) → AreClear fs []
-none_found fs = All-nil (IsLookedInto fs [])
-
--- a slot that reads one is one of them
-pub read_here : (fs : Functions) (t : List (List ℕ × SlotDecl)) (i : ℕ) (d : SlotDecl) → Some d ≡ declared_at i t → ReadsSlot fs d.opening → AnyReads fs t
-read_here fs [] zero d h r = cc
-read_here fs [] (suc i) d h r = cc
-read_here fs (s ∷ t) zero d h r =
-    let same : d ≡ s.1 = cc in
-    inl (subst (λ (e : SlotDecl). ReadsSlot fs e.opening) same r)
-read_here fs (s ∷ t) (suc i) d h r = inr (read_here fs t i d h r)
-
-read_on : (fs : Functions) (t : List (List ℕ × SlotDecl)) (i : ℕ) (d : SlotDecl) → Some d ≡ declared_at i t → (ReadsSlot fs d.opening → ⊥)
-    → AnyReads fs (drop i t) → AnyReads fs (drop (suc i) t)
-read_on fs [] zero d h n r = cc
-read_on fs [] (suc i) d h n r = cc
-read_on fs (s ∷ t) zero d h n (inl r) =
-    let same : s.1 ≡ d = cc in
-    absurd (n (subst (λ (e : SlotDecl). ReadsSlot fs e.opening) same r))
-read_on fs (s ∷ t) zero d h n (inr r) = r
-read_on fs (s ∷ t) (suc i) d h n r = read_on fs t i d h n r
-
--- what is left reads one where the slot at its head reads none
-pub read_next : (fs : Functions) (t : List (List ℕ × SlotDecl)) (i : ℕ) (d : SlotDecl) → Some d ≡ declared_at i t → (ReadsSlot fs d.opening → ⊥)
-    → AnyReads fs (drop i t) → AnyReads fs (drop (i + 1) t)
-read_next fs t i d h n r =
-    let next : i + 1 ≡ suc i = omega arith in
-    rw next (read_on fs t i d h n r)
-
--- past the last nothing is left
-pub read_end : (fs : Functions) (t : List (List ℕ × SlotDecl)) → AnyReads fs (drop (length t) t) → ⊥
-read_end fs [] r = r
-read_end fs (s ∷ t) r = read_end fs t r
-
-pub not_both : (b : Bool) → b ≡ false → IsTrue b → ⊥
-not_both b h t = cc

@@ -1,15 +1,15 @@
 -- The names that the outermost forms of a text declare, in the order of the text.
-use Rattle.std.specs.Prelude.{ℕ, Bool, false, if◌then◌else◌, List, [], ◌∷◌, ◌++◌, map, Option, Some, None}
+use Rattle.std.specs.Prelude.{ℕ, Bool, false, if◌then◌else◌, List, [], ◌∷◌, ◌++◌, Option, Some, None}
 use denote.Enum.Bare.{sameb}
 use Rattle.cl_forms.specs.Datum.{Datum, number, literal, word, quoted, stray, list, parts_of}
-use Rattle.cl_forms.specs.LineNames.{line_name_of}
 use Rattle.cl_forms.specs.Outer.{Outer}
 use Rattle.cl_forms.specs.declared.outer.DeclarationKind.{DeclarationKind}
-use Rattle.cl_forms.specs.declared.outer.DeclarationKind.TheVariants.{Record, PresentationType, HostType, PresentMethod, AcceptMethod, Function, Display, Command, Frame}
+use Rattle.cl_forms.specs.declared.outer.DeclarationKind.TheVariants.{Record, PresentationType, HostType, PresentMethod, AcceptMethod, Function, Display, CommandTable, Command, Frame}
 use Rattle.cl_forms.specs.declared.outer.OuterKind.{OuterKind}
 use Rattle.cl_forms.specs.declared.outer.OuterKind.TheVariants.{Declared, Planned, Unknown, Headless}
 use Rattle.cl_words.specs.TypeNames.{is_standard_type}
 use Rattle.cl_words.specs.Heads.{is_operator}
+use Rattle.cl_words.specs.Signatures.{is_global_table}
 use Rattle.cl_phases.specs.declared.repeats.NameAt.{NameAt}
 use Rattle.cl_phases.specs.declared.declared_names.Space.{Space}
 use Rattle.cl_phases.specs.declared.declared_names.Space.TheVariants as space
@@ -47,6 +47,7 @@ space_of PresentMethod = space.PresentMethods
 space_of AcceptMethod = space.AcceptMethods
 space_of Function = space.Callees
 space_of Display = space.Callees
+space_of CommandTable = space.Tables
 space_of Command = space.Commands
 space_of Frame = space.Frames
 
@@ -63,6 +64,7 @@ is_reserved space.Callees name = is_operator name
 is_reserved space.Types name = is_standard_type name
 is_reserved space.PresentMethods name = false
 is_reserved space.AcceptMethods name = false
+is_reserved space.Tables name = is_global_table name
 is_reserved space.Commands name = false
 is_reserved space.Frames name = false
 
@@ -78,10 +80,3 @@ declares s o = if is_in s o.kind then own_name_at o.name else []
 abbrev pub declared_in : Space → List Outer → List NameAt
 declared_in s [] = []
 declared_in s (o ∷ os) = declares s o ++ declared_in s os
-
-abbrev pub line_named : NameAt → NameAt
-line_named n = record { name = line_name_of n.name; at = n.at }
-
--- command-line names, each where the symbol stands from which it is made
-abbrev pub line_names : List NameAt → List NameAt
-line_names ns = map line_named ns

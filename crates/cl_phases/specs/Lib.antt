@@ -4,4 +4,5 @@ pub mod Earlier
 pub mod Limits
 pub mod Repeats
 pub mod DeclaredNames
+pub mod CommandNames
 pub mod Twice

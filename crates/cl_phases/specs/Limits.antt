@@ -2,12 +2,13 @@
 use Rattle.std.specs.Prelude.{ℕ, nat_lt, List, [], ◌∷◌, length, slice_get, Option, Some, None}
 use Rattle.cl_forms.specs.Datum.{Datum, Datums, number, literal, word, quoted, stray, list, none, item, datums_of, offset, parts_of}
 use Rattle.cl_forms.specs.Keys.{section_values}
-use Rattle.cl_forms.specs.declared.keys.Key.TheVariants.{Slots, Panes}
+use Rattle.cl_forms.specs.declared.keys.Key.TheVariants.{Slots, Panes, Name}
 use Rattle.cl_forms.specs.Outer.{Outer, behind_name, outer_in}
 use Rattle.cl_forms.specs.declared.outer.DeclarationKind.{DeclarationKind}
-use Rattle.cl_forms.specs.declared.outer.DeclarationKind.TheVariants.{Record, PresentationType, HostType, PresentMethod, AcceptMethod, Function, Display, Command, Frame}
+use Rattle.cl_forms.specs.declared.outer.DeclarationKind.TheVariants.{Record, PresentationType, HostType, PresentMethod, AcceptMethod, Function, Display, CommandTable, Command, Frame}
 use Rattle.cl_forms.specs.declared.outer.OuterKind.{OuterKind}
 use Rattle.cl_forms.specs.declared.outer.OuterKind.TheVariants.{Declared, Planned, Unknown, Headless}
+use Rattle.cl_phases.specs.CommandNames.{head_value}
 use Rattle.cl_phases.specs.Earlier.{earlier, at_if}
 
 -- a symbol has at most 64 bytes, a text 4,096
@@ -32,7 +33,7 @@ offset_in (Some d) = Some (offset d)
 abbrev pub past : ℕ → List Datum → Option ℕ
 past count ds = offset_in (slice_get ds count)
 
--- a user type, a function or a display has at most 16 parameters, which stand first behind its name
+-- a user type, a function or a display has at most 16 parameters, and a command as many arguments; they stand first behind its name
 abbrev pub past_parameters : List Datum → Option ℕ
 past_parameters [] = None
 past_parameters (d ∷ ds) = past 16 (parts_of d)
@@ -54,7 +55,8 @@ past_kind PresentMethod more = None
 past_kind AcceptMethod more = None
 past_kind Function more = past_parameters more
 past_kind Display more = past_parameters more
-past_kind Command more = None
+past_kind CommandTable more = None
+past_kind Command more = past_parameters more
 past_kind Frame more = past_sections more
 
 abbrev pub past_outer : OuterKind → List Datum → Option ℕ
@@ -63,8 +65,21 @@ past_outer (Planned at) more = None
 past_outer (Unknown at) more = None
 past_outer Headless more = None
 
+abbrev pub long_line : Datum → Option ℕ
+long_line (literal s at) = at_if (nat_lt 64 (length s)) at
+long_line (number z at) = None
+long_line (word s at) = None
+long_line (quoted s at name_at) = None
+long_line (stray at) = None
+long_line (list ds at) = None
+
+-- a command-line name that is given has at most 64 bytes
+abbrev pub past_line : Option Datum → Option ℕ
+past_line None = None
+past_line (Some d) = long_line d
+
 abbrev pub past_declaration : Outer → Option ℕ
-past_declaration o = past_outer o.kind (behind_name o)
+past_declaration o = earlier (past_line (head_value Name o)) (past_outer o.kind (behind_name o))
 
 abbrev pub past_declarations : List Datum → Option ℕ
 past_declarations [] = None

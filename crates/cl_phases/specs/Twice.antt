@@ -5,15 +5,16 @@ use Rattle.cl_forms.specs.Keys.{section_values}
 use Rattle.cl_forms.specs.declared.keys.Key.TheVariants.{Slots, Panes}
 use Rattle.cl_forms.specs.Outer.{Outer, behind_name}
 use Rattle.cl_forms.specs.declared.outer.DeclarationKind.{DeclarationKind}
-use Rattle.cl_forms.specs.declared.outer.DeclarationKind.TheVariants.{Record, PresentationType, HostType, PresentMethod, AcceptMethod, Function, Display, Command, Frame}
+use Rattle.cl_forms.specs.declared.outer.DeclarationKind.TheVariants.{Record, PresentationType, HostType, PresentMethod, AcceptMethod, Function, Display, CommandTable, Command, Frame}
 use Rattle.cl_forms.specs.declared.outer.OuterKind.{OuterKind}
 use Rattle.cl_forms.specs.declared.outer.OuterKind.TheVariants.{Declared, Planned, Unknown, Headless}
 use Rattle.cl_phases.specs.Earlier.{earlier, at_if}
 use Rattle.cl_phases.specs.Repeats.{first_repeated}
-use Rattle.cl_phases.specs.DeclaredNames.{names_at, declared_in, line_names, is_reserved}
+use Rattle.cl_phases.specs.CommandNames.{lines_in, strokes_in}
+use Rattle.cl_phases.specs.DeclaredNames.{names_at, declared_in, is_reserved}
 use Rattle.cl_phases.specs.declared.repeats.NameAt.{NameAt}
 use Rattle.cl_phases.specs.declared.declared_names.Space.{Space}
-use Rattle.cl_phases.specs.declared.declared_names.Space.TheVariants.{Callees, Types, PresentMethods, AcceptMethods, Commands, Frames}
+use Rattle.cl_phases.specs.declared.declared_names.Space.TheVariants.{Callees, Types, PresentMethods, AcceptMethods, Tables, Commands, Frames}
 
 -- ---- among the outermost forms
 
@@ -25,10 +26,6 @@ first_reserved s (n ∷ ns) = earlier (at_if (is_reserved s n.name) n.at) (first
 abbrev pub names_twice : Space → List NameAt → Option ℕ
 names_twice s ns = earlier (first_repeated ns) (first_reserved s ns)
 
--- the names of commands, and their command-line names
-abbrev pub commands_twice : List NameAt → Option ℕ
-commands_twice ns = earlier (first_repeated ns) (first_repeated (line_names ns))
-
 -- ---- within one declaration
 
 -- the slots of a frame, and its panes
@@ -39,6 +36,7 @@ abbrev pub sections_twice : List Datum → Option ℕ
 sections_twice [] = None
 sections_twice (d ∷ ds) = earlier (section_twice d) (sections_twice ds)
 
+-- parameters, or the arguments of a command
 abbrev pub parameters_twice : List Datum → Option ℕ
 parameters_twice [] = None
 parameters_twice (d ∷ ds) = first_repeated (names_at (parts_of d))
@@ -51,6 +49,7 @@ parts_twice PresentMethod more = None
 parts_twice AcceptMethod more = None
 parts_twice Function more = parameters_twice more
 parts_twice Display more = parameters_twice more
+parts_twice CommandTable more = None
 parts_twice Command more = parameters_twice more
 parts_twice Frame more = sections_twice more
 
@@ -76,8 +75,15 @@ twice_in s os = names_twice s (declared_in s os)
 abbrev pub types_twice : List Outer → Option ℕ
 types_twice os = earlier (twice_in Types os) (earlier (twice_in PresentMethods os) (twice_in AcceptMethods os))
 
+-- the names of commands in the whole text; their command-line names and their keystrokes within each table
+abbrev pub commands_twice : List Outer → Option ℕ
+commands_twice os = earlier (twice_in Commands os) (earlier (first_repeated (lines_in os)) (first_repeated (strokes_in os)))
+
+abbrev pub tables_twice : List Outer → Option ℕ
+tables_twice os = earlier (twice_in Tables os) (commands_twice os)
+
 abbrev pub spaces_twice : List Outer → Option ℕ
-spaces_twice os = earlier (earlier (twice_in Callees os) (types_twice os)) (earlier (commands_twice (declared_in Commands os)) (twice_in Frames os))
+spaces_twice os = earlier (earlier (twice_in Callees os) (types_twice os)) (earlier (tables_twice os) (twice_in Frames os))
 
 abbrev pub first_twice : List Outer → Option ℕ
 first_twice os = earlier (spaces_twice os) (declarations_twice os)

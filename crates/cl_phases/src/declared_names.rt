@@ -2,11 +2,11 @@
 ghost use Rattle.std.specs.Prelude.{◌≡◌, ◌++◌, IfOk, OnOk, map, option_map};
 ghost use Rattle.cl_forms.specs.DatumView.{datum_of};
 ghost use Rattle.cl_forms.specs.OuterView.{outer_of};
-ghost use Rattle.cl_phases.specs.DeclaredNames.{declared_in, declares, first_at, is_in, is_reserved, line_names, name_at, names_at, own_name_at, same_space, space_of, word_at};
+ghost use Rattle.cl_phases.specs.DeclaredNames.{declared_in, declares, first_at, is_in, is_reserved, name_at, names_at, own_name_at, same_space, space_of, word_at};
 
 use crate::repeats::NameAt;
-use cl_forms::{Datum, DeclarationKind, Outer, OuterKind, line_name_of};
-use cl_words::{is_operator, is_standard_type};
+use cl_forms::{Datum, DeclarationKind, Outer, OuterKind};
+use cl_words::{is_global_table, is_operator, is_standard_type};
 use std::alloc::{AllocError, Global};
 
 /// Declarations whose names differ.
@@ -18,6 +18,8 @@ pub enum Space {
     Types,
     PresentMethods,
     AcceptMethods,
+    /// Command tables.
+    Tables,
     Commands,
     Frames,
 }
@@ -40,13 +42,14 @@ fn space_of(kind: DeclarationKind) -> Space
         DeclarationKind::AcceptMethod => Space::AcceptMethods,
         DeclarationKind::Function => Space::Callees,
         DeclarationKind::Display => Space::Callees,
+        DeclarationKind::CommandTable => Space::Tables,
         DeclarationKind::Command => Space::Commands,
         DeclarationKind::Frame => Space::Frames,
     }
 }
 
 /// Whether such a form declares a name in the space.
-fn is_in(space: Space, kind: OuterKind) -> bool
+pub fn is_in(space: Space, kind: OuterKind) -> bool
     ensures { result ≡ is_in space kind }
 {
     match kind {
@@ -66,6 +69,7 @@ pub fn is_reserved(space: Space, name: &[u8]) -> bool
         Space::Types => is_standard_type(name),
         Space::PresentMethods => false,
         Space::AcceptMethods => false,
+        Space::Tables => is_global_table(name),
         Space::Commands => false,
         Space::Frames => false,
     }
@@ -81,14 +85,28 @@ pub fn declared_in(
 {
     let mut names = Vec::new(alloc);
     for outer in outers {
-        if is_in(space, outer.kind) {
-            add_own_name(&mut names, outer.name)?;
-        }
+        add_declared(&mut names, space, outer)?;
     }
     Ok(names)
 }
 
-fn add_own_name(names: &mut Vec<NameAt>, name: Option<&Datum>) -> Result<(), AllocError>
+/// Adds the name that a form declares in a space, where it declares one.
+pub fn add_declared(
+    names: &mut Vec<NameAt>,
+    space: Space,
+    outer: &Outer<'_>,
+) -> Result<(), AllocError>
+    ensures { OnOk result (names.new.items ≡ names.old.items ++ declares space (outer_of outer.now)) }
+{
+    if is_in(space, outer.kind) {
+        add_own_name(names, outer.name)
+    } else {
+        Ok(())
+    }
+}
+
+/// Adds the name that a datum is, if it is one.
+pub fn add_own_name(names: &mut Vec<NameAt>, name: Option<&Datum>) -> Result<(), AllocError>
     ensures { OnOk result
         (names.new.items ≡ names.old.items ++ own_name_at (option_map (λ d. datum_of d.now) name.entry)) }
 {
@@ -139,19 +157,4 @@ fn add_word(names: &mut Vec<NameAt>, datum: &Datum) -> Result<(), AllocError>
         Datum::Stray(_) => Ok(()),
         Datum::List(_, _) => Ok(()),
     }
-}
-
-/// The command-line names that are made from the names of commands, with the same offsets.
-pub fn line_names(alloc: Global, names: &[NameAt]) -> Result<Vec<NameAt>, AllocError>
-    ensures { IfOk result (λ v. v.items ≡ line_names names.now) }
-{
-    let mut lines = Vec::new(alloc);
-    for name in names {
-        let line = line_name_of(alloc, name.name.as_slice())?;
-        lines.push(NameAt {
-            name: line,
-            at: name.at,
-        })?;
-    }
-    Ok(lines)
 }

@@ -1,13 +1,16 @@
 //! What a loader looks for in declarations that have been read.
 #![tactic(auto)]
 
+mod command_names;
 mod declared_names;
+mod laws;
 mod limits;
 mod offsets;
 mod repeats;
 mod slot_reads;
 mod twice;
 
+pub use laws::tables_keep_their_names;
 pub use limits::first_past;
 pub use offsets::earlier;
 pub use slot_reads::SlotSearch;

@@ -1,28 +1,33 @@
 //! Lengths and counts that are past their limits.
-ghost use Rattle.std.specs.Prelude.{◌≡◌, map};
+ghost use Rattle.std.specs.Prelude.{◌≡◌, map, option_map};
 ghost use Rattle.cl_forms.specs.Datum.{datums_of};
 ghost use Rattle.cl_forms.specs.DatumView.{datum_of};
+ghost use Rattle.cl_forms.specs.Outer.{behind_name};
 ghost use Rattle.cl_forms.specs.OuterView.{outer_of};
-ghost use Rattle.cl_phases.specs.Limits.{first_past, long_among, long_in, past, past_declaration, past_declarations, past_kind, past_parameters, past_section, past_sections};
+ghost use Rattle.cl_phases.specs.Limits.{first_past, long_among, long_in, long_line, past, past_declaration, past_declarations, past_kind, past_line, past_outer, past_parameters, past_section, past_sections};
 
+use crate::command_names::head_value;
 use crate::offsets::{at_if, earlier};
 use cl_forms::{Datum, DeclarationKind, Key, Outer, OuterKind, outer_in, section_values};
 
 /// The most bytes of a symbol.
 const LONGEST_SYMBOL: usize = 64;
+/// The most bytes of a command-line name.
+const LONGEST_LINE: usize = 64;
 /// The most bytes of a literal text.
 const LONGEST_TEXT: usize = 4_096;
 /// The most outermost forms.
 const MOST_FORMS: usize = 4_096;
-/// The most fields of a record, and the most parameters of a user type, a function or a display.
+/// The most fields of a record, the most parameters of a user type, a function or a display, and the most
+/// arguments of a command.
 const MOST_NAMES: usize = 16;
 /// The most slots of a frame.
 const MOST_SLOTS: usize = 256;
 /// The most panes of a frame.
 const MOST_PANES: usize = 16;
 
-/// The least offset of what is past a limit: a symbol or a text that is too long, and the first
-/// form, field, parameter, slot or pane that is one too many.
+/// The least offset of what is past a limit: a symbol, a text or a command-line name that is too long, and
+/// the first form, field, parameter, argument, slot or pane that is one too many.
 pub fn first_past(forms: &[Datum]) -> Option<u32>
     ensures { result ≡ first_past (map datum_of forms.now) }
 {
@@ -84,6 +89,36 @@ fn past_declarations(forms: &[Datum]) -> Option<u32>
 fn past_declaration(outer: &Outer<'_>) -> Option<u32>
     ensures { result ≡ past_declaration (outer_of outer.now) }
 {
+    let line = past_line(head_value(Key::Name, outer));
+    earlier(line, past_outer(outer))
+}
+
+/// A command-line name that is given and too long.
+fn past_line(given: Option<&Datum>) -> Option<u32>
+    ensures { result ≡ past_line (option_map (λ d. datum_of d.now) given.entry) }
+{
+    match given {
+        Some(given) => long_line(given),
+        None => None,
+    }
+}
+
+fn long_line(datum: &Datum) -> Option<u32>
+    ensures { result ≡ long_line (datum_of datum.now) }
+{
+    match datum {
+        Datum::Literal(text, at) => at_if(text.as_slice().len() > LONGEST_LINE, *at),
+        Datum::Number(_, _) => None,
+        Datum::Word(_, _) => None,
+        Datum::Quoted(_, _, _) => None,
+        Datum::Stray(_) => None,
+        Datum::List(_, _) => None,
+    }
+}
+
+fn past_outer(outer: &Outer<'_>) -> Option<u32>
+    ensures { result ≡ past_outer (outer_of outer.now).kind (behind_name (outer_of outer.now)) }
+{
     match outer.kind {
         OuterKind::Declared(kind) => past_kind(kind, outer.behind_name()),
         OuterKind::Planned(_) => None,
@@ -103,7 +138,8 @@ fn past_kind(kind: DeclarationKind, more: &[Datum]) -> Option<u32>
         DeclarationKind::AcceptMethod => None,
         DeclarationKind::Function => past_parameters(more),
         DeclarationKind::Display => past_parameters(more),
-        DeclarationKind::Command => None,
+        DeclarationKind::CommandTable => None,
+        DeclarationKind::Command => past_parameters(more),
         DeclarationKind::Frame => past_sections(more),
     }
 }

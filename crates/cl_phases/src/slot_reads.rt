@@ -1,12 +1,12 @@
-//! Whether opening values and predicates read a slot, through calls too.
+//! Whether opening values, defaults of arguments and predicates read a slot, through calls too.
 ghost use Rattle.std.specs.Prelude.{◌≡◌, ◌↔◌, ◌++◌, IfOk, IsTrue, OnOk, option_map};
 ghost use Rattle.cl_syntax.specs.ExprTree.{expr_trees_of};
 ghost use Rattle.cl_syntax.specs.Expr.{bindings_of};
 ghost use Rattle.cl_eval.specs.Uses.{ReadsSlot};
-ghost use Rattle.cl_phases.specs.SlotReads.{FunctionReads, Tells};
+ghost use Rattle.cl_phases.specs.SlotReads.{DefaultReads, DefaultsRead, FunctionReads, Tells};
 ghost use Rattle.cl_phases.specs.SlotSearch.{AreClear, StaysClear, body_at, calls, calls_among, calls_bound, names_slot, names_slot_among, names_slot_bound, with_call, with_calls};
 
-use cl_application::{Functions, SlotDecls};
+use cl_application::{ArgumentDecl, ArgumentDecls, CommandDecl, Functions, SlotDecls};
 use cl_syntax::{Binding, Expr, ExprKind};
 use cl_table::{Declared, Names, Table};
 use cl_value::Text;
@@ -80,6 +80,20 @@ impl<'a> SlotSearch<'a> {
         Ok(reads)
     }
 
+    /// Whether a default of the command's arguments reads a slot: one stands in it, or in the body of a
+    /// function that is reached from it through calls.
+    pub fn command_reads_slot(&mut self, command: &CommandDecl) -> Result<bool, AllocError>
+        ensures reads { IfOk result (λ b. IsTrue b ↔ DefaultsRead self.old command.now.arguments) }
+        ensures same { self.new ≡ self.old }
+    {
+        let mut reached = mem::replace(&mut self.reached, Table::new(self.alloc));
+        if defaults_read_slot(self.alloc, self.functions, &command.arguments, &mut reached)? {
+            return Ok(true);
+        }
+        self.reached = reached;
+        Ok(false)
+    }
+
     /// Whether the function of this name reads a slot: one stands in its body, or in that of a function that
     /// is reached from there through calls. No function that is not declared does.
     pub fn function_reads_slot(&mut self, name: &[u8]) -> Result<bool, AllocError>
@@ -134,6 +148,47 @@ fn any_reads_slot(
         }
     }
     Ok(false)
+}
+
+/// Whether a default of these arguments reads a slot. What was reached before reads none and is not looked
+/// at again.
+fn defaults_read_slot(
+    alloc: Global,
+    functions: &Functions,
+    arguments: &ArgumentDecls,
+    reached: &mut Table<Reached>,
+) -> Result<bool, AllocError>
+    requires { AreClear functions.now reached.old }
+    ensures reads { IfOk result (λ b. IsTrue b ↔ DefaultsRead functions.now arguments.now) }
+    ensures clear { IfOk result (StaysClear functions.now reached.new) }
+{
+    for place in 0..arguments.len() {
+        let Some(argument) = arguments.at(place) else {
+            unreachable!()
+        };
+        if default_reads_slot(alloc, functions, argument, reached)? {
+            return Ok(true);
+        }
+    }
+    Ok(false)
+}
+
+/// Whether the default of an argument, if it has one, reads a slot. What was reached before reads none and is not looked
+/// at again.
+fn default_reads_slot(
+    alloc: Global,
+    functions: &Functions,
+    argument: &ArgumentDecl,
+    reached: &mut Table<Reached>,
+) -> Result<bool, AllocError>
+    requires { AreClear functions.now reached.old }
+    ensures reads { IfOk result (λ b. IsTrue b ↔ DefaultReads functions.now argument.now.default) }
+    ensures clear { IfOk result (StaysClear functions.now reached.new) }
+{
+    match &argument.default {
+        Some(default) => reads_slot(alloc, functions, &default.value, reached),
+        None => Ok(false),
+    }
 }
 
 /// Whether the expression reads a slot. What was reached before reads none and is not looked at again.

@@ -4,17 +4,18 @@ ghost use Rattle.cl_forms.specs.DatumView.{datum_of};
 ghost use Rattle.cl_forms.specs.OuterView.{outer_of};
 ghost use Rattle.cl_phases.specs.DeclaredNames.{declared_in, names_at};
 ghost use Rattle.cl_phases.specs.Repeats as repeats;
-ghost use Rattle.cl_phases.specs.Twice.{commands_twice, declaration_twice, declarations_twice, first_reserved, first_twice, names_twice, parameters_twice, parts_twice, section_twice, sections_twice, spaces_twice, types_twice};
-ghost use Rattle.cl_phases.specs.declared.declared_names.Space.TheVariants.{Commands};
+ghost use Rattle.cl_phases.specs.Twice.{commands_twice, declaration_twice, declarations_twice, first_reserved, first_twice, names_twice, parameters_twice, parts_twice, section_twice, sections_twice, spaces_twice, tables_twice, types_twice};
 
-use crate::declared_names::{Space, declared_in, is_reserved, line_names, names_at};
+use crate::command_names::{lines_in, strokes_in};
+use crate::declared_names::{Space, declared_in, is_reserved, names_at};
 use crate::offsets::{at_if, earlier};
 use crate::repeats::{NameAt, first_repeated};
 use cl_forms::{Datum, DeclarationKind, Key, Outer, OuterKind, section_values};
 use std::alloc::{AllocError, Global};
 
 /// The least offset of a name that is declared twice, in its space or within one declaration, of a
-/// command whose command-line name stands twice, or of a declared name that is reserved.
+/// command-line name or a keystroke that stands twice in its command table, or of a declared name that is
+/// reserved.
 pub fn first_twice(alloc: Global, outers: &[Outer<'_>]) -> Result<Option<u32>, AllocError>
     ensures { IfOk result (λ r. r ≡ first_twice (map outer_of outers.now)) }
 {
@@ -28,9 +29,17 @@ fn spaces_twice(alloc: Global, outers: &[Outer<'_>]) -> Result<Option<u32>, Allo
 {
     let callees = space_twice(alloc, Space::Callees, outers)?;
     let types = types_twice(alloc, outers)?;
-    let commands = commands_twice(alloc, outers)?;
+    let tables = tables_twice(alloc, outers)?;
     let frames = space_twice(alloc, Space::Frames, outers)?;
-    Ok(earlier(earlier(callees, types), earlier(commands, frames)))
+    Ok(earlier(earlier(callees, types), earlier(tables, frames)))
+}
+
+fn tables_twice(alloc: Global, outers: &[Outer<'_>]) -> Result<Option<u32>, AllocError>
+    ensures { IfOk result (λ r. r ≡ tables_twice (map outer_of outers.now)) }
+{
+    let tables = space_twice(alloc, Space::Tables, outers)?;
+    let commands = commands_twice(alloc, outers)?;
+    Ok(earlier(tables, commands))
 }
 
 fn types_twice(alloc: Global, outers: &[Outer<'_>]) -> Result<Option<u32>, AllocError>
@@ -53,14 +62,14 @@ fn space_twice(alloc: Global, space: Space, outers: &[Outer<'_>]) -> Result<Opti
 }
 
 fn commands_twice(alloc: Global, outers: &[Outer<'_>]) -> Result<Option<u32>, AllocError>
-    ensures { IfOk result
-        (λ r. r ≡ commands_twice (declared_in Commands (map outer_of outers.now))) }
+    ensures { IfOk result (λ r. r ≡ commands_twice (map outer_of outers.now)) }
 {
-    let names = declared_in(alloc, Space::Commands, outers)?;
-    let repeated = first_repeated(alloc, names.as_slice())?;
-    let lines = line_names(alloc, names.as_slice())?;
+    let names = space_twice(alloc, Space::Commands, outers)?;
+    let lines = lines_in(alloc, outers)?;
     let line = first_repeated(alloc, lines.as_slice())?;
-    Ok(earlier(repeated, line))
+    let strokes = strokes_in(alloc, outers)?;
+    let stroke = first_repeated(alloc, strokes.as_slice())?;
+    Ok(earlier(names, earlier(line, stroke)))
 }
 
 #[tactic(auto, using(crate::proofs::EarlierLemmas::earlier_assoc, crate::proofs::EarlierLemmas::earlier_none))]
@@ -75,7 +84,7 @@ fn first_reserved(space: Space, names: &[NameAt]) -> Option<u32>
     first
 }
 
-/// What stands twice within one declaration: fields, parameters, slots or panes.
+/// What stands twice within one declaration: fields, parameters, arguments, slots or panes.
 #[tactic(auto, using(crate::proofs::EarlierLemmas::earlier_assoc, crate::proofs::EarlierLemmas::earlier_none))]
 fn declarations_twice(alloc: Global, outers: &[Outer<'_>]) -> Result<Option<u32>, AllocError>
     ensures { IfOk result (λ r. r ≡ declarations_twice (map outer_of outers.now)) }
@@ -114,6 +123,7 @@ fn parts_twice(
         DeclarationKind::AcceptMethod => Ok(None),
         DeclarationKind::Function => parameters_twice(alloc, more),
         DeclarationKind::Display => parameters_twice(alloc, more),
+        DeclarationKind::CommandTable => Ok(None),
         DeclarationKind::Command => parameters_twice(alloc, more),
         DeclarationKind::Frame => sections_twice(alloc, more),
     }

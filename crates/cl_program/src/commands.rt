@@ -6,9 +6,10 @@ ghost use Rattle.cl_frame.specs.Sending.{wire_of};
 ghost use Rattle.cl_invocation.specs.Words.{invocation_of};
 ghost use Rattle.cl_load.specs.Opening.{opening_slots};
 ghost use Rattle.cl_program.specs.Commands.{Checked, Judges, KeepsFiles, KeptBy, RanOn, RanText};
-ghost use Rattle.cl_program.specs.Hosts.{hosts_of, meanings_in};
+ghost use Rattle.cl_program.specs.Hosts.{hosts_of, meanings_in, reads_in};
 ghost use Rattle.cl_program.specs.Run.{Ran, RanLoaded};
 ghost use Rattle.cl_program.specs.Surroundings.{placed, streams};
+ghost use Rattle.cl_tables.specs.Rings.{HasNoRing};
 
 use crate::running::{How, limits_of, run_program};
 use crate::saying::{say_loads, say_refusal, say_usage};
@@ -154,7 +155,8 @@ fn run_application<H: Hosts, P: Place, G: Source, O: Sink, L: Ledger>(
 ) -> How
     requires depth { setting.limits.depth ≤ 512 }
     ensures ran { RanOn (option_map (λ name. name.now) setting.entry.wire)
-        (ground loaded.app (meanings_in (H.entries hosts.now) loaded.lattice loaded.app) setting.entry.limits)
+        (ground loaded.app (meanings_in (H.entries hosts.now) loaded.lattice loaded.app)
+        (reads_in (H.entries hosts.now) loaded.lattice loaded.app) setting.entry.limits)
         (placed (P.file place.old) (P.app_faults place.old) (P.making_faults place.old)
         (wire_of (P.taken place.old) (P.writing_faults place.old) (P.tells place.old)))
         (placed (P.file place.new) (P.app_faults place.new) (P.making_faults place.new)
@@ -191,7 +193,7 @@ fn run_types<'a, T: Types, P: Place, G: Source, O: Sink, L: Ledger>(
 ) -> How
     requires depth { setting.limits.depth ≤ 512 }
     ensures ran { RanOn (option_map (λ name. name.now) setting.entry.wire)
-        (ground loaded.now.app (meanings_of T.holds T.presents types.now) setting.entry.limits)
+        (ground loaded.now.app (meanings_of T.holds T.presents types.now) (T.reads types.now) setting.entry.limits)
         (placed (P.file place.old) (P.app_faults place.old) (P.making_faults place.old)
         (wire_of (P.taken place.old) (P.writing_faults place.old) (P.tells place.old)))
         (placed (P.file place.new) (P.app_faults place.new) (P.making_faults place.new)
@@ -241,9 +243,10 @@ fn run_on<T: Types, P: Place, G: Source, O: Sink, L: Ledger>(
 ) -> How
     requires depth { program.now.limits.depth ≤ 512 }
     requires placed { IsPlaced program.now.app.now.frame }
+    requires no_ring { HasNoRing program.now.app.now.tables }
     requires opening { slots.now ≡ opening_slots program.now.app.now }
     ensures ran { RanOn (option_map (λ name. name.now) wire.entry)
-        (ground_of T.holds T.presents program.now) (placed (P.file place.old) (P.app_faults place.old)
+        (ground_of T.holds T.presents T.reads program.now) (placed (P.file place.old) (P.app_faults place.old)
         (P.making_faults place.old)
         (wire_of (P.taken place.old) (P.writing_faults place.old) (P.tells place.old)))
         (placed (P.file place.new) (P.app_faults place.new) (P.making_faults place.new)
@@ -286,10 +289,11 @@ fn run_on_wire<T: Types, P: Place, G: Source, O: Sink, L: Ledger>(
 ) -> How
     requires depth { program.now.limits.depth ≤ 512 }
     requires placed { IsPlaced program.now.app.now.frame }
+    requires no_ring { HasNoRing program.now.app.now.tables }
     requires opening { slots.now ≡ opening_slots program.now.app.now }
     requires made { P.made place.old ≡ true }
     requires unused { P.tells place.old ≡ true → P.taken place.old ≡ Some [] }
-    ensures ran { RanLoaded (ground_of T.holds T.presents program.now) (streams (G.left gestures.old)
+    ensures ran { RanLoaded (ground_of T.holds T.presents T.reads program.now) (streams (G.left gestures.old)
         (G.faults gestures.old) (O.taken out.old) (O.faults out.old) steps.old)
         (streams (G.left gestures.new) (G.faults gestures.new) (O.taken out.new) (O.faults out.new)
         steps.new) (wire_of (P.taken place.old) (P.writing_faults place.old) (P.tells place.old))

@@ -12,3 +12,4 @@ pub mod TextKeepLemmas
 pub mod TextLimitLemmas
 pub mod TextSlotLemmas
 pub mod TextLaws
+pub mod ReadingLaws

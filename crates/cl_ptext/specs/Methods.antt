@@ -1,5 +1,5 @@
 -- Predicates, present methods and accept methods: what the evaluator gives for them. Predicates and accept methods run on a counter of their own.
-use Rattle.std.specs.Prelude.{ℕ, Bool, false, List, [], ◌∷◌, Result, Ok, Err}
+use Rattle.std.specs.Prelude.{ℕ, Bool, false, List, [], ◌∷◌, Option, Some, None, Result, Ok, Err}
 use Rattle.cl_value.specs.Data.{Data, Items, none, item, bool, int, list, null, rec, symbol, text}
 use Rattle.cl_application.specs.App.{function_named}
 use Rattle.cl_application.specs.declared.applications.App.{App}
@@ -14,6 +14,12 @@ pub data Reading : Type 0 where
   Object : Data → Reading
   Nothing : Reading
   Trap : ℕ → Reading
+
+-- the object that is read, if any
+abbrev pub read_object : Reading → Option Data
+read_object (Object d) = Some d
+read_object Nothing = None
+read_object (Trap kind) = None
 
 -- the meaning of expressions on a counter of its own
 unfoldable pub own_meaning : App → Slots → Go

@@ -1,6 +1,7 @@
-//! What the types of an application say of values: which are members, and the text of each by itself.
+//! What the types of an application say of values: which are members, the text of each by itself, and what a text reads as.
 ghost use Rattle.std.specs.Prelude.{◌≡◌};
 
+use crate::accepting::Accepted;
 use crate::books::TypeBook;
 use crate::hosts::Hosts;
 use crate::putting::Writing;
@@ -10,6 +11,7 @@ use cl_lattice::Bound;
 use cl_outside::{Ledger, Steps};
 use cl_syntax::TypeSpec;
 use cl_value::{Held, Text, Value};
+use std::alloc::AllocError;
 
 impl<'a, H: Hosts> TypeBook<'a, H> {
     // What present methods are evaluated in on these slots.
@@ -33,8 +35,9 @@ impl<H: Hosts> Types for TypeBook<'_, H> {
     ghost use Rattle.std.specs.Prelude.{[]};
     ghost use Rattle.cl_lattice.specs.Expansion.{expansion};
     ghost use Rattle.cl_lattice.specs.Members.{is_member};
-    ghost use Rattle.cl_ptext.specs.Methods.{predicates_of};
+    ghost use Rattle.cl_ptext.specs.Methods.{read_object, predicates_of};
     ghost use Rattle.cl_ptext.specs.Presenting.{book_of};
+    ghost use Rattle.cl_ptext.specs.Readings.{reading};
     ghost use Rattle.cl_ptext.specs.Texts.{outcome_of_text};
 
     ghost holds = { λ b d s. is_member b.lattice.now (predicates_of b.app.now) d (expansion b.lattice.now [] s) };
@@ -43,9 +46,15 @@ impl<H: Hosts> Types for TypeBook<'_, H> {
 
     ghost presents = { λ b limits slots s d. outcome_of_text (book_of H.entries b) limits slots (expansion b.lattice.now [] s) s d };
 
+    ghost reads = { λ b slots s x. read_object (reading (book_of H.entries b) slots (expansion b.lattice.now [] s) s x) };
+
     ghost use Rattle.cl_ptext.specs.TextLaws.{book_texts};
 
     ghost are_texts = { λ b. book_texts (book_of H.entries b) (expansion b.lattice.now []) };
+
+    ghost use Rattle.cl_ptext.specs.ReadingLaws.{book_objects};
+
+    ghost are_objects = { λ b. book_objects (book_of H.entries b) (expansion b.lattice.now []) };
 
     fn member(&self, value: &Value, spec: &TypeSpec) -> Held {
         self.lattice.member(self.alloc, value, spec, self)
@@ -90,6 +99,20 @@ impl<H: Hosts> Types for TypeBook<'_, H> {
             },
             Err(Stop::Trap(kind)) => Evaluated::Trap(kind, writing.meter.cost),
             Err(Stop::Memory) => Evaluated::Memory,
+        }
+    }
+
+    fn read(
+        &self,
+        text: &[u8],
+        spec: &TypeSpec,
+        slots: &Slots,
+    ) -> Result<Option<Value>, AllocError> {
+        match self.accept(spec, text, slots) {
+            Accepted::Object(value) => Ok(Some(value)),
+            Accepted::Refused => Ok(None),
+            Accepted::Trap(_) => Ok(None),
+            Accepted::Memory => Err(AllocError),
         }
     }
 }

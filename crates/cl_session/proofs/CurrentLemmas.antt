@@ -106,7 +106,8 @@ current_always = record {
 unchanged_by : (g : Ground) (w : World) (act : Gesture) (handling : Bool)
     → (handling ≡ true) ⊎ ((kind : ℕ) × ((handled g w act).replies ≡ command_trap_line kind ∷ []))
     → ((handled_or_not g w act handling).world.slots ≡ w.slots) × ((handled_or_not g w act handling).world.line ≡ w.line)
-unchanged_by g w act true h = (refl, refl)
+    × ((handled_or_not g w act handling).world.enabled ≡ w.enabled)
+unchanged_by g w act true h = (refl, refl, refl)
 unchanged_by g w act false (inl e) = let no : false ≡ true = e in cc
 unchanged_by g w act false (inr (kind, e)) = (keeps_handled g w act).trapped kind e
 

@@ -15,20 +15,23 @@ use Rattle.cl_line.specs.Elements.{typed}
 use Rattle.cl_line.specs.Lines.{without_last}
 use Rattle.cl_line.specs.declared.elements.Element.{Element}
 use Rattle.cl_line.specs.declared.lines.TheConstants.{MAX_ELEMENTS}
-use Rattle.cl_line.specs.declared.tokens.Token.{Token}
+use Rattle.cl_parser.specs.Parses.{decls_of, without_tokens}
+use Rattle.cl_parser.specs.declared.parsing.Parsed.{Parsed}
+use Rattle.cl_parser.specs.declared.parsing.Parsed.TheVariants as parsed
 use Rattle.cl_session.specs.Handling.{KeepsSlots}
-use Rattle.cl_session.specs.Naming.{command_of_line, tokens_of_line}
-use Rattle.cl_session.specs.Step.{Handled, command_outcome, command_trap_line, finish_by, finish_named, handled, handled_or_not, history_rows, refuse, run_command, tell, tell_history}
+use Rattle.cl_session.specs.Naming.{command_of_line, command_of_stroke}
+use Rattle.cl_session.specs.Step.{Handled, bad_line, command_outcome, command_trap_line, finish_by, finish_named, finish_parsed, handled, handled_or_not, history_rows, is_on, need_line, parsed_line, refuse, run_command, stroke_by, stroke_parsed, tell, tell_history}
 use Rattle.cl_session.specs.World.{World}
 
--- The panes stay; slots change only where a command commits; and where the one reply is the line of a trap, slots and line stay.
+-- The panes stay; slots change only where a command commits; and where the one reply is the line of a trap, slots, line and what is enabled
+-- stay.
 pub record Keeps (w : World) (h : Handled) : Type 0 where
   pub panes : h.world.panes ≡ w.panes
   pub slots : KeepsSlots h.after w.slots h.world.slots
-  pub trapped : (kind : ℕ) → h.replies ≡ command_trap_line kind ∷ [] → (h.world.slots ≡ w.slots) × (h.world.line ≡ w.line)
+  pub trapped : (kind : ℕ) → h.replies ≡ command_trap_line kind ∷ [] → (h.world.slots ≡ w.slots) × (h.world.line ≡ w.line) × (h.world.enabled ≡ w.enabled)
 
 keeps_told : (w : World) (cost : ℕ) (replies : List (List ℕ)) → Keeps w (tell w cost replies)
-keeps_told w cost replies = record { panes = refl; slots = refl; trapped = λ kind e. (refl, refl) }
+keeps_told w cost replies = record { panes = refl; slots = refl; trapped = λ kind e. (refl, refl, refl) }
 
 -- no lines are not one line
 none_is_one : {A : Type 0} (x : A) → ◌≡◌ {A = List A} [] (x ∷ []) → ⊥
@@ -50,13 +53,41 @@ keeps_run : (name : List ℕ) (w : World) (o : Outcome Effects) → Keeps w (run
 keeps_run name w (Gives effects cost deepest) = record { panes = refl; slots = tt; trapped = λ kind e. absurd (ok_is_no_trap name _ kind e) }
 keeps_run name w (Traps kind cost deepest) = keeps_told w cost (command_trap_line kind ∷ [])
 
-keeps_named : (g : Ground) (w : World) (command : CommandDecl) (ts : List Token) → Keeps w (finish_named g w command ts)
-keeps_named g w command [] = keeps_run command.line_name w (command_outcome g command w.slots)
-keeps_named g w command (t ∷ ts) = keeps_told w 0 (codes "! surplus" ∷ [])
+keeps_parsed : (g : Ground) (w : World) (command : CommandDecl) (p : Parsed) → Keeps w (finish_parsed g w command p)
+keeps_parsed g w command (parsed.Arguments ds) = keeps_run command.line_name w (command_outcome g command ds w.slots)
+keeps_parsed g w command (parsed.Need place) = keeps_told w 0 (need_line command place ∷ [])
+keeps_parsed g w command (parsed.BadArg number) = keeps_told w 0 (bad_line number ∷ [])
+keeps_parsed g w command parsed.Surplus = keeps_told w 0 (codes "! surplus" ∷ [])
+
+disabled_told : (w : World) → Keeps w (refuse w 0 (codes "! disabled"))
+disabled_told w = keeps_told w 0 (codes "! disabled" ∷ [])
+
+keeps_named : (g : Ground) (w : World) (command : CommandDecl) → Keeps w (finish_named g w command)
+keeps_named g w command =
+    keeps_if w (is_on w command) (finish_parsed g w command (parsed_line g w.slots w.line command)) (refuse w 0 (codes "! disabled"))
+    (keeps_parsed g w command (parsed_line g w.slots w.line command)) (disabled_told w)
 
 keeps_finished : (g : Ground) (w : World) (c : Option CommandDecl) → Keeps w (finish_by g w c)
 keeps_finished g w None = keeps_told w 0 (codes "! unknown" ∷ [])
-keeps_finished g w (Some command) = keeps_named g w command (tokens_of_line command w.line)
+keeps_finished g w (Some command) = keeps_named g w command
+
+-- that an argument is needed is not the line of a trap
+need_is_no_trap : (command : CommandDecl) (place kind : ℕ) → ◌≡◌ {A = List (List ℕ)} (need_line command place ∷ []) (command_trap_line kind ∷ []) → ⊥
+need_is_no_trap command place kind e =
+    let third = ap (λ (l : List (List ℕ)). get_or (get_or l 0 []) 2 0) e in omega (arith, third)
+
+keeps_stroke : (g : Ground) (w : World) (command : CommandDecl) (p : Parsed) → Keeps w (stroke_parsed g w command p)
+keeps_stroke g w command (parsed.Need place) =
+    record { panes = refl; slots = refl; trapped = λ kind e. absurd (need_is_no_trap command place kind e) }
+keeps_stroke g w command (parsed.Arguments ds) = keeps_parsed g w command (parsed.Arguments ds)
+keeps_stroke g w command (parsed.BadArg number) = keeps_parsed g w command (parsed.BadArg number)
+keeps_stroke g w command parsed.Surplus = keeps_parsed g w command parsed.Surplus
+
+keeps_pressed : (g : Ground) (w : World) (c : Option CommandDecl) → Keeps w (stroke_by g w c)
+keeps_pressed g w None = keeps_told w 0 (codes "! stroke" ∷ [])
+keeps_pressed g w (Some command) =
+    keeps_if w (is_on w command) (stroke_parsed g w command (without_tokens g.app 0 [] (decls_of command.arguments))) (refuse w 0 (codes "! disabled"))
+    (keeps_stroke g w command (without_tokens g.app 0 [] (decls_of command.arguments))) (disabled_told w)
 
 keeps_history : (w : World) (ds : List PaneDecl) (ms : List PaneMarks) (name : List ℕ) → Keeps w (tell_history w ds ms name)
 keeps_history w [] ms name = keeps_told w 0 (codes "! pane" ∷ [])
@@ -74,8 +105,9 @@ keeps_handled g w gesture.Rubout = keeps_line w (without_last w.line)
 keeps_handled g w gesture.Clear = keeps_line w []
 keeps_handled g w gesture.Frame = keeps_told w 0 (handled g w gesture.Frame).replies
 keeps_handled g w gesture.Inks = keeps_told w 0 (handled g w gesture.Inks).replies
+keeps_handled g w (gesture.Stroke name) = keeps_pressed g w (command_of_stroke g.app name)
 keeps_handled g w (gesture.History name) = keeps_history w (panes_of g.app) w.panes name
-keeps_handled g w gesture.Force = record { panes = refl; slots = refl; trapped = λ kind e. (refl, refl) }
+keeps_handled g w gesture.Force = record { panes = refl; slots = refl; trapped = λ kind e. (refl, refl, refl) }
 
 pub keeps_handled_or_not : (g : Ground) (w : World) (act : Gesture) (met : Bool) → Keeps w (handled_or_not g w act met)
 keeps_handled_or_not g w act true = keeps_told w 0 (codes "! memory" ∷ [])

@@ -12,3 +12,6 @@ pub mod ToldLemmas
 pub mod TellingLemmas
 pub mod HistoryLemmas
 pub mod CountedLemmas
+pub mod BindingLemmas
+pub mod EnabledLemmas
+pub mod RunLemmas

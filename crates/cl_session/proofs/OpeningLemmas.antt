@@ -18,13 +18,16 @@ use Rattle.cl_frame.specs.declared.reports.PaneReport.{PaneReport}
 use Rattle.cl_frame.specs.declared.settling.Which.TheVariants as which
 use Rattle.cl_line.specs.declared.elements.Element.{Element}
 use Rattle.cl_session.specs.Current.{IsCurrent}
-use Rattle.cl_session.specs.Handling.{world_at}
+use Rattle.cl_session.specs.Handling.{enabled_in, world_at}
 use Rattle.cl_session.specs.Laws.{AllFalse}
 use Rattle.cl_session.specs.Session.{cost_of_panes, costs_of_panes}
-use Rattle.cl_session.specs.World.{World, cost_of_pane, opening, script_of}
+use Rattle.cl_session.specs.Naming.{places_of}
+use Rattle.cl_session.specs.World.{Enabled, World, all_enabled, cost_of_pane, opening, script_of}
+use Rattle.cl_tables.specs.Enabled.{AreAllEnabled}
 use Rattle.cl_session.specs.declared.handling.Desk.{Desk}
 use Rattle.cl_session.proofs.CurrentLemmas.{AreAsMany, current_always}
 use Rattle.cl_session.proofs.DeterminedLemmas.{paid_panes, settle_nothing}
+use Rattle.cl_session.proofs.EnabledLemmas.{opens_enabled}
 
 as_many_by : (ds : List PaneDecl) (ms : List PaneMarks) → length ms ≡ length ds → AreAsMany ds ms
 as_many_by [] [] e = tt
@@ -74,15 +77,17 @@ module _ (g : Ground) (slots : Slots) where
   costs_all (d ∷ ds) (o ∷ os) [] n = ap (λ (x : ℕ). cost_of_pane g slots d + x) (costs_all ds os [] n)
   costs_all (d ∷ ds) (o ∷ os) (m ∷ ms) n = ap (λ (x : ℕ). cost_of_pane g slots d + x) (costs_all ds os ms n)
 
-  pub opening_world : (desk : Desk) (old new : Frame) → desk.line ≡ [] → AreAsMany (panes_of g.app) (marks_of_frame old)
+  pub opening_world : (desk : Desk) (old new : Frame) → desk.line ≡ [] → AreAllEnabled (places_of g.app.commands) desk.enabled → AreAsMany (panes_of g.app) (marks_of_frame old)
       → Settles g which.All slots old new → list_any met_memory (reports_of_frame new) ≡ false
       → world_at slots desk new ≡ opening g slots new.screen.stale
-  opening_world desk old new line n s none =
+  opening_world desk old new line on n s none =
       let nothing = settle_nothing g which.All slots (panes_of g.app) (marks_of_frame old) (map met_memory (reports_of_frame new)) (none_met (reports_of_frame new) none) in
       let marks : marks_of_frame new ≡ map (script_of g slots) (panes_of g.app) =
       s.marks ∙ (ap (λ (ss : List PaneStep). map marks_after ss) nothing ∙ scripts_shown (panes_of g.app) (marks_of_frame old) n) in
-      let world_by : List Element → List PaneMarks → World = λ l ms. record { slots = slots; line = l; panes = ms; stale = new.screen.stale } in
-      ap (λ (l : List Element). world_by l (marks_of_frame new)) line ∙ ap (λ (ms : List PaneMarks). world_by [] ms) marks
+      let world_by : List Element → Enabled → List PaneMarks → World = λ l e ms. record { slots = slots; line = l; enabled = e; panes = ms; stale = new.screen.stale } in
+      ap (λ (l : List Element). world_by l (enabled_in desk.enabled) (marks_of_frame new)) line
+      ∙ ap (λ (e : Enabled). world_by [] e (marks_of_frame new)) (opens_enabled g.app desk.enabled on)
+      ∙ ap (λ (ms : List PaneMarks). world_by [] (all_enabled g.app) ms) marks
 
   pub opening_paid : (old new : Frame) (from to : ℕ) → AreAsMany (panes_of g.app) (marks_of_frame old)
       → SpendsPanes (settle_panes g which.All slots (panes_of g.app) (marks_of_frame old) (map met_memory (reports_of_frame new))) from to

@@ -18,12 +18,12 @@ use Rattle.cl_line.specs.declared.elements.Element.{Element}
 use Rattle.cl_redisplay.specs.Screens.{Agree, BreaksAt, PaintedRose, is_fault}
 use Rattle.cl_redisplay.specs.declared.screens.Painted.{Painted}
 use Rattle.cl_redisplay.specs.declared.screens.Painted.TheVariants as painted
-use Rattle.cl_session.specs.Handling.{AreRepliesOf, HandlesTo, after_of, handling_met, world_at}
+use Rattle.cl_session.specs.Handling.{AreRepliesOf, HandlesTo, after_of, enabled_in, handling_met, world_at}
 use Rattle.cl_session.specs.Replies.{lines_of, met_of, own_lines}
 use Rattle.cl_session.specs.Session.{StepsTo, world_of}
 use Rattle.cl_session.specs.Step.{Handled, Spends, gesture_bytes, handled, handled_or_not, next, next_behind, pane_lines, sent_behind, settled_behind, wire_lines, which_after}
 use Rattle.cl_session.specs.Transcript.{RoseIf}
-use Rattle.cl_session.specs.World.{World}
+use Rattle.cl_session.specs.World.{Enabled, World}
 use Rattle.cl_session.specs.declared.answers.Replies.{Replies}
 use Rattle.cl_session.specs.declared.handling.After.{After}
 use Rattle.cl_session.specs.declared.handling.Desk.{Desk}
@@ -32,8 +32,8 @@ use Rattle.cl_session.specs.declared.handling.Handling.TheVariants as handling
 use Rattle.cl_session.specs.declared.sessions.Session.{Session}
 
 -- a world by its parts
-abbrev world_by : Slots → List Element → List PaneMarks → Bool → World
-world_by slots line panes stale = record { slots = slots; line = line; panes = panes; stale = stale }
+abbrev world_by : Slots → List Element → Enabled → List PaneMarks → Bool → World
+world_by slots line enabled panes stale = record { slots = slots; line = line; enabled = enabled; panes = panes; stale = stale }
 
 -- what each pane of a frame met
 abbrev mets_of : Frame → List Bool
@@ -77,9 +77,9 @@ world-same : (g : Ground) (h : Handled) (slots : Slots) (desk : Desk) (old new :
     → world_at slots desk new ≡ (next_behind g h (settled_behind g h (mets_of new)) wire).world
 world-same g h slots desk old new follows lines wire l s e =
     let steps = settle_panes g (which_after follows) slots (panes_of g.app) (marks_of_frame old) (mets_of new) in
-    ap (λ (ps : List PaneMarks). world_by slots desk.line ps new.screen.stale) (s.marks ∙ ap (λ (ss : List PaneStep). map marks_after ss) (sym (steps-same g h slots desk old follows lines (mets_of new) l)))
-    ∙ (ap (λ (b : Bool). world_by slots desk.line (map marks_after (settled_behind g h (mets_of new))) b) e
-    ∙ ap (λ (w : World). world_by w.slots w.line (map marks_after (settled_behind g h (mets_of new))) wire) (sym l.world))
+    ap (λ (ps : List PaneMarks). world_by slots desk.line (enabled_in desk.enabled) ps new.screen.stale) (s.marks ∙ ap (λ (ss : List PaneStep). map marks_after ss) (sym (steps-same g h slots desk old follows lines (mets_of new) l)))
+    ∙ (ap (λ (b : Bool). world_by slots desk.line (enabled_in desk.enabled) (map marks_after (settled_behind g h (mets_of new))) b) e
+    ∙ ap (λ (w : World). world_by w.slots w.line w.enabled (map marks_after (settled_behind g h (mets_of new))) wire) (sym l.world))
 
 memory_of : (h : Handling) (p : Painted) (r : Replies) → AreRepliesOf h p r → r.memory ≡ handling_met h
 memory_of (handling.Replied replies follows) p r a = a.1

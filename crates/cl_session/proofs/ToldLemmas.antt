@@ -19,12 +19,14 @@ use Rattle.cl_gesture.specs.declared.answers.Gesture.{Gesture}
 use Rattle.cl_gesture.specs.declared.answers.Gesture.TheVariants as gesture
 use Rattle.cl_line.specs.Elements.{typed}
 use Rattle.cl_line.specs.declared.lines.TheConstants.{MAX_ELEMENTS}
-use Rattle.cl_line.specs.declared.tokens.Token.{Token}
 use Rattle.cl_record.specs.Counts.{count_of}
 use Rattle.cl_redisplay.specs.Shown.{Shown, digit_in, glyph_in, row_from, rows_from, shown_at, told_row}
 use Rattle.cl_session.specs.Laws.{IsToldByLines}
-use Rattle.cl_session.specs.Naming.{command_of_line, tokens_of_line}
-use Rattle.cl_session.specs.Step.{Handled, command_outcome, command_trap_line, finish_by, finish_named, handled, handled_or_not, history_rows, memory_line, next_behind, pane_lines, refuse, report_line, report_lines, report_tail, run_command, settled_behind, shown_in, tell, tell_history, trap_line, which_after, wire_lines}
+use Rattle.cl_parser.specs.Parses.{decls_of, without_tokens}
+use Rattle.cl_parser.specs.declared.parsing.Parsed.{Parsed}
+use Rattle.cl_parser.specs.declared.parsing.Parsed.TheVariants as parsed
+use Rattle.cl_session.specs.Naming.{command_of_line, command_of_stroke}
+use Rattle.cl_session.specs.Step.{Handled, bad_line, command_outcome, command_trap_line, finish_by, finish_parsed, handled, is_on, need_line, parsed_line, stroke_by, stroke_parsed, handled_or_not, history_rows, memory_line, next_behind, pane_lines, refuse, report_line, report_lines, report_tail, run_command, settled_behind, shown_in, tell, tell_history, trap_line, which_after, wire_lines}
 use Rattle.cl_session.specs.World.{World}
 
 abbrev memory_said : List ℕ
@@ -214,13 +216,35 @@ not_run : (name : List ℕ) (w : World) (o : Outcome Effects) → IsNotMemory (r
 not_run name w (Gives effects cost deepest) = differ_at 0 memory_said (codes "ok " ++ name) (λ no. omega (arith, no))
 not_run name w (Traps kind cost deepest) = differ_at 2 memory_said (command_trap_line kind) (λ no. omega (arith, no))
 
-not_named : (g : Ground) (w : World) (command : CommandDecl) (ts : List Token) → IsNotMemory (finish_named g w command ts).replies
-not_named g w command [] = not_run command.line_name w (command_outcome g command w.slots)
-not_named g w command (t ∷ ts) = not_surplus
+not_need : (command : CommandDecl) (place : ℕ) → IsNotMemory (need_line command place ∷ [])
+not_need command place = differ_at 2 memory_said (need_line command place) (λ no. omega (arith, no))
+
+not_disabled : IsNotMemory (codes "! disabled" ∷ [])
+not_disabled = differ_at 2 memory_said (codes "! disabled") (λ no. omega (arith, no))
+
+not_parsed : (g : Ground) (w : World) (command : CommandDecl) (p : Parsed) → IsNotMemory (finish_parsed g w command p).replies
+not_parsed g w command (parsed.Arguments ds) = not_run command.line_name w (command_outcome g command ds w.slots)
+not_parsed g w command (parsed.Need place) = not_need command place
+not_parsed g w command (parsed.BadArg number) = differ_at 2 memory_said (bad_line number) (λ no. omega (arith, no))
+not_parsed g w command parsed.Surplus = not_surplus
 
 not_finished : (g : Ground) (w : World) (c : Option CommandDecl) → IsNotMemory (finish_by g w c).replies
 not_finished g w None = not_unknown
-not_finished g w (Some command) = not_named g w command (tokens_of_line command w.line)
+not_finished g w (Some command) =
+    not_memory_if (is_on w command) (finish_parsed g w command (parsed_line g w.slots w.line command)) (refuse w 0 (codes "! disabled"))
+    (not_parsed g w command (parsed_line g w.slots w.line command)) not_disabled
+
+not_stroke : (g : Ground) (w : World) (command : CommandDecl) (p : Parsed) → IsNotMemory (stroke_parsed g w command p).replies
+not_stroke g w command (parsed.Need place) = not_need command place
+not_stroke g w command (parsed.Arguments ds) = not_parsed g w command (parsed.Arguments ds)
+not_stroke g w command (parsed.BadArg number) = not_parsed g w command (parsed.BadArg number)
+not_stroke g w command parsed.Surplus = not_parsed g w command parsed.Surplus
+
+not_pressed : (g : Ground) (w : World) (c : Option CommandDecl) → IsNotMemory (stroke_by g w c).replies
+not_pressed g w None = differ_at 2 memory_said (codes "! stroke") (λ no. omega (arith, no))
+not_pressed g w (Some command) =
+    let defaults = without_tokens g.app 0 [] (decls_of command.arguments) in
+    not_memory_if (is_on w command) (stroke_parsed g w command defaults) (refuse w 0 (codes "! disabled")) (not_stroke g w command defaults) not_disabled
 
 not_rows : (name : List ℕ) (marks : PaneMarks) → IsNotMemory (history_rows name marks)
 not_rows name marks = differ_at 0 memory_said (codes "history " ++ (name ++ 32 ∷ _)) (λ no. omega (arith, no))
@@ -255,7 +279,7 @@ wire_same false true e = absurd (no_first (codes "! wire") [] e)
 world_told : (w : World) (ps qs : List PaneMarks) (x y : Bool) → ps ≡ qs → x ≡ y
     → ◌≡◌ {A = World} (record w { panes = ps; stale = x }) (record w { panes = qs; stale = y })
 world_told w ps qs x y e f =
-    let of : List PaneMarks → Bool → World = λ ms b. record { slots = w.slots; line = w.line; panes = ms; stale = b } in
+    let of : List PaneMarks → Bool → World = λ ms b. record { slots = w.slots; line = w.line; enabled = w.enabled; panes = ms; stale = b } in
     ap (λ (ms : List PaneMarks). of ms x) e ∙ ap (λ (b : Bool). of qs b) f
 
 -- what is said behind the own replies
@@ -318,6 +342,9 @@ apart_told g w gesture.Frame ms ns x y e = frame_told g w ms ns x y (shown_in g 
 apart_told g w gesture.Inks ms ns x y e =
     let h = handled g w gesture.Inks in
     absurd (told_apart g h ns y h.replies _ (not_inks (shown_in g w) g.app.frame.width 0 g.app.frame.height) e)
+apart_told g w (gesture.Stroke name) ms ns x y e =
+    let h = handled g w (gesture.Stroke name) in
+    absurd (told_apart g h ns y h.replies _ (not_pressed g w (command_of_stroke g.app name)) e)
 apart_told g w (gesture.History name) ms ns x y e =
     let h = handled g w (gesture.History name) in
     absurd (told_apart g h ns y h.replies _ (not_history w (panes_of g.app) w.panes name) e)

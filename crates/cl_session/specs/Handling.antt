@@ -1,5 +1,7 @@
 -- What handling a gesture answers, against what the definition says.
-use Rattle.std.specs.Prelude.{◌≡◌, ℕ, Bool, true, false, List, [], ◌∷◌, Result, Ok, Err}
+use Rattle.std.specs.Prelude.{◌≡◌, ℕ, ◌==◌, Bool, true, false, List, [], ◌∷◌, Result, Ok, Err}
+use Rattle.std.specs.Cmp.Lexicographic.{pointwise}
+use Rattle.std.specs.Map.{lookup}
 use Rattle.cl_eval.specs.Slots.{Slots}
 use Rattle.cl_frame.specs.Frames.{marks_of_frame}
 use Rattle.cl_frame.specs.declared.frames.Frame.{Frame}
@@ -12,11 +14,22 @@ use Rattle.cl_session.specs.declared.handling.Desk.{Desk}
 use Rattle.cl_session.specs.declared.handling.Handling.{Handling}
 use Rattle.cl_session.specs.declared.handling.Handling.TheVariants as handling
 use Rattle.cl_session.specs.Step.{Handled}
-use Rattle.cl_session.specs.World.{World}
+use Rattle.cl_session.specs.World.{Enabled, World}
+use Rattle.cl_tables.specs.Enabled.{States}
+
+-- which commands are enabled, by what is kept of it
+abbrev pub enabled_in : States → Enabled
+enabled_in states x = lookup (pointwise ◌==◌ x) states
 
 -- a session as a world: these slots, what lies on the desk, and the frame
 abbrev pub world_at : Slots → Desk → Frame → World
-world_at slots desk frame = record { slots = slots; line = desk.line; panes = marks_of_frame frame; stale = frame.screen.stale }
+world_at slots desk frame = record {
+  slots = slots;
+  line = desk.line;
+  enabled = enabled_in desk.enabled;
+  panes = marks_of_frame frame;
+  stale = frame.screen.stale;
+}
 
 -- slots change only where a command commits
 abbrev pub KeepsSlots : After → (old new : Slots) → Type 0

@@ -67,10 +67,10 @@ IsToldByLines = (g : Ground) (w : World) (act : Gesture) (first second : Met) �
 abbrev pub Fails : Ground → World → Gesture → Met → Type 0
 Fails g w act met = (met.handling ≡ true) ⊎ ((kind : ℕ) × ((handled g w act).replies ≡ command_trap_line kind ∷ []))
 
--- slots and line are as before
+-- slots, line and what is enabled are as before
 abbrev pub IsUnchangedByFailure : Type 0
 IsUnchangedByFailure = (g : Ground) (w : World) (act : Gesture) (met : Met) → Fails g w act met
-    → ((next g w act met).world.slots ≡ w.slots) × ((next g w act met).world.line ≡ w.line)
+    → ((next g w act met).world.slots ≡ w.slots) × ((next g w act met).world.line ≡ w.line) × ((next g w act met).world.enabled ≡ w.enabled)
 
 -- ---- a rubout takes back what was typed
 

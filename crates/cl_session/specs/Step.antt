@@ -1,12 +1,13 @@
 -- The step of a world by a gesture: the next world and the lines that are said of it.
-use Rattle.std.specs.Prelude.{ℕ, ◌+◌, Bool, true, false, nat_le, if◌then◌else◌, List, [], ◌∷◌, ◌++◌, length, map, Option, Some, None, codes}
+use Rattle.std.specs.Prelude.{ℕ, ◌+◌, Bool, true, false, nat_le, if◌then◌else◌, List, [], ◌∷◌, ◌++◌, length, map, Option, Some, None, option_map, unwrap_or, codes}
 use Rattle.std.specs.Fmt.{decimal}
-use Rattle.std.specs.Str.{str_eq_ignore_ascii_case}
+use Rattle.std.specs.Str.{bytes_eq, str_eq_ignore_ascii_case}
 use Rattle.cl_application.specs.Panes.{panes_of}
+use Rattle.cl_application.specs.declared.declarations.ArgumentDecl.{ArgumentDecl}
 use Rattle.cl_application.specs.declared.declarations.CommandDecl.{CommandDecl}
 use Rattle.cl_application.specs.declared.declarations.PaneDecl.{PaneDecl}
 use Rattle.cl_eval.specs.Outcome.{Outcome, Gives, RisesBy, Traps}
-use Rattle.cl_eval.specs.Slots.{Slots}
+use Rattle.cl_eval.specs.Slots.{Env, Slots}
 use Rattle.cl_eval.specs.Executed.{outcome_of_exec}
 use Rattle.cl_eval.specs.declared.effects.Effects.{Effects}
 use Rattle.cl_record.specs.Lines.{item_line, lines_from}
@@ -24,11 +25,17 @@ use Rattle.cl_gesture.specs.declared.answers.Gesture.TheVariants as gesture
 use Rattle.cl_line.specs.Elements.{typed}
 use Rattle.cl_line.specs.Lines.{without_last}
 use Rattle.cl_line.specs.declared.lines.TheConstants.{MAX_ELEMENTS}
-use Rattle.cl_line.specs.declared.tokens.Token.{Token}
+use Rattle.cl_line.specs.declared.elements.Element.{Element}
+use Rattle.cl_parser.specs.Parses.{decls_of, parse, without_tokens}
+use Rattle.cl_parser.specs.Tokens.{Scene}
+use Rattle.cl_parser.specs.declared.parsing.Parsed.{Parsed}
+use Rattle.cl_parser.specs.declared.parsing.Parsed.TheVariants as parsed
 use Rattle.cl_session.specs.declared.handling.After.{After}
 use Rattle.cl_session.specs.declared.handling.After.TheVariants as after
-use Rattle.cl_session.specs.Naming.{command_of_line, tokens_of_line}
-use Rattle.cl_session.specs.World.{World}
+use Rattle.cl_session.specs.Naming.{command_of_line, command_of_stroke, tokens_of_line}
+use Rattle.cl_session.specs.World.{Enabled, World}
+use Rattle.cl_table.specs.Names.{declared_at}
+use Rattle.cl_value.specs.Data.{Data}
 
 -- What met want of memory in a gesture: its handling, and the settling of each pane, in order; and whether the device failed.
 pub record Met : Type 0 where
@@ -80,32 +87,105 @@ ok_lines name replies = (codes "ok " ++ name) ∷ text_lines replies
 abbrev pub command_trap_line : ℕ → List ℕ
 command_trap_line kind = codes "! trap " ++ decimal kind
 
--- the run of a command of this command-line name: an end without a trap commits the slots and empties the line, a trap leaves both
+-- with one command switched on or off, if there is such a command
+abbrev pub switched : List ℕ × Bool → Enabled → Enabled
+switched s enabled x = if bytes_eq x s.0 then option_map (λ on. s.1) (enabled x) else enabled x
+
+-- with commands switched on or off, one after another
+abbrev pub all_switched : List (List ℕ × Bool) → Enabled → Enabled
+all_switched [] enabled = enabled
+all_switched (s ∷ ss) enabled = all_switched ss (switched s enabled)
+
+-- the run of a command of this command-line name: an end without a trap commits the slots and what was switched on and off, and empties the
+-- line; a trap leaves all of it
 abbrev pub run_command : List ℕ → World → Outcome Effects → Handled
 run_command name w (Gives effects cost deepest) = record {
   replies = ok_lines name effects.replies;
-  world = record w { slots = effects.slots; line = [] };
+  world = record w { slots = effects.slots; line = []; enabled = all_switched effects.switches w.enabled };
   after = after.Commit;
   cost = cost;
 }
 run_command name w (Traps kind cost deepest) = refuse w cost (command_trap_line kind)
 
--- what a command's statements come to, with no variables
-abbrev pub command_outcome : Ground → CommandDecl → Slots → Outcome Effects
-command_outcome g command slots = outcome_of_exec g.limits g.app g.types.holds command.body [] slots
+-- the arguments with their values, in front of others; the last is the nearest
+abbrev pub bound : List (List ℕ × ArgumentDecl) → List Data → Env → Env
+bound arguments [] env = env
+bound [] (d ∷ ds) env = env
+bound (a ∷ arguments) (d ∷ ds) env = bound arguments ds ((a.1.name, d) ∷ env)
 
--- a command with the tokens behind its name: it takes no argument, so the first of them is one too many
-abbrev pub finish_named : Ground → World → CommandDecl → List Token → Handled
-finish_named g w command [] = run_command command.line_name w (command_outcome g command w.slots)
-finish_named g w command (t ∷ ts) = refuse w 0 (codes "! surplus")
+-- what a command's statements come to with these arguments
+abbrev pub command_outcome : Ground → CommandDecl → List Data → Slots → Outcome Effects
+command_outcome g command ds slots = outcome_of_exec g.limits g.app g.types.holds command.body (bound command.arguments ds []) slots
+
+abbrev pub name_of : Option ArgumentDecl → List ℕ
+name_of None = []
+name_of (Some a) = a.name
+
+-- an argument that has neither a token nor a default
+abbrev pub need_line : CommandDecl → ℕ → List ℕ
+need_line command place = codes "! need " ++ name_of (declared_at place command.arguments)
+
+-- a token that gives no value for its argument
+abbrev pub bad_line : ℕ → List ℕ
+bad_line number = codes "! bad " ++ decimal number
+
+-- a command by what its tokens are read as
+abbrev pub finish_parsed : Ground → World → CommandDecl → Parsed → Handled
+finish_parsed g w command (parsed.Arguments ds) = run_command command.line_name w (command_outcome g command ds w.slots)
+finish_parsed g w command (parsed.Need place) = refuse w 0 (need_line command place)
+finish_parsed g w command (parsed.BadArg number) = refuse w 0 (bad_line number)
+finish_parsed g w command parsed.Surplus = refuse w 0 (codes "! surplus")
+
+-- what arguments are read by
+abbrev pub scene_at : Ground → Slots → Scene
+scene_at g slots = record { app = g.app; holds = g.types.holds; reads = g.reads; slots = slots }
+
+-- what the tokens of a line are read as, for a command
+abbrev pub parsed_line : Ground → Slots → List Element → CommandDecl → Parsed
+parsed_line g slots line command = parse (scene_at g slots) line (tokens_of_line command line) (decls_of command.arguments)
+
+-- whether a command is enabled
+abbrev pub is_on : World → CommandDecl → Bool
+is_on w command = unwrap_or (w.enabled command.name) false
+
+abbrev pub finish_named : Ground → World → CommandDecl → Handled
+finish_named g w command =
+    if is_on w command then finish_parsed g w command (parsed_line g w.slots w.line command) else refuse w 0 (codes "! disabled")
 
 -- the command that the line names, if it names one
 abbrev pub finish_by : Ground → World → Option CommandDecl → Handled
 finish_by g w None = refuse w 0 (codes "! unknown")
-finish_by g w (Some command) = finish_named g w command (tokens_of_line command w.line)
+finish_by g w (Some command) = finish_named g w command
 
 abbrev pub finish_line : Ground → World → Handled
 finish_line g w = finish_by g w (command_of_line g.app w.line)
+
+-- ---- keystrokes
+
+-- these characters as a line, where it has room for them
+abbrev pub line_of : List ℕ → List Element
+line_of text = if nat_le (length (typed text)) MAX_ELEMENTS then typed text else []
+
+-- a command that needs an argument is typed, and a space behind it
+abbrev pub stroke_parsed : Ground → World → CommandDecl → Parsed → Handled
+stroke_parsed g w command (parsed.Need place) =
+    tell (record w { line = line_of (command.line_name ++ 32 ∷ []) }) 0 (need_line command place ∷ [])
+stroke_parsed g w command (parsed.Arguments ds) = finish_parsed g w command (parsed.Arguments ds)
+stroke_parsed g w command (parsed.BadArg number) = finish_parsed g w command (parsed.BadArg number)
+stroke_parsed g w command parsed.Surplus = finish_parsed g w command parsed.Surplus
+
+-- a command with all its defaults
+abbrev pub stroke_named : Ground → World → CommandDecl → Handled
+stroke_named g w command =
+    if is_on w command then stroke_parsed g w command (without_tokens g.app 0 [] (decls_of command.arguments)) else refuse w 0 (codes "! disabled")
+
+-- the command of the keystroke, if there is one
+abbrev pub stroke_by : Ground → World → Option CommandDecl → Handled
+stroke_by g w None = refuse w 0 (codes "! stroke")
+stroke_by g w (Some command) = stroke_named g w command
+
+abbrev pub press : Ground → World → List ℕ → Handled
+press g w stroke = stroke_by g w (command_of_stroke g.app stroke)
 
 -- what the screen shows, and where
 abbrev pub shown_in : Ground → World → List Shown
@@ -140,6 +220,7 @@ handled g w gesture.Rubout = rub_out w
 handled g w gesture.Clear = clear_line w
 handled g w gesture.Frame = tell w 0 (glyph_rows g w)
 handled g w gesture.Inks = tell w 0 (ink_rows g w)
+handled g w (gesture.Stroke name) = press g w name
 handled g w (gesture.History name) = tell_history w (panes_of g.app) w.panes name
 handled g w gesture.Force = record { replies = []; world = w; after = after.Force; cost = 0 }
 

@@ -4,26 +4,27 @@ ghost use Rattle.cl_eval.specs.Outcome.{RisesBy};
 ghost use Rattle.cl_application.specs.Panes.{panes_of};
 ghost use Rattle.cl_frame.specs.Frames.{IsFrameOf, marks_of_frame};
 ghost use Rattle.cl_frame.specs.Ground.{ground_of};
-ghost use Rattle.cl_session.specs.Naming.{sight_in, tokens_of_line};
-ghost use Rattle.cl_session.specs.Step.{clear_line, command_outcome, command_trap_line, finish_line, finish_named, handled, ok_lines, rub_out, run_command, tell_history, type_text, which_after};
+ghost use Rattle.cl_session.specs.Naming.{sight_in};
+ghost use Rattle.cl_session.specs.Step.{clear_line, handled, rub_out, tell_history, type_text, which_after};
 ghost use Rattle.cl_session.specs.Handling.{HandlesTo, IsReply, ToldOf, after_of, handling_met, world_at};
 
-use crate::naming::{command_of_line, token_behind};
+use crate::running::{finish_line, press};
 use crate::telling::{frame_lines, history_lines, ink_lines, place_of_pane};
-use cl_application::{App, CommandDecl};
-use cl_eval::{Env, Executed, Lines, Program, Slots, Types, exec};
+use cl_application::App;
+use cl_eval::{Lines, Program, Slots, Types};
 use cl_frame::{Frame, Which};
 use cl_gesture::Gesture;
 use cl_line::{Line, Pushed};
 use cl_outside::{Ledger, Steps};
-use cl_tables::Tables;
+use cl_tables::{Enabled, Tables};
 use cl_value::Text;
 use std::alloc::{AllocError, Global};
 
-/// What lies on a session's desk, beside the slots: the command line.
+/// What lies on a session's desk, beside the slots: the command line, and which commands are enabled.
 #[derive(Drop)]
 pub struct Desk {
     pub line: Line,
+    pub enabled: Enabled,
 }
 
 /// What follows a handling.
@@ -73,11 +74,11 @@ pub fn handle<T: Types, L: Ledger>(
     requires depth { program.now.limits.depth ≤ 512 }
     requires tables { tables.now ≡ sight_in program.now.app.now }
     requires frame { IsFrameOf program.now.app.now frame.now }
-    ensures handles { HandlesTo (handled (ground_of T.holds T.presents program.now)
+    ensures handles { HandlesTo (handled (ground_of T.holds T.presents T.reads program.now)
         (world_at slots.old desk.old frame.now) gesture.now) frame.now result slots.old slots.new
         desk.old desk.new }
     ensures ledger { RisesBy (handling_met result) steps.old steps.new
-        (handled (ground_of T.holds T.presents program.now)
+        (handled (ground_of T.holds T.presents T.reads program.now)
         (world_at slots.old desk.old frame.now) gesture.now).cost }
 {
     let (alloc, app) = (program.alloc, program.app);
@@ -88,13 +89,16 @@ pub fn handle<T: Types, L: Ledger>(
         Gesture::Clear => clear_line(alloc, frame, slots, desk),
         Gesture::Frame => told(frame_lines(alloc, app, frame)),
         Gesture::Inks => told(ink_lines(alloc, app, frame)),
+        Gesture::Stroke(name) => {
+            press(program, tables, name.as_slice(), frame, slots, desk, steps)
+        }
         Gesture::History(name) => tell_history(alloc, app, frame, name.as_slice(), slots, desk),
         Gesture::Force => Handling::Replied(Lines::new(alloc), After::Force),
     }
 }
 
 // These lines, and nothing follows.
-fn told(lines: Result<Lines, AllocError>) -> Handling
+pub(crate) fn told(lines: Result<Lines, AllocError>) -> Handling
     ensures { ToldOf lines result }
 {
     match lines {
@@ -152,92 +156,8 @@ fn clear_line(alloc: Global, frame: &Frame, slots: &Slots, desk: &mut Desk) -> H
     Handling::Replied(Lines::new(alloc), After::Nothing)
 }
 
-fn finish_line<T: Types, L: Ledger>(
-    program: &Program<'_, T>,
-    tables: &Tables,
-    frame: &Frame,
-    slots: &mut Slots,
-    desk: &mut Desk,
-    steps: &mut Steps<L>,
-) -> Handling
-    requires depth { program.now.limits.depth ≤ 512 }
-    requires tables { tables.now ≡ sight_in program.now.app.now }
-    ensures handles { HandlesTo (finish_line (ground_of T.holds T.presents program.now)
-        (world_at slots.old desk.old frame.now)) frame.now result slots.old slots.new desk.old
-        desk.new }
-    ensures ledger { RisesBy (handling_met result) steps.old steps.new
-        (finish_line (ground_of T.holds T.presents program.now)
-        (world_at slots.old desk.old frame.now)).cost }
-{
-    match command_of_line(program.app, tables, &desk.line) {
-        None => reply(program.alloc, b"! unknown"),
-        Some(command) => finish_named(program, command, frame, slots, desk, steps),
-    }
-}
-
-// A command takes no argument: a token behind its name is one too many.
-fn finish_named<T: Types, L: Ledger>(
-    program: &Program<'_, T>,
-    command: &CommandDecl,
-    frame: &Frame,
-    slots: &mut Slots,
-    desk: &mut Desk,
-    steps: &mut Steps<L>,
-) -> Handling
-    requires { program.now.limits.depth ≤ 512 }
-    ensures handles { HandlesTo (finish_named (ground_of T.holds T.presents program.now)
-        (world_at slots.old desk.old frame.now) command.now
-        (tokens_of_line command.now desk.old.line)) frame.now result slots.old slots.new desk.old
-        desk.new }
-    ensures ledger { RisesBy (handling_met result) steps.old steps.new
-        (finish_named (ground_of T.holds T.presents program.now)
-        (world_at slots.old desk.old frame.now) command.now
-        (tokens_of_line command.now desk.old.line)).cost }
-{
-    match token_behind(command, &desk.line) {
-        Some(_) => reply(program.alloc, b"! surplus"),
-        None => run_command(program, command, frame, slots, desk, steps),
-    }
-}
-
-fn run_command<T: Types, L: Ledger>(
-    program: &Program<'_, T>,
-    command: &CommandDecl,
-    frame: &Frame,
-    slots: &mut Slots,
-    desk: &mut Desk,
-    steps: &mut Steps<L>,
-) -> Handling
-    requires { program.now.limits.depth ≤ 512 }
-    ensures handles { HandlesTo (run_command command.now.line_name
-        (world_at slots.old desk.old frame.now)
-        (command_outcome (ground_of T.holds T.presents program.now) command.now slots.old))
-        frame.now result slots.old slots.new desk.old desk.new }
-    ensures ledger { RisesBy (handling_met result) steps.old steps.new
-        (run_command command.now.line_name (world_at slots.old desk.old frame.now)
-        (command_outcome (ground_of T.holds T.presents program.now) command.now slots.old)).cost }
-{
-    let env = Env::new(program.alloc);
-    match exec(program, &command.body, &env, slots, steps) {
-        Executed::Done(next, replies, _) => match ok_lines(
-            program.alloc,
-            command.line_name.as_slice(),
-            replies.as_slice(),
-        ) {
-            Ok(lines) => {
-                *slots = next;
-                desk.line.clear();
-                Handling::Replied(lines, After::Commit)
-            }
-            Err(_) => Handling::Memory,
-        },
-        Executed::Trap(kind, _) => told(trap_line(program.alloc, kind)),
-        Executed::Memory => Handling::Memory,
-    }
-}
-
 // One line of replies, where there is memory for it.
-fn reply(alloc: Global, bytes: &[u8]) -> Handling
+pub(crate) fn reply(alloc: Global, bytes: &[u8]) -> Handling
     ensures { IsReply bytes.now result }
 {
     match one_line(alloc, bytes) {
@@ -255,18 +175,6 @@ pub(crate) fn one_line(alloc: Global, bytes: &[u8]) -> Result<Lines, AllocError>
     Ok(lines)
 }
 
-// The line of a command that ended, and one for each text of its replies.
-fn ok_lines(alloc: Global, name: &[u8], replies: &[Text]) -> Result<Lines, AllocError>
-    ensures { IfOk result (λ l. l ≡ ok_lines name.now replies.now) }
-{
-    let mut lines = one_line(alloc, &joined(alloc, b"ok ", name)?)?;
-    for reply in replies {
-        let line = joined(alloc, b"= ", reply.as_slice())?;
-        lines.push(Text::from_vec(alloc, line)?)?;
-    }
-    Ok(lines)
-}
-
 // These bytes, one part behind the other.
 pub(crate) fn joined(alloc: Global, first: &[u8], second: &[u8]) -> Result<Vec<u8>, AllocError>
     ensures { IfOk result (λ v. v.items ≡ first.now ++ second.now) }
@@ -274,11 +182,4 @@ pub(crate) fn joined(alloc: Global, first: &[u8], second: &[u8]) -> Result<Vec<u
     let mut bytes = Vec::from_slice(alloc, first)?;
     bytes.extend_from_slice(second)?;
     Ok(bytes)
-}
-
-fn trap_line(alloc: Global, kind: u8) -> Result<Lines, AllocError>
-    ensures { IfOk result (λ l. l ≡ command_trap_line kind ∷ []) }
-{
-    let line = format!(in alloc; "! trap {kind}")?;
-    one_line(alloc, line.as_bytes())
 }

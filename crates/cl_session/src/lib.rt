@@ -5,6 +5,7 @@ mod answers;
 mod handling;
 mod laws;
 mod naming;
+mod running;
 mod serving;
 mod sessions;
 mod speaking;

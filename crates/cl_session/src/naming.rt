@@ -1,43 +1,61 @@
-//! The commands that a line can name.
-ghost use Rattle.std.specs.Prelude.{◌≡◌, IfOk, option_map};
-ghost use Rattle.cl_line.specs.Tokens.{with_rest};
-ghost use Rattle.cl_session.specs.Naming.{command_of_line, place_of, sight_in, tokens_of_line};
+//! The commands that lines and keystrokes name.
+ghost use Rattle.std.specs.Prelude.{◌≡◌, ◌+◌, IfOk, length, option_map};
+ghost use Rattle.cl_line.specs.Lines.{front_start};
+ghost use Rattle.cl_session.specs.Naming.{command_of_line, command_of_stroke, place_of, places_of, sight_in};
+ghost use Rattle.cl_tables.specs.Enabled.{AreAllEnabled};
+ghost use Rattle.cl_tables.specs.Rings.{HasNoRing};
 
-use cl_application::{App, CommandDecl};
-use cl_line::{Line, Token};
+use cl_application::{App, CommandDecl, Commands};
+use cl_line::Line;
 use cl_table::Table;
-use cl_tables::{CommandPlace, Tables};
-use cl_value::Text;
+use cl_tables::{CommandPlace, Enabled, Tables};
 use std::alloc::{AllocError, Global};
 
-/// The table in which all commands stand.
-const GLOBAL_TABLE: &[u8] = b"global-command-table";
-
-/// What an application's command table sees.
+/// What the command table of an application's frame sees.
 pub fn tables_of(alloc: Global, app: &App) -> Result<Tables, AllocError>
+    requires { HasNoRing app.now.tables }
     ensures { IfOk result (λ t. t ≡ sight_in app.now) }
 {
-    let commands = &app.commands;
+    let places = places_of(alloc, &app.commands)?;
+    Tables::build(alloc, &app.tables, &places, app.frame.table.as_slice())
+}
+
+/// The commands of an application, all enabled.
+pub fn enabled_of(alloc: Global, app: &App) -> Result<Enabled, AllocError>
+    ensures { IfOk result (AreAllEnabled (places_of app.now.commands)) }
+{
+    let places = places_of(alloc, &app.commands)?;
+    Enabled::new(alloc, &places)
+}
+
+// The commands with the tables in which they stand.
+fn places_of(alloc: Global, commands: &Commands) -> Result<Table<CommandPlace>, AllocError>
+    ensures { IfOk result (λ p. p ≡ places_of commands.now) }
+{
     let mut places = Table::new(alloc);
     commands.is_table();
     for place in 0..commands.len() {
         let Some(command) = commands.at(place) else {
             unreachable!()
         };
-        places.add_first(place_of(alloc, command)?)?;
+        places.add_first(place_of(command)?)?;
     }
-    Tables::build(alloc, &Table::new(alloc), &places, GLOBAL_TABLE)
+    Ok(places)
 }
 
 // Where a command stands.
-fn place_of(alloc: Global, command: &CommandDecl) -> Result<CommandPlace, AllocError>
+fn place_of(command: &CommandDecl) -> Result<CommandPlace, AllocError>
     ensures { IfOk result (λ p. p ≡ place_of command.now) }
 {
+    let keystroke = match &command.keystroke {
+        Some(keystroke) => Some(keystroke.copy()?),
+        None => None,
+    };
     Ok(CommandPlace {
         name: command.name.copy()?,
         line_name: command.line_name.copy()?,
-        table: Text::from_slice(alloc, GLOBAL_TABLE)?,
-        keystroke: None,
+        table: command.table.copy()?,
+        keystroke,
     })
 }
 
@@ -52,11 +70,29 @@ pub fn command_of_line<'a>(app: &'a App, tables: &Tables, line: &Line) -> Option
     }
 }
 
-/// The first token behind the name of the command that a line names.
-pub fn token_behind(command: &CommandDecl, line: &Line) -> Option<Token>
-    ensures { tokens_of_line command.now line.now ≡ with_rest line.now result }
+/// The command of a keystroke, which is written without regard to case.
+pub fn command_of_stroke<'a>(
+    alloc: Global,
+    app: &'a App,
+    tables: &Tables,
+    stroke: &[u8],
+) -> Result<Option<&'a CommandDecl>, AllocError>
+    requires { tables.now ≡ sight_in app.now }
+    ensures { IfOk result (λ c. option_map (λ d. d.now) c ≡ command_of_stroke app.now stroke.now) }
+{
+    let mut stroke = Vec::from_slice(alloc, stroke)?;
+    stroke.make_ascii_lowercase();
+    match tables.find_stroke(stroke.as_slice()) {
+        Some(name) => Ok(app.command(name.as_slice())),
+        None => Ok(None),
+    }
+}
+
+/// Where the name of a line's command ends.
+pub fn name_end(command: &CommandDecl, line: &Line) -> usize
+    ensures { result ≡ front_start line.now + length command.now.line_name }
 {
     // A line has at most 256 elements.
     let _ = line.elements();
-    line.next_token(line.front_start() + command.line_name.as_slice().len())
+    line.front_start() + command.line_name.as_slice().len()
 }

@@ -8,6 +8,7 @@ use Rattle.cl_syntax.specs.declared.statements.ActKind.TheVariants as kind
 abbrev pub act_tree_of : ActKind → ActTree
 act_tree_of (kind.Setf x t) = act.Setf x t
 act_tree_of (kind.Reply t) = act.Reply t
+act_tree_of (kind.Switch x on) = act.Switch x on
 act_tree_of (kind.If c) = act.If c.value.test c.value.then c.value.other
 act_tree_of (kind.When t ss) = act.When t (act_trees_of ss)
 act_tree_of (kind.Let bs ss) = act.Let (bindings_of bs.items) (act_trees_of ss)

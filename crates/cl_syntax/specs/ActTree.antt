@@ -1,5 +1,5 @@
 -- A statement as a tree.
-use Rattle.std.specs.Prelude.{ℕ, ◌+◌, List, [], ◌∷◌}
+use Rattle.std.specs.Prelude.{ℕ, ◌+◌, Bool, List, [], ◌∷◌}
 use Rattle.cl_syntax.specs.ExprTree.{ExprTree, Bindings}
 
 mutual
@@ -8,6 +8,8 @@ mutual
     Setf : List ℕ → ExprTree → ActTree
     -- (reply E)
     Reply : ExprTree → ActTree
+    -- (enable COMMAND), or (disable COMMAND) where it is false
+    Switch : List ℕ → Bool → ActTree
     -- (if TEST THEN ELSE)
     If : ExprTree → ActTree → ActTree → ActTree
     -- (when TEST STATEMENT ...)
@@ -32,6 +34,7 @@ abbrev mutual
   pub nodes : ActTree → ℕ
   nodes (Setf x t) = 1
   nodes (Reply t) = 1
+  nodes (Switch x on) = 1
   nodes (If t r s) = nodes r + nodes s + 1
   nodes (When t ss) = nodes_all ss + 1
   nodes (Let bs ss) = nodes_all ss + 1

@@ -1,11 +1,11 @@
 -- How the logic stores a statement.
 use Rattle.std.proofs.Common.{◌≡◌, ℕ, refl, ap}
 use Rattle.std.proofs.lemmas.Bool.{eqb-false}
-use Rattle.std.specs.Coded.{Coded}
+use Rattle.std.specs.Coded.{Coded, coded_bool}
 use base.Stored.{Gv, gnil, gnum, gcons}
 use Rattle.cl_syntax.specs.Code.{head, tail, tag, has_parts, name_code, name_code-inj}
 use Rattle.cl_syntax.specs.ExprTreeCode.{coded_expr_tree, coded_bindings}
-use Rattle.cl_syntax.specs.ActTree.{ActTree, Setf, Reply, If, When, Let, Dolist, Progn, ActTrees, none, statement}
+use Rattle.cl_syntax.specs.ActTree.{ActTree, Setf, Reply, Switch, If, When, Let, Dolist, Progn, ActTrees, none, statement}
 
 -- the place of a row in its table
 abbrev pub row : ActTree → ℕ
@@ -16,6 +16,7 @@ row (When t ss) = 3
 row (Let bs ss) = 4
 row (Dolist x t ss) = 5
 row (Progn ss) = 6
+row (Switch x on) = 7
 
 abbrev mutual
   pub code : ActTree → Gv
@@ -26,6 +27,7 @@ abbrev mutual
   code (Let bs ss) = gcons (gnum 4) (gcons (coded_bindings.code bs) (code_all ss))
   code (Dolist x t ss) = gcons (gnum 5) (gcons (name_code x) (gcons (coded_expr_tree.code t) (code_all ss)))
   code (Progn ss) = gcons (gnum 6) (code_all ss)
+  code (Switch x on) = gcons (gnum 7) (gcons (name_code x) (coded_bool.code on))
 
   pub code_all : ActTrees → Gv
   code_all none = gnil
@@ -57,6 +59,10 @@ mutual
       let pss : ss ≡ ss' = code_all-inj ss ss' (ap (λ g. tail (tail (tail g))) p) in
       λ i. Dolist (px i) (pt i) (pss i)
   code-inj (Progn ss) (Progn ss') p = ap Progn (code_all-inj ss ss' (ap tail p))
+  code-inj (Switch x on) (Switch x' on') p =
+      let px : x ≡ x' = name_code-inj x x' (ap (λ g. head (tail g)) p) in
+      let pon : on ≡ on' = coded_bool.inj on on' (ap (λ g. tail (tail g)) p) in
+      λ i. Switch (px i) (pon i)
   code-inj x y p = absurd (eqb-false (row x) (row y) refl (ap tag p))
 
   pub code_all-inj : (xs ys : ActTrees) → code_all xs ≡ code_all ys → xs ≡ ys

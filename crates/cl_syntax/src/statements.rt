@@ -23,6 +23,8 @@ pub enum ActKind {
     Setf(Text, Expr),
     /// `(reply E)`
     Reply(Expr),
+    /// `(enable COMMAND)`, or `(disable COMMAND)` where it is false.
+    Switch(Text, bool),
     /// `(if TEST THEN ELSE)`
     If(Box<ActChoice>),
     /// `(when TEST STATEMENT ...)`
@@ -108,6 +110,15 @@ impl Act {
     {
         Act {
             kind: ActKind::Reply(part),
+        }
+    }
+
+    /// `(enable COMMAND)`, or `(disable COMMAND)` where `on` is false.
+    pub fn switch(command: Text, on: bool) -> Act
+        ensures { result ≡ act.Switch command on }
+    {
+        Act {
+            kind: ActKind::Switch(command, on),
         }
     }
 

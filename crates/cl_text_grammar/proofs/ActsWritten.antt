@@ -1,5 +1,5 @@
 -- What is read of a datum as a statement writes it: a lemma for each row that display forms do not have.
-use Rattle.std.proofs.Common.{◌≡◌, ℕ, true, List, [], ◌∷◌, sym}
+use Rattle.std.proofs.Common.{◌≡◌, ℕ, Bool, true, false, List, [], ◌∷◌, sym}
 use Rattle.std.specs.Prelude.{Some, Ok, codes}
 use Rattle.std.specs.Str.{bytes_eq}
 use Rattle.std.proofs.lemmas.Result.{IfOk-at_ok}
@@ -10,7 +10,7 @@ use Rattle.cl_syntax.specs.ActTree as act
 use Rattle.cl_syntax.specs.declared.expressions.Binding.{Binding}
 use Rattle.cl_forms.specs.Datum.{Datum, Datums, number, literal, word, quoted, stray, list, none, item, in_order, parts_of, offset}
 use Rattle.cl_forms.specs.Naming.{name_in}
-use Rattle.cl_words.specs.Signatures.{slot_in}
+use Rattle.cl_words.specs.Signatures.{slot_in, command_in}
 use Rattle.cl_words.specs.declared.heads.Head.{Head}
 use Rattle.cl_words.specs.declared.heads.Head.TheVariants as head
 use Rattle.cl_words.specs.declared.heads.Planned.TheVariants as planned
@@ -21,13 +21,14 @@ use Rattle.cl_expressions.specs.Load.{Load, Notes}
 use Rattle.cl_expressions.specs.Scopes.{Names}
 use Rattle.cl_expressions.specs.Expressions.{Sub}
 use Rattle.cl_bodies.specs.declared.own.Own.{Own}
-use Rattle.cl_bodies.specs.Statements.{parse_place, parse_setf, parse_reply, parse_change, parse_own, statements, parse_act, parse_acts}
+use Rattle.cl_bodies.specs.Statements.{parse_place, parse_setf, parse_reply, parse_switch, parse_change, parse_own, statements, parse_act, parse_acts}
 use Rattle.cl_grammar.specs.Heads.{CallsNames}
 use Rattle.cl_grammar.specs.Writes.{Writes}
 use Rattle.cl_grammar.proofs.Endings.{Ends, gives, refuses, chooses, notes_then, binds, asks_name}
 use Rattle.cl_grammar.proofs.Spelled.{same_word}
 use Rattle.cl_grammar.proofs.Written.{shapes, WrittenParts}
-use Rattle.cl_text_grammar.specs.WritesActs.{WritesAct, WritesActForm, WritesActs, a_form, a_setf, a_reply, an_if, a_when, a_let, a_dolist, a_progn, no_more, one_more}
+use Rattle.cl_text_grammar.specs.WritesActs.{WritesAct, WritesActForm, WritesActs, a_form, a_setf, a_reply, an_enable, a_disable, an_if, a_when, a_let}
+use Rattle.cl_text_grammar.specs.WritesActs.{a_dolist, a_progn, no_more, one_more}
 use Rattle.cl_text_grammar.proofs.FormWords.{change_word, Spells}
 use Rattle.cl_text_grammar.proofs.Bindings.{WritesBinding, a_binding}
 use Rattle.cl_text_grammar.proofs.FormsWritten.{OwnWrites, Rules, form_ends, body_ends}
@@ -84,10 +85,28 @@ reply_ends h at (a ∷ []) env k = binds (k.0.expr env) λ t i. gives (a_reply i
 reply_ends h at [] env k = refuses
 reply_ends h at (a ∷ b ∷ ps) env k = refuses
 
+-- the word for a statement that switches a command on, or off where it is false
+abbrev switch_word : Bool → List ℕ
+switch_word true = codes "enable"
+switch_word false = codes "disable"
+
+switch_writes : (on : Bool) (x : List ℕ) (n : Datum) (h : ℕ) → name_in n ≡ Some x → WritesActForm (act.Switch x on) (word (switch_word on) h ∷ n ∷ [])
+switch_writes true x n h i = an_enable i
+switch_writes false x n h i = a_disable i
+
+switch_ends : (w : Signatures) (on : Bool) (h at : ℕ) (ps : List Sub) → Ends (RowEnds (switch_word on) h ps) (parse_switch w on at ps)
+switch_ends w on h at (a ∷ []) =
+    binds {P = λ x. name_in a.shape ≡ Some x} (asks_name at a.shape λ x i. notes_then (command_in w x) (offset a.shape) (gives i)) λ x i.
+    gives (switch_writes on x a.shape h i)
+switch_ends w on h at [] = refuses
+switch_ends w on h at (a ∷ b ∷ ps) = refuses
+
 change_ends : (w : Signatures) (c : Change) (h at : ℕ) (ps : List Sub) (env : Names) → WrittenParts ps
     → Ends (RowEnds (change_word c) h ps) (parse_change w c at ps env)
 change_ends w change.Setf h at ps env k = setf_ends w h at ps env k
 change_ends w change.Reply h at ps env k = reply_ends h at ps env k
+change_ends w change.Enable h at ps env k = switch_ends w true h at ps
+change_ends w change.Disable h at ps env k = switch_ends w false h at ps
 
 spelled_so : (y x : List ℕ) (h : ℕ) (ps : List Sub) (m : Load (Own ActTree (Unit {0}) (Unit {0}))) → x ≡ y → Ends (OwnEnds y h ps) m
     → Ends (OwnEnds x h ps) m

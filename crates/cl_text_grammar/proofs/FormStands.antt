@@ -32,7 +32,7 @@ use Rattle.cl_expressions.specs.Scopes.{Names}
 use Rattle.cl_grammar.proofs.Spelled.{missed, not_fixed, Finds, nothing, word_is, of_some, first, last_found}
 use Rattle.cl_text_grammar.specs.FormSights.{Row, UnknownHead, if_seen, when_seen, let_seen, dolist_seen, progn_seen, planned_seen, write_seen}
 use Rattle.cl_text_grammar.specs.FormSights.{newline_seen, drawn_seen, indent_seen, ink_seen, room_seen, present_seen, presentation_seen, call_seen}
-use Rattle.cl_text_grammar.specs.FormSights.{shape_rows, shape_row_seen, setf_seen, reply_seen, act_rows, act_row_seen}
+use Rattle.cl_text_grammar.specs.FormSights.{shape_rows, shape_row_seen, setf_seen, reply_seen, switch_seen, act_rows, act_row_seen}
 
 abbrev pub control_seen : Control → Row
 control_seen control.When = when_seen
@@ -53,6 +53,8 @@ writing_seen w writing.Present = present_seen w
 abbrev pub change_seen : Change → Row
 change_seen change.Setf = setf_seen
 change_seen change.Reply = reply_seen
+change_seen change.Enable = switch_seen
+change_seen change.Disable = switch_seen
 
 -- a word that heads no form of the language
 abbrev pub unknown_seen : Row
@@ -196,7 +198,9 @@ module _ (w : Signatures) (x : List ℕ) where
   changes : Finds (λ a. Stands w x (head.Change a)) (change_named x)
   changes =
       word_is change.Setf x (codes "setf") (λ e. stands (head.Change change.Setf) e (λ h env ds. refl) (λ h env ds. refl)) (
-      word_is change.Reply x (codes "reply") (λ e. stands (head.Change change.Reply) e (λ h env ds. refl) (λ h env ds. refl)) nothing)
+      word_is change.Reply x (codes "reply") (λ e. stands (head.Change change.Reply) e (λ h env ds. refl) (λ h env ds. refl)) (
+      word_is change.Enable x (codes "enable") (λ e. stands (head.Change change.Enable) e (λ h env ds. refl) (λ h env ds. refl)) (
+      word_is change.Disable x (codes "disable") (λ e. stands (head.Change change.Disable) e (λ h env ds. refl) (λ h env ds. refl)) nothing)))
 
   planned_displays : Finds (λ a. Stands w x (head.Planned a)) (planned_display x)
   planned_displays =
@@ -205,11 +209,9 @@ module _ (w : Signatures) (x : List ℕ) where
 
   planned_others : Finds (λ a. Stands w x (head.Planned a)) (planned_other x)
   planned_others =
-      word_is planned.Statement x (codes "enable") (λ e. stands (head.Planned planned.Statement) e (λ h env ds. refl) (λ h env ds. refl)) (
-      word_is planned.Statement x (codes "disable") (λ e. stands (head.Planned planned.Statement) e (λ h env ds. refl) (λ h env ds. refl)) (
       word_is planned.Statement x (codes "open-dialog") (λ e. stands (head.Planned planned.Statement) e (λ h env ds. refl) (λ h env ds. refl)) (
       word_is planned.Part x (codes "formatting-row") (λ e. stands (head.Planned planned.Part) e (λ h env ds. refl) (λ h env ds. refl)) (
-      word_is planned.Part x (codes "formatting-cell") (λ e. stands (head.Planned planned.Part) e (λ h env ds. refl) (λ h env ds. refl)) nothing))))
+      word_is planned.Part x (codes "formatting-cell") (λ e. stands (head.Planned planned.Part) e (λ h env ds. refl) (λ h env ds. refl)) nothing))
 
   operators_found : Finds (λ o. Stands w x (head.Operator o)) (operator_named x)
   operators_found =

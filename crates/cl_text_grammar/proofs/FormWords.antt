@@ -39,6 +39,8 @@ writing_word writing.Present = codes "present"
 abbrev pub change_word : Change → List ℕ
 change_word change.Setf = codes "setf"
 change_word change.Reply = codes "reply"
+change_word change.Enable = codes "enable"
+change_word change.Disable = codes "disable"
 
 -- the word spells the head of a display form or a statement
 abbrev pub Spells : List ℕ → Head → Type 0
@@ -94,7 +96,9 @@ module _ (x : List ℕ) where
       (word_is writing.Present x (codes "present") (λ e. e) nothing))
 
   changes : Finds (λ c. Spells x (head.Change c)) (change_named x)
-  changes = word_is change.Setf x (codes "setf") (λ e. e) (word_is change.Reply x (codes "reply") (λ e. e) nothing)
+  changes =
+      word_is change.Setf x (codes "setf") (λ e. e) (word_is change.Reply x (codes "reply") (λ e. e)
+      (word_is change.Enable x (codes "enable") (λ e. e) (word_is change.Disable x (codes "disable") (λ e. e) nothing)))
 
   form_words : Finds (Spells x) (form_head x)
   form_words =

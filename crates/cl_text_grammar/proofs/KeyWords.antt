@@ -7,8 +7,11 @@ use Rattle.cl_forms.specs.contracts.keys.Key.{the_type}
 use Rattle.cl_forms.specs.Datum.{Datum, Datums, number, literal, word, quoted, stray, list, none, item, in_order}
 use Rattle.cl_forms.specs.Keys.{Keyed, section_key, value_key, key_or, key_named, same_key, is_among, allowed, key_in, values_of, has_key}
 use Rattle.cl_forms.specs.Keys.{keyed_as, with_keyed, section_in, keyed_sections, pair_in, keyed_pairs}
+use Rattle.cl_forms.specs.Naming.{name_in}
 use Rattle.cl_forms.specs.declared.keys.Key.{Key}
 use Rattle.cl_forms.specs.declared.keys.Key.TheVariants as key
+use Rattle.cl_bodies.specs.TypeArguments.{text_behind}
+use Rattle.cl_declare.specs.TypeShapes.{found}
 use Rattle.cl_grammar.proofs.Spelled.{false_true, Finds, nothing, word_is, of_some, some_same, nothing_found}
 
 abbrev pub key_word : Key → List ℕ
@@ -23,6 +26,8 @@ key_word key.Satisfies = codes ":satisfies"
 key_word key.Description = codes ":description"
 key_word key.Separator = codes ":separator"
 key_word key.SingleBox = codes ":single-box"
+key_word key.Default = codes ":default"
+key_word key.Prompt = codes ":prompt"
 
 section_words : (x : List ℕ) → Finds (λ k. x ≡ key_word k) (section_key x)
 section_words x =
@@ -34,7 +39,8 @@ value_words x =
     word_is key.Name x (codes ":name") (λ e. e) (word_is key.Keystroke x (codes ":keystroke") (λ e. e)
     (word_is key.InheritFrom x (codes ":inherit-from") (λ e. e) (word_is key.Satisfies x (codes ":satisfies") (λ e. e)
     (word_is key.Description x (codes ":description") (λ e. e) (word_is key.Separator x (codes ":separator") (λ e. e)
-    (word_is key.SingleBox x (codes ":single-box") (λ e. e) nothing))))))
+    (word_is key.SingleBox x (codes ":single-box") (λ e. e) (word_is key.Default x (codes ":default") (λ e. e)
+    (word_is key.Prompt x (codes ":prompt") (λ e. e) nothing))))))))
 
 either_key : {P : Key → Type 0} (o p : Option Key) → Finds P o → Finds P p → Finds P (key_or o p)
 either_key (Some k) p h i = record { found = h.found }
@@ -207,3 +213,19 @@ stood_before j so_far (k ∷ ks) a e =
     none_either (same_key j k.key) k.values (values_of j ks)
     (λ f. false_true (sym a.0 ∙ (ap (λ i. has_key i so_far) (sym (same_true the_type tt j k.key f)) ∙ e)))
     (stood_before j (so_far ++ k ∷ []) ks a.1 (has_more j so_far k e))
+
+-- ---- a name or a text that stands behind a key
+
+pub name_there : (P : Option (List ℕ) → Type 0) (n : Datum) (o x : Option (List ℕ)) → name_in n ≡ o → found o ≡ Some x
+    → ((y : List ℕ) → name_in n ≡ Some y → P (Some y)) → P x
+name_there P n (Some y) x e f h = subst P (some_same f) (h y e)
+name_there P n None x e f h = absurd (nothing_found f)
+
+pub text_there : (P : Option (List ℕ) → Datum → Type 0) (d : Datum) (x : Option (List ℕ)) → text_behind (Some (d ∷ [])) ≡ Some x
+    → ((s : List ℕ) (at : ℕ) → P (Some s) (literal s at)) → P x d
+text_there P (literal s at) x e h = subst (λ o. P o (literal s at)) (some_same e) (h s at)
+text_there P (number z at) x e h = absurd (nothing_found e)
+text_there P (word s at) x e h = absurd (nothing_found e)
+text_there P (quoted s at name_at) x e h = absurd (nothing_found e)
+text_there P (stray at) x e h = absurd (nothing_found e)
+text_there P (list es at) x e h = absurd (nothing_found e)

@@ -13,6 +13,8 @@ pub mod KeyWords
 pub mod FramesWritten
 pub mod UserTypesWritten
 pub mod MethodsWritten
+pub mod CommandKeysWritten
+pub mod CommandsWritten
 pub mod TextWritten
 pub mod DisplaysNamed
 pub mod FormStands
@@ -22,6 +24,7 @@ pub mod TypesJudged
 pub mod TypesLie
 pub mod FormsLie
 pub mod FormBounds
+pub mod CommandJudging
 pub mod FormJudging
 pub mod BindingsJudged
 pub mod FormsJudged

@@ -13,10 +13,12 @@ use Rattle.cl_grammar.specs.Heads.{fixed_heads}
 use Rattle.cl_grammar.specs.Sights.{Seen, expression, slot_name, all_seen, names_behind, value_seen, names_bound, values_seen}
 use Rattle.cl_text_grammar.specs.Types.{TypePart, type_seen}
 
--- what is looked at: expressions and names, what is looked at of a type, or a form of the same language, with the variables that it sees
+-- what is looked at: expressions and names in them, what is looked at of a type, the name of a command with its offset, or a form of the same
+-- language, with the variables that it sees
 pub data FormSeen : Type 0 where
   expressions : List Seen → FormSeen
   specifier : List TypePart → FormSeen
+  command_name : List ℕ → ℕ → FormSeen
   form : Names → Datum → FormSeen
 
 -- what a form sees
@@ -171,6 +173,11 @@ abbrev pub reply_seen : Row
 reply_seen h env (a ∷ []) = Sees (expressions (expression env a ∷ []) ∷ [])
 reply_seen h env ds = Misshapen
 
+-- `(enable COMMAND)` and `(disable COMMAND)`
+abbrev pub switch_seen : Row
+switch_seen h env (n ∷ []) = elim (name_in n) [ None ↦ Misshapen | Some x ↦ Sees (command_name x (offset n) ∷ []) ]
+switch_seen h env ds = Misshapen
+
 -- the rows of statements by their words
 abbrev pub act_rows : List (List ℕ × Row)
 act_rows =
@@ -181,8 +188,8 @@ act_rows =
     ∷ (codes "progn", progn_seen)
     ∷ (codes "setf", setf_seen)
     ∷ (codes "reply", reply_seen)
-    ∷ (codes "enable", planned_seen)
-    ∷ (codes "disable", planned_seen)
+    ∷ (codes "enable", switch_seen)
+    ∷ (codes "disable", switch_seen)
     ∷ (codes "open-dialog", planned_seen)
     ∷ []
 

@@ -9,4 +9,5 @@ pub mod WritesNames
 pub mod WritesTypes
 pub mod WritesFrames
 pub mod WritesUserTypes
+pub mod WritesCommands
 pub mod WritesDeclarations

@@ -1,5 +1,5 @@
 -- How a statement is written: a row for each form of the language, with its offsets left out.
-use Rattle.std.specs.Prelude.{◌≡◌, ℕ, List, [], ◌∷◌, Some, codes}
+use Rattle.std.specs.Prelude.{◌≡◌, ℕ, true, false, List, [], ◌∷◌, Some, codes}
 use Rattle.cl_syntax.specs.ExprTree.{ExprTree, Bindings}
 use Rattle.cl_syntax.specs.ActTree.{ActTree, ActTrees}
 use Rattle.cl_syntax.specs.ActTree as act
@@ -19,6 +19,10 @@ mutual
         → WritesActForm (act.Setf x t) (word (codes "setf") h ∷ list (item (word (codes "slot") slot_at) (item n none)) at ∷ e ∷ [])
     -- (reply E)
     a_reply : {t : ExprTree} {e : Datum} {h : ℕ} → Writes t e → WritesActForm (act.Reply t) (word (codes "reply") h ∷ e ∷ [])
+    -- (enable COMMAND)
+    an_enable : {x : List ℕ} {n : Datum} {h : ℕ} → name_in n ≡ Some x → WritesActForm (act.Switch x true) (word (codes "enable") h ∷ n ∷ [])
+    -- (disable COMMAND)
+    a_disable : {x : List ℕ} {n : Datum} {h : ℕ} → name_in n ≡ Some x → WritesActForm (act.Switch x false) (word (codes "disable") h ∷ n ∷ [])
     -- (if TEST THEN ELSE)
     an_if : {t : ExprTree} {r s : ActTree} {a b c : Datum} {h : ℕ} → Writes t a → WritesAct r b → WritesAct s c
         → WritesActForm (act.If t r s) (word (codes "if") h ∷ a ∷ b ∷ c ∷ [])

@@ -5,8 +5,7 @@ use Rattle.cl_syntax.specs.ActTree.{ActTree, act_trees_of}
 use Rattle.cl_syntax.specs.ExprTree.{ExprTree}
 use Rattle.cl_syntax.specs.ShapeTree.{ShapeTree, shape_trees_of}
 use Rattle.cl_syntax.specs.TypeSpecTree.{TypeSpecTree}
-use Rattle.cl_forms.specs.Datum.{Datum, Datums, word, list, none, item, in_order}
-use Rattle.cl_forms.specs.LineNames.{line_name_of}
+use Rattle.cl_forms.specs.Datum.{Datum, Datums, word, list, in_order}
 use Rattle.cl_forms.specs.Naming.{name_in}
 use Rattle.cl_words.specs.declared.signatures.Signatures.{Signatures}
 use Rattle.cl_expressions.specs.Scopes.{Names}
@@ -16,12 +15,16 @@ use Rattle.cl_application.specs.declared.declarations.HostDecl.{HostDecl}
 use Rattle.cl_application.specs.declared.declarations.MethodDecl.{MethodDecl}
 use Rattle.cl_application.specs.declared.declarations.FunctionDecl.{FunctionDecl}
 use Rattle.cl_application.specs.declared.declarations.DisplayDecl.{DisplayDecl}
+use Rattle.cl_application.specs.declared.declarations.ArgumentDecl.{ArgumentDecl}
 use Rattle.cl_application.specs.declared.declarations.CommandDecl.{CommandDecl}
 use Rattle.cl_application.specs.declared.declarations.SlotDecl.{SlotDecl}
+use Rattle.cl_tables.specs.declared.declarations.TableDecl.{TableDecl}
 use Rattle.cl_declare.specs.declared.declarations.Declarations.{Declarations}
 use Rattle.cl_declare.specs.declared.frames.FrameForm.{FrameForm}
 use Rattle.cl_declare.specs.declared.pane_forms.PaneForm.{PaneForm}
 use Rattle.cl_declare.specs.declared.frames.Size.{Size}
+use Rattle.cl_declare.specs.CommandShapes.{given_or_made}
+use Rattle.cl_declare.specs.CommandTables.{table_or_global}
 use Rattle.cl_declare.specs.Declarations.{nothing_declared}
 use Rattle.cl_declare.specs.TypeShapes.{described}
 use Rattle.cl_declare.specs.Types.{or_everything}
@@ -31,13 +34,7 @@ use Rattle.cl_text_grammar.specs.WritesActs.{WritesActs}
 use Rattle.cl_text_grammar.specs.WritesNames.{WritesNames, WritesNameList}
 use Rattle.cl_text_grammar.specs.WritesFrames.{WritesSections, slots_of}
 use Rattle.cl_text_grammar.specs.WritesUserTypes.{WritesTypeKeys}
-
--- the name of a command writes a datum
-pub data WritesCommandName : List ℕ → Datum → Type 0 where
-  -- NAME
-  alone : {x s : List ℕ} {at : ℕ} → name_in (word s at) ≡ Some x → WritesCommandName x (word s at)
-  -- (NAME)
-  in_parentheses : {x : List ℕ} {n : Datum} {at : ℕ} → name_in n ≡ Some x → WritesCommandName x (list (item n none) at)
+use Rattle.cl_text_grammar.specs.WritesCommands.{WritesCommandHead, WritesCommandArguments, with_arguments, WritesParents}
 
 -- a method of a type, declared at this offset, writes what stands behind the head
 pub data WritesMethod (at : ℕ) : MethodDecl → List Datum → Type 0 where
@@ -54,6 +51,7 @@ pub data Declaration : Type 0 where
   of_accept_method : MethodDecl → Declaration
   of_function : FunctionDecl → Declaration
   of_display : DisplayDecl → Declaration
+  of_command_table : TableDecl → Declaration
   of_command : CommandDecl → Declaration
   of_frame : FrameForm → Declaration
 
@@ -84,14 +82,29 @@ pub data WritesDeclared (w : Signatures) (at : ℕ) : Declaration → List Datum
   a_display : {x : List ℕ} {xs : Names} {fs : List ShapeTree} {n ps : Datum} {ds : List Datum} {h : ℕ} → name_in n ≡ Some x → WritesNameList xs ps
       → WritesShapes w (shape_trees_of fs) ds
       → WritesDeclared w at (of_display (record { name = x; parameters = xs; body = fs; at = at })) (word (codes "define-display") h ∷ n ∷ ps ∷ ds)
-  -- (define-command NAME () STATEMENT ...)
-  a_command : {x : List ℕ} {ss : List ActTree} {n : Datum} {ds : List Datum} {list_at h : ℕ} → WritesCommandName x n → WritesActs (act_trees_of ss) ds
-      → WritesDeclared w at (of_command (record { name = x; line_name = line_name_of x; body = ss; at = at }))
-      (word (codes "define-command") h ∷ n ∷ list none list_at ∷ ds)
-  -- (define-application-frame NAME SECTION ...)
-  a_frame : {x : List ℕ} {z : Size} {ss : Option (List SlotDecl)} {ps : List PaneForm} {n : Datum} {ds : List Datum} {h : ℕ} → name_in n ≡ Some x
-      → WritesSections w (Some z) ss (Some ps) ds
-      → WritesDeclared w at (of_frame (record { name = x; width = z.width; height = z.height; slots = slots_of ss; panes = ps; at = at }))
+  -- (define-command-table NAME :inherit-from (TABLE ...))
+  a_command_table : {x : List ℕ} {xs : Names} {n : Datum} {ds : List Datum} {h : ℕ} → name_in n ≡ Some x → WritesParents xs ds
+      → WritesDeclared w at (of_command_table (record { name = x; inherit_from = xs; at = at })) (word (codes "define-command-table") h ∷ n ∷ ds)
+  -- (define-command HEAD (ARGUMENT ...) STATEMENT ...): in the table that each text has where no other is named, and under the name that is made from its
+  -- own where no other is given
+  a_command : {x : List ℕ} {c t k : Option (List ℕ)} {a : List ArgumentDecl} {ss : List ActTree} {n : Datum} {es : Datums} {ds : List Datum} {list_at h : ℕ}
+      → WritesCommandHead x c t k n → WritesCommandArguments w a (in_order es) → WritesActs (act_trees_of ss) ds
+      → WritesDeclared w at
+      (of_command (record {
+        name = x;
+        table = table_or_global c;
+        line_name = given_or_made t x;
+        keystroke = k;
+        arguments = with_arguments [] a;
+        body = ss;
+        at = at;
+      }))
+      (word (codes "define-command") h ∷ n ∷ list es list_at ∷ ds)
+  -- (define-application-frame NAME SECTION ...): with the table that each text has where no other is named
+  a_frame : {x : List ℕ} {z : Size} {ss : Option (List SlotDecl)} {ps : List PaneForm} {c : Option (List ℕ)} {n : Datum} {ds : List Datum} {h : ℕ}
+      → name_in n ≡ Some x → WritesSections w (Some z) ss (Some ps) c ds
+      → WritesDeclared w at
+      (of_frame (record { name = x; width = z.width; height = z.height; slots = slots_of ss; panes = ps; table = table_or_global c; at = at }))
       (word (codes "define-application-frame") h ∷ n ∷ ds)
 
 -- a declaration writes a datum
@@ -115,6 +128,7 @@ with_declaration s (of_present_method d) = record s { present_methods = with_fir
 with_declaration s (of_accept_method d) = record s { accept_methods = with_first (λ e. e.name) s.accept_methods d }
 with_declaration s (of_function d) = record s { functions = with_first (λ e. e.name) s.functions d }
 with_declaration s (of_display d) = record s { displays = with_first (λ e. e.name) s.displays d }
+with_declaration s (of_command_table d) = record s { tables = with_first (λ e. e.name) s.tables d }
 with_declaration s (of_command d) = record s { commands = with_first (λ e. e.name) s.commands d }
 with_declaration s (of_frame d) = record s { frames = s.frames ++ d ∷ [] }
 

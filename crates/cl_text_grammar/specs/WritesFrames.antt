@@ -47,17 +47,21 @@ pub data WritesPanes (w : Signatures) : List PaneForm → List Datum → Type 0 
   one_pane : {p : PaneForm} {ps : List PaneForm} {d : Datum} {ds : List Datum} → WritesPane w p d → WritesPanes w ps ds
       → WritesPanes w (p ∷ ps) (d ∷ ds)
 
--- a size, slots and panes, as far as they are there, write the sections of a frame
-pub data WritesSections (w : Signatures) : Option Size → Option (List SlotDecl) → Option (List PaneForm) → List Datum → Type 0 where
-  no_section : WritesSections w None None None []
+-- a size, slots, panes and the command table, as far as they are there, write the sections of a frame
+pub data WritesSections (w : Signatures) : Option Size → Option (List SlotDecl) → Option (List PaneForm) → Option (List ℕ) → List Datum → Type 0 where
+  no_section : WritesSections w None None None None []
   -- (:size WIDTH HEIGHT)
-  a_size : {i j : ℤ} {ss : Option (List SlotDecl)} {ps : Option (List PaneForm)} {a b : Datum} {ds : List Datum} {key_at at : ℕ} → number_in a ≡ Some i
-      → number_in b ≡ Some j → WritesSections w None ss ps ds
-      → WritesSections w (Some (record { width = i; height = j })) ss ps (list (item (word (codes ":size") key_at) (item a (item b none))) at ∷ ds)
+  a_size : {i j : ℤ} {ss : Option (List SlotDecl)} {ps : Option (List PaneForm)} {c : Option (List ℕ)} {a b : Datum} {ds : List Datum} {key_at at : ℕ}
+      → number_in a ≡ Some i → number_in b ≡ Some j → WritesSections w None ss ps c ds
+      → WritesSections w (Some (record { width = i; height = j })) ss ps c (list (item (word (codes ":size") key_at) (item a (item b none))) at ∷ ds)
   -- (:slots SLOT ...)
-  some_slots : {z : Option Size} {ss : List SlotDecl} {ps : Option (List PaneForm)} {es : Datums} {ds : List Datum} {key_at at : ℕ} → WritesSlots w ss (in_order es)
-      → WritesSections w z None ps ds → WritesSections w z (Some ss) ps (list (item (word (codes ":slots") key_at) es) at ∷ ds)
+  some_slots : {z : Option Size} {ss : List SlotDecl} {ps : Option (List PaneForm)} {c : Option (List ℕ)} {es : Datums} {ds : List Datum} {key_at at : ℕ}
+      → WritesSlots w ss (in_order es) → WritesSections w z None ps c ds → WritesSections w z (Some ss) ps c (list (item (word (codes ":slots") key_at) es) at ∷ ds)
   -- (:panes PANE ...): at least one
-  its_panes : {z : Option Size} {ss : Option (List SlotDecl)} {ps : List PaneForm} {a : Datum} {es : Datums} {ds : List Datum} {key_at at : ℕ}
-      → WritesPanes w ps (a ∷ in_order es) → WritesSections w z ss None ds
-      → WritesSections w z ss (Some ps) (list (item (word (codes ":panes") key_at) (item a es)) at ∷ ds)
+  its_panes : {z : Option Size} {ss : Option (List SlotDecl)} {ps : List PaneForm} {c : Option (List ℕ)} {a : Datum} {es : Datums} {ds : List Datum}
+      {key_at at : ℕ} → WritesPanes w ps (a ∷ in_order es) → WritesSections w z ss None c ds
+      → WritesSections w z ss (Some ps) c (list (item (word (codes ":panes") key_at) (item a es)) at ∷ ds)
+  -- (:command-table TABLE)
+  its_table : {z : Option Size} {ss : Option (List SlotDecl)} {ps : Option (List PaneForm)} {c : List ℕ} {n : Datum} {ds : List Datum} {key_at at : ℕ}
+      → name_in n ≡ Some c → WritesSections w z ss ps None ds
+      → WritesSections w z ss ps (Some c) (list (item (word (codes ":command-table") key_at) (item n none)) at ∷ ds)

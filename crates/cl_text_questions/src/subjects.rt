@@ -43,6 +43,7 @@ fn app_in(alloc: Global, forms: &[Datum]) -> Result<App, LoadRefusal> {
         accept_methods: bodies.accept_methods,
         functions: bodies.functions,
         displays: Table::new(alloc),
+        tables: Table::new(alloc),
         commands: Table::new(alloc),
         frame: empty_frame(alloc)?,
     })
@@ -55,6 +56,7 @@ fn empty_frame(alloc: Global) -> Result<FrameDecl, AllocError> {
         height: 1,
         slots: Table::new(alloc),
         panes: Table::new(alloc),
+        table: Text::from_slice(alloc, b"global-command-table")?,
         at: 0,
     })
 }

@@ -1,6 +1,7 @@
--- What the outermost forms of a text declare: functions, displays, types and slots by name, whether their forms are right or
+-- What the outermost forms of a text declare: functions, displays, types, slots, command tables and commands by name, whether their forms are right or
 -- not. Of two of one name in one space the first counts, and a name that is reserved is none.
-use Rattle.std.specs.Prelude.{ℕ, Bool, is_some, if◌then◌else◌, List, [], ◌∷◌, Option, Some, None}
+use Rattle.std.specs.Prelude.{ℕ, Bool, ◌||◌, is_some, if◌then◌else◌, List, [], ◌∷◌, Option, Some, None, codes}
+use Rattle.std.specs.Str.{bytes_eq}
 use Rattle.cl_table.specs.Names.{named, with_first}
 use Rattle.cl_forms.specs.Datum.{Datum, parts_of}
 use Rattle.cl_forms.specs.Naming.{name_in, names_counted, list_counted}
@@ -8,7 +9,7 @@ use Rattle.cl_forms.specs.Keys.{section_values}
 use Rattle.cl_forms.specs.declared.keys.Key.TheVariants.{Slots}
 use Rattle.cl_forms.specs.Outer.{Outer, declared_name, behind_name}
 use Rattle.cl_forms.specs.declared.outer.DeclarationKind.{DeclarationKind}
-use Rattle.cl_forms.specs.declared.outer.DeclarationKind.TheVariants.{Record, PresentationType, HostType, PresentMethod, AcceptMethod, Command, Frame}
+use Rattle.cl_forms.specs.declared.outer.DeclarationKind.TheVariants.{Record, PresentationType, HostType, PresentMethod, AcceptMethod, CommandTable, Command, Frame}
 use Rattle.cl_forms.specs.declared.outer.DeclarationKind.TheVariants as kind
 use Rattle.cl_forms.specs.declared.outer.OuterKind.{OuterKind}
 use Rattle.cl_forms.specs.declared.outer.OuterKind.TheVariants.{Declared, Planned, Unknown, Headless}
@@ -57,6 +58,22 @@ abbrev pub with_sections : Signatures → List Datum → Signatures
 with_sections w [] = w
 with_sections w (d ∷ ds) = with_sections (with_slots w (section_values Slots d)) ds
 
+-- the command table that each text has
+abbrev pub global_table : List ℕ
+global_table = codes "global-command-table"
+
+abbrev pub is_global_table : List ℕ → Bool
+is_global_table x = bytes_eq x global_table
+
+-- a command table that is named as that which each text has is none
+abbrev pub with_table : Signatures → Option (List ℕ) → Signatures
+with_table w None = w
+with_table w (Some x) = if is_global_table x then w else record w { tables = with_first (λ t. t.name) w.tables (record { name = x }) }
+
+abbrev pub with_command : Signatures → Option (List ℕ) → Signatures
+with_command w None = w
+with_command w (Some x) = record w { commands = with_first (λ c. c.name) w.commands (record { name = x }) }
+
 abbrev pub with_declaration : Signatures → DeclarationKind → Outer → Signatures
 with_declaration w Record o = with_type w type.Record (declared_name o) (names_counted (behind_name o))
 with_declaration w PresentationType o = with_type w type.User (declared_name o) (parameters_counted (behind_name o))
@@ -65,7 +82,8 @@ with_declaration w PresentMethod o = w
 with_declaration w AcceptMethod o = w
 with_declaration w kind.Function o = with_callee w Function (declared_name o) (parameters_counted (behind_name o))
 with_declaration w kind.Display o = with_callee w Display (declared_name o) (parameters_counted (behind_name o))
-with_declaration w Command o = w
+with_declaration w CommandTable o = with_table w (declared_name o)
+with_declaration w Command o = with_command w (declared_name o)
 with_declaration w Frame o = with_sections w (behind_name o)
 
 abbrev pub with_outer_kind : Signatures → OuterKind → Outer → Signatures
@@ -82,7 +100,7 @@ with_outers w [] = w
 with_outers w (o ∷ os) = with_outers (with_outer w o) os
 
 abbrev pub nothing_declared : Signatures
-nothing_declared = record { callees = []; types = []; slots = [] }
+nothing_declared = record { callees = []; types = []; slots = []; tables = []; commands = [] }
 
 abbrev pub signatures_of : List Outer → Signatures
 signatures_of os = with_outers nothing_declared os
@@ -118,3 +136,9 @@ record_in w x = record_count (type_in w x)
 
 abbrev pub slot_in : Signatures → List ℕ → Bool
 slot_in w x = is_some (named x w.slots)
+
+abbrev pub table_in : Signatures → List ℕ → Bool
+table_in w x = is_global_table x || is_some (named x w.tables)
+
+abbrev pub command_in : Signatures → List ℕ → Bool
+command_in w x = is_some (named x w.commands)

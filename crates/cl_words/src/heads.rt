@@ -58,6 +58,10 @@ pub enum Change {
     Setf,
     /// `(reply E)`
     Reply,
+    /// `(enable COMMAND)`
+    Enable,
+    /// `(disable COMMAND)`
+    Disable,
 }
 
 /// What a head that is not built yet heads.
@@ -209,6 +213,10 @@ fn change_named(word: &[u8]) -> Option<Change>
         Some(Change::Setf)
     } else if word == b"reply".as_slice() {
         Some(Change::Reply)
+    } else if word == b"enable".as_slice() {
+        Some(Change::Enable)
+    } else if word == b"disable".as_slice() {
+        Some(Change::Disable)
     } else {
         None
     }
@@ -229,11 +237,7 @@ fn planned_display(word: &[u8]) -> Option<Planned>
 fn planned_other(word: &[u8]) -> Option<Planned>
     ensures { result ≡ planned_other word.now }
 {
-    if word == b"enable".as_slice() {
-        Some(Planned::Statement)
-    } else if word == b"disable".as_slice() {
-        Some(Planned::Statement)
-    } else if word == b"open-dialog".as_slice() {
+    if word == b"open-dialog".as_slice() {
         Some(Planned::Statement)
     } else if word == b"formatting-row".as_slice() {
         Some(Planned::Part)

@@ -12,5 +12,8 @@ pub use heads::{
     is_operator,
 };
 pub use operators::count_of;
-pub use signatures::{Callee, CalleeKind, Signatures, SlotHead, TypeHead, TypeKind, signatures_of};
+pub use signatures::{
+    Callee, CalleeKind, CommandHead, Signatures, SlotHead, TableHead, TypeHead, TypeKind,
+    is_global_table, signatures_of,
+};
 pub use type_names::is_standard_type;

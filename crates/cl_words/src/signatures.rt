@@ -3,7 +3,7 @@ ghost use Rattle.std.specs.Prelude.{◌≡◌, ◌∷◌, [], IfOk, OnOk, map, o
 ghost use Rattle.cl_forms.specs.DatumView.{datum_of};
 ghost use Rattle.cl_forms.specs.OuterView.{outer_of};
 ghost use Rattle.cl_forms.specs.Naming.{name_in};
-ghost use Rattle.cl_words.specs.Signatures.{parameters_counted, with_callee, with_type, with_slot, with_slot_of, with_slots, with_sections, with_declaration, with_outer, with_outers, signatures_of, nothing_declared, function_in, display_in, function_count, display_count, type_in, record_in, record_count, slot_in};
+ghost use Rattle.cl_words.specs.Signatures.{parameters_counted, with_callee, with_type, with_slot, with_slot_of, with_slots, with_sections, with_table, with_command, with_declaration, with_outer, with_outers, signatures_of, nothing_declared, function_in, display_in, function_count, display_count, type_in, record_in, record_count, slot_in, is_global_table, table_in, command_in};
 
 use crate::heads::is_operator;
 use crate::type_names::is_standard_type;
@@ -21,6 +21,8 @@ pub struct Signatures {
     pub callees: Table<Callee>,
     pub types: Table<TypeHead>,
     pub slots: Table<SlotHead>,
+    pub tables: Table<TableHead>,
+    pub commands: Table<CommandHead>,
 }
 
 #[derive(Clone, Copy)]
@@ -59,6 +61,17 @@ pub struct SlotHead {
     pub name: Text,
 }
 
+/// A command table.
+#[derive(Drop)]
+pub struct TableHead {
+    pub name: Text,
+}
+
+#[derive(Drop)]
+pub struct CommandHead {
+    pub name: Text,
+}
+
 impl Declared for Callee {
     ghost own_name = { λ c. c.name };
 
@@ -83,6 +96,22 @@ impl Declared for SlotHead {
     }
 }
 
+impl Declared for TableHead {
+    ghost own_name = { λ t. t.name };
+
+    fn name(&self) -> &Text {
+        &self.name
+    }
+}
+
+impl Declared for CommandHead {
+    ghost own_name = { λ c. c.name };
+
+    fn name(&self) -> &Text {
+        &self.name
+    }
+}
+
 /// What the outermost forms declare.
 pub fn signatures_of(alloc: Global, outers: &[Outer<'_>]) -> Result<Signatures, AllocError>
     ensures { IfOk result (λ w. w ≡ signatures_of (map outer_of outers.now)) }
@@ -91,6 +120,8 @@ pub fn signatures_of(alloc: Global, outers: &[Outer<'_>]) -> Result<Signatures, 
         callees: Table::new(alloc),
         types: Table::new(alloc),
         slots: Table::new(alloc),
+        tables: Table::new(alloc),
+        commands: Table::new(alloc),
     };
     for outer in outers {
         add_outer(&mut signatures, outer)?;
@@ -140,7 +171,8 @@ fn add_declaration(
             name,
             parameters_counted(more),
         ),
-        DeclarationKind::Command => Ok(()),
+        DeclarationKind::CommandTable => add_table(signatures, name),
+        DeclarationKind::Command => add_command(signatures, name),
         DeclarationKind::Frame => add_sections(signatures, more),
     }
 }
@@ -181,6 +213,31 @@ fn add_callee(
     }
     let name = name.copy()?;
     signatures.callees.add_first(Callee { name, kind, count })
+}
+
+fn add_table(signatures: &mut Signatures, name: Option<&Text>) -> Result<(), AllocError>
+    ensures { OnOk result
+        (signatures.new ≡ with_table signatures.old (option_map (λ n. n.now) name.entry)) }
+{
+    let Some(name) = name else {
+        return Ok(());
+    };
+    if is_global_table(name.as_slice()) {
+        return Ok(());
+    }
+    let name = name.copy()?;
+    signatures.tables.add_first(TableHead { name })
+}
+
+fn add_command(signatures: &mut Signatures, name: Option<&Text>) -> Result<(), AllocError>
+    ensures { OnOk result
+        (signatures.new ≡ with_command signatures.old (option_map (λ n. n.now) name.entry)) }
+{
+    let Some(name) = name else {
+        return Ok(());
+    };
+    let name = name.copy()?;
+    signatures.commands.add_first(CommandHead { name })
 }
 
 fn add_slot(signatures: &mut Signatures, parts: &[Datum]) -> Result<(), AllocError>
@@ -227,6 +284,13 @@ fn parameters_counted(parts: &[Datum]) -> Option<usize>
         [] => None,
         [parameters, ..] => list_counted(parameters),
     }
+}
+
+/// Whether a name is that of the command table that each text has, `global-command-table`.
+pub fn is_global_table(name: &[u8]) -> bool
+    ensures { result ≡ is_global_table name.now }
+{
+    name == b"global-command-table".as_slice()
 }
 
 impl Signatures {
@@ -283,5 +347,19 @@ impl Signatures {
         ensures { result ≡ slot_in self.now name.now }
     {
         self.slots.get(name).is_some()
+    }
+
+    /// Whether there is a command table of this name.
+    pub fn has_table(&self, name: &[u8]) -> bool
+        ensures { result ≡ table_in self.now name.now }
+    {
+        is_global_table(name) || self.tables.get(name).is_some()
+    }
+
+    /// Whether there is a command of this name.
+    pub fn has_command(&self, name: &[u8]) -> bool
+        ensures { result ≡ command_in self.now name.now }
+    {
+        self.commands.get(name).is_some()
     }
 }

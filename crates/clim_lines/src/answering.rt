@@ -1,12 +1,12 @@
 //! Answers the lines for an application.
 use crate::faults::Fault;
 use crate::sheets::Sheet;
-use cl_application::{App, SlotDecl};
-use cl_eval::Slots;
+use cl_application::{ArgumentDecl, ArgumentDecls};
+use cl_eval::{Slots, Types};
 use cl_host::{month_number, shipped_types, weekday_number};
 use cl_line::Line;
 use cl_load::{Loaded, load};
-use cl_parser::{Argument, Parsed, Parser};
+use cl_parser::{Parsed, Parser};
 use cl_print::put_value;
 use cl_ptext::{HostTypes, Hosts, TypeBook};
 use cl_value::Values;
@@ -38,54 +38,27 @@ fn answer_all<H: Hosts>(
         types: &book,
         slots: &loaded.slots,
     };
-    let declared = arguments_of(alloc, &loaded.app)?;
+    let Some(command) = loaded.app.command(b"com-go") else {
+        return Err(Fault::Wrong);
+    };
     let mut answers = Vec::new(alloc);
     for line in lines {
-        answer(&parser, declared.as_slice(), line, &mut answers)?;
+        answer(&parser, &command.arguments, line, &mut answers)?;
     }
     Ok(String::from_utf8_lossy(alloc, answers.as_slice())?)
 }
 
-// The slots that stand for arguments.
-fn arguments_of(alloc: Global, app: &App) -> Result<Vec<&SlotDecl>, AllocError> {
-    let mut arguments = Vec::new(alloc);
-    let slots = &app.frame.slots;
-    for place in 0..slots.len() {
-        if let Some(slot) = slots.at(place) {
-            if slot.name.as_slice().starts_with(b"a") {
-                arguments.push(slot)?;
-            }
-        }
-    }
-    Ok(arguments)
-}
-
-fn argument_of(slot: &SlotDecl) -> Argument<'_> {
-    Argument {
-        spec: &slot.spec,
-        default: if slot.name.as_slice().ends_with(b"d") {
-            Some(&slot.opening)
-        } else {
-            None
-        },
-    }
-}
-
 // What a line is read as, as a line.
-fn answer<H: Hosts>(
-    parser: &Parser<'_, H>,
-    declared: &[&SlotDecl],
+fn answer<T: Types>(
+    parser: &Parser<'_, T>,
+    arguments: &ArgumentDecls,
     text: &str,
     answers: &mut Vec<u8>,
 ) -> Result<(), Fault> {
-    let mut arguments = Vec::new(parser.alloc);
-    for slot in declared {
-        arguments.push(argument_of(slot))?;
-    }
     let line = line_of(parser.alloc, text, parser.slots)?;
-    match parser.parse(&line, NAME_END, arguments.as_slice())? {
+    match parser.parse(&line, NAME_END, arguments)? {
         Parsed::Arguments(values) => put_values(&values, answers)?,
-        Parsed::Need(place) => put_need(declared.get(place), answers)?,
+        Parsed::Need(place) => put_need(arguments.at(place), answers)?,
         Parsed::BadArg(number) => {
             answers.extend_from_slice(format!(in parser.alloc; "bad {number}")?.as_bytes())?
         }
@@ -96,10 +69,10 @@ fn answer<H: Hosts>(
 }
 
 // The name of an argument that is wanting.
-fn put_need(slot: Option<&&SlotDecl>, answers: &mut Vec<u8>) -> Result<(), AllocError> {
+fn put_need(argument: Option<&ArgumentDecl>, answers: &mut Vec<u8>) -> Result<(), AllocError> {
     answers.extend_from_slice(b"need ")?;
-    if let Some(slot) = slot {
-        answers.extend_from_slice(slot.name.as_slice())?;
+    if let Some(argument) = argument {
+        answers.extend_from_slice(argument.name.as_slice())?;
     }
     Ok(())
 }

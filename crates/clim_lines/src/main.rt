@@ -1,9 +1,9 @@
 //! Answers what lines are read as: reads applications with lines from standard input, and writes a line for each answer.
 //!
 //! Lines that begin with `? ` are command lines for the application in the lines before them. Each begins with a name of two
-//! characters. Its arguments are the slots whose names begin with `a`, in their order; those whose names end with `d` have their
-//! opening values as defaults. In a line `@` and the letter behind it stand for the value of the slot of that letter. The answer is
-//! `arguments` with their values, `need` with the argument's name, `bad` with the token's number, or `surplus`.
+//! characters, and its arguments are those of the command `com-go`. In a line `@` and the letter behind it stand for the value of
+//! the slot of that letter. The answer is `arguments` with their values, `need` with the argument's name, `bad` with the token's
+//! number, or `surplus`.
 #![tactic(auto)]
 
 mod answering;

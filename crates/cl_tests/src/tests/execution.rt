@@ -66,11 +66,11 @@ fn put_replies(said: &mut String, lines: &Lines) -> Result<(), Fail> {
 fn words(alloc: Global, outcome: &Executed) -> Result<String, Fail> {
     let mut said = String::new(alloc);
     match outcome {
-        Executed::Done(slots, lines, cost) => {
-            if let Some(Value::Int(number)) = slots.get(b"count") {
+        Executed::Done(effects, cost) => {
+            if let Some(Value::Int(number)) = effects.slots.get(b"count") {
                 write!(said, "{number} ")?;
             }
-            put_replies(&mut said, lines)?;
+            put_replies(&mut said, &effects.replies)?;
             write!(said, " cost {cost}")?;
         }
         Executed::Trap(kind, cost) => write!(said, "trap {kind} cost {cost}")?,

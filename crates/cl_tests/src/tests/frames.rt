@@ -1,6 +1,7 @@
 //! A frame of two panes, and a session with it, over a device in memory, which fails at one call.
 ghost use Rattle.std.specs.Prelude.{◌≡◌, ◌≤◌};
 ghost use Rattle.cl_application.specs.Panes.{IsPlaced};
+ghost use Rattle.cl_tables.specs.Rings.{HasNoRing};
 
 use super::saying::put_bytes;
 use super::showing::shows;
@@ -136,7 +137,8 @@ fn session_states<T: Types>(
     types: &T,
     slots: &mut Slots,
 ) -> Result<String, Fail>
-    requires { IsPlaced app.now.frame }
+    requires placed { IsPlaced app.now.frame }
+    requires no_ring { HasNoRing app.now.tables }
 {
     let program = program(alloc, app, types);
     let mut said = String::new(alloc);

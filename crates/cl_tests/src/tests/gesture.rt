@@ -40,6 +40,7 @@ fn put_gesture(told: &mut String, gesture: Gesture) -> Result<(), AllocError> {
         Gesture::Inks => Ok(told.push_str("inks")?),
         Gesture::Force => Ok(told.push_str("force")?),
         Gesture::History(name) => put_text(told, "history ", name.as_slice()),
+        Gesture::Stroke(name) => put_text(told, "stroke ", name.as_slice()),
     }
 }
 
@@ -94,7 +95,7 @@ fn a_stream_is_read_by_the_byte(rt: HostRuntime) -> Result<(), Fail> {
 }
 
 const VERBS: &[u8] =
-    b"force\nforce \nForce\nreturn x\nhistory\nhistory \nhistory a b\ntype\ntype \nframe x\ninks\n";
+    b"force\nforce \nForce\nreturn x\nhistory\nhistory \nhistory a b\ntype\ntype \nframe x\ninks\nstroke\nstroke \nstroke a b\nstroke L\n";
 
 #[test]
 fn verbs_are_read_with_what_stands_behind(rt: HostRuntime) -> Result<(), Fail> {
@@ -103,7 +104,7 @@ fn verbs_are_read_with_what_stands_behind(rt: HostRuntime) -> Result<(), Fail> {
     let mut gestures = Gestures::new(alloc, source)?;
     assert_eq!(rt;
         answers(alloc, &mut gestures)?.as_str(),
-        "force\nbad 2\nbad 3\nbad 4\nbad 5\nbad 6\nbad 7\nbad 8\nbad 9\nbad 10\ninks\nend"
+        "force\nbad 2\nbad 3\nbad 4\nbad 5\nbad 6\nbad 7\nbad 8\nbad 9\nbad 10\ninks\nbad 12\nbad 13\nbad 14\nstroke L\nend"
     );
     Ok(())
 }

@@ -1,5 +1,5 @@
 use Rattle.std.proofs.lemmas.Result.{err_from_is_err_and}
-use Rattle.cl_load.proofs.SettlingLemmas.{opens, stops_frame, stops_place, stops_reading}
+use Rattle.cl_load.proofs.SettlingLemmas.{no_ring_framed, opens, stops_frame, stops_reading}
 use Rattle.cl_load.proofs.settling.settle.Goals as goal
 
 pub returns-in_err-reading : goal.returns-in_err-reading
@@ -12,21 +12,20 @@ returns-in_err-pass g c =
     (stops_reading (Unit {0}) c.in_err-pass.field-0.0 (g.H.Hosts.bounds c.args.hosts.now) c.args.length c.args.declarations c.in_ok-reading.reading
     c.in_ok-reading.ensures c.in_err-pass.ensures)
 
-pub returns-in_err-frame : goal.returns-in_err-frame
-returns-in_err-frame g c =
-    let refusal = err_from_is_err_and c.from_residual-in_err-frame.result c.from_residual-in_err-frame.ensures.1 in
+pub returns-in_err-app : goal.returns-in_err-app
+returns-in_err-app g c =
+    let refusal = err_from_is_err_and c.from_residual-in_err-app.result c.from_residual-in_err-app.ensures.1 in
     rw (refusal.1, refusal.2)
-    (stops_frame c.in_err-frame.field-0.0 (g.H.Hosts.bounds c.args.hosts.now) c.args.length c.args.declarations c.in_ok-reading.reading c.in_ok-reading.ensures c.in_ok-pass.ensures
-    c.in_err-frame.ensures)
-
-pub returns-in_err-frame-2 : goal.returns-in_err-frame-2
-returns-in_err-frame-2 g c =
-    let refusal = err_from_is_err_and c.from_residual-in_err-frame-2.result c.from_residual-in_err-frame-2.ensures.1 in
-    rw (refusal.1, refusal.2)
-    (stops_place c.in_err-frame-2.field-0.0 (g.H.Hosts.bounds c.args.hosts.now) c.args.length c.args.declarations c.in_ok-reading.reading c.in_ok-frame.frame
-    c.in_ok-reading.ensures c.in_ok-pass.ensures c.in_ok-frame.ensures c.in_err-frame-2.ensures.value)
+    (stops_frame c.in_err-app.field-0.0 (g.H.Hosts.bounds c.args.hosts.now) c.args.length c.args.declarations c.in_ok-reading.reading c.in_ok-reading.ensures c.in_ok-pass.ensures
+    c.in_err-app.ensures.framed)
 
 pub returns : goal.returns
 returns g c =
-    opens c.open.result (g.H.Hosts.bounds c.args.hosts.now) c.args.length c.args.declarations c.args.lattice c.in_ok-reading.reading c.in_ok-frame.frame c.in_ok-frame-2.frame c.requires c.in_ok-reading.ensures
-    c.in_ok-pass.ensures c.in_ok-frame.ensures c.in_ok-frame-2.ensures.value (rw c.app_of.ensures at c.open.ensures)
+    opens c.open.result (g.H.Hosts.bounds c.args.hosts.now) c.args.length c.args.declarations c.args.lattice c.in_ok-reading.reading c.in_ok-app.app c.requires.types
+    c.in_ok-reading.ensures c.in_ok-pass.ensures c.in_ok-app.ensures.framed c.open.ensures
+
+pub open-requires-clause-no_ring : goal.open-requires-clause-no_ring
+open-requires-clause-no_ring g c = no_ring_framed c.args.declarations c.in_ok-app.app c.in_ok-app.ensures.framed c.requires.no_ring
+
+pub open-requires-clause-placed : goal.open-requires-clause-placed
+open-requires-clause-placed g c = c.in_ok-app.ensures.placed
