@@ -1,6 +1,5 @@
 pub mod Bodies
 pub mod Statements
-pub mod PlannedKeys
 pub mod TypeArguments
 pub mod Specifiers
 pub mod TypeViews

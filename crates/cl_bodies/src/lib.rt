@@ -6,7 +6,6 @@ mod display_forms;
 mod languages;
 mod own;
 mod plain_forms;
-mod planned_keys;
 mod presentations;
 mod specifiers;
 mod statements;
@@ -15,7 +14,6 @@ mod type_options;
 mod type_rows;
 
 pub use display_forms::{parse_shape, parse_shapes};
-pub use planned_keys::no_keys;
 pub use specifiers::parse_type;
 pub use statements::{parse_act, parse_acts};
 pub use type_options::text_behind;

@@ -46,7 +46,18 @@ parse_each_declaration w [] s = give s
 parse_each_declaration w (o ∷ os) s = parse_declaration w o s >>= λ t. parse_each_declaration w os t
 
 abbrev pub nothing_declared : Declarations
-nothing_declared = record { records = []; types = []; hosts = []; present_methods = []; accept_methods = []; functions = []; displays = []; tables = []; commands = []; frames = [] }
+nothing_declared = record {
+  records = [];
+  types = [];
+  hosts = [];
+  present_methods = [];
+  accept_methods = [];
+  functions = [];
+  displays = [];
+  tables = [];
+  commands = [];
+  frames = [];
+}
 
 -- what the outermost forms of a text declare
 abbrev pub parse_declarations : Signatures → List Outer → Load Declarations

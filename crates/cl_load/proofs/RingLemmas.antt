@@ -1,10 +1,9 @@
 -- Rings of user types and of command tables.
-use Rattle.std.proofs.Common.{◌≡◌, ◌==◌, inl, inr, ℕ, if◌then◌else◌, List, [], ◌∷◌, refl, sym, ap, ◌∙◌, subst, min}
-use Rattle.std.specs.Prelude.{Option, Some, None, Result, Ok, Err}
+use Rattle.std.proofs.Common.{◌≡◌, ◌==◌, inl, inr, ℕ, if◌then◌else◌, [], ◌∷◌, refl, sym, ap, ◌∙◌, subst, min}
+use Rattle.std.specs.Prelude.{Option, Some, None, Ok, Err}
 use Rattle.cl_declare.specs.declared.declarations.Declarations.{Declarations}
 use Rattle.cl_expressions.specs.Load.{Notes}
-use Rattle.cl_forms.specs.declared.refusals.LoadRefusal.{LoadRefusal}
-use Rattle.cl_forms.specs.declared.refusals.LoadRefusal.TheVariants.{Refused, Memory}
+use Rattle.cl_forms.specs.declared.refusals.LoadRefusal.TheVariants.{Refused}
 use Rattle.cl_lattice.specs.Firsts.{StandsOnRing, offset_of}
 use Rattle.cl_lattice.specs.World.{World}
 use Rattle.cl_load.specs.Settling.{Builds, BuildsTypes}
