@@ -1,5 +1,6 @@
--- What the types of an application say of values: which are members of a type, what their texts are, and what texts read as.
-use Rattle.std.specs.Prelude.{◌≡◌, ◌≤◌, ℕ, true, List, [], ◌∷◌, Option, Some}
+-- What the types of an application say of values: which are members of a type, what their texts are, and what texts read as; and which types
+-- stand above which.
+use Rattle.std.specs.Prelude.{◌≡◌, ◌≤◌, ℕ, Bool, true, List, [], ◌∷◌, Option, Some}
 use Rattle.cl_value.specs.Data.{Data, text}
 use Rattle.cl_syntax.specs.TypeSpecTree.{TypeSpecTree}
 use Rattle.cl_application.specs.App.{present_method}
@@ -22,6 +23,12 @@ Reads = Slots → TypeSpecTree → List ℕ → Option Data
 pub record TypeMeanings : Type 0 where
   pub holds : Member
   pub presents : Presents
+
+-- which types stand above which: the precedence list of each by its name, without names where there is no such type, and which is a subtype
+-- of which
+pub record Hierarchy : Type 0 where
+  pub precedence : List ℕ → List (List ℕ)
+  pub subtype : TypeSpecTree → TypeSpecTree → Bool
 
 -- ---- what texts keep to
 

@@ -10,7 +10,7 @@ use crate::metering::Limits;
 use crate::slot_table::Slots;
 use cl_outside::{Ledger, Steps};
 use cl_syntax::TypeSpec;
-use cl_value::{Held, Value};
+use cl_value::{Held, Text, Value};
 use std::alloc::AllocError;
 
 /// The types of an application. Which values are members of a type depends on the value and the type alone. The laws say what
@@ -18,7 +18,7 @@ use std::alloc::AllocError;
 pub trait Types {
     ghost use Rattle.cl_application.specs.declared.applications.App.{App};
     ghost use Rattle.cl_eval.specs.Statements.{Member};
-    ghost use Rattle.cl_eval.specs.TypeMeanings.{AreObjects, AreTexts, Presents, Reads};
+    ghost use Rattle.cl_eval.specs.TypeMeanings.{AreObjects, AreTexts, Hierarchy, Presents, Reads};
 
     // the application that declares them
     ghost app: { Self → App };
@@ -31,6 +31,9 @@ pub trait Types {
 
     // the object that a text reads as by a type, on these slots
     ghost reads: { Self → Reads };
+
+    // which types stand above which
+    ghost hierarchy: { Self → Hierarchy };
 
     /// Whether a value is a member of a type, as far as there is memory to find it.
     fn member(&self, value: &Value, spec: &TypeSpec) -> Held
@@ -56,6 +59,15 @@ pub trait Types {
     /// trap.
     fn read(&self, text: &[u8], spec: &TypeSpec, slots: &Slots) -> Result<Option<Value>, AllocError>
         ensures { IfOk result (λ o. option_map data_of o ≡ reads self.now slots.now spec.now text.now) };
+
+    /// The precedence list of a type, by its name: the names of the types above it, the nearest first and its own in front; no names
+    /// where there is no such type.
+    fn precedence(&self, name: &[u8]) -> &[Text]
+        ensures { result.now ≡ (hierarchy self.now).precedence name.now };
+
+    /// Whether the first type is a subtype of the second.
+    fn subtype(&self, first: &TypeSpec, second: &TypeSpec) -> bool
+        ensures { result ≡ (hierarchy self.now).subtype first.now second.now };
 
     ghost are_texts: { (t : Self) → AreTexts (app t) (presents t) };
 

@@ -6,3 +6,5 @@ pub mod PartTypes
 pub mod PieceLemmas
 pub mod ReadingLemmas
 pub mod WordLemmas
+pub mod SameTypeLemmas
+pub mod SubtypingLemmas

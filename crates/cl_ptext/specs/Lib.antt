@@ -6,6 +6,7 @@ pub mod Methods
 pub mod Parts
 pub mod Presenting
 pub mod Readings
+pub mod Subtyping
 pub mod Texts
 pub mod Words
 pub mod TextKeepLemmas

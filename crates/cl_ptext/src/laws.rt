@@ -1,5 +1,5 @@
 //! What the definitions of texts and readings say. The contracts are the laws.
-ghost use Rattle.std.specs.Prelude.{◌≡◌, ◌≤◌, ◌∷◌, [], ℕ, Some, true, List};
+ghost use Rattle.std.specs.Prelude.{◌≡◌, ◌↔◌, ◌≤◌, ◌∷◌, [], ℕ, Some, true, List};
 ghost use Rattle.cl_application.specs.App.{present_method};
 ghost use Rattle.cl_application.specs.declared.declarations.MethodDecl.{MethodDecl};
 ghost use Rattle.cl_eval.specs.Outcome.{Gives};
@@ -8,12 +8,14 @@ ghost use Rattle.cl_eval.specs.Uses.{AgreeOn};
 ghost use Rattle.cl_eval.specs.declared.metering.Limits.{Limits};
 ghost use Rattle.cl_lattice.specs.Expanded.{Expanded};
 ghost use Rattle.cl_lattice.specs.Members.{is_member};
+ghost use Rattle.cl_lattice.specs.Subtypes.{IsSubtype};
 ghost use Rattle.cl_syntax.specs.TypeSpecTree.{TypeSpecTree};
 ghost use Rattle.cl_value.specs.Data.{Data};
 ghost use Rattle.cl_ptext.specs.Book.{Book};
 ghost use Rattle.cl_ptext.specs.Methods.{Object, predicates_of};
 ghost use Rattle.cl_ptext.specs.Parts.{joined_pieces, pieces};
 ghost use Rattle.cl_ptext.specs.Readings.{reading};
+ghost use Rattle.cl_ptext.specs.Subtyping.{is_subtype};
 ghost use Rattle.cl_ptext.specs.Texts.{outcome_of_text};
 
 /// What a text reads as is a member of the type.
@@ -49,4 +51,10 @@ pub fn texts_see_what_methods_name()
         → ((x : List ℕ) (m : MethodDecl) → present_method x b.app ≡ Some m → (d : Data)
         → AgreeOn b.app m.body slots ((m.parameter, d) ∷ []) other ((m.parameter, d) ∷ []))
         → (t : Expanded) (s : TypeSpecTree) (d : Data) → outcome_of_text b limits slots t s d ≡ outcome_of_text b limits other t s d }
+{}
+
+/// One type is said to be a subtype of another exactly where the rules of subtypes derive it.
+#[tactic(auto, using(crate::proofs::SubtypingLemmas::derived))]
+pub fn subtypes_are_derived()
+    ensures { (a b : Expanded) → (is_subtype a b ≡ true) ↔ IsSubtype a b }
 {}

@@ -21,6 +21,6 @@ pub use books::TypeBook;
 pub use host_types::HostTypes;
 pub use hosts::Hosts;
 pub use laws::{
-    cutting_loses_nothing, objects_are_members, text_limits_can_be_wider,
+    cutting_loses_nothing, objects_are_members, subtypes_are_derived, text_limits_can_be_wider,
     texts_keep_to_their_limits, texts_see_what_methods_name,
 };

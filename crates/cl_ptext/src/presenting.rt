@@ -48,6 +48,10 @@ impl<H: Hosts> Types for TypeBook<'_, H> {
 
     ghost reads = { λ b slots s x. read_object (reading (book_of H.entries b) slots (expansion b.lattice.now [] s) s x) };
 
+    ghost use Rattle.cl_ptext.specs.Subtyping.{hierarchy_in};
+
+    ghost hierarchy = { λ b. hierarchy_in b.lattice.now };
+
     ghost use Rattle.cl_ptext.specs.TextLaws.{book_texts};
 
     ghost are_texts = { λ b. book_texts (book_of H.entries b) (expansion b.lattice.now []) };
@@ -114,5 +118,17 @@ impl<H: Hosts> Types for TypeBook<'_, H> {
             Accepted::Trap(_) => Ok(None),
             Accepted::Memory => Err(AllocError),
         }
+    }
+
+    fn precedence(&self, name: &[u8]) -> &[Text] {
+        match self.lattice.precedence(name) {
+            Some(names) => names.as_slice(),
+            None => &[],
+        }
+    }
+
+    #[tactic(auto, using(crate::proofs::SubtypingLemmas::told))]
+    fn subtype(&self, first: &TypeSpec, second: &TypeSpec) -> bool {
+        self.lattice.subtype(first, second)
     }
 }

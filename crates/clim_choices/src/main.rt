@@ -11,6 +11,7 @@
 #![tactic(auto)]
 
 mod answering;
+mod asking;
 mod declaring;
 mod faults;
 mod sheets;
