@@ -84,9 +84,9 @@ impl Frame {
         requires frame { IsFrameOf program.now.app.now self.old }
         requires agree { Agree self.old.screen.stale self.old.screen.raster (D.broken device.old)
             (D.cleared device.old) (D.picture device.old) }
-        ensures settles { Settles (ground_of T.holds T.presents T.reads program.now) which slots.now
+        ensures settles { Settles (ground_of T.holds T.presents T.reads T.hierarchy program.now) which slots.now
             self.old self.new }
-        ensures ledger { SpendsPanes (settle_panes (ground_of T.holds T.presents T.reads program.now)
+        ensures ledger { SpendsPanes (settle_panes (ground_of T.holds T.presents T.reads T.hierarchy program.now)
             which slots.now (panes_of program.now.app.now) (marks_of_frame self.old)
             (map met_memory (reports_of_frame self.new))) steps.old steps.new }
         ensures frame { IsFrameOf program.now.app.now self.new }
@@ -126,9 +126,9 @@ impl Frame {
         requires frame { IsFrameOf program.now.app.now self.old }
         requires agree { Agree self.old.screen.stale self.old.screen.raster (D.broken device.old)
             (D.cleared device.old) (D.picture device.old) }
-        ensures settles { Settles (ground_of T.holds T.presents T.reads program.now) which slots.now
+        ensures settles { Settles (ground_of T.holds T.presents T.reads T.hierarchy program.now) which slots.now
             self.old self.new }
-        ensures ledger { SpendsPanes (settle_panes (ground_of T.holds T.presents T.reads program.now)
+        ensures ledger { SpendsPanes (settle_panes (ground_of T.holds T.presents T.reads T.hierarchy program.now)
             which slots.now (panes_of program.now.app.now) (marks_of_frame self.old)
             (map met_memory (reports_of_frame self.new))) steps.old steps.new }
         ensures frame { IsFrameOf program.now.app.now self.new }
@@ -169,7 +169,7 @@ impl Frame {
         requires frame { IsFrameOf program.now.app.now self.old }
         requires agree { Agree self.old.screen.stale self.old.screen.raster (D.broken device.old)
             (D.cleared device.old) (D.picture device.old) }
-        ensures settles { SettlesAt (ground_of T.holds T.presents T.reads program.now) which slots.now
+        ensures settles { SettlesAt (ground_of T.holds T.presents T.reads T.hierarchy program.now) which slots.now
             place self.old.panes.items self.new.panes.items steps.old steps.new }
         ensures idle { self.old.screen.stale ≡ true → device.new ≡ device.old }
         ensures breaks { self.old.screen.stale ≡ false → self.new.screen.stale ≡ true

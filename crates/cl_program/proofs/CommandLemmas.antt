@@ -11,6 +11,7 @@ use Rattle.cl_load.specs.Application.{IsApplication}
 use Rattle.cl_load.specs.Types.{types_in}
 use Rattle.cl_outside.specs.Causes.{Rose}
 use Rattle.cl_outside.specs.Place.{IsTold}
+use Rattle.cl_ptext.specs.Subtyping.{hierarchy_in}
 use Rattle.cl_program.specs.Command.{IsCheck, IsRun, Names, application_of}
 use Rattle.cl_program.specs.Commands.{Checked, KeepsFiles, RanOn, RanText}
 use Rattle.cl_program.specs.Hosts.{HostMeanings, meanings_in, reads_in}
@@ -102,7 +103,7 @@ Ran-check hosts words name old new s t text (how.Ended e) is of r = absurd r
 
 -- an application that was loaded, with its types
 pub Ran-application : (hosts : HostMeanings) (text : List ℕ) (wire : Option (List ℕ)) (limits : Limits) (app : App) (types : World) (p q : Placed) (s t : Streams) (h : How)
-    → IsApplication hosts.bounds text app → types ≡ types_in hosts.bounds app → RanOn wire (ground app (meanings_in hosts.names types app) (reads_in hosts.names types app) limits) p q s t h → RanText hosts text wire limits p q s t h
+    → IsApplication hosts.bounds text app → types ≡ types_in hosts.bounds app → RanOn wire (ground app (meanings_in hosts.names types app) (reads_in hosts.names types app) (hierarchy_in types) limits) p q s t h → RanText hosts text wire limits p q s t h
 Ran-application hosts text wire limits app types p q s t how.Usage is same r = absurd r
 Ran-application hosts text wire limits app types p q s t how.UsageCut is same r = absurd r
 Ran-application hosts text wire limits app types p q s t how.AppFault is same r = absurd r

@@ -18,6 +18,7 @@ use Rattle.cl_session.specs.Transcript.{IsTranscript, Meters, RoseIf, meters}
 use Rattle.cl_session.specs.World.{World, opening}
 use Rattle.cl_session.specs.declared.serving.End.{End}
 use Rattle.cl_session.specs.declared.serving.End.TheVariants as end
+use Rattle.cl_ptext.specs.Subtyping.{hierarchy_in}
 use Rattle.cl_program.specs.Command.{IsCheck, IsNoCommand, IsRun, Names, loads_line, refusal_line, usage_line}
 use Rattle.cl_program.specs.Hosts.{HostMeanings, meanings_in, reads_in}
 use Rattle.cl_program.specs.Surroundings.{Placed, Streams, UsesDevice}
@@ -66,7 +67,8 @@ pub record IsTranscriptOf (g : Ground) (ps : List Piece) (bytes : List ℕ) (spe
 -- an application with its types on these host types, within limits
 abbrev pub ground_in : HostMeanings → App → Limits → Ground
 ground_in hosts app limits =
-    ground app (meanings_in hosts.names (types_in hosts.bounds app) app) (reads_in hosts.names (types_in hosts.bounds app) app) limits
+    ground app (meanings_in hosts.names (types_in hosts.bounds app) app) (reads_in hosts.names (types_in hosts.bounds app) app)
+    (hierarchy_in (types_in hosts.bounds app)) limits
 
 -- the words run an application of this text, which declares it on these host types; this ground is it with its types
 pub record Opens (hosts : HostMeanings) (words : List (List ℕ)) (place : Placed) (wire : Option (List ℕ)) (g : Ground) : Type 0 where

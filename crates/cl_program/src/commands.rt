@@ -9,6 +9,7 @@ ghost use Rattle.cl_program.specs.Commands.{Checked, Judges, KeepsFiles, KeptBy,
 ghost use Rattle.cl_program.specs.Hosts.{hosts_of, meanings_in, reads_in};
 ghost use Rattle.cl_program.specs.Run.{Ran, RanLoaded};
 ghost use Rattle.cl_program.specs.Surroundings.{placed, streams};
+ghost use Rattle.cl_ptext.specs.Subtyping.{hierarchy_in};
 ghost use Rattle.cl_tables.specs.Rings.{HasNoRing};
 
 use crate::running::{How, limits_of, run_program};
@@ -156,7 +157,7 @@ fn run_application<H: Hosts, P: Place, G: Source, O: Sink, L: Ledger>(
     requires depth { setting.limits.depth ≤ 512 }
     ensures ran { RanOn (option_map (λ name. name.now) setting.entry.wire)
         (ground loaded.app (meanings_in (H.entries hosts.now) loaded.lattice loaded.app)
-        (reads_in (H.entries hosts.now) loaded.lattice loaded.app) setting.entry.limits)
+        (reads_in (H.entries hosts.now) loaded.lattice loaded.app) (hierarchy_in loaded.lattice) setting.entry.limits)
         (placed (P.file place.old) (P.app_faults place.old) (P.making_faults place.old)
         (wire_of (P.taken place.old) (P.writing_faults place.old) (P.tells place.old)))
         (placed (P.file place.new) (P.app_faults place.new) (P.making_faults place.new)
@@ -193,7 +194,7 @@ fn run_types<'a, T: Types, P: Place, G: Source, O: Sink, L: Ledger>(
 ) -> How
     requires depth { setting.limits.depth ≤ 512 }
     ensures ran { RanOn (option_map (λ name. name.now) setting.entry.wire)
-        (ground loaded.now.app (meanings_of T.holds T.presents types.now) (T.reads types.now) setting.entry.limits)
+        (ground loaded.now.app (meanings_of T.holds T.presents types.now) (T.reads types.now) (T.hierarchy types.now) setting.entry.limits)
         (placed (P.file place.old) (P.app_faults place.old) (P.making_faults place.old)
         (wire_of (P.taken place.old) (P.writing_faults place.old) (P.tells place.old)))
         (placed (P.file place.new) (P.app_faults place.new) (P.making_faults place.new)
@@ -246,7 +247,7 @@ fn run_on<T: Types, P: Place, G: Source, O: Sink, L: Ledger>(
     requires no_ring { HasNoRing program.now.app.now.tables }
     requires opening { slots.now ≡ opening_slots program.now.app.now }
     ensures ran { RanOn (option_map (λ name. name.now) wire.entry)
-        (ground_of T.holds T.presents T.reads program.now) (placed (P.file place.old) (P.app_faults place.old)
+        (ground_of T.holds T.presents T.reads T.hierarchy program.now) (placed (P.file place.old) (P.app_faults place.old)
         (P.making_faults place.old)
         (wire_of (P.taken place.old) (P.writing_faults place.old) (P.tells place.old)))
         (placed (P.file place.new) (P.app_faults place.new) (P.making_faults place.new)
@@ -293,7 +294,7 @@ fn run_on_wire<T: Types, P: Place, G: Source, O: Sink, L: Ledger>(
     requires opening { slots.now ≡ opening_slots program.now.app.now }
     requires made { P.made place.old ≡ true }
     requires unused { P.tells place.old ≡ true → P.taken place.old ≡ Some [] }
-    ensures ran { RanLoaded (ground_of T.holds T.presents T.reads program.now) (streams (G.left gestures.old)
+    ensures ran { RanLoaded (ground_of T.holds T.presents T.reads T.hierarchy program.now) (streams (G.left gestures.old)
         (G.faults gestures.old) (O.taken out.old) (O.faults out.old) steps.old)
         (streams (G.left gestures.new) (G.faults gestures.new) (O.taken out.new) (O.faults out.new)
         steps.new) (wire_of (P.taken place.old) (P.writing_faults place.old) (P.tells place.old))

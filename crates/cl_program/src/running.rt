@@ -78,7 +78,7 @@ pub fn run_program<T: Types, D: Device, G: Source, O: Sink, L: Ledger>(
     requires no_ring { HasNoRing program.now.app.now.tables }
     requires opening { slots.now ≡ opening_slots program.now.app.now }
     requires whole { D.broken device.old ≡ false }
-    ensures ran { RanLoaded (ground_of T.holds T.presents T.reads program.now) (streams (G.left gestures.old)
+    ensures ran { RanLoaded (ground_of T.holds T.presents T.reads T.hierarchy program.now) (streams (G.left gestures.old)
         (G.faults gestures.old) (O.taken out.old) (O.faults out.old) steps.old)
         (streams (G.left gestures.new) (G.faults gestures.new) (O.taken out.new) (O.faults out.new)
         steps.new) (wire_of (D.wire device.old) (D.faults device.old) (D.lent device.old).told)
@@ -113,17 +113,17 @@ fn open<T: Types, D: Device, L: Ledger>(
     requires opening { slots.now ≡ opening_slots program.now.app.now }
     requires whole { D.broken device.old ≡ false }
     ensures opening { IfOk result
-        (λ o. IsOpening (ground_of T.holds T.presents T.reads program.now) o (D.broken device.new)) }
-    ensures opens { IfOk result (λ o. OpensOn (ground_of T.holds T.presents T.reads program.now) o.session.frame.screen.stale
+        (λ o. IsOpening (ground_of T.holds T.presents T.reads T.hierarchy program.now) o (D.broken device.new)) }
+    ensures opens { IfOk result (λ o. OpensOn (ground_of T.holds T.presents T.reads T.hierarchy program.now) o.session.frame.screen.stale
         (wire_of (D.wire device.old) (D.faults device.old) (D.lent device.old).told)
         (wire_of (D.wire device.new) (D.faults device.new) (D.lent device.new).told)) }
     ensures agree { IfOk result (λ o. Agree o.session.frame.screen.stale
         o.session.frame.screen.raster (D.broken device.new) (D.cleared device.new)
         (D.picture device.new)) }
     ensures ledger { IfOk result
-        (λ _. steps.new ≡ steps.old + opening_cost (ground_of T.holds T.presents T.reads program.now)) }
+        (λ _. steps.new ≡ steps.old + opening_cost (ground_of T.holds T.presents T.reads T.hierarchy program.now)) }
     ensures later { steps.old ≤ steps.new }
-    ensures at_most { steps.new ≤ steps.old + opening_cost (ground_of T.holds T.presents T.reads program.now) }
+    ensures at_most { steps.new ≤ steps.old + opening_cost (ground_of T.holds T.presents T.reads T.hierarchy program.now) }
     ensures lent { D.lent device.new ≡ D.lent device.old }
     ensures device_later { D.faults device.old ≤ D.faults device.new }
 {
@@ -144,16 +144,16 @@ impl Opening {
         steps: &mut Steps<L>,
     ) -> End
         requires depth { program.now.limits.depth ≤ 512 }
-        requires opening { IsOpening (ground_of T.holds T.presents T.reads program.now) self.old (D.broken device.old) }
+        requires opening { IsOpening (ground_of T.holds T.presents T.reads T.hierarchy program.now) self.old (D.broken device.old) }
         requires agree { Agree self.old.session.frame.screen.stale
             self.old.session.frame.screen.raster (D.broken device.old) (D.cleared device.old)
             (D.picture device.old) }
         requires none_ahead { room ≡ [] }
         ensures ended { (spent : ℕ) (begun : Wire)
-            → steps.old ≡ spent + opening_cost (ground_of T.holds T.presents T.reads program.now)
-            → OpensOn (ground_of T.holds T.presents T.reads program.now) self.old.session.frame.screen.stale begun
+            → steps.old ≡ spent + opening_cost (ground_of T.holds T.presents T.reads T.hierarchy program.now)
+            → OpensOn (ground_of T.holds T.presents T.reads T.hierarchy program.now) self.old.session.frame.screen.stale begun
             (wire_of (D.wire device.old) (D.faults device.old) (D.lent device.old).told)
-            → EndsAs (ground_of T.holds T.presents T.reads program.now) (streams (G.left gestures.old) (G.faults gestures.old)
+            → EndsAs (ground_of T.holds T.presents T.reads T.hierarchy program.now) (streams (G.left gestures.old) (G.faults gestures.old)
             (O.taken out.old) (O.faults out.old) spent)
             (streams (G.left gestures.new) (G.faults gestures.new) (O.taken out.new)
             (O.faults out.new) steps.new) begun

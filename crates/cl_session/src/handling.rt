@@ -74,11 +74,11 @@ pub fn handle<T: Types, L: Ledger>(
     requires depth { program.now.limits.depth ≤ 512 }
     requires tables { tables.now ≡ sight_in program.now.app.now }
     requires frame { IsFrameOf program.now.app.now frame.now }
-    ensures handles { HandlesTo (handled (ground_of T.holds T.presents T.reads program.now)
+    ensures handles { HandlesTo (handled (ground_of T.holds T.presents T.reads T.hierarchy program.now)
         (world_at slots.old desk.old frame.now) gesture.now) frame.now result slots.old slots.new
         desk.old desk.new }
     ensures ledger { RisesBy (handling_met result) steps.old steps.new
-        (handled (ground_of T.holds T.presents T.reads program.now)
+        (handled (ground_of T.holds T.presents T.reads T.hierarchy program.now)
         (world_at slots.old desk.old frame.now) gesture.now).cost }
 {
     let (alloc, app) = (program.alloc, program.app);

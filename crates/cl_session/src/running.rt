@@ -31,11 +31,11 @@ pub fn finish_line<T: Types, L: Ledger>(
 ) -> Handling
     requires depth { program.now.limits.depth ≤ 512 }
     requires tables { tables.now ≡ sight_in program.now.app.now }
-    ensures handles { HandlesTo (finish_line (ground_of T.holds T.presents T.reads program.now)
+    ensures handles { HandlesTo (finish_line (ground_of T.holds T.presents T.reads T.hierarchy program.now)
         (world_at slots.old desk.old frame.now)) frame.now result slots.old slots.new
         desk.old desk.new }
     ensures ledger { RisesBy (handling_met result) steps.old steps.new
-        (finish_line (ground_of T.holds T.presents T.reads program.now)
+        (finish_line (ground_of T.holds T.presents T.reads T.hierarchy program.now)
         (world_at slots.old desk.old frame.now)).cost }
 {
     match command_of_line(program.app, tables, &desk.line) {
@@ -53,11 +53,11 @@ fn finish_named<T: Types, L: Ledger>(
     steps: &mut Steps<L>,
 ) -> Handling
     requires { program.now.limits.depth ≤ 512 }
-    ensures handles { HandlesTo (finish_named (ground_of T.holds T.presents T.reads program.now)
+    ensures handles { HandlesTo (finish_named (ground_of T.holds T.presents T.reads T.hierarchy program.now)
         (world_at slots.old desk.old frame.now) command.now) frame.now result slots.old slots.new
         desk.old desk.new }
     ensures ledger { RisesBy (handling_met result) steps.old steps.new
-        (finish_named (ground_of T.holds T.presents T.reads program.now)
+        (finish_named (ground_of T.holds T.presents T.reads T.hierarchy program.now)
         (world_at slots.old desk.old frame.now) command.now).cost }
 {
     if !desk.enabled.is(&command.name) {
@@ -76,7 +76,7 @@ fn parsed_line<T: Types>(
     slots: &Slots,
     line: &Line,
 ) -> Result<Parsed, AllocError>
-    ensures { IfOk result (λ p. p ≡ parsed_line (ground_of T.holds T.presents T.reads program.now)
+    ensures { IfOk result (λ p. p ≡ parsed_line (ground_of T.holds T.presents T.reads T.hierarchy program.now)
         slots.now line.now command.now) }
 {
     let parser = Parser {
@@ -99,11 +99,11 @@ fn finish_parsed<T: Types, L: Ledger>(
     steps: &mut Steps<L>,
 ) -> Handling
     requires { program.now.limits.depth ≤ 512 }
-    ensures handles { HandlesTo (finish_parsed (ground_of T.holds T.presents T.reads program.now)
+    ensures handles { HandlesTo (finish_parsed (ground_of T.holds T.presents T.reads T.hierarchy program.now)
         (world_at slots.old desk.old frame.now) command.now parsed) frame.now result slots.old slots.new
         desk.old desk.new }
     ensures ledger { RisesBy (handling_met result) steps.old steps.new
-        (finish_parsed (ground_of T.holds T.presents T.reads program.now)
+        (finish_parsed (ground_of T.holds T.presents T.reads T.hierarchy program.now)
         (world_at slots.old desk.old frame.now) command.now parsed).cost }
 {
     match parsed {
@@ -148,11 +148,11 @@ pub fn press<T: Types, L: Ledger>(
 ) -> Handling
     requires depth { program.now.limits.depth ≤ 512 }
     requires tables { tables.now ≡ sight_in program.now.app.now }
-    ensures handles { HandlesTo (press (ground_of T.holds T.presents T.reads program.now)
+    ensures handles { HandlesTo (press (ground_of T.holds T.presents T.reads T.hierarchy program.now)
         (world_at slots.old desk.old frame.now) stroke.now) frame.now result slots.old slots.new
         desk.old desk.new }
     ensures ledger { RisesBy (handling_met result) steps.old steps.new
-        (press (ground_of T.holds T.presents T.reads program.now)
+        (press (ground_of T.holds T.presents T.reads T.hierarchy program.now)
         (world_at slots.old desk.old frame.now) stroke.now).cost }
 {
     match command_of_stroke(program.alloc, program.app, tables, stroke) {
@@ -171,11 +171,11 @@ fn stroke_named<T: Types, L: Ledger>(
     steps: &mut Steps<L>,
 ) -> Handling
     requires { program.now.limits.depth ≤ 512 }
-    ensures handles { HandlesTo (stroke_named (ground_of T.holds T.presents T.reads program.now)
+    ensures handles { HandlesTo (stroke_named (ground_of T.holds T.presents T.reads T.hierarchy program.now)
         (world_at slots.old desk.old frame.now) command.now) frame.now result slots.old slots.new
         desk.old desk.new }
     ensures ledger { RisesBy (handling_met result) steps.old steps.new
-        (stroke_named (ground_of T.holds T.presents T.reads program.now)
+        (stroke_named (ground_of T.holds T.presents T.reads T.hierarchy program.now)
         (world_at slots.old desk.old frame.now) command.now).cost }
 {
     if !desk.enabled.is(&command.name) {
@@ -216,11 +216,11 @@ fn stroke_parsed<T: Types, L: Ledger>(
     steps: &mut Steps<L>,
 ) -> Handling
     requires { program.now.limits.depth ≤ 512 }
-    ensures handles { HandlesTo (stroke_parsed (ground_of T.holds T.presents T.reads program.now)
+    ensures handles { HandlesTo (stroke_parsed (ground_of T.holds T.presents T.reads T.hierarchy program.now)
         (world_at slots.old desk.old frame.now) command.now parsed) frame.now result slots.old slots.new
         desk.old desk.new }
     ensures ledger { RisesBy (handling_met result) steps.old steps.new
-        (stroke_parsed (ground_of T.holds T.presents T.reads program.now)
+        (stroke_parsed (ground_of T.holds T.presents T.reads T.hierarchy program.now)
         (world_at slots.old desk.old frame.now) command.now parsed).cost }
 {
     match parsed {
@@ -269,11 +269,11 @@ fn run_command<T: Types, L: Ledger>(
     requires { program.now.limits.depth ≤ 512 }
     ensures handles { HandlesTo (run_command command.now.line_name
         (world_at slots.old desk.old frame.now)
-        (command_outcome (ground_of T.holds T.presents T.reads program.now) command.now values.now slots.old))
+        (command_outcome (ground_of T.holds T.presents T.reads T.hierarchy program.now) command.now values.now slots.old))
         frame.now result slots.old slots.new desk.old desk.new }
     ensures ledger { RisesBy (handling_met result) steps.old steps.new
         (run_command command.now.line_name (world_at slots.old desk.old frame.now)
-        (command_outcome (ground_of T.holds T.presents T.reads program.now) command.now values.now slots.old)).cost }
+        (command_outcome (ground_of T.holds T.presents T.reads T.hierarchy program.now) command.now values.now slots.old)).cost }
 {
     let env = match bound(program.alloc, &command.arguments, values.as_slice()) {
         Ok(env) => env,

@@ -46,12 +46,12 @@ impl Session {
         steps: &mut Steps<L>,
     ) -> End
         requires depth { program.now.limits.depth ≤ 512 }
-        requires fits { Fits (ground_of T.holds T.presents T.reads program.now) slots.old self.old }
+        requires fits { Fits (ground_of T.holds T.presents T.reads T.hierarchy program.now) slots.old self.old }
         requires agree { Agree self.old.frame.screen.stale self.old.frame.screen.raster
             (D.broken device.old) (D.cleared device.old) (D.picture device.old) }
         requires breaks { self.old.frame.screen.stale ≡ true → D.broken device.old ≡ true }
         ensures serves { stop_of gestures.old ≡ stop.Going
-            → ServesTo (ground_of T.holds T.presents T.reads program.now)
+            → ServesTo (ground_of T.holds T.presents T.reads T.hierarchy program.now)
             (stand (world_of self.old slots.old) (meters steps.old (wire_of (D.wire device.old)
             (D.faults device.old) (D.lent device.old).told))
             (progress_of G.left G.faults gestures.old) (O.taken out.old) (O.faults out.old))
@@ -68,7 +68,7 @@ impl Session {
         ensures out_later { O.faults out.old ≤ O.faults out.new }
         ensures device_later { D.faults device.old ≤ D.faults device.new }
         ensures steps_later { steps.old ≤ steps.new }
-        ensures fits { Fits (ground_of T.holds T.presents T.reads program.now) slots.new self.new }
+        ensures fits { Fits (ground_of T.holds T.presents T.reads T.hierarchy program.now) slots.new self.new }
         ensures agree { Agree self.new.frame.screen.stale self.new.frame.screen.raster
             (D.broken device.new) (D.cleared device.new) (D.picture device.new) }
         ensures breaks { self.new.frame.screen.stale ≡ true → D.broken device.new ≡ true }
@@ -93,12 +93,12 @@ impl Session {
         steps: &mut Steps<L>,
     ) -> Option<End>
         requires depth { program.now.limits.depth ≤ 512 }
-        requires fits { Fits (ground_of T.holds T.presents T.reads program.now) slots.old self.old }
+        requires fits { Fits (ground_of T.holds T.presents T.reads T.hierarchy program.now) slots.old self.old }
         requires agree { Agree self.old.frame.screen.stale self.old.frame.screen.raster
             (D.broken device.old) (D.cleared device.old) (D.picture device.old) }
         requires breaks { self.old.frame.screen.stale ≡ true → D.broken device.old ≡ true }
         ensures turns { stop_of gestures.old ≡ stop.Going
-            → Turns (ground_of T.holds T.presents T.reads program.now)
+            → Turns (ground_of T.holds T.presents T.reads T.hierarchy program.now)
             (stand (world_of self.old slots.old) (meters steps.old (wire_of (D.wire device.old)
             (D.faults device.old) (D.lent device.old).told))
             (progress_of G.left G.faults gestures.old) (O.taken out.old) (O.faults out.old))
@@ -115,7 +115,7 @@ impl Session {
         ensures out_later { O.faults out.old ≤ O.faults out.new }
         ensures device_later { D.faults device.old ≤ D.faults device.new }
         ensures steps_later { steps.old ≤ steps.new }
-        ensures fits { Fits (ground_of T.holds T.presents T.reads program.now) slots.new self.new }
+        ensures fits { Fits (ground_of T.holds T.presents T.reads T.hierarchy program.now) slots.new self.new }
         ensures agree { Agree self.new.frame.screen.stale self.new.frame.screen.raster
             (D.broken device.new) (D.cleared device.new) (D.picture device.new) }
         ensures breaks { self.new.frame.screen.stale ≡ true → D.broken device.new ≡ true }

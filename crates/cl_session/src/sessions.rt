@@ -50,7 +50,7 @@ impl Session {
         requires placed { IsPlaced program.now.app.now.frame }
         requires no_ring { HasNoRing program.now.app.now.tables }
         ensures world { IfOk result (λ s. world_of s slots.now
-            ≡ opening (ground_of T.holds T.presents T.reads program.now) slots.now s.frame.screen.stale) }
+            ≡ opening (ground_of T.holds T.presents T.reads T.hierarchy program.now) slots.now s.frame.screen.stale) }
         ensures failed { IfOk result
             (λ s. RoseIf s.frame.screen.stale (D.faults device.old) (D.faults device.new)) }
         ensures sent { IfOk result (λ s. SendsOn (not s.frame.screen.stale) (wire_of (D.wire device.old) (D.faults device.old) (D.lent device.old).told) (wire_of (D.wire device.new) (D.faults device.new) (D.lent device.new).told)
@@ -59,12 +59,12 @@ impl Session {
         ensures shows { IfOk result (λ s. s.frame.screen.stale ≡ false
             → ShowsPanes program.now.app.now (world_of s slots.now).panes (wire_of (D.wire device.new) (D.faults device.new) (D.lent device.new).told)) }
         ensures ledger { IfOk result (λ _. steps.new
-            ≡ steps.old + cost_of_panes (ground_of T.holds T.presents T.reads program.now) slots.now) }
+            ≡ steps.old + cost_of_panes (ground_of T.holds T.presents T.reads T.hierarchy program.now) slots.now) }
         ensures later { steps.old ≤ steps.new }
         ensures at_most { steps.new
-            ≤ steps.old + cost_of_panes (ground_of T.holds T.presents T.reads program.now) slots.now }
+            ≤ steps.old + cost_of_panes (ground_of T.holds T.presents T.reads T.hierarchy program.now) slots.now }
         ensures fits { IfOk result
-            (Fits (ground_of T.holds T.presents T.reads program.now) slots.now) }
+            (Fits (ground_of T.holds T.presents T.reads T.hierarchy program.now) slots.now) }
         ensures agree { IfOk result (λ s. Agree s.frame.screen.stale s.frame.screen.raster
             (D.broken device.new) (D.cleared device.new) (D.picture device.new)) }
         ensures breaks { IfOk result
@@ -101,23 +101,23 @@ impl Session {
         steps: &mut Steps<L>,
     ) -> Replies
         requires depth { program.now.limits.depth ≤ 512 }
-        requires fits { Fits (ground_of T.holds T.presents T.reads program.now) slots.old self.old }
+        requires fits { Fits (ground_of T.holds T.presents T.reads T.hierarchy program.now) slots.old self.old }
         requires agree { Agree self.old.frame.screen.stale self.old.frame.screen.raster
             (D.broken device.old) (D.cleared device.old) (D.picture device.old) }
         requires breaks { self.old.frame.screen.stale ≡ true → D.broken device.old ≡ true }
-        ensures steps { StepsTo (ground_of T.holds T.presents T.reads program.now) self.old self.new
+        ensures steps { StepsTo (ground_of T.holds T.presents T.reads T.hierarchy program.now) self.old self.new
             slots.old slots.new gesture.now result }
-        ensures ledger { Spends (ground_of T.holds T.presents T.reads program.now)
+        ensures ledger { Spends (ground_of T.holds T.presents T.reads T.hierarchy program.now)
             (world_of self.old slots.old) gesture.now (met_of self.new.frame result) steps.old
             steps.new }
         ensures failed { RoseIf result.wire (D.faults device.old) (D.faults device.new) }
         ensures sent { SendsOn (not result.wire) (wire_of (D.wire device.old) (D.faults device.old) (D.lent device.old).told) (wire_of (D.wire device.new) (D.faults device.new) (D.lent device.new).told)
-            (gesture_bytes (ground_of T.holds T.presents T.reads program.now)
+            (gesture_bytes (ground_of T.holds T.presents T.reads T.hierarchy program.now)
             (world_of self.old slots.old) gesture.now (met_of self.new.frame result)) }
         ensures shows { result.wire ≡ false → ShowsPanes program.now.app.now
             (world_of self.new slots.new).panes (wire_of (D.wire device.new) (D.faults device.new) (D.lent device.new).told) }
         ensures later { steps.old ≤ steps.new }
-        ensures fits { Fits (ground_of T.holds T.presents T.reads program.now) slots.new self.new }
+        ensures fits { Fits (ground_of T.holds T.presents T.reads T.hierarchy program.now) slots.new self.new }
         ensures agree { Agree self.new.frame.screen.stale self.new.frame.screen.raster
             (D.broken device.new) (D.cleared device.new) (D.picture device.new) }
         ensures breaks { self.new.frame.screen.stale ≡ true → D.broken device.new ≡ true }

@@ -7,12 +7,12 @@ use Rattle.cl_program.proofs.commands.run_on.Goals as goal
 
 pub returns-in_default-clause-ran : goal.returns-in_default-clause-ran
 returns-in_default-clause-ran g c =
-    RanOn-none _ (ground_of g.T.Types.holds g.T.Types.presents g.T.Types.reads c.args.program.now) _ _ _ _ _ _ c.run_program.result
+    RanOn-none _ (ground_of g.T.Types.holds g.T.Types.presents g.T.Types.reads g.T.Types.hierarchy c.args.program.now) _ _ _ _ _ _ c.run_program.result
     (none_by (λ (name : Bor (List ℕ)). name.now) c.args.wire c.in_default.not-Some) refl refl refl c.run_program.ensures.ran
 
 pub returns-in-Done-clause-ran : goal.returns-in-Done-clause-ran
 returns-in-Done-clause-ran g c =
-    RanOn-wire _ c.in-Some.name.now (ground_of g.T.Types.holds g.T.Types.presents g.T.Types.reads c.args.program.now) _ _ _ _ _ c.run_on_wire.result
+    RanOn-wire _ c.in-Some.name.now (ground_of g.T.Types.holds g.T.Types.presents g.T.Types.reads g.T.Types.hierarchy c.args.program.now) _ _ _ _ _ c.run_on_wire.result
     (ap (option_map (λ (name : Bor (List ℕ)). name.now)) c.in-Some.is)
     (record {
       faults = c.in-Done.ensures.writing;

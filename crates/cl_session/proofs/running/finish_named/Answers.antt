@@ -8,7 +8,7 @@ use Rattle.cl_session.proofs.running.finish_named.Goals as goal
 
 pub returns-in-Ok-clause-handles : goal.returns-in-Ok-clause-handles
 returns-in-Ok-clause-handles g c =
-    let own = ground_of g.T.Types.holds g.T.Types.presents g.T.Types.reads c.args.program.now in
+    let own = ground_of g.T.Types.holds g.T.Types.presents g.T.Types.reads g.T.Types.hierarchy c.args.program.now in
     let w = world_at c.args.slots.now c.args.desk.now c.args.frame.now in
     let same = finished_on own w c.args.command.now c.in-Ok.parsed (sym c.is.ensures ∙ c.if-not-is.false) c.in-Ok.ensures in
     subst
@@ -17,7 +17,7 @@ returns-in-Ok-clause-handles g c =
 
 pub returns-in-Ok-clause-ledger : goal.returns-in-Ok-clause-ledger
 returns-in-Ok-clause-ledger g c =
-    let own = ground_of g.T.Types.holds g.T.Types.presents g.T.Types.reads c.args.program.now in
+    let own = ground_of g.T.Types.holds g.T.Types.presents g.T.Types.reads g.T.Types.hierarchy c.args.program.now in
     let w = world_at c.args.slots.now c.args.desk.now c.args.frame.now in
     let same = finished_on own w c.args.command.now c.in-Ok.parsed (sym c.is.ensures ∙ c.if-not-is.false) c.in-Ok.ensures in
     subst (λ (h : Handled). RisesBy (handling_met c.finish_parsed.result) c.args.steps.now c.finish_parsed.new.steps h.cost) (sym same)

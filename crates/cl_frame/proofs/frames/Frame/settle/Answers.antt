@@ -30,7 +30,7 @@ panes-preserved g c =
       frame = c.settle_at.ensures.frame;
       agree = c.settle_at.ensures.agree;
       rest = rest_next c.args.self.now.panes.items c.panes.self.panes.items c.settle_at.new.self.panes.items place settled.now settled.stands c.panes.invariant.rest;
-      goes_on = settled_next (ground_of g.T.Types.holds g.T.Types.presents g.T.Types.reads c.args.program.now) c.args.which c.args.slots.now (panes_of c.args.program.now.app.now)
+      goes_on = settled_next (ground_of g.T.Types.holds g.T.Types.presents g.T.Types.reads g.T.Types.hierarchy c.args.program.now) c.args.which c.args.slots.now (panes_of c.args.program.now.app.now)
           c.args.self.now.panes.items c.panes.self.panes.items c.settle_at.new.self.panes.items place c.args.steps.now c.panes.steps c.settle_at.new.steps
           refl c.panes.invariant.rest settled c.panes.invariant.goes_on;
       goes_stale = stale-then c.start.new.screen.stale c.panes.self.screen.stale c.settle_at.new.self.screen.stale
@@ -39,7 +39,7 @@ panes-preserved g c =
       breaks = λ fresh then. by-stale c.panes.self.screen.stale
           (λ stale. ap g.D.Device.broken (c.settle_at.ensures.idle stale) ∙ c.panes.invariant.breaks fresh stale)
           (λ still. c.settle_at.ensures.breaks still then);
-      sent = λ fresh. sent_next (ground_of g.T.Types.holds g.T.Types.presents g.T.Types.reads c.args.program.now) c.args.which c.args.slots.now c.args.self.now.panes.items
+      sent = λ fresh. sent_next (ground_of g.T.Types.holds g.T.Types.presents g.T.Types.reads g.T.Types.hierarchy c.args.program.now) c.args.which c.args.slots.now c.args.self.now.panes.items
           c.panes.self.panes.items c.settle_at.new.self.panes.items place c.panes.steps c.settle_at.new.steps c.panes.self.screen.stale c.settle_at.new.self.screen.stale
           _ _ _ c.panes.invariant.rest settled c.settle_at.ensures.bytes c.settle_at.ensures.goes_stale.stays
           c.panes.invariant.goes_stale.later c.settle_at.ensures.goes_stale.later (c.panes.invariant.sent fresh);
@@ -51,8 +51,8 @@ pub returns-clause-settles : goal.returns-clause-settles
 returns-clause-settles g c =
     let olds = frame_length c.args.program.now.app.now c.args.self.now c.requires.frame in
     let nows = frame_length c.args.program.now.app.now c.panes.self c.panes.invariant.frame in
-    settled_frame (ground_of g.T.Types.holds g.T.Types.presents g.T.Types.reads c.args.program.now) c.args.which c.args.slots.now c.args.self.now c.panes.self c.args.steps.now c.panes.steps
-    (settled_all (ground_of g.T.Types.holds g.T.Types.presents g.T.Types.reads c.args.program.now) c.args.which c.args.slots.now (panes_of c.args.program.now.app.now)
+    settled_frame (ground_of g.T.Types.holds g.T.Types.presents g.T.Types.reads g.T.Types.hierarchy c.args.program.now) c.args.which c.args.slots.now c.args.self.now c.panes.self c.args.steps.now c.panes.steps
+    (settled_all (ground_of g.T.Types.holds g.T.Types.presents g.T.Types.reads g.T.Types.hierarchy c.args.program.now) c.args.which c.args.slots.now (panes_of c.args.program.now.app.now)
     c.args.self.now.panes.items c.panes.self.panes.items c.panes.place c.args.steps.now c.panes.steps
     (omega (arith, olds, c.panes-test.false, c.len-place-end.ensures)) (omega (arith, c.panes-test.false, c.len-place-end.ensures))
     (omega (arith, nows, olds, c.panes-test.false, c.len-place-end.ensures)) c.panes.invariant.goes_on)
@@ -61,8 +61,8 @@ pub returns-clause-ledger : goal.returns-clause-ledger
 returns-clause-ledger g c =
     let olds = frame_length c.args.program.now.app.now c.args.self.now c.requires.frame in
     let nows = frame_length c.args.program.now.app.now c.panes.self c.panes.invariant.frame in
-    settled_spends (ground_of g.T.Types.holds g.T.Types.presents g.T.Types.reads c.args.program.now) c.args.which c.args.slots.now c.args.self.now c.panes.self c.args.steps.now c.panes.steps
-    (settled_all (ground_of g.T.Types.holds g.T.Types.presents g.T.Types.reads c.args.program.now) c.args.which c.args.slots.now (panes_of c.args.program.now.app.now)
+    settled_spends (ground_of g.T.Types.holds g.T.Types.presents g.T.Types.reads g.T.Types.hierarchy c.args.program.now) c.args.which c.args.slots.now c.args.self.now c.panes.self c.args.steps.now c.panes.steps
+    (settled_all (ground_of g.T.Types.holds g.T.Types.presents g.T.Types.reads g.T.Types.hierarchy c.args.program.now) c.args.which c.args.slots.now (panes_of c.args.program.now.app.now)
     c.args.self.now.panes.items c.panes.self.panes.items c.panes.place c.args.steps.now c.panes.steps
     (omega (arith, olds, c.panes-test.false, c.len-place-end.ensures)) (omega (arith, c.panes-test.false, c.len-place-end.ensures))
     (omega (arith, nows, olds, c.panes-test.false, c.len-place-end.ensures)) c.panes.invariant.goes_on)

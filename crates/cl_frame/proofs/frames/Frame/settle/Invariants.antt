@@ -14,8 +14,8 @@ invariant-panes g l = record {
   agree : Agree l.self.screen.stale l.self.screen.raster (g.D.Device.broken l.device) (g.D.Device.cleared l.device) (g.D.Device.picture l.device);
   rest : drop l.place l.self.panes.items ≡ drop l.place l.initial.self.panes.items;
   goes_on : (ns : List Pane) (last : ℕ)
-      → SettlesPanes (ground_of g.T.Types.holds g.T.Types.presents g.T.Types.reads l.program) l.which l.slots (drop l.place (panes_of l.program.app.now)) (drop l.place l.initial.self.panes.items) ns l.steps last
-      → SettlesPanes (ground_of g.T.Types.holds g.T.Types.presents g.T.Types.reads l.program) l.which l.slots (panes_of l.program.app.now) l.initial.self.panes.items (take l.place l.self.panes.items ++ ns) l.initial.steps last;
+      → SettlesPanes (ground_of g.T.Types.holds g.T.Types.presents g.T.Types.reads g.T.Types.hierarchy l.program) l.which l.slots (drop l.place (panes_of l.program.app.now)) (drop l.place l.initial.self.panes.items) ns l.steps last
+      → SettlesPanes (ground_of g.T.Types.holds g.T.Types.presents g.T.Types.reads g.T.Types.hierarchy l.program) l.which l.slots (panes_of l.program.app.now) l.initial.self.panes.items (take l.place l.self.panes.items ++ ns) l.initial.steps last;
   goes_stale : GoesStale l.initial.self.screen.stale l.self.screen.stale (g.D.Device.faults l.initial.device) (g.D.Device.faults l.device);
   idle : l.initial.self.screen.stale ≡ true → l.device ≡ l.initial.device;
   breaks : l.initial.self.screen.stale ≡ false → l.self.screen.stale ≡ true → g.D.Device.broken l.device ≡ true;

@@ -7,7 +7,7 @@ use Rattle.cl_frame.proofs.frames.Frame.settle_at.Goals as goal
 
 pub returns-then-not-is_due-clause-settles : goal.returns-then-not-is_due-clause-settles
 returns-then-not-is_due-clause-settles g c =
-    settles_quiet (ground_of g.T.Types.holds g.T.Types.presents g.T.Types.reads c.args.program.now) c.args.which c.args.slots.now c.args.place c.args.self.now.panes.items
+    settles_quiet (ground_of g.T.Types.holds g.T.Types.presents g.T.Types.reads g.T.Types.hierarchy c.args.program.now) c.args.which c.args.slots.now c.args.place c.args.self.now.panes.items
     c.in-Some.declared.now c.index_mut.result.now c.args.steps.now
     (declared_pane c.args.program.now.app.now.frame.panes c.args.place c.in-Some.declared.now c.in-Some.ensures)
     (stands_at c.args.self.now.panes.items c.args.place c.index_mut.result.now c.requires.place c.index_mut.ensures.value)
@@ -36,7 +36,7 @@ put-requires-clause-replaces g c = record {
 
 pub returns-clause-settles : goal.returns-clause-settles
 returns-clause-settles g c =
-    settles_due (ground_of g.T.Types.holds g.T.Types.presents g.T.Types.reads c.args.program.now) c.args.which c.args.slots.now c.args.place c.args.self.now.panes.items
+    settles_due (ground_of g.T.Types.holds g.T.Types.presents g.T.Types.reads g.T.Types.hierarchy c.args.program.now) c.args.which c.args.slots.now c.args.place c.args.self.now.panes.items
     c.put.new.self.panes.items c.in-Some.declared.now c.index-2.result.now c.evaluated-pane.result c.args.steps.now c.evaluated-pane.new.steps
     (declared_pane c.args.program.now.app.now.frame.panes c.args.place c.in-Some.declared.now c.in-Some.ensures)
     (stands_at c.args.self.now.panes.items c.args.place c.index-2.result.now c.requires.place c.index-2.ensures)

@@ -6,7 +6,7 @@ use Rattle.cl_session.proofs.sessions.Session.new.Goals as goal
 
 pub returns-then-met_memory-clause-at_most : goal.returns-then-met_memory-clause-at_most
 returns-then-met_memory-clause-at_most g c =
-    let own = ground_of g.T.Types.holds g.T.Types.presents g.T.Types.reads c.args.program.now in
+    let own = ground_of g.T.Types.holds g.T.Types.presents g.T.Types.reads g.T.Types.hierarchy c.args.program.now in
     opening_most own c.args.slots.now c.in_ok-frame.frame _ c.args.steps.now c.update.new.steps (frame_as_many own c.in_ok-frame.frame c.in_ok-frame.ensures.frame)
     c.update.ensures.ledger
 
@@ -16,27 +16,27 @@ returns-then-met_memory-clause-device_later g c =
 
 pub returns-clause-world : goal.returns-clause-world
 returns-clause-world g c =
-    let own = ground_of g.T.Types.holds g.T.Types.presents g.T.Types.reads c.args.program.now in
+    let own = ground_of g.T.Types.holds g.T.Types.presents g.T.Types.reads g.T.Types.hierarchy c.args.program.now in
     opening_world own c.args.slots.now record { line = c.in_ok-new.field-0; enabled = c.in_ok-enabled_of.field-0 } c.in_ok-frame.frame c.update.new.self c.in_ok-new.ensures c.in_ok-enabled_of.ensures
     (frame_as_many own c.in_ok-frame.frame c.in_ok-frame.ensures.frame) c.update.ensures.settles
     (none_told c.update.new.self.panes.items (sym c.met_memory.ensures ∙ c.if-met_memory.false))
 
 pub returns-clause-ledger : goal.returns-clause-ledger
 returns-clause-ledger g c =
-    let own = ground_of g.T.Types.holds g.T.Types.presents g.T.Types.reads c.args.program.now in
+    let own = ground_of g.T.Types.holds g.T.Types.presents g.T.Types.reads g.T.Types.hierarchy c.args.program.now in
     opening_paid own c.args.slots.now c.in_ok-frame.frame c.update.new.self c.args.steps.now c.update.new.steps
     (frame_as_many own c.in_ok-frame.frame c.in_ok-frame.ensures.frame) c.update.ensures.ledger
     (none_told c.update.new.self.panes.items (sym c.met_memory.ensures ∙ c.if-met_memory.false))
 
 pub returns-clause-at_most : goal.returns-clause-at_most
 returns-clause-at_most g c =
-    let own = ground_of g.T.Types.holds g.T.Types.presents g.T.Types.reads c.args.program.now in
+    let own = ground_of g.T.Types.holds g.T.Types.presents g.T.Types.reads g.T.Types.hierarchy c.args.program.now in
     opening_most own c.args.slots.now c.in_ok-frame.frame _ c.args.steps.now c.update.new.steps (frame_as_many own c.in_ok-frame.frame c.in_ok-frame.ensures.frame)
     c.update.ensures.ledger
 
 pub returns-clause-fits : goal.returns-clause-fits
 returns-clause-fits g c =
-    let own = ground_of g.T.Types.holds g.T.Types.presents g.T.Types.reads c.args.program.now in
+    let own = ground_of g.T.Types.holds g.T.Types.presents g.T.Types.reads g.T.Types.hierarchy c.args.program.now in
     record {
       tables = c.in_ok-tables.ensures;
       frame = c.update.ensures.frame;

@@ -15,9 +15,9 @@ use Rattle.cl_session.proofs.sessions.Session.serve.Goals as goal
 
 pub turns-init : goal.turns-init
 turns-init g c = record {
-  going = λ start. Going-nothing (said_of_piece (ground_of g.T.Types.holds g.T.Types.presents g.T.Types.reads c.args.program.now))
-      (world_after_piece (ground_of g.T.Types.holds g.T.Types.presents g.T.Types.reads c.args.program.now))
-      (SpentOfPiece (ground_of g.T.Types.holds g.T.Types.presents g.T.Types.reads c.args.program.now))
+  going = λ start. Going-nothing (said_of_piece (ground_of g.T.Types.holds g.T.Types.presents g.T.Types.reads g.T.Types.hierarchy c.args.program.now))
+      (world_after_piece (ground_of g.T.Types.holds g.T.Types.presents g.T.Types.reads g.T.Types.hierarchy c.args.program.now))
+      (SpentOfPiece (ground_of g.T.Types.holds g.T.Types.presents g.T.Types.reads g.T.Types.hierarchy c.args.program.now))
       (stand (world_of c.args.self.now c.args.slots.now) (meters c.args.steps.now (wire_of (g.D.Device.wire c.args.device.now) (g.D.Device.faults c.args.device.now) (g.D.Device.lent c.args.device.now).told))
       (progress_of g.G.Source.left g.G.Source.faults c.args.gestures.now) (g.O.Sink.taken c.args.out.now) (g.O.Sink.faults c.args.out.now)) start;
   untouched = untouched-start (stop_of c.args.gestures.now) _ (refl, refl, refl, refl, refl);
@@ -40,7 +40,7 @@ turns-preserved g c =
     let on : stop_of c.turns.gestures ≡ stop.Going = going-on (stop_of c.turns.gestures) _ c.in-None.ensures.stays in
     record {
       going = λ start.
-          let more = Going-more (ground_of g.T.Types.holds g.T.Types.presents g.T.Types.reads c.args.program.now) _ _ _ (c.turns.invariant.going start) turned
+          let more = Going-more (ground_of g.T.Types.holds g.T.Types.presents g.T.Types.reads g.T.Types.hierarchy c.args.program.now) _ _ _ (c.turns.invariant.going start) turned
           (λ e. (stays-done (stop_of c.turns.gestures) _ _ e c.in-None.ensures.stays).0) in
           more.0;
       untouched = untouched-more (stop_of c.args.gestures.now) (stop_of c.turns.gestures) _ _ _ (λ same. ap stop_of same.0) c.turns.invariant.untouched c.in-None.ensures.stays;
@@ -59,7 +59,7 @@ turns-preserved g c =
 
 pub returns-in-Some-clause-serves : goal.returns-in-Some-clause-serves
 returns-in-Some-clause-serves g c = λ start.
-    ServesTo-end (ground_of g.T.Types.holds g.T.Types.presents g.T.Types.reads c.args.program.now) _ _ _
+    ServesTo-end (ground_of g.T.Types.holds g.T.Types.presents g.T.Types.reads g.T.Types.hierarchy c.args.program.now) _ _ _
     (c.turns.invariant.going start) c.turns.invariant.later c.turns.invariant.out_later c.in-Some.end c.in-Some.ensures.turns
     (λ e. let done = stays-done (stop_of c.turns.gestures) _ _ e c.in-Some.ensures.stays in (
       some-end _ _ done.0,

@@ -13,7 +13,7 @@ use Rattle.cl_session.proofs.sessions.Session.serve.Given as goal
 
 abbrev pub invariant-turns : goal.invariant-turns
 invariant-turns g l = record {
-  going : stop_of l.initial.gestures ≡ stop.Going → GoesOn (ground_of g.T.Types.holds g.T.Types.presents g.T.Types.reads l.program)
+  going : stop_of l.initial.gestures ≡ stop.Going → GoesOn (ground_of g.T.Types.holds g.T.Types.presents g.T.Types.reads g.T.Types.hierarchy l.program)
       (stand (world_of l.initial.self l.initial.slots) (meters l.initial.steps (wire_of (g.D.Device.wire l.initial.device) (g.D.Device.faults l.initial.device) (g.D.Device.lent l.initial.device).told))
       (progress_of g.G.Source.left g.G.Source.faults l.initial.gestures) (g.O.Sink.taken l.initial.out) (g.O.Sink.faults l.initial.out))
       (stand (world_of l.self l.slots) (meters l.steps (wire_of (g.D.Device.wire l.device) (g.D.Device.faults l.device) (g.D.Device.lent l.device).told))
@@ -28,7 +28,7 @@ invariant-turns g l = record {
   out_later : g.O.Sink.faults l.initial.out ≤ g.O.Sink.faults l.out;
   device_later : g.D.Device.faults l.initial.device ≤ g.D.Device.faults l.device;
   steps_later : l.initial.steps ≤ l.steps;
-  fits : Fits (ground_of g.T.Types.holds g.T.Types.presents g.T.Types.reads l.program) l.slots l.self;
+  fits : Fits (ground_of g.T.Types.holds g.T.Types.presents g.T.Types.reads g.T.Types.hierarchy l.program) l.slots l.self;
   agree : Agree l.self.frame.screen.stale l.self.frame.screen.raster (g.D.Device.broken l.device) (g.D.Device.cleared l.device) (g.D.Device.picture l.device);
   breaks : l.self.frame.screen.stale ≡ true → g.D.Device.broken l.device ≡ true;
 }

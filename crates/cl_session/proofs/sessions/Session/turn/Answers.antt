@@ -14,10 +14,10 @@ use Rattle.cl_session.proofs.sessions.Session.turn.Goals as goal
 
 pub returns-in-Gesture-clause-turns : goal.returns-in-Gesture-clause-turns
 returns-in-Gesture-clause-turns g c = λ going.
-    let lines = lines-said (ground_of g.T.Types.holds g.T.Types.presents g.T.Types.reads c.args.program.now) c.args.self.now c.step-replies.new.self c.args.slots.now c.step-replies.new.slots
+    let lines = lines-said (ground_of g.T.Types.holds g.T.Types.presents g.T.Types.reads g.T.Types.hierarchy c.args.program.now) c.args.self.now c.step-replies.new.self c.args.slots.now c.step-replies.new.slots
     c.in-Gesture.gesture c.step-replies.result c.step-replies.ensures.steps in
     rw c.goes_on.ensures
-    (turn-said (ground_of g.T.Types.holds g.T.Types.presents g.T.Types.reads c.args.program.now) c.say_replies.result (does c.in-Gesture.gesture)
+    (turn-said (ground_of g.T.Types.holds g.T.Types.presents g.T.Types.reads g.T.Types.hierarchy c.args.program.now) c.say_replies.result (does c.in-Gesture.gesture)
     (stepped (met_of c.step-replies.new.self.frame c.step-replies.result)) _ _
     (c.in-Gesture.ensures.next going)
     (line_bytes (lines_of c.args.program.now.app.now c.step-replies.new.self.frame c.step-replies.result))
@@ -36,7 +36,7 @@ returns-in-Bad-clause-turns g c = λ going.
     let number : c.in-Bad.number ≡ count_of c.args.gestures.now + length r.0.idles + 1 =
     omega (arith, r.1, r.0.passes.counted, length-append r.0.idles (r.0.piece ∷ [])) in
     rw c.goes_on-in-Bad.ensures
-    (turn-said (ground_of g.T.Types.holds g.T.Types.presents g.T.Types.reads c.args.program.now) c.say_bad.result bad lost _ _ r.0
+    (turn-said (ground_of g.T.Types.holds g.T.Types.presents g.T.Types.reads g.T.Types.hierarchy c.args.program.now) c.say_bad.result bad lost _ _ r.0
     (line_bytes (bad_line c.in-Bad.number ∷ []))
     (ap (λ n. line_bytes (bad_line n ∷ [])) number) refl refl c.say_bad.ensures.says)
 
@@ -44,25 +44,25 @@ pub returns-in-Memory-clause-turns : goal.returns-in-Memory-clause-turns
 returns-in-Memory-clause-turns g c = λ going.
     let r = c.in-Memory.ensures.next going in
     rw c.goes_on-in-Memory.ensures
-    (turn-said (ground_of g.T.Types.holds g.T.Types.presents g.T.Types.reads c.args.program.now) c.say_lost.result (does r.0) lost _ _ r.1
+    (turn-said (ground_of g.T.Types.holds g.T.Types.presents g.T.Types.reads g.T.Types.hierarchy c.args.program.now) c.say_lost.result (does r.0) lost _ _ r.1
     (line_bytes (codes "! memory" ∷ [])) refl refl refl c.say_lost.ensures.says)
 
 pub returns-in-End-clause-turns : goal.returns-in-End-clause-turns
 returns-in-End-clause-turns g c = λ going.
-    Served-end (ground_of g.T.Types.holds g.T.Types.presents g.T.Types.reads c.args.program.now) (world_of c.args.self.now c.args.slots.now) (meters c.args.steps.now (wire_of (g.D.Device.wire c.args.device.now) (g.D.Device.faults c.args.device.now) (g.D.Device.lent c.args.device.now).told))
+    Served-end (ground_of g.T.Types.holds g.T.Types.presents g.T.Types.reads g.T.Types.hierarchy c.args.program.now) (world_of c.args.self.now c.args.slots.now) (meters c.args.steps.now (wire_of (g.D.Device.wire c.args.device.now) (g.D.Device.faults c.args.device.now) (g.D.Device.lent c.args.device.now).told))
     (progress_of g.G.Source.left g.G.Source.faults c.args.gestures.now) (progress_of g.G.Source.left g.G.Source.faults c.next.new.self)
     (g.O.Sink.taken c.args.out.now) _ _ (c.in-End.ensures.next going)
 
 pub returns-in-ReadFault-clause-turns : goal.returns-in-ReadFault-clause-turns
 returns-in-ReadFault-clause-turns g c = λ going.
-    Faulted-fault (ground_of g.T.Types.holds g.T.Types.presents g.T.Types.reads c.args.program.now) (world_of c.args.self.now c.args.slots.now) (meters c.args.steps.now (wire_of (g.D.Device.wire c.args.device.now) (g.D.Device.faults c.args.device.now) (g.D.Device.lent c.args.device.now).told))
+    Faulted-fault (ground_of g.T.Types.holds g.T.Types.presents g.T.Types.reads g.T.Types.hierarchy c.args.program.now) (world_of c.args.self.now c.args.slots.now) (meters c.args.steps.now (wire_of (g.D.Device.wire c.args.device.now) (g.D.Device.faults c.args.device.now) (g.D.Device.lent c.args.device.now).told))
     (progress_of g.G.Source.left g.G.Source.faults c.args.gestures.now) (progress_of g.G.Source.left g.G.Source.faults c.next.new.self)
     (g.O.Sink.taken c.args.out.now) _ _ (c.in-ReadFault.ensures.next going)
 
 pub returns-in-TooMany-clause-turns : goal.returns-in-TooMany-clause-turns
 returns-in-TooMany-clause-turns g c = λ going.
     let r = c.in-TooMany.ensures.next going in (
-      Served-limit (ground_of g.T.Types.holds g.T.Types.presents g.T.Types.reads c.args.program.now) (world_of c.args.self.now c.args.slots.now) (meters c.args.steps.now (wire_of (g.D.Device.wire c.args.device.now) (g.D.Device.faults c.args.device.now) (g.D.Device.lent c.args.device.now).told))
+      Served-limit (ground_of g.T.Types.holds g.T.Types.presents g.T.Types.reads g.T.Types.hierarchy c.args.program.now) (world_of c.args.self.now c.args.slots.now) (meters c.args.steps.now (wire_of (g.D.Device.wire c.args.device.now) (g.D.Device.faults c.args.device.now) (g.D.Device.lent c.args.device.now).told))
           (progress_of g.G.Source.left g.G.Source.faults c.args.gestures.now) (progress_of g.G.Source.left g.G.Source.faults c.next.new.self)
           (g.O.Sink.taken c.args.out.now) _ _ r,
       r.full,
