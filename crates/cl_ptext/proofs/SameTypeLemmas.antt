@@ -1,5 +1,5 @@
 -- Types are called the same exactly where they are.
-use Rattle.std.proofs.Common.{◌≡◌, ℕ, ℤ, Bool, true, false, List, refl, sym, ap, subst, Decides}
+use Rattle.std.proofs.Common.{◌≡◌, ℕ, ℤ, Bool, true, List, refl, ap, subst, Decides}
 use Rattle.std.specs.Prelude.{◌&&◌, Option, Some, None}
 use Rattle.std.specs.Cmp.Lexicographic.{pointwise}
 use Rattle.std.specs.Ordering.{int_eq}
@@ -9,7 +9,7 @@ use Rattle.std.proofs.lemmas.Slice.Eq.{bytes_eq-Decides, slice_eq-Decides}
 use Rattle.cl_value.specs.Data.{Data}
 use Rattle.cl_lattice.specs.Expanded.{Expanded, everything, nothing, boolean, symbols, blank_area, command, integer, string, member, subset, sequence, some_of, each_of, null_or, token_or, record_type, host, user, unknown, ExpandedTypes, none, part}
 use Rattle.cl_lattice.specs.Members.{is_same}
-use Rattle.cl_lattice.proofs.SubtypeConstantLemmas.{same_along, same_is}
+use Rattle.cl_lattice.proofs.SubtypeConstantLemmas.{same_is, same_itself}
 use Rattle.cl_lattice.proofs.SubtypeTests.{both_are, first_of_both, second_of_both}
 use Rattle.cl_ptext.specs.Subtyping.{are_same, are_same_arguments, are_same_types, is_same_type}
 
@@ -30,7 +30,7 @@ pub lists_told : {A : Type 0} (same : A → A → Bool) → Tells same → Tells
 lists_told same told xs ys = slice_eq-Decides told xs ys (pointwise same xs ys) refl
 
 pub data_told : Tells is_same
-data_told d e = (same_is d e, same_along d e)
+data_told d e = (same_is d e, λ h. subst (λ x. is_same d x ≡ true) h (same_itself d))
 
 pub numbers_told : Tells (are_same int_eq)
 numbers_told = options_told int_eq Decides-int_eq

@@ -60,67 +60,75 @@ is_length_within n None = true
 is_length_within None (Some other) = false
 is_length_within (Some n) (Some other) = int_eq n other
 
-abbrev mutual
-  -- by the second type, or by the first
-  pub is_subtype : Expanded → Expanded → Bool
-  is_subtype a b = is_below_second a b || is_above_first a b
+-- numbers within these bounds are of the kind of the other type, by its arguments
+abbrev pub are_numbers_of : (low high : Option ℤ) → Expanded → Bool
+are_numbers_of low high (integer low' high') = is_low_within low low' && is_high_within high high'
+are_numbers_of low high b = false
 
+-- By the second type: down to a type that the first is `kind` to, or to an `and`, for each part of which there is a way. `first` says what goes
+-- by the first type.
+abbrev mutual
+  pub is_by_second : (kind first : Expanded → Bool) → Expanded → Bool
+  is_by_second kind first everything = true
+  is_by_second kind first (some_of qs) = is_by_some kind first qs
+  is_by_second kind first (each_of qs) = is_by_each kind first qs
+  is_by_second kind first (null_or b) = kind (null_or b) || is_by_second kind first b
+  is_by_second kind first (token_or ys b) = kind (token_or ys b) || is_by_second kind first b
+  is_by_second kind first b = kind b
+
+  pub is_by_some : (kind first : Expanded → Bool) → ExpandedTypes → Bool
+  is_by_some kind first none = false
+  is_by_some kind first (part b qs) = is_by_second kind first b || is_by_some kind first qs
+
+  pub is_by_each : (kind first : Expanded → Bool) → ExpandedTypes → Bool
+  is_by_each kind first none = true
+  is_by_each kind first (part b qs) = (is_by_second kind first b || first b) && is_by_each kind first qs
+
+-- by the second type or by the first
+abbrev pub is_in_some_way : (kind first : Expanded → Bool) → Expanded → Bool
+is_in_some_way kind first b = is_by_second kind first b || first b
+
+abbrev mutual
   -- two types of one kind, by their arguments
-  pub is_of_kind : Expanded → Expanded → Bool
-  is_of_kind boolean boolean = true
-  is_of_kind symbols symbols = true
-  is_of_kind blank_area blank_area = true
-  is_of_kind command command = true
-  is_of_kind (integer low high) (integer low' high') = is_low_within low low' && is_high_within high high'
-  is_of_kind (string n) (string m) = is_length_within n m
-  is_of_kind (member cs) (member ds) = all_among cs ds
-  is_of_kind (subset cs) (subset ds) = all_among cs ds
-  is_of_kind (sequence a) (sequence b) = is_subtype a b
-  is_of_kind (null_or a) (null_or b) = is_subtype a b
-  is_of_kind (token_or xs a) (token_or ys b) = all_tokens xs ys && is_subtype a b
-  is_of_kind (record_type x) (record_type y) = bytes_eq x y
-  is_of_kind (host x low high) (host y low' high') = bytes_eq x y && (int_eq low low' && int_eq high high')
-  is_of_kind (user x vs f a) (user y ws g b) = is_same_type (user x vs f a) (user y ws g b)
-  is_of_kind (unknown x vs) (unknown y ws) = bytes_eq x y && are_same_arguments vs ws
-  is_of_kind a b = false
+  pub is_by_kind : Expanded → Expanded → Bool
+  is_by_kind boolean boolean = true
+  is_by_kind symbols symbols = true
+  is_by_kind blank_area blank_area = true
+  is_by_kind command command = true
+  is_by_kind (integer low high) b = are_numbers_of low high b
+  is_by_kind (string n) (string m) = is_length_within n m
+  is_by_kind (member cs) (member ds) = all_among cs ds
+  is_by_kind (subset cs) (subset ds) = all_among cs ds
+  is_by_kind (sequence a) (sequence b) = is_in_some_way (is_by_kind a) (is_by_first a) b
+  is_by_kind (null_or a) (null_or b) = is_in_some_way (is_by_kind a) (is_by_first a) b
+  is_by_kind (token_or xs a) (token_or ys b) = all_tokens xs ys && is_in_some_way (is_by_kind a) (is_by_first a) b
+  is_by_kind (record_type x) (record_type y) = bytes_eq x y
+  is_by_kind (host x low high) (host y low' high') = bytes_eq x y && (int_eq low low' && int_eq high high')
+  is_by_kind (user x vs f a) (user y ws g b) = is_same_type (user x vs f a) (user y ws g b)
+  is_by_kind (unknown x vs) (unknown y ws) = bytes_eq x y && are_same_arguments vs ws
+  is_by_kind a b = false
 
   -- by the parts of the first type, or by what it inherits from
-  pub is_above_first : Expanded → Expanded → Bool
-  is_above_first nothing b = true
-  is_above_first (some_of ps) b = are_below ps b
-  is_above_first (each_of ps) b = is_some_below ps b
-  is_above_first (user x vs f a) b = is_subtype a b
-  is_above_first (host x low high) b = is_below_second (integer (Some low) (Some high)) b
-  is_above_first a b = false
-
-  -- by the second type: down to a type of the same kind, or to an `and`
-  pub is_below_second : Expanded → Expanded → Bool
-  is_below_second a everything = true
-  is_below_second a (some_of qs) = is_below_some a qs
-  is_below_second a (each_of qs) = is_below_each a qs
-  is_below_second a (null_or b) = is_of_kind a (null_or b) || is_below_second a b
-  is_below_second a (token_or ys b) = is_of_kind a (token_or ys b) || is_below_second a b
-  is_below_second a b = is_of_kind a b
+  pub is_by_first : Expanded → Expanded → Bool
+  is_by_first nothing b = true
+  is_by_first (some_of ps) b = are_all_below ps b
+  is_by_first (each_of ps) b = is_some_below ps b
+  is_by_first (user x vs f a) b = is_in_some_way (is_by_kind a) (is_by_first a) b
+  is_by_first (host x low high) b = is_in_some_way (are_numbers_of (Some low) (Some high)) (λ c. false) b
+  is_by_first a b = false
 
   -- each of the first types is a subtype
-  pub are_below : ExpandedTypes → Expanded → Bool
-  are_below none b = true
-  are_below (part a ps) b = is_subtype a b && are_below ps b
+  pub are_all_below : ExpandedTypes → Expanded → Bool
+  are_all_below none b = true
+  are_all_below (part a ps) b = is_in_some_way (is_by_kind a) (is_by_first a) b && are_all_below ps b
 
   -- some of the first types is one
   pub is_some_below : ExpandedTypes → Expanded → Bool
   is_some_below none b = false
-  is_some_below (part a ps) b = is_subtype a b || is_some_below ps b
+  is_some_below (part a ps) b = is_in_some_way (is_by_kind a) (is_by_first a) b || is_some_below ps b
 
-  -- a subtype of each of the second types
-  pub is_below_each : Expanded → ExpandedTypes → Bool
-  is_below_each a none = true
-  is_below_each a (part b qs) = is_subtype a b && is_below_each a qs
-
-  -- below some of the second types
-  pub is_below_some : Expanded → ExpandedTypes → Bool
-  is_below_some a none = false
-  is_below_some a (part b qs) = is_below_second a b || is_below_some a qs
+abbrev pub is_subtype : Expanded → Expanded → Bool
+is_subtype a b = is_in_some_way (is_by_kind a) (is_by_first a) b
 
 -- ---- the types of an application
 

@@ -1,14 +1,14 @@
 -- The history of the pane in the place of its name.
 use Rattle.std.proofs.Common.{◌≡◌, ◌<◌, ◌+◌, arith, length, ℕ, zero, suc, Bool, true, false, List, [], ◌∷◌, Option, Some, None, Result, Ok, Err, refl, sym, ◌∙◌, ap, subst}
 use Rattle.std.specs.List.{position_from}
-use Rattle.std.specs.Prelude.{IfOk, codes, if◌then◌else◌, option_map}
+use Rattle.std.specs.Prelude.{IfOk, codes, if◌then◌else◌, option_map, slice_get}
 use Rattle.cl_application.specs.declared.declarations.PaneDecl.{PaneDecl}
 use Rattle.cl_eval.specs.Slots.{Slots}
 use Rattle.cl_frame.specs.Frames.{marks_of_frame}
 use Rattle.cl_frame.specs.Panes.{PaneMarks}
 use Rattle.cl_frame.specs.declared.frames.Frame.{Frame}
 use Rattle.cl_session.specs.Handling.{HandlesTo, IsReply, KeepsSlots, ToldOf, world_at}
-use Rattle.cl_session.specs.Step.{Handled, history_rows, refuse, tell, tell_history}
+use Rattle.cl_session.specs.Step.{Handled, history_rows, refuse, tell, tell_history, with_pane}
 use Rattle.cl_session.specs.Telling.{TellsPane, is_pane_named, place_of_pane}
 use Rattle.cl_session.specs.World.{World}
 use Rattle.cl_session.specs.declared.handling.After.{After}
@@ -66,49 +66,59 @@ no_pane d e = cc
 no_marks : (m : PaneMarks) → ◌≡◌ {A = Option PaneMarks} None (Some m) → ⊥
 no_marks m e = cc
 
--- the pane in front
-first_told : (ds : List PaneDecl) (ms : List PaneMarks) (d : PaneDecl) (m : PaneMarks) (k : ℕ) (lines : List (List ℕ)) → zero ≡ k
-    → TellsPane (d ∷ ds) (m ∷ ms) k lines → history_rows d.name m ≡ lines
-first_told ds ms d m zero lines e t =
-    ap (λ (x : PaneDecl). history_rows x.name m) (pane_same d t.declared t.declares)
-    ∙ (ap (λ (x : PaneMarks). history_rows t.declared.name x) (marks_same m t.shown t.stands) ∙ sym t.tells)
-first_told ds ms d m (suc k) lines e t = cc
+-- ---- the first pane of a name
 
-later_told : (ds : List PaneDecl) (ms : List PaneMarks) (d : PaneDecl) (m : PaneMarks) (k : ℕ) (lines : List (List ℕ))
-    → TellsPane (d ∷ ds) (m ∷ ms) (suc k) lines → TellsPane ds ms k lines
-later_told ds ms d m k lines t = record { declared = t.declared; shown = t.shown; declares = t.declares; stands = t.stands; tells = t.tells }
+module _ (does : PaneDecl → PaneMarks → Handled) (w : World) (name : List ℕ) where
+  first_pane : (ds : List PaneDecl) (ms : List PaneMarks) (d x : PaneDecl) (m y : PaneMarks) (k : ℕ) → zero ≡ k
+      → slice_get (d ∷ ds) k ≡ Some x → slice_get (m ∷ ms) k ≡ Some y → does d m ≡ does x y
+  first_pane ds ms d x m y zero e f h = ap (λ (z : PaneDecl). does z m) (pane_same d x f) ∙ ap (does x) (marks_same m y h)
+  first_pane ds ms d x m y (suc k) e f h = cc
 
-history_by : (w : World) (ds : List PaneDecl) (ms : List PaneMarks) (name : List ℕ) (d : PaneDecl) (m : PaneMarks) (k : ℕ) (lines : List (List ℕ)) (b : Bool)
-    → ((j : ℕ) → place_of_pane name ds ≡ Some j → TellsPane ds ms j lines → tell_history w ds ms name ≡ tell w 0 lines)
-    → (if b then Some 0 else position_from (is_pane_named name) 1 ds) ≡ Some k → TellsPane (d ∷ ds) (m ∷ ms) k lines
-    → (if b then tell w 0 (history_rows d.name m) else tell_history w ds ms name) ≡ tell w 0 lines
-history_by w ds ms name d m k lines true later e t = ap (λ (ls : List (List ℕ)). tell w 0 ls) (first_told ds ms d m k lines (place_same zero k e) t)
-history_by w ds ms name d m k lines false later e t =
-    let before = place_before (place_of_pane name ds) k (sym (shift (is_pane_named name) 0 ds) ∙ e) in
-    later before.0 before.1
-    (later_told ds ms d m before.0 lines (subst (λ (n : ℕ). TellsPane (d ∷ ds) (m ∷ ms) n lines) (sym before.2) t))
+  found_by : (ds : List PaneDecl) (ms : List PaneMarks) (d x : PaneDecl) (m y : PaneMarks) (k : ℕ) (b : Bool)
+      → ((j : ℕ) → place_of_pane name ds ≡ Some j → slice_get ds j ≡ Some x → slice_get ms j ≡ Some y → with_pane does w ds ms name ≡ does x y)
+      → (if b then Some 0 else position_from (is_pane_named name) 1 ds) ≡ Some k → slice_get (d ∷ ds) k ≡ Some x → slice_get (m ∷ ms) k ≡ Some y
+      → (if b then does d m else with_pane does w ds ms name) ≡ does x y
+  found_by ds ms d x m y k true later e f h = first_pane ds ms d x m y k (place_same zero k e) f h
+  found_by ds ms d x m y k false later e f h =
+      let before = place_before (place_of_pane name ds) k (sym (shift (is_pane_named name) 0 ds) ∙ e) in
+      later before.0 before.1
+      (subst (λ (n : ℕ). slice_get (d ∷ ds) n ≡ Some x) (sym before.2) f)
+      (subst (λ (n : ℕ). slice_get (m ∷ ms) n ≡ Some y) (sym before.2) h)
+
+  -- the pane in the place of this name
+  pub pane_found : (ds : List PaneDecl) (ms : List PaneMarks) (k : ℕ) (x : PaneDecl) (y : PaneMarks) → place_of_pane name ds ≡ Some k
+      → slice_get ds k ≡ Some x → slice_get ms k ≡ Some y → with_pane does w ds ms name ≡ does x y
+  pane_found [] ms k x y e f h = absurd (no_place k e)
+  pane_found (d ∷ ds) [] k x y e f h = absurd (no_marks y h)
+  pane_found (d ∷ ds) (m ∷ ms) k x y e f h =
+      found_by ds ms d x m y k (is_pane_named name d) (λ j a b c. pane_found ds ms j x y a b c) e f h
+
+  missing_by : (ds : List PaneDecl) (ms : List PaneMarks) (here : Handled) (b : Bool)
+      → (place_of_pane name ds ≡ None → with_pane does w ds ms name ≡ refuse w 0 (codes "! pane"))
+      → (if b then Some 0 else position_from (is_pane_named name) 1 ds) ≡ None
+      → (if b then here else with_pane does w ds ms name) ≡ refuse w 0 (codes "! pane")
+  missing_by ds ms here true later e = absurd (no_place zero (sym e))
+  missing_by ds ms here false later e = later (none_before (place_of_pane name ds) (sym (shift (is_pane_named name) 0 ds) ∙ e))
+
+  -- no pane has this name
+  pub pane_missing : (ds : List PaneDecl) (ms : List PaneMarks) → place_of_pane name ds ≡ None → with_pane does w ds ms name ≡ refuse w 0 (codes "! pane")
+  pane_missing [] ms e = refl
+  pane_missing (d ∷ ds) [] e = refl
+  pane_missing (d ∷ ds) (m ∷ ms) e = missing_by ds ms (does d m) (is_pane_named name d) (λ f. pane_missing ds ms f) e
+
+-- ---- histories
 
 -- the history of the pane in the place of this name
 pub history_told : (w : World) (ds : List PaneDecl) (ms : List PaneMarks) (name : List ℕ) (k : ℕ) (lines : List (List ℕ))
     → place_of_pane name ds ≡ Some k → TellsPane ds ms k lines → tell_history w ds ms name ≡ tell w 0 lines
-history_told w [] ms name k lines e t = absurd (no_place k e)
-history_told w (d ∷ ds) [] name k lines e t = absurd (no_marks t.shown t.stands)
-history_told w (d ∷ ds) (m ∷ ms) name k lines e t =
-    history_by w ds ms name d m k lines (is_pane_named name d) (λ j f u. history_told w ds ms name j lines f u) e t
-
-refused_by : (w : World) (ds : List PaneDecl) (ms : List PaneMarks) (name : List ℕ) (here : Handled) (b : Bool)
-    → (place_of_pane name ds ≡ None → tell_history w ds ms name ≡ refuse w 0 (codes "! pane"))
-    → (if b then Some 0 else position_from (is_pane_named name) 1 ds) ≡ None
-    → (if b then here else tell_history w ds ms name) ≡ refuse w 0 (codes "! pane")
-refused_by w ds ms name here true later e = absurd (no_place zero (sym e))
-refused_by w ds ms name here false later e = later (none_before (place_of_pane name ds) (sym (shift (is_pane_named name) 0 ds) ∙ e))
+history_told w ds ms name k lines e t =
+    pane_found (λ d m. tell w 0 (history_rows d.name m)) w name ds ms k t.declared t.shown e t.declares t.stands
+    ∙ ap (λ (ls : List (List ℕ)). tell w 0 ls) (sym t.tells)
 
 -- no pane has this name
 pub history_refused : (w : World) (ds : List PaneDecl) (ms : List PaneMarks) (name : List ℕ) → place_of_pane name ds ≡ None
     → tell_history w ds ms name ≡ refuse w 0 (codes "! pane")
-history_refused w [] ms name e = refl
-history_refused w (d ∷ ds) [] name e = refl
-history_refused w (d ∷ ds) (m ∷ ms) name e = refused_by w ds ms name (tell w 0 (history_rows d.name m)) (is_pane_named name d) (λ f. history_refused w ds ms name f) e
+history_refused w ds ms name e = pane_missing (λ d m. tell w 0 (history_rows d.name m)) w name ds ms e
 
 cost_by : (w : World) (here there : Handled) (b : Bool) → here.cost ≡ 0 → there.cost ≡ 0 → (if b then here else there).cost ≡ 0
 cost_by w here there true e f = e

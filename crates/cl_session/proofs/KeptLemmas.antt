@@ -1,7 +1,8 @@
 -- What a handling keeps of its world.
-use Rattle.std.proofs.Common.{◌≡◌, ℕ, Bool, true, false, List, [], ◌∷◌, ◌++◌, length, get_or, Option, Some, None, arith, refl, ap}
+use Rattle.std.proofs.Common.{◌≡◌, ◌==◌, ℕ, Bool, true, false, List, [], ◌∷◌, ◌++◌, length, get_or, Option, Some, None, arith, refl, ap}
 use Rattle.std.specs.Prelude.{nat_le, codes, if◌then◌else◌}
 use Rattle.std.specs.Str.{str_eq_ignore_ascii_case}
+use Rattle.cl_application.specs.App.{command_named}
 use Rattle.cl_application.specs.Panes.{panes_of}
 use Rattle.cl_application.specs.declared.declarations.CommandDecl.{CommandDecl}
 use Rattle.cl_application.specs.declared.declarations.PaneDecl.{PaneDecl}
@@ -11,6 +12,7 @@ use Rattle.cl_frame.specs.Ground.{Ground}
 use Rattle.cl_frame.specs.Panes.{PaneMarks}
 use Rattle.cl_gesture.specs.declared.answers.Gesture.{Gesture}
 use Rattle.cl_gesture.specs.declared.answers.Gesture.TheVariants as gesture
+use Rattle.cl_gesture.specs.declared.answers.PointAt.{PointAt}
 use Rattle.cl_line.specs.Elements.{typed}
 use Rattle.cl_line.specs.Lines.{without_last}
 use Rattle.cl_line.specs.declared.elements.Element.{Element}
@@ -20,8 +22,12 @@ use Rattle.cl_parser.specs.declared.parsing.Parsed.{Parsed}
 use Rattle.cl_parser.specs.declared.parsing.Parsed.TheVariants as parsed
 use Rattle.cl_session.specs.Handling.{KeepsSlots}
 use Rattle.cl_session.specs.Naming.{command_of_line, command_of_stroke}
+use Rattle.cl_session.specs.Pointing.{TypedArgument, chosen_at, is_within, line_with, typed_in, values_in}
 use Rattle.cl_session.specs.Step.{Handled, bad_line, command_outcome, command_trap_line, finish_by, finish_named, finish_parsed, handled, handled_or_not, history_rows, is_on, need_line, parsed_line, refuse, run_command, stroke_by, stroke_parsed, tell, tell_history}
+use Rattle.cl_session.specs.Step.{act_on, got_line, point_at, run_chosen, run_named, take_object, with_pane}
 use Rattle.cl_session.specs.World.{World}
+use Rattle.cl_translate.specs.Choices.{Given}
+use Rattle.cl_value.specs.Data.{Data, symbol, list, item}
 
 -- The panes stay; slots change only where a command commits; and where the one reply is the line of a trap, slots, line and what is enabled
 -- stay.
@@ -89,12 +95,52 @@ keeps_pressed g w (Some command) =
     keeps_if w (is_on w command) (stroke_parsed g w command (without_tokens g.app 0 [] (decls_of command.arguments))) (refuse w 0 (codes "! disabled"))
     (keeps_stroke g w command (without_tokens g.app 0 [] (decls_of command.arguments))) (disabled_told w)
 
+keeps_pane : (does : PaneDecl → PaneMarks → Handled) (w : World) (ds : List PaneDecl) (ms : List PaneMarks) (name : List ℕ)
+    → ((d : PaneDecl) (m : PaneMarks) → Keeps w (does d m)) → Keeps w (with_pane does w ds ms name)
+keeps_pane does w [] ms name each = keeps_told w 0 (codes "! pane" ∷ [])
+keeps_pane does w (d ∷ ds) [] name each = keeps_told w 0 (codes "! pane" ∷ [])
+keeps_pane does w (d ∷ ds) (m ∷ ms) name each =
+    keeps_if w (str_eq_ignore_ascii_case name d.name) (does d m) (with_pane does w ds ms name) (each d m) (keeps_pane does w ds ms name each)
+
 keeps_history : (w : World) (ds : List PaneDecl) (ms : List PaneMarks) (name : List ℕ) → Keeps w (tell_history w ds ms name)
-keeps_history w [] ms name = keeps_told w 0 (codes "! pane" ∷ [])
-keeps_history w (d ∷ ds) [] name = keeps_told w 0 (codes "! pane" ∷ [])
-keeps_history w (d ∷ ds) (m ∷ ms) name =
-    keeps_if w (str_eq_ignore_ascii_case name d.name) (tell w 0 (history_rows d.name m)) (tell_history w ds ms name)
-    (keeps_told w 0 (history_rows d.name m)) (keeps_history w ds ms name)
+keeps_history w ds ms name = keeps_pane (λ d m. tell w 0 (history_rows d.name m)) w ds ms name (λ d m. keeps_told w 0 (history_rows d.name m))
+
+-- ---- the pointer
+
+-- that an object was taken is not the line of a trap
+got_is_no_trap : (number kind : ℕ) → ◌≡◌ {A = List (List ℕ)} (got_line number ∷ []) (command_trap_line kind ∷ []) → ⊥
+got_is_no_trap number kind e =
+    let first = ap (λ (l : List (List ℕ)). get_or (get_or l 0 []) 0 0) e in omega (arith, first)
+
+keeps_none : (w : World) → Keeps w (refuse w 0 (codes "! none"))
+keeps_none w = keeps_told w 0 (codes "! none" ∷ [])
+
+keeps_taken : (w : World) (t : TypedArgument) (d : Data) → Keeps w (take_object w t d)
+keeps_taken w t d =
+    keeps_if w (nat_le (length (line_with t d w.line)) MAX_ELEMENTS) (tell (record w { line = line_with t d w.line }) 0 (got_line t.number ∷ []))
+    (refuse w 0 (codes "! full"))
+    (record { panes = refl; slots = refl; trapped = λ kind e. absurd (got_is_no_trap t.number kind e) })
+    (keeps_told w 0 (codes "! full" ∷ []))
+
+keeps_run_named : (g : Ground) (w : World) (ds : List Data) (c : Option CommandDecl) → Keeps w (run_named g w ds c)
+keeps_run_named g w ds None = keeps_none w
+keeps_run_named g w ds (Some command) = keeps_run command.line_name w (command_outcome g command ds w.slots)
+
+keeps_chosen : (g : Ground) (w : World) (d : Data) → Keeps w (run_chosen g w d)
+keeps_chosen g w (list (item (symbol x) ds)) = keeps_run_named g w (values_in ds) (command_named x g.app)
+keeps_chosen g w d = keeps_none w
+
+keeps_acted : (g : Ground) (w : World) (t : Option TypedArgument) (r : Option Given) → Keeps w (act_on g w t r)
+keeps_acted g w None None = keeps_none w
+keeps_acted g w (Some t) None = keeps_none w
+keeps_acted g w None (Some r) = keeps_chosen g w r.value
+keeps_acted g w (Some t) (Some r) =
+    keeps_if w (r.number == 0) (take_object w t r.value) (run_chosen g w r.value) (keeps_taken w t r.value) (keeps_chosen g w r.value)
+
+keeps_pointed : (g : Ground) (w : World) (p : PointAt) (d : PaneDecl) (m : PaneMarks) → Keeps w (point_at g w p d m)
+keeps_pointed g w p d m =
+    keeps_if w (is_within d p.x p.y) (act_on g w (typed_in g.app w.line) (chosen_at g w p d m)) (refuse w 0 (codes "! outside"))
+    (keeps_acted g w (typed_in g.app w.line) (chosen_at g w p d m)) (keeps_told w 0 (codes "! outside" ∷ []))
 
 pub keeps_handled : (g : Ground) (w : World) (act : Gesture) → Keeps w (handled g w act)
 keeps_handled g w (gesture.«Type» text) =
@@ -107,6 +153,7 @@ keeps_handled g w gesture.Frame = keeps_told w 0 (handled g w gesture.Frame).rep
 keeps_handled g w gesture.Inks = keeps_told w 0 (handled g w gesture.Inks).replies
 keeps_handled g w (gesture.Stroke name) = keeps_pressed g w (command_of_stroke g.app name)
 keeps_handled g w (gesture.History name) = keeps_history w (panes_of g.app) w.panes name
+keeps_handled g w (gesture.Point p) = keeps_pane (point_at g w p) w (panes_of g.app) w.panes p.pane (keeps_pointed g w p)
 keeps_handled g w gesture.Force = record { panes = refl; slots = refl; trapped = λ kind e. (refl, refl, refl) }
 
 pub keeps_handled_or_not : (g : Ground) (w : World) (act : Gesture) (met : Bool) → Keeps w (handled_or_not g w act met)

@@ -15,3 +15,4 @@ pub mod CountedLemmas
 pub mod BindingLemmas
 pub mod EnabledLemmas
 pub mod RunLemmas
+pub mod PointingLemmas

@@ -1,8 +1,9 @@
 -- What met want of memory in a gesture, and whether the device failed, is told by its lines.
-use Rattle.std.proofs.Common.{◌≡◌, ℕ, zero, suc, ◌+◌, ◌≤◌, Bool, true, false, List, [], ◌∷◌, ◌++◌, length, length-append, append_assoc, get_or, map, Option, Some, None, refl, sym, ◌∙◌, ap, arith}
+use Rattle.std.proofs.Common.{◌≡◌, ◌==◌, ℕ, zero, suc, ◌+◌, ◌≤◌, Bool, true, false, List, [], ◌∷◌, ◌++◌, length, length-append, append_assoc, get_or, map, Option, Some, None, refl, sym, ◌∙◌, ap, arith}
 use Rattle.std.specs.Prelude.{codes, nat_le, if◌then◌else◌}
 use Rattle.std.specs.Fmt.{decimal}
 use Rattle.std.specs.Str.{str_eq_ignore_ascii_case}
+use Rattle.cl_application.specs.App.{command_named}
 use Rattle.cl_application.specs.Panes.{panes_of}
 use Rattle.cl_application.specs.declared.declarations.CommandDecl.{CommandDecl}
 use Rattle.cl_application.specs.declared.declarations.PaneDecl.{PaneDecl}
@@ -17,6 +18,7 @@ use Rattle.cl_frame.specs.Settling.{PaneStep, is_due, marks_after, report_after,
 use Rattle.cl_frame.specs.declared.settling.Which.{Which}
 use Rattle.cl_gesture.specs.declared.answers.Gesture.{Gesture}
 use Rattle.cl_gesture.specs.declared.answers.Gesture.TheVariants as gesture
+use Rattle.cl_gesture.specs.declared.answers.PointAt.{PointAt}
 use Rattle.cl_line.specs.Elements.{typed}
 use Rattle.cl_line.specs.declared.lines.TheConstants.{MAX_ELEMENTS}
 use Rattle.cl_record.specs.Counts.{count_of}
@@ -26,8 +28,12 @@ use Rattle.cl_parser.specs.Parses.{decls_of, without_tokens}
 use Rattle.cl_parser.specs.declared.parsing.Parsed.{Parsed}
 use Rattle.cl_parser.specs.declared.parsing.Parsed.TheVariants as parsed
 use Rattle.cl_session.specs.Naming.{command_of_line, command_of_stroke}
+use Rattle.cl_session.specs.Pointing.{TypedArgument, chosen_at, is_within, line_with, typed_in, values_in}
+use Rattle.cl_session.specs.Step.{act_on, got_line, point_at, run_chosen, run_named, take_object, with_pane}
 use Rattle.cl_session.specs.Step.{Handled, bad_line, command_outcome, command_trap_line, finish_by, finish_parsed, handled, is_on, need_line, parsed_line, stroke_by, stroke_parsed, handled_or_not, history_rows, memory_line, next_behind, pane_lines, refuse, report_line, report_lines, report_tail, run_command, settled_behind, shown_in, tell, tell_history, trap_line, which_after, wire_lines}
 use Rattle.cl_session.specs.World.{World}
+use Rattle.cl_translate.specs.Choices.{Given}
+use Rattle.cl_value.specs.Data.{Data, symbol, list, item}
 
 abbrev memory_said : List ℕ
 memory_said = codes "! memory"
@@ -249,11 +255,43 @@ not_pressed g w (Some command) =
 not_rows : (name : List ℕ) (marks : PaneMarks) → IsNotMemory (history_rows name marks)
 not_rows name marks = differ_at 0 memory_said (codes "history " ++ (name ++ 32 ∷ _)) (λ no. omega (arith, no))
 
+not_with : (does : PaneDecl → PaneMarks → Handled) (w : World) (ds : List PaneDecl) (ms : List PaneMarks) (name : List ℕ)
+    → ((d : PaneDecl) (m : PaneMarks) → IsNotMemory (does d m).replies) → IsNotMemory (with_pane does w ds ms name).replies
+not_with does w [] ms name each = not_pane
+not_with does w (d ∷ ds) [] name each = not_pane
+not_with does w (d ∷ ds) (m ∷ ms) name each =
+    not_memory_if (str_eq_ignore_ascii_case name d.name) (does d m) (with_pane does w ds ms name) (each d m) (not_with does w ds ms name each)
+
 not_history : (w : World) (ds : List PaneDecl) (ms : List PaneMarks) (name : List ℕ) → IsNotMemory (tell_history w ds ms name).replies
-not_history w [] ms name = not_pane
-not_history w (d ∷ ds) [] name = not_pane
-not_history w (d ∷ ds) (m ∷ ms) name =
-    not_memory_if (str_eq_ignore_ascii_case name d.name) (tell w 0 (history_rows d.name m)) (tell_history w ds ms name) (not_rows d.name m) (not_history w ds ms name)
+not_history w ds ms name = not_with (λ d m. tell w 0 (history_rows d.name m)) w ds ms name (λ d m. not_rows d.name m)
+
+not_none : IsNotMemory (codes "! none" ∷ [])
+not_none = differ_at 2 memory_said (codes "! none") (λ no. omega (arith, no))
+
+not_taken : (w : World) (t : TypedArgument) (d : Data) → IsNotMemory (take_object w t d).replies
+not_taken w t d =
+    not_memory_if (nat_le (length (line_with t d w.line)) MAX_ELEMENTS) (tell (record w { line = line_with t d w.line }) 0 (got_line t.number ∷ []))
+    (refuse w 0 (codes "! full")) (differ_at 0 memory_said (got_line t.number) (λ no. omega (arith, no))) not_full
+
+not_run_named : (g : Ground) (w : World) (ds : List Data) (c : Option CommandDecl) → IsNotMemory (run_named g w ds c).replies
+not_run_named g w ds None = not_none
+not_run_named g w ds (Some command) = not_run command.line_name w (command_outcome g command ds w.slots)
+
+not_chosen : (g : Ground) (w : World) (d : Data) → IsNotMemory (run_chosen g w d).replies
+not_chosen g w (list (item (symbol x) ds)) = not_run_named g w (values_in ds) (command_named x g.app)
+not_chosen g w d = not_none
+
+not_acted : (g : Ground) (w : World) (t : Option TypedArgument) (r : Option Given) → IsNotMemory (act_on g w t r).replies
+not_acted g w None None = not_none
+not_acted g w (Some t) None = not_none
+not_acted g w None (Some r) = not_chosen g w r.value
+not_acted g w (Some t) (Some r) =
+    not_memory_if (r.number == 0) (take_object w t r.value) (run_chosen g w r.value) (not_taken w t r.value) (not_chosen g w r.value)
+
+not_pointed : (g : Ground) (w : World) (p : PointAt) (d : PaneDecl) (m : PaneMarks) → IsNotMemory (point_at g w p d m).replies
+not_pointed g w p d m =
+    not_memory_if (is_within d p.x p.y) (act_on g w (typed_in g.app w.line) (chosen_at g w p d m)) (refuse w 0 (codes "! outside"))
+    (not_acted g w (typed_in g.app w.line) (chosen_at g w p d m)) (differ_at 2 memory_said (codes "! outside") (λ no. omega (arith, no)))
 
 not_digits : (panes : List Shown) (y x count : ℕ) → memory_said ≡ row_from digit_in panes y x count → ⊥
 not_digits panes y x zero e = no_first 33 _ (sym e)
@@ -348,6 +386,9 @@ apart_told g w (gesture.Stroke name) ms ns x y e =
 apart_told g w (gesture.History name) ms ns x y e =
     let h = handled g w (gesture.History name) in
     absurd (told_apart g h ns y h.replies _ (not_history w (panes_of g.app) w.panes name) e)
+apart_told g w (gesture.Point p) ms ns x y e =
+    let h = handled g w (gesture.Point p) in
+    absurd (told_apart g h ns y h.replies _ (not_with (point_at g w p) w (panes_of g.app) w.panes p.pane (not_pointed g w p)) e)
 apart_told g w gesture.Force ms ns x y e =
     let h = handled g w gesture.Force in
     absurd (told_apart g h ns y h.replies _ tt e)

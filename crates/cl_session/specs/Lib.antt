@@ -1,7 +1,10 @@
 pub mod World
 pub mod Current
 pub mod Naming
+pub mod Accessible
+pub mod Pointing
 pub mod Step
+pub mod Targets
 pub mod Replies
 pub mod Handling
 pub mod Telling

@@ -11,7 +11,7 @@ use Rattle.cl_session.specs.declared.answers.Replies.{Replies}
 use Rattle.cl_session.specs.declared.sessions.Session.{Session}
 use Rattle.cl_session.specs.Current.{IsCurrent}
 use Rattle.cl_session.specs.Handling.{world_at}
-use Rattle.cl_session.specs.Naming.{sight_in}
+use Rattle.cl_session.specs.Accessible.{IsAccessible}
 use Rattle.cl_session.specs.Replies.{met_of, own_lines}
 use Rattle.cl_session.specs.Step.{handled_or_not, next, settled_behind}
 use Rattle.cl_session.specs.World.{World, cost_of_pane}
@@ -19,10 +19,10 @@ use Rattle.cl_session.specs.World.{World, cost_of_pane}
 abbrev pub world_of : Session → Slots → World
 world_of session slots = world_at slots session.desk session.frame
 
--- A session fits an application and slots: it has what the application's command table sees; its frame is that of the application, with the
+-- A session fits an application and slots: it has what is accessible from the application's command table; its frame is that of the application, with the
 -- cells of its histories on the screen; and each pane has the script of its display on these slots, or is blank for want of memory.
 pub record Fits (g : Ground) (slots : Slots) (session : Session) : Type 0 where
-  pub tables : session.tables ≡ sight_in g.app
+  pub accessible : IsAccessible g.app session.accessible
   pub frame : IsFrameOf g.app session.frame
   pub current : IsCurrent g (world_of session slots)
 

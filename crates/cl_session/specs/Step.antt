@@ -1,7 +1,8 @@
 -- The step of a world by a gesture: the next world and the lines that are said of it.
-use Rattle.std.specs.Prelude.{ℕ, ◌+◌, Bool, true, false, nat_le, if◌then◌else◌, List, [], ◌∷◌, ◌++◌, length, map, Option, Some, None, option_map, unwrap_or, codes}
+use Rattle.std.specs.Prelude.{ℕ, ◌+◌, ◌==◌, Bool, true, false, nat_le, if◌then◌else◌, List, [], ◌∷◌, ◌++◌, length, map, Option, Some, None, option_map, unwrap_or, codes}
 use Rattle.std.specs.Fmt.{decimal}
 use Rattle.std.specs.Str.{bytes_eq, str_eq_ignore_ascii_case}
+use Rattle.cl_application.specs.App.{command_named}
 use Rattle.cl_application.specs.Panes.{panes_of}
 use Rattle.cl_application.specs.declared.declarations.ArgumentDecl.{ArgumentDecl}
 use Rattle.cl_application.specs.declared.declarations.CommandDecl.{CommandDecl}
@@ -22,6 +23,7 @@ use Rattle.cl_frame.specs.declared.settling.Which.{Which}
 use Rattle.cl_frame.specs.declared.settling.Which.TheVariants as which
 use Rattle.cl_gesture.specs.declared.answers.Gesture.{Gesture}
 use Rattle.cl_gesture.specs.declared.answers.Gesture.TheVariants as gesture
+use Rattle.cl_gesture.specs.declared.answers.PointAt.{PointAt}
 use Rattle.cl_line.specs.Elements.{typed}
 use Rattle.cl_line.specs.Lines.{without_last}
 use Rattle.cl_line.specs.declared.lines.TheConstants.{MAX_ELEMENTS}
@@ -33,9 +35,11 @@ use Rattle.cl_parser.specs.declared.parsing.Parsed.TheVariants as parsed
 use Rattle.cl_session.specs.declared.handling.After.{After}
 use Rattle.cl_session.specs.declared.handling.After.TheVariants as after
 use Rattle.cl_session.specs.Naming.{command_of_line, command_of_stroke, tokens_of_line}
+use Rattle.cl_session.specs.Pointing.{TypedArgument, chosen_at, is_within, line_with, typed_in, values_in}
 use Rattle.cl_session.specs.World.{Enabled, World}
 use Rattle.cl_table.specs.Names.{declared_at}
-use Rattle.cl_value.specs.Data.{Data}
+use Rattle.cl_translate.specs.Choices.{Given}
+use Rattle.cl_value.specs.Data.{Data, symbol, list, item}
 
 -- What met want of memory in a gesture: its handling, and the settling of each pane, in order; and whether the device failed.
 pub record Met : Type 0 where
@@ -206,12 +210,51 @@ headed_lines name lines = (codes "history " ++ name ++ 32 ∷ decimal (length li
 abbrev pub history_rows : List ℕ → PaneMarks → List (List ℕ)
 history_rows name marks = headed_lines name (lines_from item_line 0 (marks_in marks))
 
--- the history of the first pane of this name, without regard to case
+-- what is done with the first pane of this name, without regard to case
+abbrev pub with_pane : (PaneDecl → PaneMarks → Handled) → World → List PaneDecl → List PaneMarks → List ℕ → Handled
+with_pane does w [] marks name = refuse w 0 (codes "! pane")
+with_pane does w (d ∷ ds) [] name = refuse w 0 (codes "! pane")
+with_pane does w (d ∷ ds) (m ∷ ms) name = if str_eq_ignore_ascii_case name d.name then does d m else with_pane does w ds ms name
+
+-- the history of a pane
 abbrev pub tell_history : World → List PaneDecl → List PaneMarks → List ℕ → Handled
-tell_history w [] marks name = refuse w 0 (codes "! pane")
-tell_history w (d ∷ ds) [] name = refuse w 0 (codes "! pane")
-tell_history w (d ∷ ds) (m ∷ ms) name =
-    if str_eq_ignore_ascii_case name d.name then tell w 0 (history_rows d.name m) else tell_history w ds ms name
+tell_history w ds ms name = with_pane (λ d m. tell w 0 (history_rows d.name m)) w ds ms name
+
+-- ---- the pointer
+
+-- the reply to an object for an argument
+abbrev pub got_line : ℕ → List ℕ
+got_line number = codes "got " ++ decimal number
+
+-- an object is put into the line, where that has room for it
+abbrev pub take_object : World → TypedArgument → Data → Handled
+take_object w t d =
+    if nat_le (length (line_with t d w.line)) MAX_ELEMENTS
+    then tell (record w { line = line_with t d w.line }) 0 (got_line t.number ∷ [])
+    else refuse w 0 (codes "! full")
+
+abbrev pub run_named : Ground → World → List Data → Option CommandDecl → Handled
+run_named g w ds None = refuse w 0 (codes "! none")
+run_named g w ds (Some command) = run_command command.line_name w (command_outcome g command ds w.slots)
+
+-- a command with all its arguments is run; what is none is not
+abbrev pub run_chosen : Ground → World → Data → Handled
+run_chosen g w (list (item (symbol x) ds)) = run_named g w (values_in ds) (command_named x g.app)
+run_chosen g w d = refuse w 0 (codes "! none")
+
+-- what is chosen for an argument is put into the line, and a command is run
+abbrev pub act_on : Ground → World → Option TypedArgument → Option Given → Handled
+act_on g w t None = refuse w 0 (codes "! none")
+act_on g w None (Some r) = run_chosen g w r.value
+act_on g w (Some t) (Some r) = if r.number == 0 then take_object w t r.value else run_chosen g w r.value
+
+abbrev pub point_at : Ground → World → PointAt → PaneDecl → PaneMarks → Handled
+point_at g w p d m =
+    if is_within d p.x p.y then act_on g w (typed_in g.app w.line) (chosen_at g w p d m) else refuse w 0 (codes "! outside")
+
+-- a place of the pane of this name is pointed at
+abbrev pub point : Ground → World → PointAt → Handled
+point g w p = with_pane (point_at g w p) w (panes_of g.app) w.panes p.pane
 
 abbrev pub handled : Ground → World → Gesture → Handled
 handled g w (gesture.«Type» text) = type_text w text
@@ -222,6 +265,7 @@ handled g w gesture.Frame = tell w 0 (glyph_rows g w)
 handled g w gesture.Inks = tell w 0 (ink_rows g w)
 handled g w (gesture.Stroke name) = press g w name
 handled g w (gesture.History name) = tell_history w (panes_of g.app) w.panes name
+handled g w (gesture.Point p) = point g w p
 handled g w gesture.Force = record { replies = []; world = w; after = after.Force; cost = 0 }
 
 -- a handling that met want of memory changes nothing

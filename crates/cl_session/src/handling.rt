@@ -4,10 +4,12 @@ ghost use Rattle.cl_eval.specs.Outcome.{RisesBy};
 ghost use Rattle.cl_application.specs.Panes.{panes_of};
 ghost use Rattle.cl_frame.specs.Frames.{IsFrameOf, marks_of_frame};
 ghost use Rattle.cl_frame.specs.Ground.{ground_of};
-ghost use Rattle.cl_session.specs.Naming.{sight_in};
+ghost use Rattle.cl_session.specs.Accessible.{IsAccessible};
 ghost use Rattle.cl_session.specs.Step.{clear_line, handled, rub_out, tell_history, type_text, which_after};
 ghost use Rattle.cl_session.specs.Handling.{HandlesTo, IsReply, ToldOf, after_of, handling_met, world_at};
 
+use crate::accessible::Accessible;
+use crate::pointing::point;
 use crate::running::{finish_line, press};
 use crate::telling::{frame_lines, history_lines, ink_lines, place_of_pane};
 use cl_application::App;
@@ -16,7 +18,7 @@ use cl_frame::{Frame, Which};
 use cl_gesture::Gesture;
 use cl_line::{Line, Pushed};
 use cl_outside::{Ledger, Steps};
-use cl_tables::{Enabled, Tables};
+use cl_tables::Enabled;
 use cl_value::Text;
 use std::alloc::{AllocError, Global};
 
@@ -65,14 +67,14 @@ impl Handling {
 pub fn handle<T: Types, L: Ledger>(
     program: &Program<'_, T>,
     gesture: &Gesture,
-    tables: &Tables,
+    accessible: &Accessible,
     frame: &Frame,
     slots: &mut Slots,
     desk: &mut Desk,
     steps: &mut Steps<L>,
 ) -> Handling
     requires depth { program.now.limits.depth ≤ 512 }
-    requires tables { tables.now ≡ sight_in program.now.app.now }
+    requires accessible { IsAccessible program.now.app.now accessible.now }
     requires frame { IsFrameOf program.now.app.now frame.now }
     ensures handles { HandlesTo (handled (ground_of T.holds T.presents T.reads T.hierarchy program.now)
         (world_at slots.old desk.old frame.now) gesture.now) frame.now result slots.old slots.new
@@ -84,14 +86,16 @@ pub fn handle<T: Types, L: Ledger>(
     let (alloc, app) = (program.alloc, program.app);
     match gesture {
         Gesture::Type(text) => type_text(alloc, text.as_slice(), frame, slots, desk),
-        Gesture::Return => finish_line(program, tables, frame, slots, desk, steps),
+        Gesture::Return => finish_line(program, &accessible.tables, frame, slots, desk, steps),
         Gesture::Rubout => rub_out(alloc, frame, slots, desk),
         Gesture::Clear => clear_line(alloc, frame, slots, desk),
         Gesture::Frame => told(frame_lines(alloc, app, frame)),
         Gesture::Inks => told(ink_lines(alloc, app, frame)),
         Gesture::Stroke(name) => {
+            let tables = &accessible.tables;
             press(program, tables, name.as_slice(), frame, slots, desk, steps)
         }
+        Gesture::Point(at) => point(program, at, accessible, frame, slots, desk, steps),
         Gesture::History(name) => tell_history(alloc, app, frame, name.as_slice(), slots, desk),
         Gesture::Force => Handling::Replied(Lines::new(alloc), After::Force),
     }

@@ -1,10 +1,12 @@
 //! A session: an application's frame between gestures, and the step by one gesture.
 #![tactic(auto)]
 
+mod accessible;
 mod answers;
 mod handling;
 mod laws;
 mod naming;
+mod pointing;
 mod running;
 mod serving;
 mod sessions;
@@ -12,6 +14,7 @@ mod speaking;
 mod telling;
 mod writing;
 
+pub use accessible::Accessible;
 pub use answers::Replies;
 pub use cl_eval::Lines;
 pub use cl_frame::{PaneReport, Report};

@@ -17,7 +17,7 @@ use cl_line::Line;
 use cl_outside::{Ledger, Steps};
 use cl_parser::{Parsed, Parser};
 use cl_tables::Tables;
-use cl_value::{Text, Value, Values};
+use cl_value::{Text, Value};
 use std::alloc::{AllocError, Global};
 
 /// What `return` does: the command that the line names is run with the arguments behind its name.
@@ -108,7 +108,7 @@ fn finish_parsed<T: Types, L: Ledger>(
 {
     match parsed {
         Parsed::Arguments(values) => {
-            run_command(program, command, &values, frame, slots, desk, steps)
+            run_command(program, command, values.as_slice(), frame, slots, desk, steps)
         }
         Parsed::Need(place) => told(need_lines(program.alloc, command, place)),
         Parsed::BadArg(number) => told(bad_lines(program.alloc, number)),
@@ -257,10 +257,10 @@ fn type_over(text: &[u8], line: &mut Line)
 }
 
 #[tactic(auto, using(crate::proofs::EnabledLemmas::are_switched))]
-fn run_command<T: Types, L: Ledger>(
+pub(crate) fn run_command<T: Types, L: Ledger>(
     program: &Program<'_, T>,
     command: &CommandDecl,
-    values: &Values,
+    values: &[Value],
     frame: &Frame,
     slots: &mut Slots,
     desk: &mut Desk,
@@ -269,13 +269,13 @@ fn run_command<T: Types, L: Ledger>(
     requires { program.now.limits.depth ≤ 512 }
     ensures handles { HandlesTo (run_command command.now.line_name
         (world_at slots.old desk.old frame.now)
-        (command_outcome (ground_of T.holds T.presents T.reads T.hierarchy program.now) command.now values.now slots.old))
+        (command_outcome (ground_of T.holds T.presents T.reads T.hierarchy program.now) command.now (map data_of values.now) slots.old))
         frame.now result slots.old slots.new desk.old desk.new }
     ensures ledger { RisesBy (handling_met result) steps.old steps.new
         (run_command command.now.line_name (world_at slots.old desk.old frame.now)
-        (command_outcome (ground_of T.holds T.presents T.reads T.hierarchy program.now) command.now values.now slots.old)).cost }
+        (command_outcome (ground_of T.holds T.presents T.reads T.hierarchy program.now) command.now (map data_of values.now) slots.old)).cost }
 {
-    let env = match bound(program.alloc, &command.arguments, values.as_slice()) {
+    let env = match bound(program.alloc, &command.arguments, values) {
         Ok(env) => env,
         Err(_) => return Handling::Memory,
     };

@@ -13,25 +13,26 @@ ghost use Rattle.cl_session.specs.Transcript.{RoseIf};
 ghost use Rattle.cl_session.specs.World.{opening};
 ghost use Rattle.cl_tables.specs.Rings.{HasNoRing};
 
+use crate::accessible::{Accessible, accessible_of};
 use crate::answers::Replies;
 use crate::handling::{Desk, Handling, handle};
-use crate::naming::{enabled_of, tables_of};
+use crate::naming::enabled_of;
 use cl_eval::{Lines, Program, Slots, Types};
 use cl_frame::{Frame, Which};
 use cl_gesture::Gesture;
 use cl_line::Line;
 use cl_outside::{Device, Ledger, Steps};
 use cl_redisplay::Painted;
-use cl_tables::Tables;
 use std::alloc::{AllocError, Global};
 
 /// How many forms may be entered and not left.
 pub const DEPTH: u32 = 512;
 
-/// An application's frame between two gestures, what lies on its desk, and what its command table sees. The slots stand apart.
+/// An application's frame between two gestures, what lies on its desk, and what is accessible from its command table. The slots
+/// stand apart.
 #[derive(Drop)]
 pub struct Session {
-    pub tables: Tables,
+    pub accessible: Accessible,
     pub desk: Desk,
     pub frame: Frame,
 }
@@ -72,7 +73,7 @@ impl Session {
         ensures lent { D.lent device.new ≡ D.lent device.old }
         ensures device_later { D.faults device.old ≤ D.faults device.new }
     {
-        let tables = tables_of(program.alloc, program.app)?;
+        let accessible = accessible_of(program.alloc, program.app)?;
         let desk = Desk {
             line: Line::new(program.alloc)?,
             enabled: enabled_of(program.alloc, program.app)?,
@@ -83,7 +84,7 @@ impl Session {
             return Err(AllocError);
         }
         Ok(Session {
-            tables,
+            accessible,
             desk,
             frame,
         })
@@ -126,7 +127,7 @@ impl Session {
         let handling = handle(
             program,
             gesture,
-            &self.tables,
+            &self.accessible,
             &self.frame,
             slots,
             &mut self.desk,

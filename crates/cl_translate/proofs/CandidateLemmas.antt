@@ -8,9 +8,9 @@ use Rattle.cl_record.specs.Touches.{TouchAt, touch_of_label}
 use Rattle.cl_syntax.specs.TypeSpecTree.{TypeSpecTree, name_of}
 use Rattle.cl_value.specs.Data.{Data}
 use Rattle.cl_translators.specs.declared.declarations.GestureName.{GestureName}
-use Rattle.cl_translate.specs.Choices.{First, Gives, Translator, TrialGives, Tried, candidates, nothing, translators_for, trials, trials_in, trials_of}
+use Rattle.cl_translate.specs.Choices.{Translator, candidates, gives, translators_for, trial_gives, trials, trials_in, trials_of, tried}
 use Rattle.cl_translate.specs.Scenes.{Scene}
-use Rattle.cl_translate.proofs.FirstLemmas.{Leads, found, mapped, passed}
+use Rattle.cl_translate.proofs.FirstLemmas.{First, Leads, found, mapped, passed, same_answers}
 
 -- a place, by equal numbers
 pub spot_is : (P : (x y : ℤ) → Type 0) (x y a b : ℤ) → a ≡ x → b ≡ y → P a b → P x y
@@ -56,42 +56,38 @@ blank_here ls blank k h l =
 
 -- ---- the first for a candidate
 
-option_same : {A : Type 0} (o : Option A) → option_map (λ a. a) o ≡ o
-option_same None = refl
-option_same (Some a) = refl
-
 pub of_trials : (s : Scene) (context : TypeSpecTree) (g : GestureName) (c : TouchAt) (o : Option Data)
-    → First (Gives s context c) (translators_for s g (name_of c.spec)) o → First (TrialGives s context) (trials_of s g c) o
-of_trials s context g c o f =
-    subst (First (TrialGives s context) (trials_of s g c)) (option_same o)
-    (mapped (Gives s context c) (TrialGives s context) (λ (t : Translator). record { candidate = c; translator = t }) (λ (d : Data). d)
-    (translators_for s g (name_of c.spec)) o (λ t v h. h) (λ t lacks v h. lacks v h) f)
+    → First (gives s context c) (translators_for s g (name_of c.spec)) o → First (trial_gives s context) (trials_of s g c) o
+of_trials s context g c o h =
+    h ∙ same_answers (gives s context c) (trial_gives s context) (λ (t : Translator). record { candidate = c; translator = t }) (λ t. refl)
+    (translators_for s g (name_of c.spec))
 
 -- ---- the first in a context
 
 pub of_context : (s : Scene) (g : GestureName) (n : ℕ) (context : TypeSpecTree) (cs : List TouchAt) (o : Option Data)
-    → First (TrialGives s context) (trials_in s g cs) o
-    → First (Tried s) (map (λ t. record { number = n; context = context; trial = t }) (trials_in s g cs)) (option_map (λ (d : Data). record { number = n; value = d }) o)
-of_context s g n context cs o f =
-    mapped (TrialGives s context) (Tried s) (λ t. record { number = n; context = context; trial = t }) (λ (d : Data). record { number = n; value = d }) (trials_in s g cs) o
-    (λ t v h. (refl, h)) (λ t lacks r h. lacks r.value h.1) f
+    → First (trial_gives s context) (trials_in s g cs) o
+    → First (tried s) (map (λ t. record { number = n; context = context; trial = t }) (trials_in s g cs)) (option_map (λ (d : Data). record { number = n; value = d }) o)
+of_context s g n context cs o h =
+    ap (option_map (λ (d : Data). record { number = n; value = d })) h
+    ∙ mapped (trial_gives s context) (tried s) (λ t. record { number = n; context = context; trial = t }) (λ (d : Data). record { number = n; value = d }) (λ t. refl)
+    (trials_in s g cs)
 
 pub context_passed : (s : Scene) (g : GestureName) (contexts : List TypeSpecTree) (cs : List TouchAt) (n : ℕ) (context : TypeSpecTree)
-    → drop n contexts ≡ context ∷ drop (n + 1) contexts → Leads (Tried s) (trials s g n (drop n contexts) cs) (trials s g 0 contexts cs)
-    → First (TrialGives s context) (trials_in s g cs) None → Leads (Tried s) (trials s g (n + 1) (drop (n + 1) contexts) cs) (trials s g 0 contexts cs)
+    → drop n contexts ≡ context ∷ drop (n + 1) contexts → Leads (tried s) (trials s g n (drop n contexts) cs) (trials s g 0 contexts cs)
+    → First (trial_gives s context) (trials_in s g cs) None → Leads (tried s) (trials s g (n + 1) (drop (n + 1) contexts) cs) (trials s g 0 contexts cs)
 context_passed s g contexts cs n context is leads none =
-    passed (Tried s) (map (λ t. record { number = n; context = context; trial = t }) (trials_in s g cs)) (trials s g (n + 1) (drop (n + 1) contexts) cs) (trials s g 0 contexts cs)
-    (subst (λ xs. Leads (Tried s) (trials s g n xs cs) (trials s g 0 contexts cs)) is leads) (of_context s g n context cs None none)
+    passed (tried s) (map (λ t. record { number = n; context = context; trial = t }) (trials_in s g cs)) (trials s g (n + 1) (drop (n + 1) contexts) cs) (trials s g 0 contexts cs)
+    (subst (λ xs. Leads (tried s) (trials s g n xs cs) (trials s g 0 contexts cs)) is leads) (of_context s g n context cs None none)
 
 pub context_found : (s : Scene) (g : GestureName) (contexts : List TypeSpecTree) (cs : List TouchAt) (n : ℕ) (context : TypeSpecTree) (v : Data)
-    → drop n contexts ≡ context ∷ drop (n + 1) contexts → Leads (Tried s) (trials s g n (drop n contexts) cs) (trials s g 0 contexts cs)
-    → First (TrialGives s context) (trials_in s g cs) (Some v) → First (Tried s) (trials s g 0 contexts cs) (Some (record { number = n; value = v }))
-context_found s g contexts cs n context v is leads f =
-    found (Tried s) (map (λ t. record { number = n; context = context; trial = t }) (trials_in s g cs)) (trials s g (n + 1) (drop (n + 1) contexts) cs) (trials s g 0 contexts cs)
+    → drop n contexts ≡ context ∷ drop (n + 1) contexts → Leads (tried s) (trials s g n (drop n contexts) cs) (trials s g 0 contexts cs)
+    → First (trial_gives s context) (trials_in s g cs) (Some v) → First (tried s) (trials s g 0 contexts cs) (Some (record { number = n; value = v }))
+context_found s g contexts cs n context v is leads h =
+    found (tried s) (map (λ t. record { number = n; context = context; trial = t }) (trials_in s g cs)) (trials s g (n + 1) (drop (n + 1) contexts) cs) (trials s g 0 contexts cs)
     (record { number = n; value = v })
-    (subst (λ xs. Leads (Tried s) (trials s g n xs cs) (trials s g 0 contexts cs)) is leads) (of_context s g n context cs (Some v) f)
+    (subst (λ xs. Leads (tried s) (trials s g n xs cs) (trials s g 0 contexts cs)) is leads) (of_context s g n context cs (Some v) h)
 
 -- no context is left
 pub no_context_left : (s : Scene) (g : GestureName) (contexts : List TypeSpecTree) (cs : List TouchAt) (n : ℕ) → drop n contexts ≡ []
-    → Leads (Tried s) (trials s g n (drop n contexts) cs) (trials s g 0 contexts cs) → First (Tried s) (trials s g 0 contexts cs) None
-no_context_left s g contexts cs n is leads = leads None (subst (λ xs. First (Tried s) (trials s g n xs cs) None) (sym is) nothing)
+    → Leads (tried s) (trials s g n (drop n contexts) cs) (trials s g 0 contexts cs) → First (tried s) (trials s g 0 contexts cs) None
+no_context_left s g contexts cs n is leads = leads None (subst (λ xs. First (tried s) (trials s g n xs cs) None) (sym is) refl)

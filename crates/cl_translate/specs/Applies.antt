@@ -1,15 +1,11 @@
 -- When a translator applies to an object in an input context, and what it gives.
-use Rattle.std.specs.Prelude.{◌≡◌, ℕ, Bool, true, false, ◌&&◌, if◌then◌else◌, List, [], ◌∷◌, Option, Some, None, codes}
+use Rattle.std.specs.Prelude.{ℕ, Bool, true, false, ◌&&◌, if◌then◌else◌, List, [], ◌∷◌, Option, Some, None, codes}
 use Rattle.std.specs.Str.{bytes_eq}
 use Rattle.cl_eval.specs.Evaluated.{outcome_of_eval}
 use Rattle.cl_eval.specs.Outcome.{Outcome, Gives, Traps}
 use Rattle.cl_eval.specs.declared.metering.Limits.{Limits}
-use Rattle.cl_lattice.specs.Expansion.{expansion}
-use Rattle.cl_lattice.specs.Precedence.{listed, precedence}
-use Rattle.cl_lattice.specs.Subtypes.{IsSubtype}
 use Rattle.cl_syntax.specs.ExprTree.{ExprTree}
 use Rattle.cl_syntax.specs.TypeSpecTree.{TypeSpecTree, name_of, plain_type}
-use Rattle.cl_tables.specs.Enabled.{is_enabled}
 use Rattle.cl_tables.specs.Lookups.{is_accessible}
 use Rattle.cl_value.specs.Data.{Data, int, bool, text, symbol, null, list, rec, none, item}
 use Rattle.cl_translate.specs.Heads.{heads, some_listed}
@@ -72,7 +68,7 @@ command_type = plain_type (codes "command")
 
 -- whether a value is a command that is accessible and enabled
 abbrev pub may_run : Scene → Data → Bool
-may_run s (list (item (symbol x) ds)) = is_accessible x s.commands && is_enabled x s.states
+may_run s (list (item (symbol x) ds)) = is_accessible x s.commands && s.enabled x
 may_run s (list none) = false
 may_run s (list (item (int n) ds)) = false
 may_run s (list (item (bool b) ds)) = false
@@ -93,7 +89,7 @@ fits s context d = if bytes_eq (name_of context) (codes "command") then s.holds 
 
 -- the precedence list of a type, by its name
 abbrev pub precedence_of : Scene → List ℕ → List (List ℕ)
-precedence_of s x = listed (precedence s.world x)
+precedence_of s x = s.hierarchy.precedence x
 
 -- ---- what applies
 
@@ -107,15 +103,10 @@ abbrev pub outcome : Scene → TypeSpecTree → TranslatorDecl → Data → Opti
 outcome s context t d = if s.holds d t.from && passes s t d t.tester then if_fits s context t.to (result_of s t d) else None
 
 -- the same where its to-type is a subtype of the context
-abbrev pub Translates : Scene → TypeSpecTree → TranslatorDecl → (d v : Data) → Type 0
-Translates s context t d v = IsSubtype (expansion s.world [] t.to) (expansion s.world [] context) × (outcome s context t d ≡ Some v)
+abbrev pub translated : Scene → TypeSpecTree → TranslatorDecl → Data → Option Data
+translated s context t d = if s.hierarchy.subtype t.to context then outcome s context t d else None
 
 -- an object of a type of this name is given as it is: some head of the context is in the precedence list of that name, and the object is a member
 -- of the context and fits
 abbrev pub is_itself : Scene → TypeSpecTree → List ℕ → Data → Bool
 is_itself s context x d = some_listed (precedence_of s x) (heads context) && (s.holds d context && fits s context d)
-
--- an answer that has what is asked for, or none where nothing has it
-abbrev pub Answers : {R : Type 0} → (R → Type 0) → Option R → Type 0
-Answers P None = (r : _) → P r → ⊥
-Answers P (Some r) = P r

@@ -1,5 +1,5 @@
 -- The choice: the first that applies among all that come into question.
-use Rattle.std.specs.Prelude.{◌≡◌, ◌+◌, true, ℤ, ℕ, List, [], ◌∷◌, ◌++◌, map, filter, reverse, Option, Some, None, codes}
+use Rattle.std.specs.Prelude.{◌+◌, ℤ, ℕ, if◌then◌else◌, List, [], ◌∷◌, ◌++◌, map, filter, reverse, Option, Some, None, option_map, codes}
 use Rattle.std.specs.List.{flat_map}
 use Rattle.cl_record.specs.Labels.{LabelAt}
 use Rattle.cl_record.specs.Touches.{TouchAt, touch_of_label}
@@ -11,16 +11,20 @@ use Rattle.cl_translators.specs.Order.{digits, is_for}
 use Rattle.cl_translators.specs.declared.declarations.GestureName.{GestureName}
 use Rattle.cl_translators.specs.declared.declarations.GestureName.TheVariants as gesture
 use Rattle.cl_translators.specs.declared.declarations.TranslatorPlace.{TranslatorPlace}
-use Rattle.cl_translate.specs.Applies.{Translates, is_itself, precedence_of}
+use Rattle.cl_translate.specs.Applies.{is_itself, precedence_of, translated}
 use Rattle.cl_translate.specs.Scenes.{Scene}
 use Rattle.cl_translate.specs.declared.choosing.Choice.{Choice}
 use Rattle.cl_translate.specs.declared.declarations.TranslatorDecl.{TranslatorDecl}
 
--- the first of a list with a result; None: none of them has one
-pub data First {A R : Type 0} (Has : A → R → Type 0) : List A → Option R → Type 0 where
-  nothing : First Has [] None
-  here : (x : A) (xs : List A) (r : R) → Has x r → First Has (x ∷ xs) (Some r)
-  later : (x : A) (xs : List A) (o : Option R) → ((r : R) → Has x r → ⊥) → First Has xs o → First Has (x ∷ xs) o
+-- an answer, or another where there is none
+abbrev pub or_else : {R : Type 0} → Option R → Option R → Option R
+or_else None other = other
+or_else (Some r) other = Some r
+
+-- the first answer in a list; None: nothing has one
+abbrev pub first_answer : {A R : Type 0} → (A → Option R) → List A → Option R
+first_answer f [] = None
+first_answer f (x ∷ xs) = or_else (f x) (first_answer f xs)
 
 -- ---- what is tried
 
@@ -50,14 +54,19 @@ gathered ts g precedence = flat_map (gathered_high ts g precedence) digits
 abbrev pub translators_for : Scene → GestureName → List ℕ → List Translator
 translators_for s g x = map (λ t. declared t) (gathered s.translators g (precedence_of s x)) ++ identities g
 
--- a translator applies to a candidate in a context, and gives this value
-abbrev pub Gives : Scene → TypeSpecTree → TouchAt → Translator → Data → Type 0
-Gives s context c (declared p) v = (t : TranslatorDecl) × (named p.name s.declared ≡ Some t) × Translates s context t c.object v
-Gives s context c identity v = (is_itself s context (name_of c.spec) c.object ≡ true) × (v ≡ c.object)
+-- what a declaration gives, if there is one
+abbrev pub given_by : Scene → TypeSpecTree → Data → Option TranslatorDecl → Option Data
+given_by s context d None = None
+given_by s context d (Some t) = translated s context t d
+
+-- what a translator gives for a candidate in a context; None where it does not apply
+abbrev pub gives : Scene → TypeSpecTree → TouchAt → Translator → Option Data
+gives s context c (declared p) = given_by s context c.object (named p.name s.declared)
+gives s context c identity = if is_itself s context (name_of c.spec) c.object then Some c.object else None
 
 -- the same of a declared translator
-abbrev pub PlaceGives : Scene → TypeSpecTree → TouchAt → TranslatorPlace → Data → Type 0
-PlaceGives s context c p v = Gives s context c (declared p) v
+abbrev pub place_gives : Scene → TypeSpecTree → TouchAt → TranslatorPlace → Option Data
+place_gives s context c p = gives s context c (declared p)
 
 -- ---- candidates
 
@@ -84,9 +93,9 @@ trials_of s g c = map (λ t. record { candidate = c; translator = t }) (translat
 abbrev pub trials_in : Scene → GestureName → List TouchAt → List Trial
 trials_in s g cs = flat_map (trials_of s g) cs
 
--- a trial gives this in a context
-abbrev pub TrialGives : Scene → TypeSpecTree → Trial → Data → Type 0
-TrialGives s context t v = Gives s context t.candidate t.translator v
+-- what a trial gives in a context
+abbrev pub trial_gives : Scene → TypeSpecTree → Trial → Option Data
+trial_gives s context t = gives s context t.candidate t.translator
 
 -- a trial in a context with its number
 pub record ContextTrial : Type 0 where
@@ -105,9 +114,13 @@ pub record Given : Type 0 where
   pub number : ℕ
   pub value : Data
 
--- a trial gives this
-abbrev pub Tried : Scene → ContextTrial → Given → Type 0
-Tried s t r = (r.number ≡ t.number) × TrialGives s t.context t.trial r.value
+-- what a trial gives, with the number of its context
+abbrev pub tried : Scene → ContextTrial → Option Given
+tried s t = option_map (λ v. record { number = t.number; value = v }) (trial_gives s t.context t.trial)
+
+-- the choice: the first that a trial gives
+abbrev pub chosen : Scene → GestureName → (contexts : List TypeSpecTree) → (candidates : List TouchAt) → Option Given
+chosen s g contexts cs = first_answer (tried s) (trials s g 0 contexts cs)
 
 -- what the program's choice says
 abbrev pub given_of : Choice → Given

@@ -1,8 +1,8 @@
 //! When a translator applies.
 ghost use Rattle.std.specs.Prelude.{◌≡◌, IfOk, option_map};
 ghost use Rattle.cl_record.specs.TouchWalks.{touch_of};
-ghost use Rattle.cl_translate.specs.Applies.{Answers, Translates, if_fits, outcome};
-ghost use Rattle.cl_translate.specs.Choices.{Gives, PlaceGives, identity};
+ghost use Rattle.cl_translate.specs.Applies.{if_fits, outcome, translated};
+ghost use Rattle.cl_translate.specs.Choices.{gives, identity, place_gives};
 ghost use Rattle.cl_translate.specs.Scenes.{scene_of};
 ghost use Rattle.cl_value.specs.Value.{data_of};
 
@@ -24,7 +24,7 @@ impl<T: Types> Chooser<'_, T> {
         object: &Value,
     ) -> Result<Option<Value>, AllocError>
         ensures { IfOk result (λ o. option_map data_of o
-            ≡ outcome (scene_of T.holds self.now) context.now translator.now (data_of object.now)) }
+            ≡ outcome (scene_of T.holds T.hierarchy self.now) context.now translator.now (data_of object.now)) }
     {
         if !self.holds(object, &translator.from)? || !self.passes(translator, object)? {
             return Ok(None);
@@ -41,7 +41,7 @@ impl<T: Types> Chooser<'_, T> {
         value: Option<Value>,
     ) -> Result<Option<Value>, AllocError>
         ensures { IfOk result (λ o. option_map data_of o
-            ≡ if_fits (scene_of T.holds self.now) context.now to.now (option_map data_of value)) }
+            ≡ if_fits (scene_of T.holds T.hierarchy self.now) context.now to.now (option_map data_of value)) }
     {
         let Some(value) = value else {
             return Ok(None);
@@ -60,10 +60,10 @@ impl<T: Types> Chooser<'_, T> {
         translator: &TranslatorDecl,
         object: &Value,
     ) -> Result<Option<Value>, AllocError>
-        ensures { IfOk result (λ o. Answers (Translates (scene_of T.holds self.now) context.now translator.now
-            (data_of object.now)) (option_map data_of o)) }
+        ensures { IfOk result (λ o. option_map data_of o
+            ≡ translated (scene_of T.holds T.hierarchy self.now) context.now translator.now (data_of object.now)) }
     {
-        if !self.lattice.subtype(&translator.to, context) {
+        if !self.types.subtype(&translator.to, context) {
             return Ok(None);
         }
         self.outcome(context, translator, object)
@@ -76,8 +76,8 @@ impl<T: Types> Chooser<'_, T> {
         candidate: Touch<'_>,
         place: &TranslatorPlace,
     ) -> Result<Option<Value>, AllocError>
-        ensures { IfOk result (λ o. Answers (PlaceGives (scene_of T.holds self.now) context.now (touch_of candidate.entry)
-            place.now) (option_map data_of o)) }
+        ensures { IfOk result (λ o. option_map data_of o
+            ≡ place_gives (scene_of T.holds T.hierarchy self.now) context.now (touch_of candidate.entry) place.now) }
     {
         match self.declarations.get(place.name.as_slice()) {
             Some(translator) => self.translate(context, translator, candidate.object),
@@ -91,8 +91,8 @@ impl<T: Types> Chooser<'_, T> {
         context: &TypeSpec,
         candidate: Touch<'_>,
     ) -> Result<Option<Value>, AllocError>
-        ensures { IfOk result (λ o. Answers (Gives (scene_of T.holds self.now) context.now (touch_of candidate.entry)
-            identity) (option_map data_of o)) }
+        ensures { IfOk result (λ o. option_map data_of o
+            ≡ gives (scene_of T.holds T.hierarchy self.now) context.now (touch_of candidate.entry) identity) }
     {
         if self.is_itself(context, candidate.spec, candidate.object)? {
             Ok(Some(candidate.object.copy()?))

@@ -2,7 +2,6 @@
 use crate::declarations::TranslatorDecls;
 use cl_application::App;
 use cl_eval::Slots;
-use cl_lattice::Lattice;
 use cl_tables::{Enabled, Tables};
 use cl_translators::Translators;
 use cl_value::Text;
@@ -14,7 +13,6 @@ use std::alloc::Global;
 pub struct Chooser<'a, T> {
     pub alloc: Global,
     pub app: &'a App,
-    pub lattice: &'a Lattice,
     pub types: &'a T,
     pub slots: &'a Slots,
     pub tables: &'a Tables,

@@ -6,8 +6,8 @@ ghost use Rattle.cl_record.specs.TouchWalks.{touch_of};
 ghost use Rattle.cl_record.specs.Touches.{touch_of_label, touched};
 ghost use Rattle.cl_syntax.specs.TypeSpecTree.{name_of};
 ghost use Rattle.cl_translate.specs.Applies.{precedence_of};
-ghost use Rattle.cl_translate.specs.Choices.{First, Gives, PlaceGives, TrialGives, Tried};
-ghost use Rattle.cl_translate.specs.Choices.{blank_area, candidates, gathered, gathered_high, given_of, identities, translators_for, trials, trials_in};
+ghost use Rattle.cl_translate.specs.Choices.{blank_area, candidates, chosen, first_answer, given_of, gives, place_gives, trial_gives};
+ghost use Rattle.cl_translate.specs.Choices.{gathered, gathered_high, identities, translators_for, trials_in};
 ghost use Rattle.cl_translate.specs.Scenes.{scene_of};
 ghost use Rattle.cl_translators.specs.Order.{digits, is_for};
 ghost use Rattle.cl_value.specs.Value.{data_of};
@@ -41,9 +41,9 @@ impl<T: Types> Chooser<'_, T> {
         contexts: &[TypeSpec],
         gesture: GestureName,
     ) -> Result<Option<Choice>, AllocError>
-        ensures { IfOk result (λ o. First (Tried (scene_of T.holds self.now)) (trials (scene_of T.holds self.now) gesture 0 contexts.now
+        ensures { IfOk result (λ o. option_map given_of o ≡ chosen (scene_of T.holds T.hierarchy self.now) gesture contexts.now
             (candidates (touched L.bounds point.now.x point.now.y (history_marks L.moved_by history.now))
-            (blank_area point.now.pane.now point.now.x point.now.y))) (option_map given_of o)) }
+            (blank_area point.now.pane.now point.now.x point.now.y))) }
     {
         let (object, spec) = (blank_object(self.alloc, point)?, blank_type(self.alloc)?);
         let blank = Touch {
@@ -68,9 +68,9 @@ impl<T: Types> Chooser<'_, T> {
         blank: Touch<'_>,
         gesture: GestureName,
     ) -> Result<Option<Value>, AllocError>
-        ensures { IfOk result (λ o. First (TrialGives (scene_of T.holds self.now) context.now) (trials_in (scene_of T.holds self.now) gesture
-            (candidates (touched L.bounds point.now.x point.now.y (history_marks L.moved_by history.now)) (touch_of blank.entry)))
-            (option_map data_of o)) }
+        ensures { IfOk result (λ o. option_map data_of o
+            ≡ first_answer (trial_gives (scene_of T.holds T.hierarchy self.now) context.now) (trials_in (scene_of T.holds T.hierarchy self.now) gesture
+            (candidates (touched L.bounds point.now.x point.now.y (history_marks L.moved_by history.now)) (touch_of blank.entry)))) }
     {
         let mut k = 0;
         while let Some(touch) = history.touched(point.x, point.y, k) {
@@ -90,8 +90,9 @@ impl<T: Types> Chooser<'_, T> {
         candidate: Touch<'_>,
         gesture: GestureName,
     ) -> Result<Option<Value>, AllocError>
-        ensures { IfOk result (λ o. First (Gives (scene_of T.holds self.now) context.now (touch_of candidate.entry))
-            (translators_for (scene_of T.holds self.now) gesture (name_of candidate.entry.spec.now)) (option_map data_of o)) }
+        ensures { IfOk result (λ o. option_map data_of o
+            ≡ first_answer (gives (scene_of T.holds T.hierarchy self.now) context.now (touch_of candidate.entry))
+            (translators_for (scene_of T.holds T.hierarchy self.now) gesture (name_of candidate.entry.spec.now))) }
     {
         let precedence = self.precedence_of(candidate.spec);
         let found = self.of_gathered(context, candidate, gesture, precedence)?;
@@ -108,8 +109,8 @@ impl<T: Types> Chooser<'_, T> {
         candidate: Touch<'_>,
         gesture: GestureName,
     ) -> Result<Option<Value>, AllocError>
-        ensures { IfOk result (λ o. First (Gives (scene_of T.holds self.now) context.now (touch_of candidate.entry)) (identities gesture)
-            (option_map data_of o)) }
+        ensures { IfOk result (λ o. option_map data_of o
+            ≡ first_answer (gives (scene_of T.holds T.hierarchy self.now) context.now (touch_of candidate.entry)) (identities gesture)) }
     {
         match gesture {
             GestureName::Select => self.of_identity(context, candidate),
@@ -128,8 +129,8 @@ impl<T: Types> Chooser<'_, T> {
         gesture: GestureName,
         precedence: &[Text],
     ) -> Result<Option<Value>, AllocError>
-        ensures { IfOk result (λ o. First (PlaceGives (scene_of T.holds self.now) context.now (touch_of candidate.entry))
-            (gathered self.now.translators.now gesture precedence.now) (option_map data_of o)) }
+        ensures { IfOk result (λ o. option_map data_of o
+            ≡ first_answer (place_gives (scene_of T.holds T.hierarchy self.now) context.now (touch_of candidate.entry)) (gathered self.now.translators.now gesture precedence.now)) }
     {
         for step in 0..10 {
             let found = self.of_high(context, candidate, gesture, precedence, 9 - step)?;
@@ -150,8 +151,8 @@ impl<T: Types> Chooser<'_, T> {
         high: u8,
     ) -> Result<Option<Value>, AllocError>
         requires { high < 10 }
-        ensures { IfOk result (λ o. First (PlaceGives (scene_of T.holds self.now) context.now (touch_of candidate.entry))
-            (gathered_high self.now.translators.now gesture precedence.now high) (option_map data_of o)) }
+        ensures { IfOk result (λ o. option_map data_of o
+            ≡ first_answer (place_gives (scene_of T.holds T.hierarchy self.now) context.now (touch_of candidate.entry)) (gathered_high self.now.translators.now gesture precedence.now high)) }
     {
         for from in precedence {
             let places = self.translators.group(gesture, from, high);
@@ -170,8 +171,8 @@ impl<T: Types> Chooser<'_, T> {
         candidate: Touch<'_>,
         places: &[TranslatorPlace],
     ) -> Result<Option<Value>, AllocError>
-        ensures { IfOk result (λ o. First (PlaceGives (scene_of T.holds self.now) context.now (touch_of candidate.entry))
-            places.now (option_map data_of o)) }
+        ensures { IfOk result (λ o. option_map data_of o
+            ≡ first_answer (place_gives (scene_of T.holds T.hierarchy self.now) context.now (touch_of candidate.entry)) places.now) }
     {
         for place in places {
             let found = self.of_place(context, candidate, place)?;

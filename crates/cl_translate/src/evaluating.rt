@@ -28,7 +28,7 @@ impl<T: Types> Chooser<'_, T> {
         expr: &Expr,
     ) -> Result<Option<Value>, AllocError>
         ensures { IfOk result (λ o. option_map data_of o
-            ≡ value_on (scene_of T.holds self.now) translator.now (data_of object.now) expr.now) }
+            ≡ value_on (scene_of T.holds T.hierarchy self.now) translator.now (data_of object.now) expr.now) }
     {
         let mut env = Env::new(self.alloc);
         env.bind(translator.parameter.copy()?, object.copy()?)?;
@@ -54,7 +54,7 @@ impl<T: Types> Chooser<'_, T> {
         object: &Value,
     ) -> Result<bool, AllocError>
         ensures { IfOk result (λ b. b
-            ≡ passes (scene_of T.holds self.now) translator.now (data_of object.now) translator.now.tester) }
+            ≡ passes (scene_of T.holds T.hierarchy self.now) translator.now (data_of object.now) translator.now.tester) }
     {
         match &translator.tester {
             Some(tester) => Ok(is_true(&self.value_on(translator, object, tester)?)),
@@ -69,7 +69,7 @@ impl<T: Types> Chooser<'_, T> {
         object: &Value,
     ) -> Result<Option<Value>, AllocError>
         ensures { IfOk result (λ o. option_map data_of o
-            ≡ result_of (scene_of T.holds self.now) translator.now (data_of object.now)) }
+            ≡ result_of (scene_of T.holds T.hierarchy self.now) translator.now (data_of object.now)) }
     {
         let Some(value) = self.value_on(translator, object, &translator.body)? else {
             return Ok(None);

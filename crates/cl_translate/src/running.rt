@@ -15,7 +15,7 @@ use std::alloc::AllocError;
 impl<T: Types> Chooser<'_, T> {
     // Whether a value is a member of a type.
     pub(crate) fn holds(&self, value: &Value, spec: &TypeSpec) -> Result<bool, AllocError>
-        ensures { IfOk result (λ b. b ≡ (scene_of T.holds self.now).holds (data_of value.now) spec.now) }
+        ensures { IfOk result (λ b. b ≡ (scene_of T.holds T.hierarchy self.now).holds (data_of value.now) spec.now) }
     {
         match self.types.member(value, spec) {
             Held::Yes => Ok(true),
@@ -26,7 +26,7 @@ impl<T: Types> Chooser<'_, T> {
 
     // Whether a value is a command that is accessible and enabled.
     fn may_run(&self, value: &Value) -> bool
-        ensures { result ≡ may_run (scene_of T.holds self.now) (data_of value.now) }
+        ensures { result ≡ may_run (scene_of T.holds T.hierarchy self.now) (data_of value.now) }
     {
         let Value::List(parts) = value else {
             return false;
@@ -41,7 +41,7 @@ impl<T: Types> Chooser<'_, T> {
 
     // Whether a value fits a context: in that of a command a command alone does.
     pub(crate) fn fits(&self, context: &TypeSpec, value: &Value) -> Result<bool, AllocError>
-        ensures { IfOk result (λ b. b ≡ fits (scene_of T.holds self.now) context.now (data_of value.now)) }
+        ensures { IfOk result (λ b. b ≡ fits (scene_of T.holds T.hierarchy self.now) context.now (data_of value.now)) }
     {
         if context.name.as_slice() != b"command".as_slice() {
             return Ok(true);
@@ -58,7 +58,7 @@ impl<T: Types> Chooser<'_, T> {
         object: &Value,
     ) -> Result<bool, AllocError>
         ensures { IfOk result (λ b. b
-            ≡ is_itself (scene_of T.holds self.now) context.now (name_of spec.now) (data_of object.now)) }
+            ≡ is_itself (scene_of T.holds T.hierarchy self.now) context.now (name_of spec.now) (data_of object.now)) }
     {
         if !has_head(context, self.precedence_of(spec)) {
             return Ok(false);
@@ -68,11 +68,8 @@ impl<T: Types> Chooser<'_, T> {
 
     // The precedence list of a type; no names where there is no such type.
     pub(crate) fn precedence_of(&self, spec: &TypeSpec) -> &[Text]
-        ensures { result.now ≡ precedence_of (scene_of T.holds self.now) (name_of spec.now) }
+        ensures { result.now ≡ precedence_of (scene_of T.holds T.hierarchy self.now) (name_of spec.now) }
     {
-        match self.lattice.precedence(spec.name.as_slice()) {
-            Some(names) => names.as_slice(),
-            None => &[],
-        }
+        self.types.precedence(spec.name.as_slice())
     }
 }

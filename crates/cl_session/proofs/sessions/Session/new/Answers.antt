@@ -38,7 +38,7 @@ pub returns-clause-fits : goal.returns-clause-fits
 returns-clause-fits g c =
     let own = ground_of g.T.Types.holds g.T.Types.presents g.T.Types.reads g.T.Types.hierarchy c.args.program.now in
     record {
-      tables = c.in_ok-tables.ensures;
+      accessible = c.in_ok-accessible.ensures;
       frame = c.update.ensures.frame;
       current = opening_fits own c.args.slots.now c.update.new.self.screen.stale _
           (opening_world own c.args.slots.now record { line = c.in_ok-new.field-0; enabled = c.in_ok-enabled_of.field-0 } c.in_ok-frame.frame c.update.new.self c.in_ok-new.ensures c.in_ok-enabled_of.ensures

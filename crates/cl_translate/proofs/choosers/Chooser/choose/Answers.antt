@@ -11,7 +11,7 @@ use Rattle.cl_translate.proofs.choosers.Chooser.choose.Goals as goal
 
 pub returns-in-Some : goal.returns-in-Some
 returns-in-Some g c =
-    let s = scene_of g.T.Types.holds c.args.self.now in
+    let s = scene_of g.T.Types.holds g.T.Types.hierarchy c.args.self.now in
     let cs = candidates (touched g.L.Leaf.bounds c.args.point.now.x c.args.point.now.y (history_marks g.L.Leaf.moved_by c.args.history.now))
     (blank_area c.args.point.now.pane.now c.args.point.now.x c.args.point.now.y) in
     context_found s c.args.gesture c.args.contexts.now cs c.loop-number.number c.index-contexts-number.result (data_of c.in-Some.value)
@@ -20,7 +20,7 @@ returns-in-Some g c =
 
 pub loop-number-preserved : goal.loop-number-preserved
 loop-number-preserved g c =
-    let s = scene_of g.T.Types.holds c.args.self.now in
+    let s = scene_of g.T.Types.holds g.T.Types.hierarchy c.args.self.now in
     let cs = candidates (touched g.L.Leaf.bounds c.args.point.now.x c.args.point.now.y (history_marks g.L.Leaf.moved_by c.args.history.now))
     (blank_area c.args.point.now.pane.now c.args.point.now.x c.args.point.now.y) in
     context_passed s c.args.gesture c.args.contexts.now cs c.loop-number.number c.index-contexts-number.result
@@ -29,7 +29,7 @@ loop-number-preserved g c =
 
 pub returns : goal.returns
 returns g c =
-    let s = scene_of g.T.Types.holds c.args.self.now in
+    let s = scene_of g.T.Types.holds g.T.Types.hierarchy c.args.self.now in
     let cs = candidates (touched g.L.Leaf.bounds c.args.point.now.x c.args.point.now.y (history_marks g.L.Leaf.moved_by c.args.history.now))
     (blank_area c.args.point.now.pane.now c.args.point.now.x c.args.point.now.y) in
     no_context_left s c.args.gesture c.args.contexts.now cs c.loop-number.number (drop_all c.loop-number.number c.args.contexts.now (omega arith)) c.loop-number.invariant

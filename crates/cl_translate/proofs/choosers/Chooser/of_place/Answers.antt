@@ -10,5 +10,5 @@ use Rattle.cl_translate.proofs.choosers.Chooser.of_place.Goals as goal
 pub returns-in-Some : goal.returns-in-Some
 returns-in-Some g c =
     each_ok _ _ c.translate.result
-    (λ o h. of_declared (scene_of g.T.Types.holds c.args.self.now) c.args.context.now (touch_of c.args.candidate) c.args.place.now c.in-Some.translator.now
+    (λ o h. of_declared (scene_of g.T.Types.holds g.T.Types.hierarchy c.args.self.now) c.args.context.now (touch_of c.args.candidate) c.args.place.now c.in-Some.translator.now
     (option_map data_of o) (sym (rw c.as_slice.ensures at c.in-Some.ensures)) h) c.translate.ensures
