@@ -127,7 +127,6 @@ impl<H: Hosts> Types for TypeBook<'_, H> {
         }
     }
 
-    #[tactic(auto, using(crate::proofs::SubtypingLemmas::told))]
     fn subtype(&self, first: &TypeSpec, second: &TypeSpec) -> bool {
         self.lattice.subtype(first, second)
     }

@@ -8,6 +8,7 @@ pub mod CurrentLemmas
 pub mod DeterminedLemmas
 pub mod StepLemmas
 pub mod OpeningLemmas
+pub mod OwnReplies
 pub mod ToldLemmas
 pub mod TellingLemmas
 pub mod HistoryLemmas

@@ -1,47 +1,31 @@
 -- What met want of memory in a gesture, and whether the device failed, is told by its lines.
-use Rattle.std.proofs.Common.{◌≡◌, ◌==◌, ℕ, zero, suc, ◌+◌, ◌≤◌, Bool, true, false, List, [], ◌∷◌, ◌++◌, length, length-append, append_assoc, get_or, map, Option, Some, None, refl, sym, ◌∙◌, ap, arith}
-use Rattle.std.specs.Prelude.{codes, nat_le, if◌then◌else◌}
+use Rattle.std.proofs.Common.{◌≡◌, ℕ, zero, suc, ◌+◌, ◌≤◌, Bool, true, false, List, [], ◌∷◌, ◌++◌, length, length-append, append_assoc, get_or, map, refl, sym, ◌∙◌, ap, arith}
+use Rattle.std.specs.Prelude.{codes, nat_le}
 use Rattle.std.specs.Fmt.{decimal}
-use Rattle.std.specs.Str.{str_eq_ignore_ascii_case}
-use Rattle.cl_application.specs.App.{command_named}
 use Rattle.cl_application.specs.Panes.{panes_of}
-use Rattle.cl_application.specs.declared.declarations.CommandDecl.{CommandDecl}
 use Rattle.cl_application.specs.declared.declarations.PaneDecl.{PaneDecl}
 use Rattle.cl_display.specs.Drawings.{DrawingAt}
 use Rattle.cl_display.specs.Script.{pane_fresh}
 use Rattle.cl_eval.specs.Outcome.{Gives, Outcome, Traps}
 use Rattle.cl_eval.specs.Slots.{Slots}
-use Rattle.cl_eval.specs.declared.effects.Effects.{Effects}
 use Rattle.cl_frame.specs.Ground.{Ground}
 use Rattle.cl_frame.specs.Panes.{PaneMarks, marks_in}
 use Rattle.cl_frame.specs.Settling.{PaneStep, is_due, marks_after, report_after, report_settled, settle_if, settle_pane, settle_panes}
 use Rattle.cl_frame.specs.declared.settling.Which.{Which}
 use Rattle.cl_gesture.specs.declared.answers.Gesture.{Gesture}
 use Rattle.cl_gesture.specs.declared.answers.Gesture.TheVariants as gesture
-use Rattle.cl_gesture.specs.declared.answers.PointAt.{PointAt}
 use Rattle.cl_line.specs.Elements.{typed}
 use Rattle.cl_line.specs.declared.lines.TheConstants.{MAX_ELEMENTS}
 use Rattle.cl_record.specs.Counts.{count_of}
-use Rattle.cl_redisplay.specs.Shown.{Shown, digit_in, glyph_in, row_from, rows_from, shown_at, told_row}
+use Rattle.cl_redisplay.specs.Shown.{Shown, glyph_in, row_from, rows_from, told_row}
 use Rattle.cl_session.specs.Laws.{IsToldByLines}
-use Rattle.cl_parser.specs.Parses.{decls_of, without_tokens}
-use Rattle.cl_parser.specs.declared.parsing.Parsed.{Parsed}
-use Rattle.cl_parser.specs.declared.parsing.Parsed.TheVariants as parsed
 use Rattle.cl_session.specs.Naming.{command_of_line, command_of_stroke}
-use Rattle.cl_session.specs.Pointing.{TypedArgument, chosen_at, is_within, line_with, typed_in, values_in}
-use Rattle.cl_session.specs.Step.{act_on, got_line, point_at, run_chosen, run_named, take_object, with_pane}
-use Rattle.cl_session.specs.Step.{Handled, bad_line, command_outcome, command_trap_line, finish_by, finish_parsed, handled, is_on, need_line, parsed_line, stroke_by, stroke_parsed, handled_or_not, history_rows, memory_line, next_behind, pane_lines, refuse, report_line, report_lines, report_tail, run_command, settled_behind, shown_in, tell, tell_history, trap_line, which_after, wire_lines}
+use Rattle.cl_session.specs.Step.{point_at}
+use Rattle.cl_session.specs.Step.{Handled, handled, handled_or_not, memory_line, next_behind, pane_lines, refuse, report_line, report_lines, report_tail, settled_behind, shown_in, tell, trap_line, which_after, wire_lines}
 use Rattle.cl_session.specs.World.{World}
-use Rattle.cl_translate.specs.Choices.{Given}
-use Rattle.cl_value.specs.Data.{Data, symbol, list, item}
-
-abbrev memory_said : List ℕ
-memory_said = codes "! memory"
+use Rattle.cl_session.proofs.OwnReplies.{IsNotMemory, first_of, memory_said, no_first, not_finished, not_full, not_history, not_inks, not_memory_if, not_pointed, not_pressed, not_with}
 
 -- ---- lists
-
-first_of : {A : Type 0} (x y : A) (xs ys : List A) → ◌≡◌ {A = List A} (x ∷ xs) (y ∷ ys) → x ≡ y
-first_of x y xs ys e = cc
 
 behind_of : {A : Type 0} (x y : A) (xs ys : List A) → ◌≡◌ {A = List A} (x ∷ xs) (y ∷ ys) → xs ≡ ys
 behind_of x y xs ys e = cc
@@ -49,13 +33,6 @@ behind_of x y xs ys e = cc
 behind_same : {A : Type 0} (xs ys zs : List A) → xs ++ ys ≡ xs ++ zs → ys ≡ zs
 behind_same [] ys zs e = e
 behind_same (x ∷ xs) ys zs e = behind_same xs ys zs (behind_of x x (xs ++ ys) (xs ++ zs) e)
-
-no_first : {A : Type 0} (x : A) (xs : List A) → ◌≡◌ {A = List A} [] (x ∷ xs) → ⊥
-no_first x xs e = cc
-
--- two lines that differ at a place
-differ_at : (n : ℕ) (a b : List ℕ) → (get_or a n 0 ≡ get_or b n 0 → ⊥) → a ≡ b → ⊥
-differ_at n a b f e = f (ap (λ (l : List ℕ). get_or l n 0) e)
 
 -- ---- the lines of panes
 
@@ -194,113 +171,6 @@ module _ (g : Ground) (w : Which) (slots : Slots) where
       let mine = report_lines d.name (settle_pane g w slots d o m).report in
       pane_not_eight (is_due w o) d.name (pane_fresh g.limits g.app g.types d slots) o m (lines_then ds ss (wire_lines wire)) rest x
       (behind_not_eight ds os ms wire rest x eight) eight (sym (append_assoc mine (pane_lines ds (map report_after ss)) (wire_lines wire)) ∙ e)
-
--- ---- the own replies
-
--- these lines do not begin with that of want of memory
-abbrev IsNotMemory : List (List ℕ) → Type 0
-IsNotMemory [] = Unit {0}
-IsNotMemory (r ∷ rs) = memory_said ≡ r → ⊥
-
-not_memory_if : (b : Bool) (h k : Handled) → IsNotMemory h.replies → IsNotMemory k.replies → IsNotMemory (if b then h else k).replies
-not_memory_if true h k p q = p
-not_memory_if false h k p q = q
-
-not_full : IsNotMemory (codes "! full" ∷ [])
-not_full = differ_at 2 memory_said (codes "! full") (λ no. omega (arith, no))
-
-not_unknown : IsNotMemory (codes "! unknown" ∷ [])
-not_unknown = differ_at 2 memory_said (codes "! unknown") (λ no. omega (arith, no))
-
-not_surplus : IsNotMemory (codes "! surplus" ∷ [])
-not_surplus = differ_at 2 memory_said (codes "! surplus") (λ no. omega (arith, no))
-
-not_pane : IsNotMemory (codes "! pane" ∷ [])
-not_pane = differ_at 2 memory_said (codes "! pane") (λ no. omega (arith, no))
-
-not_run : (name : List ℕ) (w : World) (o : Outcome Effects) → IsNotMemory (run_command name w o).replies
-not_run name w (Gives effects cost deepest) = differ_at 0 memory_said (codes "ok " ++ name) (λ no. omega (arith, no))
-not_run name w (Traps kind cost deepest) = differ_at 2 memory_said (command_trap_line kind) (λ no. omega (arith, no))
-
-not_need : (command : CommandDecl) (place : ℕ) → IsNotMemory (need_line command place ∷ [])
-not_need command place = differ_at 2 memory_said (need_line command place) (λ no. omega (arith, no))
-
-not_disabled : IsNotMemory (codes "! disabled" ∷ [])
-not_disabled = differ_at 2 memory_said (codes "! disabled") (λ no. omega (arith, no))
-
-not_parsed : (g : Ground) (w : World) (command : CommandDecl) (p : Parsed) → IsNotMemory (finish_parsed g w command p).replies
-not_parsed g w command (parsed.Arguments ds) = not_run command.line_name w (command_outcome g command ds w.slots)
-not_parsed g w command (parsed.Need place) = not_need command place
-not_parsed g w command (parsed.BadArg number) = differ_at 2 memory_said (bad_line number) (λ no. omega (arith, no))
-not_parsed g w command parsed.Surplus = not_surplus
-
-not_finished : (g : Ground) (w : World) (c : Option CommandDecl) → IsNotMemory (finish_by g w c).replies
-not_finished g w None = not_unknown
-not_finished g w (Some command) =
-    not_memory_if (is_on w command) (finish_parsed g w command (parsed_line g w.slots w.line command)) (refuse w 0 (codes "! disabled"))
-    (not_parsed g w command (parsed_line g w.slots w.line command)) not_disabled
-
-not_stroke : (g : Ground) (w : World) (command : CommandDecl) (p : Parsed) → IsNotMemory (stroke_parsed g w command p).replies
-not_stroke g w command (parsed.Need place) = not_need command place
-not_stroke g w command (parsed.Arguments ds) = not_parsed g w command (parsed.Arguments ds)
-not_stroke g w command (parsed.BadArg number) = not_parsed g w command (parsed.BadArg number)
-not_stroke g w command parsed.Surplus = not_parsed g w command parsed.Surplus
-
-not_pressed : (g : Ground) (w : World) (c : Option CommandDecl) → IsNotMemory (stroke_by g w c).replies
-not_pressed g w None = differ_at 2 memory_said (codes "! stroke") (λ no. omega (arith, no))
-not_pressed g w (Some command) =
-    let defaults = without_tokens g.app 0 [] (decls_of command.arguments) in
-    not_memory_if (is_on w command) (stroke_parsed g w command defaults) (refuse w 0 (codes "! disabled")) (not_stroke g w command defaults) not_disabled
-
-not_rows : (name : List ℕ) (marks : PaneMarks) → IsNotMemory (history_rows name marks)
-not_rows name marks = differ_at 0 memory_said (codes "history " ++ (name ++ 32 ∷ _)) (λ no. omega (arith, no))
-
-not_with : (does : PaneDecl → PaneMarks → Handled) (w : World) (ds : List PaneDecl) (ms : List PaneMarks) (name : List ℕ)
-    → ((d : PaneDecl) (m : PaneMarks) → IsNotMemory (does d m).replies) → IsNotMemory (with_pane does w ds ms name).replies
-not_with does w [] ms name each = not_pane
-not_with does w (d ∷ ds) [] name each = not_pane
-not_with does w (d ∷ ds) (m ∷ ms) name each =
-    not_memory_if (str_eq_ignore_ascii_case name d.name) (does d m) (with_pane does w ds ms name) (each d m) (not_with does w ds ms name each)
-
-not_history : (w : World) (ds : List PaneDecl) (ms : List PaneMarks) (name : List ℕ) → IsNotMemory (tell_history w ds ms name).replies
-not_history w ds ms name = not_with (λ d m. tell w 0 (history_rows d.name m)) w ds ms name (λ d m. not_rows d.name m)
-
-not_none : IsNotMemory (codes "! none" ∷ [])
-not_none = differ_at 2 memory_said (codes "! none") (λ no. omega (arith, no))
-
-not_taken : (w : World) (t : TypedArgument) (d : Data) → IsNotMemory (take_object w t d).replies
-not_taken w t d =
-    not_memory_if (nat_le (length (line_with t d w.line)) MAX_ELEMENTS) (tell (record w { line = line_with t d w.line }) 0 (got_line t.number ∷ []))
-    (refuse w 0 (codes "! full")) (differ_at 0 memory_said (got_line t.number) (λ no. omega (arith, no))) not_full
-
-not_run_named : (g : Ground) (w : World) (ds : List Data) (c : Option CommandDecl) → IsNotMemory (run_named g w ds c).replies
-not_run_named g w ds None = not_none
-not_run_named g w ds (Some command) = not_run command.line_name w (command_outcome g command ds w.slots)
-
-not_chosen : (g : Ground) (w : World) (d : Data) → IsNotMemory (run_chosen g w d).replies
-not_chosen g w (list (item (symbol x) ds)) = not_run_named g w (values_in ds) (command_named x g.app)
-not_chosen g w d = not_none
-
-not_acted : (g : Ground) (w : World) (t : Option TypedArgument) (r : Option Given) → IsNotMemory (act_on g w t r).replies
-not_acted g w None None = not_none
-not_acted g w (Some t) None = not_none
-not_acted g w None (Some r) = not_chosen g w r.value
-not_acted g w (Some t) (Some r) =
-    not_memory_if (r.number == 0) (take_object w t r.value) (run_chosen g w r.value) (not_taken w t r.value) (not_chosen g w r.value)
-
-not_pointed : (g : Ground) (w : World) (p : PointAt) (d : PaneDecl) (m : PaneMarks) → IsNotMemory (point_at g w p d m).replies
-not_pointed g w p d m =
-    not_memory_if (is_within d p.x p.y) (act_on g w (typed_in g.app w.line) (chosen_at g w p d m)) (refuse w 0 (codes "! outside"))
-    (not_acted g w (typed_in g.app w.line) (chosen_at g w p d m)) (differ_at 2 memory_said (codes "! outside") (λ no. omega (arith, no)))
-
-not_digits : (panes : List Shown) (y x count : ℕ) → memory_said ≡ row_from digit_in panes y x count → ⊥
-not_digits panes y x zero e = no_first 33 _ (sym e)
-not_digits panes y x (suc more) e =
-    let first = first_of 33 (digit_in (shown_at panes x y)) _ (row_from digit_in panes y (x + 1) more) e in omega (arith, first)
-
-not_inks : (panes : List Shown) (width y count : ℕ) → IsNotMemory (rows_from digit_in panes width y count)
-not_inks panes width y zero = tt
-not_inks panes width y (suc more) = not_digits panes y 0 width
 
 length_row : (panes : List Shown) (y x count : ℕ) → length (row_from glyph_in panes y x count) ≡ count
 length_row panes y x zero = refl

@@ -1,0 +1,141 @@
+-- The own replies of a gesture do not begin with that of want of memory.
+use Rattle.std.proofs.Common.{◌≡◌, ◌==◌, ℕ, zero, suc, ◌+◌, Bool, true, false, List, [], ◌∷◌, ◌++◌, length, get_or, Option, Some, None, sym, ap, arith}
+use Rattle.std.specs.Prelude.{codes, nat_le, if◌then◌else◌}
+use Rattle.std.specs.Str.{str_eq_ignore_ascii_case}
+use Rattle.cl_application.specs.App.{command_named}
+use Rattle.cl_application.specs.declared.declarations.CommandDecl.{CommandDecl}
+use Rattle.cl_application.specs.declared.declarations.PaneDecl.{PaneDecl}
+use Rattle.cl_eval.specs.Outcome.{Gives, Outcome, Traps}
+use Rattle.cl_eval.specs.declared.effects.Effects.{Effects}
+use Rattle.cl_frame.specs.Ground.{Ground}
+use Rattle.cl_frame.specs.Panes.{PaneMarks}
+use Rattle.cl_gesture.specs.declared.answers.PointAt.{PointAt}
+use Rattle.cl_line.specs.declared.lines.TheConstants.{MAX_ELEMENTS}
+use Rattle.cl_redisplay.specs.Shown.{Shown, digit_in, row_from, rows_from, shown_at}
+use Rattle.cl_parser.specs.Parses.{decls_of, without_tokens}
+use Rattle.cl_parser.specs.declared.parsing.Parsed.{Parsed}
+use Rattle.cl_parser.specs.declared.parsing.Parsed.TheVariants as parsed
+use Rattle.cl_session.specs.Pointing.{TypedArgument, chosen_at, is_within, line_with, typed_in, values_in}
+use Rattle.cl_session.specs.Step.{act_on, got_line, point_at, run_chosen, run_named, take_object, with_pane}
+use Rattle.cl_session.specs.Step.{Handled, bad_line, command_outcome, command_trap_line, finish_by, finish_parsed, is_on, need_line, parsed_line, stroke_by, stroke_parsed, history_rows, refuse, run_command, tell, tell_history}
+use Rattle.cl_session.specs.World.{World}
+use Rattle.cl_translate.specs.Choices.{Given}
+use Rattle.cl_value.specs.Data.{Data, symbol, list, item}
+
+abbrev pub memory_said : List ℕ
+memory_said = codes "! memory"
+
+pub first_of : {A : Type 0} (x y : A) (xs ys : List A) → ◌≡◌ {A = List A} (x ∷ xs) (y ∷ ys) → x ≡ y
+first_of x y xs ys e = cc
+
+pub no_first : {A : Type 0} (x : A) (xs : List A) → ◌≡◌ {A = List A} [] (x ∷ xs) → ⊥
+no_first x xs e = cc
+
+-- two lines that differ at a place
+differ_at : (n : ℕ) (a b : List ℕ) → (get_or a n 0 ≡ get_or b n 0 → ⊥) → a ≡ b → ⊥
+differ_at n a b f e = f (ap (λ (l : List ℕ). get_or l n 0) e)
+
+-- these lines do not begin with that of want of memory
+abbrev pub IsNotMemory : List (List ℕ) → Type 0
+IsNotMemory [] = Unit {0}
+IsNotMemory (r ∷ rs) = memory_said ≡ r → ⊥
+
+pub not_memory_if : (b : Bool) (h k : Handled) → IsNotMemory h.replies → IsNotMemory k.replies → IsNotMemory (if b then h else k).replies
+not_memory_if true h k p q = p
+not_memory_if false h k p q = q
+
+pub not_full : IsNotMemory (codes "! full" ∷ [])
+not_full = differ_at 2 memory_said (codes "! full") (λ no. omega (arith, no))
+
+not_unknown : IsNotMemory (codes "! unknown" ∷ [])
+not_unknown = differ_at 2 memory_said (codes "! unknown") (λ no. omega (arith, no))
+
+not_surplus : IsNotMemory (codes "! surplus" ∷ [])
+not_surplus = differ_at 2 memory_said (codes "! surplus") (λ no. omega (arith, no))
+
+not_pane : IsNotMemory (codes "! pane" ∷ [])
+not_pane = differ_at 2 memory_said (codes "! pane") (λ no. omega (arith, no))
+
+not_run : (name : List ℕ) (w : World) (o : Outcome Effects) → IsNotMemory (run_command name w o).replies
+not_run name w (Gives effects cost deepest) = differ_at 0 memory_said (codes "ok " ++ name) (λ no. omega (arith, no))
+not_run name w (Traps kind cost deepest) = differ_at 2 memory_said (command_trap_line kind) (λ no. omega (arith, no))
+
+not_need : (command : CommandDecl) (place : ℕ) → IsNotMemory (need_line command place ∷ [])
+not_need command place = differ_at 2 memory_said (need_line command place) (λ no. omega (arith, no))
+
+not_disabled : IsNotMemory (codes "! disabled" ∷ [])
+not_disabled = differ_at 2 memory_said (codes "! disabled") (λ no. omega (arith, no))
+
+not_parsed : (g : Ground) (w : World) (command : CommandDecl) (p : Parsed) → IsNotMemory (finish_parsed g w command p).replies
+not_parsed g w command (parsed.Arguments ds) = not_run command.line_name w (command_outcome g command ds w.slots)
+not_parsed g w command (parsed.Need place) = not_need command place
+not_parsed g w command (parsed.BadArg number) = differ_at 2 memory_said (bad_line number) (λ no. omega (arith, no))
+not_parsed g w command parsed.Surplus = not_surplus
+
+pub not_finished : (g : Ground) (w : World) (c : Option CommandDecl) → IsNotMemory (finish_by g w c).replies
+not_finished g w None = not_unknown
+not_finished g w (Some command) =
+    not_memory_if (is_on w command) (finish_parsed g w command (parsed_line g w.slots w.line command)) (refuse w 0 (codes "! disabled"))
+    (not_parsed g w command (parsed_line g w.slots w.line command)) not_disabled
+
+not_stroke : (g : Ground) (w : World) (command : CommandDecl) (p : Parsed) → IsNotMemory (stroke_parsed g w command p).replies
+not_stroke g w command (parsed.Need place) = not_need command place
+not_stroke g w command (parsed.Arguments ds) = not_parsed g w command (parsed.Arguments ds)
+not_stroke g w command (parsed.BadArg number) = not_parsed g w command (parsed.BadArg number)
+not_stroke g w command parsed.Surplus = not_parsed g w command parsed.Surplus
+
+pub not_pressed : (g : Ground) (w : World) (c : Option CommandDecl) → IsNotMemory (stroke_by g w c).replies
+not_pressed g w None = differ_at 2 memory_said (codes "! stroke") (λ no. omega (arith, no))
+not_pressed g w (Some command) =
+    let defaults = without_tokens g.app 0 [] (decls_of command.arguments) in
+    not_memory_if (is_on w command) (stroke_parsed g w command defaults) (refuse w 0 (codes "! disabled")) (not_stroke g w command defaults) not_disabled
+
+not_rows : (name : List ℕ) (marks : PaneMarks) → IsNotMemory (history_rows name marks)
+not_rows name marks = differ_at 0 memory_said (codes "history " ++ (name ++ 32 ∷ _)) (λ no. omega (arith, no))
+
+pub not_with : (does : PaneDecl → PaneMarks → Handled) (w : World) (ds : List PaneDecl) (ms : List PaneMarks) (name : List ℕ)
+    → ((d : PaneDecl) (m : PaneMarks) → IsNotMemory (does d m).replies) → IsNotMemory (with_pane does w ds ms name).replies
+not_with does w [] ms name each = not_pane
+not_with does w (d ∷ ds) [] name each = not_pane
+not_with does w (d ∷ ds) (m ∷ ms) name each =
+    not_memory_if (str_eq_ignore_ascii_case name d.name) (does d m) (with_pane does w ds ms name) (each d m) (not_with does w ds ms name each)
+
+pub not_history : (w : World) (ds : List PaneDecl) (ms : List PaneMarks) (name : List ℕ) → IsNotMemory (tell_history w ds ms name).replies
+not_history w ds ms name = not_with (λ d m. tell w 0 (history_rows d.name m)) w ds ms name (λ d m. not_rows d.name m)
+
+not_none : IsNotMemory (codes "! none" ∷ [])
+not_none = differ_at 2 memory_said (codes "! none") (λ no. omega (arith, no))
+
+not_taken : (w : World) (t : TypedArgument) (d : Data) → IsNotMemory (take_object w t d).replies
+not_taken w t d =
+    not_memory_if (nat_le (length (line_with t d w.line)) MAX_ELEMENTS) (tell (record w { line = line_with t d w.line }) 0 (got_line t.number ∷ []))
+    (refuse w 0 (codes "! full")) (differ_at 0 memory_said (got_line t.number) (λ no. omega (arith, no))) not_full
+
+not_run_named : (g : Ground) (w : World) (ds : List Data) (c : Option CommandDecl) → IsNotMemory (run_named g w ds c).replies
+not_run_named g w ds None = not_none
+not_run_named g w ds (Some command) = not_run command.line_name w (command_outcome g command ds w.slots)
+
+not_chosen : (g : Ground) (w : World) (d : Data) → IsNotMemory (run_chosen g w d).replies
+not_chosen g w (list (item (symbol x) ds)) = not_run_named g w (values_in ds) (command_named x g.app)
+not_chosen g w d = not_none
+
+not_acted : (g : Ground) (w : World) (t : Option TypedArgument) (r : Option Given) → IsNotMemory (act_on g w t r).replies
+not_acted g w None None = not_none
+not_acted g w (Some t) None = not_none
+not_acted g w None (Some r) = not_chosen g w r.value
+not_acted g w (Some t) (Some r) =
+    not_memory_if (r.number == 0) (take_object w t r.value) (run_chosen g w r.value) (not_taken w t r.value) (not_chosen g w r.value)
+
+pub not_pointed : (g : Ground) (w : World) (p : PointAt) (d : PaneDecl) (m : PaneMarks) → IsNotMemory (point_at g w p d m).replies
+not_pointed g w p d m =
+    not_memory_if (is_within d p.x p.y) (act_on g w (typed_in g.app w.line) (chosen_at g w p d m)) (refuse w 0 (codes "! outside"))
+    (not_acted g w (typed_in g.app w.line) (chosen_at g w p d m)) (differ_at 2 memory_said (codes "! outside") (λ no. omega (arith, no)))
+
+not_digits : (panes : List Shown) (y x count : ℕ) → memory_said ≡ row_from digit_in panes y x count → ⊥
+not_digits panes y x zero e = no_first 33 _ (sym e)
+not_digits panes y x (suc more) e =
+    let first = first_of 33 (digit_in (shown_at panes x y)) _ (row_from digit_in panes y (x + 1) more) e in omega (arith, first)
+
+pub not_inks : (panes : List Shown) (width y count : ℕ) → IsNotMemory (rows_from digit_in panes width y count)
+not_inks panes width y zero = tt
+not_inks panes width y (suc more) = not_digits panes y 0 width
