@@ -5,4 +5,7 @@ pub mod Turning
 pub mod Stopped
 pub mod Answering
 pub mod Verbs
+pub mod Words
+pub mod Numbers
+pub mod Points
 pub mod Spelling

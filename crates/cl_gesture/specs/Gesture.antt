@@ -1,10 +1,12 @@
 -- What a line of the stream says.
-use Rattle.std.specs.Prelude.{◌≡◌, ◌≢◌, ◌==◌, ◌&&◌, ◌↔◌, ◌<◌, ◌≤◌, ◌++◌, All, not, ◌-◌, ℕ, Bool, true, nat_eq, nat_le, if◌then◌else◌, Option, Some, None, List, [], ◌∷◌, length, take, codes}
+use Rattle.std.specs.Prelude.{◌≡◌, ◌≢◌, ◌==◌, ◌&&◌, ◌↔◌, ◌<◌, ◌≤◌, ◌++◌, All, not, ◌-◌, ℕ, Bool, true, nat_eq, nat_le, if◌then◌else◌, Option, Some, None, option_map, unwrap_or, List, [], ◌∷◌, length, take, codes}
 use Rattle.std.specs.List.{list_all, list_any, ends_with, before_first, after_first}
 use Rattle.std.specs.Str.{bytes_eq}
 use Rattle.cl_gesture.specs.declared.answers.Gesture.{Gesture}
 use Rattle.cl_gesture.specs.declared.answers.Gesture.TheVariants as gesture
+use Rattle.cl_gesture.specs.declared.answers.PointAt.{PointAt}
 use Rattle.cl_gesture.specs.Lines.{Piece, line, long}
+use Rattle.cl_gesture.specs.Pointing.{◌>>=◌, gesture_named, coordinate_of, IsNameOf, WritesCoordinate}
 
 -- nothing, no line of the grammar, or a gesture
 pub data LineKind : Type 0 where
@@ -66,6 +68,22 @@ abbrev pub typing : Option (List ℕ) → LineKind
 typing None = bad
 typing (Some text) = if is_typable text then does (gesture.«Type» text) else bad
 
+-- what is pointed at: a pane, a gesture, a column and a row, with one space between each two words
+abbrev pub point_in : Option (List ℕ) → Option PointAt
+point_in rest = do
+  words ← rest
+  behind ← rest_of words
+  numbers ← rest_of behind
+  row ← rest_of numbers
+  named ← gesture_named (verb_of behind)
+  x ← coordinate_of (verb_of numbers)
+  y ← coordinate_of row
+  if is_word (verb_of words) then Some (record { pane = verb_of words; gesture = named; x = x; y = y }) else None
+
+-- a place of a pane that is pointed at
+abbrev pub pointing : Option (List ℕ) → LineKind
+pointing rest = unwrap_or (option_map (λ point. does (gesture.Point point)) (point_in rest)) bad
+
 -- what a verb says, with what stands behind it
 abbrev pub verb_says : List ℕ → Option (List ℕ) → LineKind
 verb_says verb rest =
@@ -77,7 +95,8 @@ verb_says verb rest =
     (if bytes_eq verb (codes "force") then alone gesture.Force rest else
     (if bytes_eq verb (codes "history") then asking rest else
     (if bytes_eq verb (codes "stroke") then pressing rest else
-    (if bytes_eq verb (codes "type") then typing rest else bad))))))))
+    (if bytes_eq verb (codes "type") then typing rest else
+    (if bytes_eq verb (codes "point") then pointing rest else bad)))))))))
 
 -- what a line says, byte for byte
 abbrev pub says : List ℕ → LineKind
@@ -90,36 +109,44 @@ kind_of (long bytes) = bad
 
 -- ---- law of the grammar
 
--- the line of a gesture
-abbrev pub spelling_of : Gesture → List ℕ
-spelling_of gesture.Return = codes "return"
-spelling_of gesture.Rubout = codes "rubout"
-spelling_of gesture.Clear = codes "clear"
-spelling_of gesture.Frame = codes "frame"
-spelling_of gesture.Inks = codes "inks"
-spelling_of gesture.Force = codes "force"
-spelling_of (gesture.History name) = codes "history " ++ name
-spelling_of (gesture.Stroke name) = codes "stroke " ++ name
-spelling_of (gesture.«Type» text) = codes "type " ++ text
-
 abbrev pub IsPrintable : ℕ → Type 0
 IsPrintable byte = (32 ≤ byte) × (byte ≤ 126)
 
 abbrev pub IsNoSpace : ℕ → Type 0
 IsNoSpace byte = byte ≢ 32
 
--- what is typed is 1 or more bytes from 32 to 126, and a name 1 or more bytes without a space
-abbrev pub IsTypable : Gesture → Type 0
-IsTypable gesture.Return = Unit {0}
-IsTypable gesture.Rubout = Unit {0}
-IsTypable gesture.Clear = Unit {0}
-IsTypable gesture.Frame = Unit {0}
-IsTypable gesture.Inks = Unit {0}
-IsTypable gesture.Force = Unit {0}
-IsTypable (gesture.History name) = (0 < length name) × All IsNoSpace name
-IsTypable (gesture.Stroke name) = (0 < length name) × All IsNoSpace name
-IsTypable (gesture.«Type» text) = (0 < length text) × All IsPrintable text
+-- a text that can be typed: 1 or more bytes from 32 to 126
+abbrev pub IsTypable : List ℕ → Type 0
+IsTypable text = (0 < length text) × All IsPrintable text
 
--- a line does a gesture exactly where it is the spelling of that gesture
+-- a name: 1 or more bytes without a space
+abbrev pub IsWord : List ℕ → Type 0
+IsWord name = (0 < length name) × All IsNoSpace name
+
+-- `point`, the pane, a word that names the gesture, and two words that write the column and the row
+pub record SpellsPoint (bytes : List ℕ) (point : PointAt) : Type 0 where
+  pub gesture_word : List ℕ
+  pub x_word : List ℕ
+  pub y_word : List ℕ
+  pub spelled : bytes ≡ codes "point " ++ (point.pane ++ 32 ∷ (gesture_word ++ 32 ∷ (x_word ++ 32 ∷ y_word)))
+  pub pane : IsWord point.pane
+  pub named : IsNameOf point.gesture gesture_word
+  pub x : WritesCoordinate x_word point.x
+  pub y : WritesCoordinate y_word point.y
+
+-- the line is a spelling of the gesture
+abbrev pub IsSpelling : List ℕ → Gesture → Type 0
+IsSpelling bytes gesture.Return = bytes ≡ codes "return"
+IsSpelling bytes gesture.Rubout = bytes ≡ codes "rubout"
+IsSpelling bytes gesture.Clear = bytes ≡ codes "clear"
+IsSpelling bytes gesture.Frame = bytes ≡ codes "frame"
+IsSpelling bytes gesture.Inks = bytes ≡ codes "inks"
+IsSpelling bytes gesture.Force = bytes ≡ codes "force"
+IsSpelling bytes (gesture.History name) = (bytes ≡ codes "history " ++ name) × IsWord name
+IsSpelling bytes (gesture.Stroke name) = (bytes ≡ codes "stroke " ++ name) × IsWord name
+IsSpelling bytes (gesture.«Type» text) = (bytes ≡ codes "type " ++ text) × IsTypable text
+IsSpelling bytes (gesture.Point point) = SpellsPoint bytes point
+
+-- a line does a gesture exactly where it is a spelling of that gesture
 abbrev pub AreSpelled : Type 0
-AreSpelled = (bytes : List ℕ) (g : Gesture) → (says bytes ≡ does g) ↔ ((bytes ≡ spelling_of g) × IsTypable g)
+AreSpelled = (bytes : List ℕ) (g : Gesture) → (says bytes ≡ does g) ↔ IsSpelling bytes g

@@ -2,6 +2,7 @@ pub mod Lines
 pub mod Progress
 pub mod Idle
 pub mod Reading
+pub mod Pointing
 pub mod Gesture
 pub mod Said
 pub mod Ahead

@@ -1,5 +1,15 @@
 //! What a reader of gestures answers.
+use cl_translators::GestureName;
 use cl_value::Text;
+
+/// A place of a pane, and how it is pointed at.
+#[derive(Drop)]
+pub struct PointAt {
+    pub pane: Text,
+    pub gesture: GestureName,
+    pub x: i64,
+    pub y: i64,
+}
 
 /// What a person did.
 #[derive(Drop)]
@@ -23,6 +33,9 @@ pub enum Gesture {
     History(Text),
     /// Pressed the keystroke of this name, 1 or more bytes without a space, as it was written.
     Stroke(Text),
+    /// Pointed at a place of the pane of this name, 1 or more bytes without a space, as it was
+    /// written, with this gesture of the pointer: a column and a row.
+    Point(PointAt),
 }
 
 /// What the next line is, or why there is none.

@@ -3,10 +3,11 @@ ghost use Rattle.std.specs.Prelude.{◌≡◌, option_copied, position};
 ghost use Rattle.std.specs.List.{list_all};
 ghost use Rattle.cl_gesture.specs.declared.answers.Gesture.TheVariants as gesture;
 ghost use Rattle.cl_gesture.specs.Gesture.{is_idle, is_no_space, is_printable, is_space, is_typable, is_word, without_return};
-ghost use Rattle.cl_gesture.specs.Gesture.{alone, asking, does, pressing, rest_of, says, typing, verb_of, verb_says};
+ghost use Rattle.cl_gesture.specs.Gesture.{alone, asking, does, pointing, pressing, rest_of, says, typing, verb_of, verb_says};
 ghost use Rattle.cl_gesture.specs.Said.{SaidOf, AnswerOf};
 
 use crate::answers::{Gesture, Next};
+use crate::pointing::read_point;
 use cl_value::Text;
 use std::alloc::Global;
 
@@ -68,7 +69,7 @@ fn is_space(byte: u8) -> bool
 }
 
 /// Whether these bytes are one word.
-fn is_word(bytes: &[u8]) -> bool
+pub fn is_word(bytes: &[u8]) -> bool
     ensures { result ≡ is_word bytes.now }
 {
     !bytes.is_empty() && have_no_space(bytes)
@@ -89,7 +90,7 @@ fn first_space(line: &[u8]) -> Option<usize>
 }
 
 /// The verb of a line, and what stands behind its first space.
-fn cut_verb(line: &[u8]) -> (&[u8], Option<&[u8]>)
+pub fn cut_verb(line: &[u8]) -> (&[u8], Option<&[u8]>)
     ensures verb { result.0.now ≡ verb_of line.now }
     ensures rest { option_copied result.1 ≡ rest_of line.now }
 {
@@ -191,6 +192,8 @@ fn read_verb(alloc: Global, verb: &[u8], rest: Option<&[u8]>) -> Said
         read_stroke(alloc, rest)
     } else if verb == b"type".as_slice() {
         read_type(alloc, rest)
+    } else if verb == b"point".as_slice() {
+        read_point(alloc, rest)
     } else {
         Said::Bad
     }

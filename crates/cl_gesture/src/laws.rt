@@ -20,8 +20,10 @@ pub fn there_is_one_cut()
     ensures { IsTheOnlyCut }
 {}
 
-/// A line does a gesture exactly where it is that gesture's spelling, and a text that is typed is
-/// 1 or more bytes from 32 to 126, a name 1 or more bytes without a space.
+/// A line does a gesture exactly where it is a spelling of that gesture: a text that is typed is 1
+/// or more bytes from 32 to 126, and a name 1 or more bytes without a space. Where a place is pointed
+/// at, the gesture's name stands in any case of its letters, and the column and the row are each an
+/// optional `-` and 1 to 6 decimal digits. Each other gesture has one spelling.
 pub fn gestures_are_spelled()
     ensures { AreSpelled }
 {}
