@@ -2,7 +2,7 @@
 ghost use Rattle.std.specs.Prelude.{None};
 
 use super::saying::put_bytes;
-use cl_gesture::{Ahead, Gesture, Gestures, Next};
+use cl_gesture::{Ahead, Gesture, Gestures, Next, PointAt};
 use cl_outside::{MemSource, Source, Took};
 use std::alloc::{AllocError, Global};
 use std::test::Fail;
@@ -41,7 +41,13 @@ fn put_gesture(told: &mut String, gesture: Gesture) -> Result<(), AllocError> {
         Gesture::Force => Ok(told.push_str("force")?),
         Gesture::History(name) => put_text(told, "history ", name.as_slice()),
         Gesture::Stroke(name) => put_text(told, "stroke ", name.as_slice()),
+        Gesture::Point(at) => put_point(told, &at),
     }
+}
+
+fn put_point(told: &mut String, at: &PointAt) -> Result<(), AllocError> {
+    put_text(told, "point ", at.pane.as_slice())?;
+    write!(told, " {:?} {} {}", at.gesture, at.x, at.y)
 }
 
 /// Puts what a reader answers, and says whether it can answer something else.
@@ -105,6 +111,21 @@ fn verbs_are_read_with_what_stands_behind(rt: HostRuntime) -> Result<(), Fail> {
     assert_eq!(rt;
         answers(alloc, &mut gestures)?.as_str(),
         "force\nbad 2\nbad 3\nbad 4\nbad 5\nbad 6\nbad 7\nbad 8\nbad 9\nbad 10\ninks\nbad 12\nbad 13\nbad 14\nstroke L\nend"
+    );
+    Ok(())
+}
+
+const POINTS: &[u8] =
+    b"point p select 0 0\npoint p Menu -1 000123\npoint p select 1\npoint p choose 1 1\npoint p select 1234567 0\npoint";
+
+#[test]
+fn places_are_pointed_at_by_numbers(rt: HostRuntime) -> Result<(), Fail> {
+    let alloc = rt.alloc();
+    let source = MemSource::new(POINTS.to_vec(alloc)?, Vec::new(alloc));
+    let mut gestures = Gestures::new(alloc, source)?;
+    assert_eq!(rt;
+        answers(alloc, &mut gestures)?.as_str(),
+        "point p Select 0 0\npoint p Menu -1 123\nbad 3\nbad 4\nbad 5\nbad 6\nend"
     );
     Ok(())
 }
