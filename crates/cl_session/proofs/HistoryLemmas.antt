@@ -131,7 +131,8 @@ history_cost w (d ∷ ds) [] name = refl
 history_cost w (d ∷ ds) (m ∷ ms) name =
     cost_by w (tell w 0 (history_rows d.name m)) (tell_history w ds ms name) (is_pane_named name d) refl (history_cost w ds ms name)
 
-tell_cost : (h : Handled) (w : World) (lines : List (List ℕ)) → h ≡ tell w 0 lines → h ≡ record { replies = lines; world = w; after = after.Nothing; cost = h.cost }
+-- what is told costs what the handling costs
+pub tell_cost : (h : Handled) (w : World) (lines : List (List ℕ)) → h ≡ tell w 0 lines → h ≡ record { replies = lines; world = w; after = after.Nothing; cost = h.cost }
 tell_cost h w lines e = e ∙ ap (λ (n : ℕ). tell w n lines) (sym (ap (λ (x : Handled). x.cost) e))
 
 -- lines that are told, or want of memory

@@ -5,7 +5,9 @@ ghost use Rattle.cl_application.specs.Panes.{panes_of};
 ghost use Rattle.cl_eval.specs.Outcome.{RisesBy};
 ghost use Rattle.cl_frame.specs.Frames.{IsFrameOf, marks_of_frame};
 ghost use Rattle.cl_frame.specs.Ground.{ground_of};
-ghost use Rattle.cl_frame.specs.Panes.{marks_of_pane};
+ghost use Rattle.cl_frame.specs.Panes.{marks_in, marks_of_pane};
+ghost use Rattle.cl_medium.specs.Items.{move_item};
+ghost use Rattle.cl_record.specs.Marks.{history_marks};
 ghost use Rattle.cl_session.specs.Accessible.{IsAccessible};
 ghost use Rattle.cl_session.specs.Handling.{HandlesTo, enabled_in, handling_met, world_at};
 ghost use Rattle.cl_session.specs.Naming.{sight_in};
@@ -121,11 +123,11 @@ fn point_at<T: Types, L: Ledger>(
     requires depth { program.now.limits.depth ≤ 512 }
     requires accessible { IsAccessible program.now.app.now accessible.now }
     ensures handles { HandlesTo (point_at (ground_of T.holds T.presents T.reads T.hierarchy program.now)
-        (world_at slots.old desk.old frame.now) target.at.now target.declared.now (marks_of_pane target.shown.now))
+        (world_at slots.old desk.old frame.now) target.entry.at.now target.entry.declared.now (marks_of_pane target.entry.shown.now))
         frame.now result slots.old slots.new desk.old desk.new }
     ensures ledger { RisesBy (handling_met result) steps.old steps.new
         (point_at (ground_of T.holds T.presents T.reads T.hierarchy program.now) (world_at slots.old desk.old frame.now)
-        target.at.now target.declared.now (marks_of_pane target.shown.now)).cost }
+        target.entry.at.now target.entry.declared.now (marks_of_pane target.entry.shown.now)).cost }
 {
     if !target.is_within() {
         return reply(program.alloc, b"! outside");
@@ -183,7 +185,7 @@ fn choice_at<T: Types>(
 ) -> Result<Option<Choice>, AllocError>
     requires { IsAccessible program.now.app.now accessible.now }
     ensures { IfOk result (λ o. option_map given_of o ≡ chosen_by (ground_of T.holds T.presents T.reads T.hierarchy program.now) slots.now (enabled_in enabled.now)
-        (option_map typed_of typed) target.at.now target.declared.now (marks_of_pane target.shown.now)) }
+        (option_map typed_of typed.entry) target.entry.at.now target.entry.declared.now (marks_of_pane target.entry.shown.now)) }
 {
     let contexts = contexts_of(program.alloc, typed)?;
     let chooser = Chooser {
@@ -202,11 +204,19 @@ fn choice_at<T: Types>(
         y: target.at.y,
     };
     let blank = History::empty(program.alloc);
-    let history = match &target.shown.history {
-        Some(history) => history,
-        None => &blank,
-    };
+    let history = history_shown(target.shown, &blank);
     chooser.choose(history, &point, contexts.as_slice(), target.at.gesture)
+}
+
+// What a pane shows; a blank one shows nothing.
+fn history_shown<'a>(shown: &'a Pane, blank: &'a History) -> &'a History
+    requires { blank.now ≡ [] }
+    ensures { history_marks move_item result.now ≡ marks_in (marks_of_pane shown.now) }
+{
+    match &shown.history {
+        Some(history) => history,
+        None => blank,
+    }
 }
 
 // The input contexts, the innermost first.
@@ -214,7 +224,7 @@ fn contexts_of(
     alloc: Global,
     typed: Option<TypedArgument<'_>>,
 ) -> Result<Vec<TypeSpec>, AllocError>
-    ensures { IfOk result (λ v. v.items ≡ contexts_of (option_map typed_of typed)) }
+    ensures { IfOk result (λ v. v.items ≡ contexts_of (option_map typed_of typed.entry)) }
 {
     let mut contexts = Vec::new(alloc);
     if let Some(typed) = typed {
@@ -236,11 +246,11 @@ fn act_on<T: Types, L: Ledger>(
 ) -> Handling
     requires { program.now.limits.depth ≤ 512 }
     ensures handles { HandlesTo (act_on (ground_of T.holds T.presents T.reads T.hierarchy program.now)
-        (world_at slots.old desk.old frame.now) (option_map typed_of typed) (option_map given_of choice))
+        (world_at slots.old desk.old frame.now) (option_map typed_of typed.entry) (option_map given_of choice))
         frame.now result slots.old slots.new desk.old desk.new }
     ensures ledger { RisesBy (handling_met result) steps.old steps.new
         (act_on (ground_of T.holds T.presents T.reads T.hierarchy program.now) (world_at slots.old desk.old frame.now)
-        (option_map typed_of typed) (option_map given_of choice)).cost }
+        (option_map typed_of typed.entry) (option_map given_of choice)).cost }
 {
     let Some(choice) = choice else {
         return reply(program.alloc, b"! none");
@@ -262,9 +272,9 @@ fn take_object(
     slots: &Slots,
     desk: &mut Desk,
 ) -> Handling
-    ensures handles { HandlesTo (take_object (world_at slots.now desk.old frame.now) (typed_of typed) (data_of value))
+    ensures handles { HandlesTo (take_object (world_at slots.now desk.old frame.now) (typed_of typed.entry) (data_of value))
         frame.now result slots.now slots.now desk.old desk.new }
-    ensures cost { (take_object (world_at slots.now desk.old frame.now) (typed_of typed) (data_of value)).cost ≡ 0 }
+    ensures cost { (take_object (world_at slots.now desk.old frame.now) (typed_of typed.entry) (data_of value)).cost ≡ 0 }
 {
     let Ok(lines) = got_lines(alloc, typed.number) else {
         return Handling::Memory;
@@ -304,11 +314,14 @@ fn run_chosen<T: Types, L: Ledger>(
     let Value::List(parts) = value else {
         return reply(program.alloc, b"! none");
     };
-    match parts.as_slice() {
-        [Value::Symbol(name), arguments @ ..] => match program.app.command(name.as_slice()) {
-            Some(command) => run_command(program, command, arguments, frame, slots, desk, steps),
-            None => reply(program.alloc, b"! none"),
-        },
-        _ => reply(program.alloc, b"! none"),
+    let Some((first, arguments)) = parts.as_slice().split_first() else {
+        return reply(program.alloc, b"! none");
+    };
+    let Value::Symbol(name) = first else {
+        return reply(program.alloc, b"! none");
+    };
+    match program.app.command(name.as_slice()) {
+        Some(command) => run_command(program, command, arguments, frame, slots, desk, steps),
+        None => reply(program.alloc, b"! none"),
     }
 }
