@@ -1,5 +1,5 @@
 -- What is pointed at, by the program's parts.
-use Rattle.std.proofs.Common.{◌≡◌, ℕ, ◌+◌, ◌≤◌, ◌++◌, true, List, [], ◌∷◌, length, map, flat_map, nat_le, Option, Some, Result, Ok, Err, IfOk, arith, refl, sym, ◌∙◌, ap, subst}
+use Rattle.std.proofs.Common.{◌≡◌, ℕ, ℤ, ◌+◌, ◌≤◌, ◌++◌, true, List, [], ◌∷◌, length, map, flat_map, nat_le, Option, Some, Result, Ok, Err, IfOk, arith, refl, sym, ◌∙◌, ap, subst}
 use Rattle.std.proofs.lemmas.Bool.{le-leb}
 use Rattle.cl_application.specs.App.{command_named}
 use Rattle.cl_application.specs.declared.declarations.CommandDecl.{CommandDecl}
@@ -102,13 +102,13 @@ same_scene g slots states a is = λ i. record {
   declared = is.declarations i;
 }
 
--- a choice by the same scene, contexts and marks
+-- a choice by the same scene, contexts and marks, at the same place
 pub same_choice : (g : Ground) (slots : Slots) (enabled : Enabled) (t : Option TypedArgument) (p : PointAt) (d : PaneDecl) (m : PaneMarks)
-    (s : Scene) (contexts : List TypeSpecTree) (marks : List (Mark Item)) (o : Option Given)
-    → s ≡ scene_by g slots enabled → contexts ≡ contexts_of t → marks ≡ marks_in m
-    → o ≡ chosen s p.gesture contexts (candidates (touched item_bounds p.x p.y marks) (blank_area d.name p.x p.y)) → o ≡ chosen_by g slots enabled t p d m
-same_choice g slots enabled t p d m s contexts marks o scenes types shown is =
-    is ∙ (λ i. chosen (scenes i) p.gesture (types i) (candidates (touched item_bounds p.x p.y (shown i)) (blank_area d.name p.x p.y)))
+    (s : Scene) (contexts : List TypeSpecTree) (marks : List (Mark Item)) (x y : ℤ) (o : Option Given)
+    → s ≡ scene_by g slots enabled → contexts ≡ contexts_of t → marks ≡ marks_in m → x ≡ p.x → y ≡ p.y
+    → o ≡ chosen s p.gesture contexts (candidates (touched item_bounds x y marks) (blank_area d.name x y)) → o ≡ chosen_by g slots enabled t p d m
+same_choice g slots enabled t p d m s contexts marks x y o scenes types shown across down is =
+    is ∙ (λ i. chosen (scenes i) p.gesture (types i) (candidates (touched item_bounds (across i) (down i) (shown i)) (blank_area d.name (across i) (down i))))
 
 -- what is typed and what is chosen decide
 pub acted_on : (g : Ground) (w : World) (p : PointAt) (d : PaneDecl) (m : PaneMarks) (t : Option TypedArgument) (r : Option Given)

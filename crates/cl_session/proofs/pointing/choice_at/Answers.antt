@@ -1,4 +1,7 @@
-use Rattle.std.proofs.Common.{◌∙◌}
+use Rattle.std.proofs.Common.{◌∙◌, rules}
+use Rattle.std.proofs.lemmas.Int.{to_z-of_z}
+use mir.Syntax.{w64}
+use mir.Val.{SFits}
 use Rattle.std.specs.Prelude.{option_map}
 use Rattle.cl_frame.specs.Ground.{ground_of}
 use Rattle.cl_frame.specs.Panes.{marks_of_pane}
@@ -13,8 +16,11 @@ use Rattle.cl_session.proofs.pointing.choice_at.Goals as goal
 pub returns : goal.returns
 returns g c =
     let own = ground_of g.T.Types.holds g.T.Types.presents g.T.Types.reads g.T.Types.hierarchy c.args.program.now in
+    let across : SFits w64 c.args.target.at.now.x = search rules in
+    let down : SFits w64 c.args.target.at.now.y = search rules in
     each_ok _ _ c.choose.result
     (λ o h. same_choice own c.args.slots.now (enabled_in c.args.enabled.now) (option_map typed_of c.args.typed) c.args.target.at.now c.args.target.declared.now
-    (marks_of_pane c.args.target.shown.now) _ _ (history_marks move_item c.history_shown-history.result.now) (option_map given_of o)
+    (marks_of_pane c.args.target.shown.now) _ _ (history_marks move_item c.history_shown-history.result.now) _ _ (option_map given_of o)
     (same_scene own c.args.slots.now c.args.enabled.now c.args.accessible.now c.requires)
-    (c.as_slice.ensures.value ∙ c.in_ok-contexts.ensures) c.history_shown-history.ensures h) c.choose.ensures
+    (c.as_slice.ensures.value ∙ c.in_ok-contexts.ensures) c.history_shown-history.ensures
+    (to_z-of_z w64 _ across) (to_z-of_z w64 _ down) h) c.choose.ensures

@@ -1,4 +1,5 @@
-use Rattle.std.proofs.Common.{sym, subst, ◌∙◌}
+use Rattle.std.proofs.Common.{ℕ, List, sym, ap, subst, ◌∙◌}
+use Rattle.cl_application.specs.App.{command_named}
 use Rattle.cl_eval.specs.Outcome.{RisesBy}
 use Rattle.cl_frame.specs.Ground.{ground_of}
 use Rattle.cl_session.specs.Handling.{HandlesTo, handling_met, world_at}
@@ -6,19 +7,21 @@ use Rattle.cl_session.specs.Step.{Handled}
 use Rattle.cl_session.proofs.PointingLemmas.{chosen_run}
 use Rattle.cl_session.proofs.pointing.run_chosen.Goals as goal
 
-pub returns-in-Some-2-clause-handles : goal.returns-in-Some-2-clause-handles
-returns-in-Some-2-clause-handles g c =
+pub returns-in-Some-command-clause-handles : goal.returns-in-Some-command-clause-handles
+returns-in-Some-command-clause-handles g c =
     let own = ground_of g.T.Types.holds g.T.Types.presents g.T.Types.reads g.T.Types.hierarchy c.args.program.now in
     let w = world_at c.args.slots.now c.args.desk.now c.args.frame.now in
     let same = chosen_run own w c.as_slice.result.now c.in-List.parts c.args.value.now c.in-Some.first.now c.in-Some.arguments.now c.in-Symbol.name
-    c.in-Some-2.command.now c.in-List.is c.as_slice.ensures ? c.in-Symbol.is (sym c.in-Some-2.ensures) in
+    c.in-Some-command.command.now c.in-List.is c.as_slice.ensures c.in-Some.ensures.cases.0 c.in-Symbol.is
+    (ap (λ (n : List ℕ). command_named n c.args.program.now.app.now) (sym c.as_slice-2.ensures) ∙ sym c.in-Some-command.ensures) in
     subst (λ (h : Handled). HandlesTo h c.args.frame.now c.run_command.result c.args.slots.now c.run_command.new.slots c.args.desk.now c.run_command.new.desk)
     (sym same) c.run_command.ensures.handles
 
-pub returns-in-Some-2-clause-ledger : goal.returns-in-Some-2-clause-ledger
-returns-in-Some-2-clause-ledger g c =
+pub returns-in-Some-command-clause-ledger : goal.returns-in-Some-command-clause-ledger
+returns-in-Some-command-clause-ledger g c =
     let own = ground_of g.T.Types.holds g.T.Types.presents g.T.Types.reads g.T.Types.hierarchy c.args.program.now in
     let w = world_at c.args.slots.now c.args.desk.now c.args.frame.now in
     let same = chosen_run own w c.as_slice.result.now c.in-List.parts c.args.value.now c.in-Some.first.now c.in-Some.arguments.now c.in-Symbol.name
-    c.in-Some-2.command.now c.in-List.is c.as_slice.ensures ? c.in-Symbol.is (sym c.in-Some-2.ensures) in
+    c.in-Some-command.command.now c.in-List.is c.as_slice.ensures c.in-Some.ensures.cases.0 c.in-Symbol.is
+    (ap (λ (n : List ℕ). command_named n c.args.program.now.app.now) (sym c.as_slice-2.ensures) ∙ sym c.in-Some-command.ensures) in
     subst (λ (h : Handled). RisesBy (handling_met c.run_command.result) c.args.steps.now c.run_command.new.steps h.cost) (sym same) c.run_command.ensures.ledger
