@@ -1,5 +1,5 @@
 -- What is pointed at, by the program's parts.
-use Rattle.std.proofs.Common.{◌≡◌, ℕ, ℤ, ◌+◌, ◌≤◌, ◌++◌, true, List, [], ◌∷◌, length, map, flat_map, nat_le, Option, Some, Result, Ok, Err, IfOk, arith, refl, sym, ◌∙◌, ap, subst}
+use Rattle.std.proofs.Common.{◌≡◌, ℕ, ℤ, ◌+◌, ◌≤◌, ◌++◌, true, List, [], ◌∷◌, length, map, flat_map, nat_le, Option, Some, Result, Ok, Err, IfOk, refl, sym, ◌∙◌, ap, subst}
 use Rattle.std.proofs.lemmas.Bool.{le-leb}
 use Rattle.cl_application.specs.App.{command_named}
 use Rattle.cl_application.specs.declared.declarations.CommandDecl.{CommandDecl}
@@ -25,7 +25,6 @@ use Rattle.cl_tables.specs.Enabled.{States, is_enabled}
 use Rattle.cl_translate.specs.Choices.{Given, blank_area, candidates, chosen}
 use Rattle.cl_translate.specs.Scenes.{Scene}
 use Rattle.cl_translators.specs.Order.{digits, in_order, translators_of, with_low}
-use Rattle.cl_translators.specs.declared.declarations.TranslatorPlace.{TranslatorPlace}
 use Rattle.cl_value.specs.Data.{Data, symbol, list, item, items_of}
 use Rattle.cl_value.specs.Value.{data_of}
 use Rattle.cl_value.specs.declared.Value.{Value}

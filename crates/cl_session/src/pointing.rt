@@ -220,10 +220,7 @@ fn history_shown<'a>(shown: &'a Pane, blank: &'a History) -> &'a History
 }
 
 // The input contexts, the innermost first.
-fn contexts_of(
-    alloc: Global,
-    typed: Option<TypedArgument<'_>>,
-) -> Result<Vec<TypeSpec>, AllocError>
+fn contexts_of(alloc: Global, typed: Option<TypedArgument<'_>>) -> Result<Vec<TypeSpec>, AllocError>
     ensures { IfOk result (λ v. v.items ≡ contexts_of (option_map typed_of typed.entry)) }
 {
     let mut contexts = Vec::new(alloc);

@@ -108,7 +108,15 @@ fn finish_parsed<T: Types, L: Ledger>(
 {
     match parsed {
         Parsed::Arguments(values) => {
-            run_command(program, command, values.as_slice(), frame, slots, desk, steps)
+            run_command(
+                program,
+                command,
+                values.as_slice(),
+                frame,
+                slots,
+                desk,
+                steps,
+            )
         }
         Parsed::Need(place) => told(need_lines(program.alloc, command, place)),
         Parsed::BadArg(number) => told(bad_lines(program.alloc, number)),

@@ -13,10 +13,7 @@ use cl_value::Text;
 use std::alloc::Global;
 
 /// The answers to questions, a line each. The display of a pane is evaluated once for all questions in a row that ask of it.
-pub fn answer_all<T: Types>(
-    chooser: &Chooser<'_, T>,
-    questions: &[&str],
-) -> Result<String, Fault> {
+pub fn answer_all<T: Types>(chooser: &Chooser<'_, T>, questions: &[&str]) -> Result<String, Fault> {
     let mut answers = Vec::new(chooser.alloc);
     let mut shown = None;
     for question in questions {
