@@ -7,4 +7,4 @@ pub mod TypeLemmas
 pub mod RingLemmas
 pub mod DefaultLemmas
 pub mod FramingLemmas
-mod OneOutcome
+pub mod OneOutcome
