@@ -91,7 +91,6 @@ fn answer_with_translators<T: Types>(
     let chooser = Chooser {
         alloc,
         app: &loaded.app,
-        lattice: &loaded.lattice,
         types,
         slots: &loaded.slots,
         tables: &commands.tables,
