@@ -20,7 +20,7 @@ pub fn answer_all<T: Types>(chooser: &Chooser<'_, T>, questions: &[&str]) -> Res
         let asked = asked_of(question)?;
         let pane = match shown.take() {
             Some(pane) if is_pane(&pane, asked.pane) => pane,
-            _ => pane_of(chooser, asked.pane)?,
+            _other => pane_of(chooser, asked.pane)?,
         };
         answer(chooser, &pane, &asked, question, &mut answers)?;
         shown = Some(pane);
