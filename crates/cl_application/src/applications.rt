@@ -4,7 +4,7 @@ ghost use Rattle.cl_application.specs.App.{record_named, function_named, display
 
 use crate::declarations::{
     CommandDecl, Commands, DisplayDecl, Displays, FrameDecl, FunctionDecl, Functions, HostDecls,
-    MethodDecl, Methods, PaneDecl, TableDecls,
+    MethodDecl, Methods, PaneDecl, TableDecls, TranslatorDecls,
 };
 use cl_syntax::{RecordDecl, Records, Shape, TypeSpec, UserTypes};
 use cl_value::Text;
@@ -21,6 +21,7 @@ pub struct App {
     pub displays: Displays,
     pub tables: TableDecls,
     pub commands: Commands,
+    pub translators: TranslatorDecls,
     pub frame: FrameDecl,
 }
 

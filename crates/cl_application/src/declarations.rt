@@ -2,6 +2,7 @@
 use cl_syntax::{Acts, Expr, Shapes, TypeSpec};
 use cl_table::{Declared, Names, Table};
 use cl_tables::TableDecl;
+use cl_translators::GestureName;
 use cl_value::Text;
 
 /// `(define-function NAME (PARAMETER ...) BODY)`
@@ -56,6 +57,9 @@ pub type Commands = Table<CommandDecl>;
 
 /// The arguments of a command by name, in order.
 pub type ArgumentDecls = Table<ArgumentDecl>;
+
+/// The translators of an application by name, both kinds.
+pub type TranslatorDecls = Table<TranslatorDecl>;
 
 /// The command tables of an application by name.
 pub type TableDecls = Table<TableDecl>;
@@ -114,6 +118,14 @@ impl Declared for ArgumentDecl {
     }
 }
 
+impl Declared for TranslatorDecl {
+    ghost own_name = { λ t. t.name };
+
+    fn name(&self) -> &Text {
+        &self.name
+    }
+}
+
 impl Declared for SlotDecl {
     ghost own_name = { λ d. d.name };
 
@@ -160,6 +172,27 @@ pub struct ArgumentDecl {
 #[derive(Drop)]
 pub struct DefaultDecl {
     pub value: Expr,
+    pub at: u32,
+}
+
+/// `(define-presentation-translator NAME (FROM TO KEYS) (PARAMETER) BODY)` or
+/// `(define-presentation-to-command-translator NAME (FROM COMMAND KEYS) (PARAMETER) BODY)`. It takes an object of the type
+/// `from`, bound to `parameter`. One with a command gives that command with the list of arguments that its body comes to, and
+/// has the type `command` as `to`; any other gives what its body comes to. Without a tester it is tried always. The
+/// documentation that is not given is the name.
+#[derive(Drop)]
+pub struct TranslatorDecl {
+    pub name: Text,
+    pub from: TypeSpec,
+    pub to: TypeSpec,
+    pub command: Option<Text>,
+    pub table: Text,
+    pub gesture: GestureName,
+    pub priority: u8,
+    pub documentation: Text,
+    pub tester: Option<Expr>,
+    pub parameter: Text,
+    pub body: Expr,
     pub at: u32,
 }
 

@@ -1,4 +1,4 @@
-//! What an application text declares: types with their methods, functions, displays, command tables, commands and a frame.
+//! What an application text declares: types with their methods, functions, displays, command tables, commands, translators and a frame.
 #![tactic(auto)]
 
 mod applications;
@@ -8,5 +8,5 @@ pub use applications::App;
 pub use declarations::{
     ArgumentDecl, ArgumentDecls, CommandDecl, Commands, DefaultDecl, DisplayDecl, Displays,
     FrameDecl, FunctionDecl, Functions, HostDecl, HostDecls, MethodDecl, Methods, PaneDecl,
-    PaneDecls, SlotDecl, SlotDecls, TableDecls,
+    PaneDecls, SlotDecl, SlotDecls, TableDecls, TranslatorDecl, TranslatorDecls,
 };

@@ -45,6 +45,7 @@ fn app_in(alloc: Global, forms: &[Datum]) -> Result<App, LoadRefusal> {
         displays: Table::new(alloc),
         tables: Table::new(alloc),
         commands: Table::new(alloc),
+        translators: Table::new(alloc),
         frame: empty_frame(alloc)?,
     })
 }
