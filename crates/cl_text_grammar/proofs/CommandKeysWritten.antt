@@ -21,11 +21,11 @@ use Rattle.cl_text_grammar.specs.WritesCommands.{WritesArgumentKeys, no_argument
 use Rattle.cl_text_grammar.proofs.KeyWords.{key_word, IsPair, a_pair, ArePairs, no_pairs, more_pairs, StandApart, Keys, pairs_stand, has_last, stood_before}
 use Rattle.cl_text_grammar.proofs.KeyWords.{name_there, text_there}
 
-abbrev keyed : Key → ℕ → Datum → Keyed
+abbrev pub keyed : Key → ℕ → Datum → Keyed
 keyed k h v = record { key = k; at = h; values = v ∷ [] }
 
 -- a key that stands here does not stand again
-stands_once : (k : Key) (h : ℕ) (v : Datum) (so_far ks : List Keyed) → same_key k k ≡ true → StandApart so_far (keyed k h v ∷ ks) → values_of k ks ≡ None
+pub stands_once : (k : Key) (h : ℕ) (v : Datum) (so_far ks : List Keyed) → same_key k k ≡ true → StandApart so_far (keyed k h v ∷ ks) → values_of k ks ≡ None
 stands_once k h v so_far ks e a = stood_before k (so_far ++ keyed k h v ∷ []) ks a.1 (has_last k so_far (keyed k h v) e)
 
 -- ---- the head of a command
@@ -76,6 +76,10 @@ module _ (h : ℕ) (v : Datum) (so_far ks : List Keyed) (ds : List Datum) (rest 
   key_written key.SingleBox i a = absurd (false_true i)
   key_written key.Default i a = absurd (false_true i)
   key_written key.Prompt i a = absurd (false_true i)
+  key_written key.Gesture i a = absurd (false_true i)
+  key_written key.Priority i a = absurd (false_true i)
+  key_written key.Documentation i a = absurd (false_true i)
+  key_written key.Tester i a = absurd (false_true i)
 
 pair_written : (d v : Datum) (k : Keyed) (so_far ks : List Keyed) (ds : List Datum) → IsPair command_keys k d v → AllWritten ks ds → StandApart so_far (k ∷ ks)
     → AllWritten (k ∷ ks) (d ∷ v ∷ ds)
@@ -183,6 +187,10 @@ module _ (h : ℕ) (v : Datum) (so_far ks : List Keyed) (ds : List Datum) (rest 
   argument_key_written key.Description i a = absurd (false_true i)
   argument_key_written key.Separator i a = absurd (false_true i)
   argument_key_written key.SingleBox i a = absurd (false_true i)
+  argument_key_written key.Gesture i a = absurd (false_true i)
+  argument_key_written key.Priority i a = absurd (false_true i)
+  argument_key_written key.Documentation i a = absurd (false_true i)
+  argument_key_written key.Tester i a = absurd (false_true i)
 
 argument_pair_written : (d v : Datum) (k : Keyed) (so_far ks : List Keyed) (ds : List Datum) → IsPair argument_keys k d v → ArgumentKeysWritten ks ds
     → StandApart so_far (k ∷ ks) → ArgumentKeysWritten (k ∷ ks) (d ∷ v ∷ ds)

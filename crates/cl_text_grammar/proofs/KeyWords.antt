@@ -5,7 +5,7 @@ use Rattle.std.proofs.Math.Path.{subst}
 use denote.Enum.Bare.{same_true}
 use Rattle.cl_forms.specs.contracts.keys.Key.{the_type}
 use Rattle.cl_forms.specs.Datum.{Datum, Datums, number, literal, word, quoted, stray, list, none, item, in_order}
-use Rattle.cl_forms.specs.Keys.{Keyed, section_key, value_key, key_or, key_named, same_key, is_among, allowed, key_in, values_of, has_key}
+use Rattle.cl_forms.specs.Keys.{Keyed, section_key, value_key, translator_key, key_or, key_named, same_key, is_among, allowed, key_in, values_of, has_key}
 use Rattle.cl_forms.specs.Keys.{keyed_as, with_keyed, section_in, keyed_sections, pair_in, keyed_pairs}
 use Rattle.cl_forms.specs.Naming.{name_in}
 use Rattle.cl_forms.specs.declared.keys.Key.{Key}
@@ -28,6 +28,10 @@ key_word key.Separator = codes ":separator"
 key_word key.SingleBox = codes ":single-box"
 key_word key.Default = codes ":default"
 key_word key.Prompt = codes ":prompt"
+key_word key.Gesture = codes ":gesture"
+key_word key.Priority = codes ":priority"
+key_word key.Documentation = codes ":documentation"
+key_word key.Tester = codes ":tester"
 
 section_words : (x : List ℕ) → Finds (λ k. x ≡ key_word k) (section_key x)
 section_words x =
@@ -42,12 +46,19 @@ value_words x =
     (word_is key.SingleBox x (codes ":single-box") (λ e. e) (word_is key.Default x (codes ":default") (λ e. e)
     (word_is key.Prompt x (codes ":prompt") (λ e. e) nothing))))))))
 
+translator_words : (x : List ℕ) → Finds (λ k. x ≡ key_word k) (translator_key x)
+translator_words x =
+    word_is key.Gesture x (codes ":gesture") (λ e. e) (word_is key.Priority x (codes ":priority") (λ e. e)
+    (word_is key.Documentation x (codes ":documentation") (λ e. e) (word_is key.Tester x (codes ":tester") (λ e. e) nothing)))
+
 either_key : {P : Key → Type 0} (o p : Option Key) → Finds P o → Finds P p → Finds P (key_or o p)
 either_key (Some k) p h i = record { found = h.found }
 either_key None p h i = i
 
 key_words : (x : List ℕ) → Finds (λ k. x ≡ key_word k) (key_named x)
-key_words x = either_key (section_key x) (value_key x) (section_words x) (value_words x)
+key_words x =
+    either_key (section_key x) (key_or (value_key x) (translator_key x)) (section_words x)
+    (either_key (value_key x) (translator_key x) (value_words x) (translator_words x))
 
 key_spelled : (x : List ℕ) (k : Key) → key_named x ≡ Some k → x ≡ key_word k
 key_spelled x k e = of_some k (key_named x) e (key_words x)

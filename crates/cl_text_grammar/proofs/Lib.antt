@@ -15,6 +15,8 @@ pub mod UserTypesWritten
 pub mod MethodsWritten
 pub mod CommandKeysWritten
 pub mod CommandsWritten
+pub mod TranslatorKeysWritten
+pub mod TranslatorsWritten
 pub mod TextWritten
 pub mod DisplaysNamed
 pub mod FormStands

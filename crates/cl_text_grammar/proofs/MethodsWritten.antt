@@ -25,7 +25,7 @@ host_type_ends w h at [] = refuses
 host_type_ends w h at (n ∷ d ∷ ds) = refuses
 
 -- a list of one name
-alone_written : (d : Datum) (x : List ℕ) → name_alone (parts_of d) ≡ Some x → WritesNameList (x ∷ []) d
+pub alone_written : (d : Datum) (x : List ℕ) → name_alone (parts_of d) ≡ Some x → WritesNameList (x ∷ []) d
 alone_written (list (item n none) at) x e = a_name_list (one_name e no_name)
 alone_written (list none at) x e = absurd (nothing_found e)
 alone_written (list (item n (item d ds)) at) x e = absurd (nothing_found e)

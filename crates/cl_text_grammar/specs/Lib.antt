@@ -10,4 +10,5 @@ pub mod WritesTypes
 pub mod WritesFrames
 pub mod WritesUserTypes
 pub mod WritesCommands
+pub mod WritesTranslators
 pub mod WritesDeclarations

@@ -17,6 +17,7 @@ use Rattle.cl_application.specs.declared.declarations.FunctionDecl.{FunctionDecl
 use Rattle.cl_application.specs.declared.declarations.DisplayDecl.{DisplayDecl}
 use Rattle.cl_application.specs.declared.declarations.ArgumentDecl.{ArgumentDecl}
 use Rattle.cl_application.specs.declared.declarations.CommandDecl.{CommandDecl}
+use Rattle.cl_application.specs.declared.declarations.TranslatorDecl.{TranslatorDecl}
 use Rattle.cl_application.specs.declared.declarations.SlotDecl.{SlotDecl}
 use Rattle.cl_tables.specs.declared.declarations.TableDecl.{TableDecl}
 use Rattle.cl_declare.specs.declared.declarations.Declarations.{Declarations}
@@ -28,6 +29,7 @@ use Rattle.cl_declare.specs.CommandTables.{table_or_global}
 use Rattle.cl_declare.specs.Declarations.{nothing_declared}
 use Rattle.cl_declare.specs.TypeShapes.{described}
 use Rattle.cl_declare.specs.Types.{or_everything}
+use Rattle.cl_declare.specs.declared.translator_shapes.TranslatorKind.TheVariants.{Object, Command}
 use Rattle.cl_grammar.specs.Writes.{Writes}
 use Rattle.cl_text_grammar.specs.WritesShapes.{WritesShapes}
 use Rattle.cl_text_grammar.specs.WritesActs.{WritesActs}
@@ -35,6 +37,7 @@ use Rattle.cl_text_grammar.specs.WritesNames.{WritesNames, WritesNameList}
 use Rattle.cl_text_grammar.specs.WritesFrames.{WritesSections, slots_of}
 use Rattle.cl_text_grammar.specs.WritesUserTypes.{WritesTypeKeys}
 use Rattle.cl_text_grammar.specs.WritesCommands.{WritesCommandHead, WritesCommandArguments, with_arguments, WritesParents}
+use Rattle.cl_text_grammar.specs.WritesTranslators.{WritesTranslator}
 
 -- a method of a type, declared at this offset, writes what stands behind the head
 pub data WritesMethod (at : ℕ) : MethodDecl → List Datum → Type 0 where
@@ -53,6 +56,7 @@ pub data Declaration : Type 0 where
   of_display : DisplayDecl → Declaration
   of_command_table : TableDecl → Declaration
   of_command : CommandDecl → Declaration
+  of_translator : TranslatorDecl → Declaration
   of_frame : FrameForm → Declaration
 
 -- a declaration at this offset writes the parts of a list
@@ -100,6 +104,12 @@ pub data WritesDeclared (w : Signatures) (at : ℕ) : Declaration → List Datum
         at = at;
       }))
       (word (codes "define-command") h ∷ n ∷ list es list_at ∷ ds)
+  -- (define-presentation-translator NAME (FROM TO KEY VALUE ...) (PARAMETER) BODY)
+  a_translator : {t : TranslatorDecl} {ds : List Datum} {h : ℕ} → WritesTranslator w Object at t ds
+      → WritesDeclared w at (of_translator t) (word (codes "define-presentation-translator") h ∷ ds)
+  -- (define-presentation-to-command-translator NAME (FROM COMMAND KEY VALUE ...) (PARAMETER) BODY)
+  a_command_translator : {t : TranslatorDecl} {ds : List Datum} {h : ℕ} → WritesTranslator w Command at t ds
+      → WritesDeclared w at (of_translator t) (word (codes "define-presentation-to-command-translator") h ∷ ds)
   -- (define-application-frame NAME SECTION ...): with the table that each text has where no other is named
   a_frame : {x : List ℕ} {z : Size} {ss : Option (List SlotDecl)} {ps : List PaneForm} {c : Option (List ℕ)} {n : Datum} {ds : List Datum} {h : ℕ}
       → name_in n ≡ Some x → WritesSections w (Some z) ss (Some ps) c ds
@@ -130,6 +140,7 @@ with_declaration s (of_function d) = record s { functions = with_first (λ e. e.
 with_declaration s (of_display d) = record s { displays = with_first (λ e. e.name) s.displays d }
 with_declaration s (of_command_table d) = record s { tables = with_first (λ e. e.name) s.tables d }
 with_declaration s (of_command d) = record s { commands = with_first (λ e. e.name) s.commands d }
+with_declaration s (of_translator d) = record s { translators = with_first (λ e. e.name) s.translators d }
 with_declaration s (of_frame d) = record s { frames = s.frames ++ d ∷ [] }
 
 abbrev pub with_declarations : Declarations → List Declaration → Declarations
