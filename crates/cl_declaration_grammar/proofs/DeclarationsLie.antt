@@ -13,6 +13,7 @@ use Rattle.cl_words.specs.declared.signatures.Signatures.{Signatures}
 use Rattle.cl_declare.specs.Frames.{frame_keys, frame_shape}
 use Rattle.cl_declare.specs.Names.{is_name_list, variables_in}
 use Rattle.cl_declare.specs.TypeShapes.{name_alone}
+use Rattle.cl_declare.specs.declared.translator_shapes.TranslatorKind.TheVariants as kind
 use Rattle.cl_grammar.specs.Lies.{Lies}
 use Rattle.cl_grammar.specs.Sights.{expression}
 use Rattle.cl_grammar.proofs.Bounds.{Within}
@@ -27,10 +28,12 @@ use Rattle.cl_declaration_grammar.specs.Frames.{keyed_frame_seen, frame_seen}
 use Rattle.cl_declaration_grammar.specs.Declarations.{Row, record_seen, host_type_seen, method_named_seen, method_seen, function_seen, display_seen}
 use Rattle.cl_declaration_grammar.specs.Declarations.{planned_seen, rows, row_seen, listed_seen, declaration_seen}
 use Rattle.cl_declaration_grammar.specs.UserTypes.{user_type_seen}
+use Rattle.cl_declaration_grammar.specs.Translators.{translator_seen}
 use Rattle.cl_declaration_grammar.specs.Texts.{text_seen}
 use Rattle.cl_declaration_grammar.proofs.PartsLie.{LieParts, parts_earlier, parts_joined, one_lies, when_lies, list_rises}
 use Rattle.cl_declaration_grammar.proofs.CommandsLie.{tables_lie, command_table_lies, command_lies}
 use Rattle.cl_declaration_grammar.proofs.UserTypesLie.{user_type_lies}
+use Rattle.cl_declaration_grammar.proofs.TranslatorsLie.{translator_lies}
 use Rattle.cl_declaration_grammar.proofs.KeysLie.{LieKey, LieKeys, list_earlier, sections_lie, inside}
 
 -- ---- frames
@@ -94,6 +97,10 @@ module _ (w : Signatures) where
   section_lies key.SingleBox at ds from to h = omega (arith, h.0.0, h.0.1)
   section_lies key.Default at ds from to h = omega (arith, h.0.0, h.0.1)
   section_lies key.Prompt at ds from to h = omega (arith, h.0.0, h.0.1)
+  section_lies key.Gesture at ds from to h = omega (arith, h.0.0, h.0.1)
+  section_lies key.Priority at ds from to h = omega (arith, h.0.0, h.0.1)
+  section_lies key.Documentation at ds from to h = omega (arith, h.0.0, h.0.1)
+  section_lies key.Tester at ds from to h = omega (arith, h.0.0, h.0.1)
 
   pub frame_sections_lie : (ks : List Keyed) (from to : ℕ) → LieKeys from ks to → LieParts from (sections_seen w ks) to
   frame_sections_lie [] from to h = h
@@ -171,6 +178,12 @@ module _ (w : Signatures) where
   command_row_lies : LieRow (λ at h ds. command_seen w at ds)
   command_row_lies at h ds from to a b k = command_lies w at ds from to a k
 
+  translator_row_lies : LieRow (λ at h ds. translator_seen w kind.Object at ds)
+  translator_row_lies at h ds from to a b k = translator_lies w kind.Object at ds from to a k
+
+  command_translator_row_lies : LieRow (λ at h ds. translator_seen w kind.Command at ds)
+  command_translator_row_lies at h ds from to a b k = translator_lies w kind.Command at ds from to a k
+
   planned_row_lies : LieRow planned_seen
   planned_row_lies at h ds from to a b k = one_lies (planned h) from to b
 
@@ -209,7 +222,7 @@ module _ (w : Signatures) where
                     display_lies,
                     (
                       command_table_row_lies,
-                      (command_row_lies, (frame_lies, (planned_row_lies, (planned_row_lies, (planned_row_lies, (planned_row_lies, tt)))))),
+                      (command_row_lies, (translator_row_lies, (command_translator_row_lies, (frame_lies, (planned_row_lies, (planned_row_lies, tt)))))),
                     ),
                   ),
                 ),

@@ -4,9 +4,11 @@ pub mod Judging
 pub mod PartsJudged
 pub mod UserTypesLie
 pub mod CommandsLie
+pub mod TranslatorsLie
 pub mod DeclarationsLie
 pub mod UserTypesJudged
 pub mod CommandsJudged
+pub mod TranslatorsJudged
 pub mod FramesJudged
 pub mod DeclarationsJudged
 pub mod TextVerdicts

@@ -6,12 +6,14 @@ use Rattle.cl_forms.specs.Naming.{are_names, name_in}
 use Rattle.cl_words.specs.declared.signatures.Signatures.{Signatures}
 use Rattle.cl_declare.specs.Names.{is_name_list, variables_in}
 use Rattle.cl_declare.specs.TypeShapes.{name_alone}
+use Rattle.cl_declare.specs.declared.translator_shapes.TranslatorKind.TheVariants.{Object, Command}
 use Rattle.cl_grammar.specs.Sights.{expression}
 use Rattle.cl_text_grammar.specs.FormSights.{forms_seen}
 use Rattle.cl_declaration_grammar.specs.Parts.{Part, refused, method_name, expressions, shapes, wrong, planned}
 use Rattle.cl_declaration_grammar.specs.Commands.{command_seen, command_table_seen}
 use Rattle.cl_declaration_grammar.specs.Frames.{frame_seen}
 use Rattle.cl_declaration_grammar.specs.UserTypes.{user_type_seen}
+use Rattle.cl_declaration_grammar.specs.Translators.{translator_seen}
 
 -- what is looked at of a declaration, by its offset, the offset of its head, and its parts
 abbrev pub Row : Type 0
@@ -65,9 +67,9 @@ rows w =
     ∷ (codes "define-display", display_seen)
     ∷ (codes "define-command-table", λ at h parts. command_table_seen at parts)
     ∷ (codes "define-command", λ at h parts. command_seen w at parts)
+    ∷ (codes "define-presentation-translator", λ at h parts. translator_seen w Object at parts)
+    ∷ (codes "define-presentation-to-command-translator", λ at h parts. translator_seen w Command at parts)
     ∷ (codes "define-application-frame", λ at h parts. frame_seen w at parts)
-    ∷ (codes "define-presentation-translator", planned_seen)
-    ∷ (codes "define-presentation-to-command-translator", planned_seen)
     ∷ (codes "define-drag-and-drop-translator", planned_seen)
     ∷ (codes "define-dialog", planned_seen)
     ∷ []

@@ -50,6 +50,10 @@ section_seen w k = elim k.key [
   | key.SingleBox ↦ []
   | key.Default ↦ []
   | key.Prompt ↦ []
+  | key.Gesture ↦ []
+  | key.Priority ↦ []
+  | key.Documentation ↦ []
+  | key.Tester ↦ []
 ]
 
 abbrev pub sections_seen : Signatures → List Keyed → List Part

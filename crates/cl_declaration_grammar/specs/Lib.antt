@@ -2,5 +2,6 @@ pub mod Parts
 pub mod Commands
 pub mod Frames
 pub mod UserTypes
+pub mod Translators
 pub mod Declarations
 pub mod Texts

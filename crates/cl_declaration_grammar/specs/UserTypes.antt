@@ -41,6 +41,10 @@ type_key_seen w ps k = elim k.key [
   | key.SingleBox ↦ []
   | key.Default ↦ []
   | key.Prompt ↦ []
+  | key.Gesture ↦ []
+  | key.Priority ↦ []
+  | key.Documentation ↦ []
+  | key.Tester ↦ []
 ]
 
 abbrev pub type_keys_seen : Signatures → Names → List Keyed → List Part
