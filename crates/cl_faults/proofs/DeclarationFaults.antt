@@ -6,7 +6,7 @@ use Rattle.cl_forms.specs.Naming.{are_names, name_in}
 use Rattle.cl_forms.specs.Outer.{declaration_named, is_planned, kind_or, kind_named, outer_listed, outer_in}
 use Rattle.cl_forms.specs.declared.outer.DeclarationKind.{DeclarationKind}
 use Rattle.cl_forms.specs.declared.outer.DeclarationKind.TheVariants.{Record, PresentationType, HostType, PresentMethod, AcceptMethod, Function, Display, CommandTable, Command}
-use Rattle.cl_forms.specs.declared.outer.DeclarationKind.TheVariants.{Frame}
+use Rattle.cl_forms.specs.declared.outer.DeclarationKind.TheVariants.{Translator, CommandTranslator, Frame}
 use Rattle.cl_forms.specs.declared.outer.OuterKind.{OuterKind}
 use Rattle.cl_forms.specs.declared.outer.OuterKind.TheVariants.{Planned, Unknown}
 use Rattle.cl_words.specs.declared.signatures.Signatures.{Signatures}
@@ -14,11 +14,13 @@ use Rattle.cl_declare.specs.Callees.{parse_record, parse_function, parse_display
 use Rattle.cl_declare.specs.Declarations.{parse_declared, parse_kind, parse_declaration}
 use Rattle.cl_declare.specs.Names.{is_name_list, variables_in}
 use Rattle.cl_declare.specs.declared.declarations.Declarations.{Declarations}
+use Rattle.cl_declare.specs.declared.translator_shapes.TranslatorKind.TheVariants as translator
 use Rattle.cl_faults.proofs.FaultLemmas.{FaultsAt, gives, refuses, binds, chooses}
 use Rattle.cl_faults.proofs.ExpressionFaults.{Covers, covers_offset, expr_faults}
 use Rattle.cl_faults.proofs.DataFaults.{CoversEach, covers_parts, covers_datums}
 use Rattle.cl_faults.proofs.DisplayFaults.{shapes_faults}
 use Rattle.cl_faults.proofs.CommandFaults.{command_table_faults, command_faults}
+use Rattle.cl_faults.proofs.TranslatorFaults.{translator_faults}
 use Rattle.cl_faults.proofs.FrameFaults.{frame_faults}
 use Rattle.cl_faults.proofs.UserTypeFaults.{user_type_faults, host_type_faults, method_faults}
 
@@ -55,6 +57,8 @@ module _ {P : ℕ → Type 0} where
   declared_faults w Display at ds s h c = binds (display_faults w at ds h c) λ d. gives
   declared_faults w CommandTable at ds s h c = binds (command_table_faults w at ds h) λ d. gives
   declared_faults w Command at ds s h c = binds (command_faults w at ds h c) λ d. gives
+  declared_faults w Translator at ds s h c = binds (translator_faults w translator.Object at ds h c) λ d. gives
+  declared_faults w CommandTranslator at ds s h c = binds (translator_faults w translator.Command at ds h c) λ d. gives
   declared_faults w Frame at ds s h c = binds (frame_faults w at ds h c) λ d. gives
 
   known_faults : (w : Signatures) (kind : Option DeclarationKind) (other : OuterKind) (at : ℕ) (ds : List Datum) (s : Declarations) → P at

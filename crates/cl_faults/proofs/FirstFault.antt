@@ -6,18 +6,20 @@ use Rattle.cl_forms.specs.Datum.{Datum}
 use Rattle.cl_forms.specs.Outer.{outer_in, outers_of}
 use Rattle.cl_forms.specs.declared.outer.DeclarationKind.{DeclarationKind}
 use Rattle.cl_forms.specs.declared.outer.DeclarationKind.TheVariants.{Record, PresentationType, HostType, PresentMethod, AcceptMethod, Function, Display, CommandTable, Command}
-use Rattle.cl_forms.specs.declared.outer.DeclarationKind.TheVariants.{Frame}
+use Rattle.cl_forms.specs.declared.outer.DeclarationKind.TheVariants.{Translator, CommandTranslator, Frame}
 use Rattle.cl_forms.specs.declared.outer.OuterKind.{OuterKind}
 use Rattle.cl_forms.specs.declared.outer.OuterKind.TheVariants.{Declared, Planned, Unknown, Headless}
 use Rattle.cl_expressions.specs.Load.{Load, Notes, Fault, after, ◌>>=◌, give}
 use Rattle.cl_words.specs.declared.signatures.Signatures.{Signatures}
 use Rattle.cl_declare.specs.Declarations.{parse_declared, parse_kind, parse_declaration, parse_each_declaration, parse_declarations, nothing_declared}
 use Rattle.cl_declare.specs.declared.declarations.Declarations.{Declarations}
+use Rattle.cl_declare.specs.declared.translator_shapes.TranslatorKind.TheVariants as translator
 use Rattle.cl_faults.specs.Faults.{StandsIn, IsBefore, AreInOrder, HasFault, IsLeastFault}
 use Rattle.cl_faults.proofs.FaultLemmas.{FaultsAt, outcome}
 use Rattle.cl_faults.proofs.DataFaults.{CoversEach}
 use Rattle.cl_faults.proofs.DeclarationFaults.{record_faults, function_faults, display_faults, declaration_faults}
 use Rattle.cl_faults.proofs.CommandFaults.{command_table_faults, command_faults}
+use Rattle.cl_faults.proofs.TranslatorFaults.{translator_faults}
 use Rattle.cl_faults.proofs.FrameFaults.{frame_faults}
 use Rattle.cl_faults.proofs.UserTypeFaults.{user_type_faults, host_type_faults, method_faults}
 
@@ -83,6 +85,8 @@ declared_same w Function at ds s t = row_same _ _ (function_faults w at ds tt (a
 declared_same w Display at ds s t = row_same _ _ (display_faults w at ds tt (anywhere ds))
 declared_same w CommandTable at ds s t = row_same _ _ (command_table_faults w at ds tt)
 declared_same w Command at ds s t = row_same _ _ (command_faults w at ds tt (anywhere ds))
+declared_same w Translator at ds s t = row_same _ _ (translator_faults w translator.Object at ds tt (anywhere ds))
+declared_same w CommandTranslator at ds s t = row_same _ _ (translator_faults w translator.Command at ds tt (anywhere ds))
 declared_same w Frame at ds s t = row_same _ _ (frame_faults w at ds tt (anywhere ds))
 
 kind_same : (w : Signatures) (kind : OuterKind) (at : ℕ) (ds : List Datum) (s t : Declarations)

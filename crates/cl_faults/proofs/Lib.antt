@@ -7,6 +7,7 @@ pub mod StatementFaults
 pub mod TypeFaults
 pub mod KeyFaults
 pub mod CommandFaults
+pub mod TranslatorFaults
 pub mod FrameFaults
 pub mod UserTypeFaults
 pub mod DeclarationFaults
