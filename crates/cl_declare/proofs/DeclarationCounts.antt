@@ -7,6 +7,7 @@ use Rattle.cl_forms.specs.declared.datum.Datum.{Datum}
 use Rattle.cl_words.specs.declared.signatures.Signatures.{Signatures}
 use Rattle.cl_declare.specs.Callees.{parse_function}
 use Rattle.cl_declare.specs.Methods.{parse_method}
+use Rattle.cl_declare.specs.TranslatorForms.{translator_form}
 use Rattle.cl_declare.specs.Types.{parse_host_type}
 use Rattle.cl_declare.specs.Frames.{size_in, is_slot, pane_listed}
 use Rattle.cl_declare.specs.Sections.{SlotTable, parse_slot, note_pane}
@@ -70,3 +71,11 @@ method_counts w at (a ∷ []) n h = refl
 method_counts w at (a ∷ b ∷ []) n h = refl
 method_counts w at (a ∷ b ∷ c ∷ []) n h = absurd (h refl)
 method_counts w at (a ∷ b ∷ c ∷ d ∷ ds) n h = refl
+
+pub translator_counts : (ds : List Datum) → (length ds ≡ 4 → ⊥) → translator_form (map datum_of ds) ≡ None
+translator_counts [] h = refl
+translator_counts (a ∷ []) h = refl
+translator_counts (a ∷ b ∷ []) h = refl
+translator_counts (a ∷ b ∷ c ∷ []) h = refl
+translator_counts (a ∷ b ∷ c ∷ d ∷ []) h = absurd (h refl)
+translator_counts (a ∷ b ∷ c ∷ d ∷ e ∷ ds) h = refl

@@ -5,7 +5,7 @@ use Rattle.cl_table.specs.Names.{with_first}
 use Rattle.cl_forms.specs.Datum.{Datum}
 use Rattle.cl_forms.specs.Outer.{Outer}
 use Rattle.cl_forms.specs.declared.outer.DeclarationKind.{DeclarationKind}
-use Rattle.cl_forms.specs.declared.outer.DeclarationKind.TheVariants.{Record, PresentationType, HostType, PresentMethod, AcceptMethod, Function, Display, CommandTable, Command, Frame}
+use Rattle.cl_forms.specs.declared.outer.DeclarationKind.TheVariants.{Record, PresentationType, HostType, PresentMethod, AcceptMethod, Function, Display, CommandTable, Command, Translator, CommandTranslator, Frame}
 use Rattle.cl_forms.specs.declared.outer.OuterKind.{OuterKind}
 use Rattle.cl_forms.specs.declared.outer.OuterKind.TheVariants.{Declared, Planned, Unknown, Headless}
 use Rattle.cl_words.specs.declared.signatures.Signatures.{Signatures}
@@ -15,8 +15,10 @@ use Rattle.cl_declare.specs.CommandTables.{parse_table}
 use Rattle.cl_declare.specs.Commands.{parse_command}
 use Rattle.cl_declare.specs.Methods.{parse_method}
 use Rattle.cl_declare.specs.Sections.{parse_frame}
+use Rattle.cl_declare.specs.Translators.{parse_translator}
 use Rattle.cl_declare.specs.Types.{parse_host_type, parse_user_type}
 use Rattle.cl_declare.specs.declared.declarations.Declarations.{Declarations}
+use Rattle.cl_declare.specs.declared.translator_shapes.TranslatorKind.TheVariants as kind
 
 -- behind what was declared before
 abbrev pub parse_declared : Signatures → DeclarationKind → ℕ → List Datum → Declarations → Load Declarations
@@ -29,6 +31,8 @@ parse_declared w Function at parts s = parse_function w at parts >>= λ d. give 
 parse_declared w Display at parts s = parse_display w at parts >>= λ d. give (record s { displays = with_first (λ e. e.name) s.displays d })
 parse_declared w CommandTable at parts s = parse_table w at parts >>= λ d. give (record s { tables = with_first (λ e. e.name) s.tables d })
 parse_declared w Command at parts s = parse_command w at parts >>= λ d. give (record s { commands = with_first (λ e. e.name) s.commands d })
+parse_declared w Translator at parts s = parse_translator w kind.Object at parts >>= λ d. give (record s { translators = with_first (λ e. e.name) s.translators d })
+parse_declared w CommandTranslator at parts s = parse_translator w kind.Command at parts >>= λ d. give (record s { translators = with_first (λ e. e.name) s.translators d })
 parse_declared w Frame at parts s = parse_frame w at parts >>= λ d. give (record s { frames = s.frames ++ d ∷ [] })
 
 -- an outermost form: 6 where no symbol heads it, 5 where the symbol heads no declaration, 0 where that is not built yet
@@ -56,6 +60,7 @@ nothing_declared = record {
   displays = [];
   tables = [];
   commands = [];
+  translators = [];
   frames = [];
 }
 

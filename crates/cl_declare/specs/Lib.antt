@@ -7,5 +7,9 @@ pub mod CommandTables
 pub mod CommandShapes
 pub mod Commands
 pub mod Frames
+pub mod TranslatorForms
+pub mod TranslatorView
+pub mod TranslatorShapes
+pub mod Translators
 pub mod Sections
 pub mod Declarations

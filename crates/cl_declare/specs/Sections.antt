@@ -58,6 +58,10 @@ parse_section w k slots = elim k.key [
   | key.SingleBox ↦ give slots
   | key.Default ↦ give slots
   | key.Prompt ↦ give slots
+  | key.Gesture ↦ give slots
+  | key.Priority ↦ give slots
+  | key.Documentation ↦ give slots
+  | key.Tester ↦ give slots
 ]
 
 abbrev pub parse_sections : Signatures → List Keyed → SlotTable → Load SlotTable

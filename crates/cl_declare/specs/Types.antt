@@ -50,6 +50,10 @@ parse_type_key w ps k i = elim k.key [
   | key.SingleBox ↦ give i
   | key.Default ↦ give i
   | key.Prompt ↦ give i
+  | key.Gesture ↦ give i
+  | key.Priority ↦ give i
+  | key.Documentation ↦ give i
+  | key.Tester ↦ give i
 ]
 
 abbrev pub parse_type_keys : Signatures → Names → List Keyed → Inherited → Load Inherited

@@ -12,8 +12,12 @@ use crate::commands::parse_command;
 use crate::in_order::FrameForms;
 use crate::methods::parse_method;
 use crate::sections::parse_frame;
+use crate::translator_shapes::TranslatorKind;
+use crate::translators::parse_translator;
 use crate::types::{parse_host_type, parse_user_type};
-use cl_application::{Commands, Displays, Functions, HostDecls, Methods, TableDecls};
+use cl_application::{
+    Commands, Displays, Functions, HostDecls, Methods, TableDecls, TranslatorDecls,
+};
 use cl_expressions::{Notes, Reader};
 use cl_forms::{Datum, DeclarationKind, LoadRefusal, Outer, OuterKind};
 use cl_syntax::{Records, UserTypes};
@@ -30,6 +34,7 @@ pub struct Declarations {
     pub displays: Displays,
     pub tables: TableDecls,
     pub commands: Commands,
+    pub translators: TranslatorDecls,
     pub frames: FrameForms,
 }
 
@@ -53,6 +58,7 @@ pub fn parse_declarations(
         displays: Displays::new(reader.alloc),
         tables: TableDecls::new(reader.alloc),
         commands: Commands::new(reader.alloc),
+        translators: TranslatorDecls::new(reader.alloc),
         frames: FrameForms::new(reader.alloc),
     };
     for outer in outers {
@@ -129,6 +135,14 @@ fn parse_declared(
         DeclarationKind::Command => {
             let command = parse_command(reader, at, parts, notes)?;
             declarations.commands.add_first(command)?
+        }
+        DeclarationKind::Translator => {
+            let translator = parse_translator(reader, TranslatorKind::Object, at, parts, notes)?;
+            declarations.translators.add_first(translator)?
+        }
+        DeclarationKind::CommandTranslator => {
+            let translator = parse_translator(reader, TranslatorKind::Command, at, parts, notes)?;
+            declarations.translators.add_first(translator)?
         }
         DeclarationKind::Frame => {
             let frame = parse_frame(reader, at, parts, notes)?;

@@ -99,7 +99,7 @@ pub fn behind<'a>(key: Key, sections: &[Keyed<'a>]) -> &'a [Datum]
     }
 }
 
-fn number_in(datum: &Datum) -> Option<i64>
+pub fn number_in(datum: &Datum) -> Option<i64>
     ensures { result ≡ number_in (datum_of datum.now) }
 {
     match datum {

@@ -1,5 +1,5 @@
 //! What the declarations of an application text say: types and their methods, functions, displays, command
-//! tables, commands and frames, with their exact refusals. Begin with `specs/Declarations.antt`.
+//! tables, commands, translators and frames, with their exact refusals. Begin with `specs/Declarations.antt`.
 #![tactic(auto)]
 
 mod callees;
@@ -13,6 +13,9 @@ mod methods;
 mod names;
 mod pane_forms;
 mod sections;
+mod translator_forms;
+mod translator_shapes;
+mod translators;
 mod type_shapes;
 mod types;
 

@@ -94,6 +94,10 @@ fn parse_section(
         Key::SingleBox => Ok(()),
         Key::Default => Ok(()),
         Key::Prompt => Ok(()),
+        Key::Gesture => Ok(()),
+        Key::Priority => Ok(()),
+        Key::Documentation => Ok(()),
+        Key::Tester => Ok(()),
     }
 }
 

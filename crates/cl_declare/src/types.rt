@@ -109,6 +109,10 @@ fn parse_type_key(
         Key::SingleBox => Ok(()),
         Key::Default => Ok(()),
         Key::Prompt => Ok(()),
+        Key::Gesture => Ok(()),
+        Key::Priority => Ok(()),
+        Key::Documentation => Ok(()),
+        Key::Tester => Ok(()),
     }
 }
 

@@ -6,7 +6,7 @@ use denote.Enum.Bare.{sameb}
 use Rattle.cl_forms.specs.Datum.{Datum, offset, parts_of}
 use Rattle.cl_forms.specs.Naming.{symbol_of}
 use Rattle.cl_forms.specs.declared.keys.Key.{Key}
-use Rattle.cl_forms.specs.declared.keys.Key.TheVariants.{Size, Slots, Panes, CommandTable, Name, Keystroke, InheritFrom, Satisfies, Description, Separator, SingleBox, Default, Prompt}
+use Rattle.cl_forms.specs.declared.keys.Key.TheVariants.{Size, Slots, Panes, CommandTable, Name, Keystroke, InheritFrom, Satisfies, Description, Separator, SingleBox, Default, Prompt, Gesture, Priority, Documentation, Tester}
 use Rattle.cl_forms.specs.contracts.keys.Key.{the_type}
 
 -- a key with its offset and what stands behind it
@@ -36,12 +36,20 @@ value_key word =
     else (if bytes_eq word (codes ":default") then Some Default
     else (if bytes_eq word (codes ":prompt") then Some Prompt else None))))))))
 
+-- the keys of translators alone
+abbrev pub translator_key : List ℕ → Option Key
+translator_key word =
+    if bytes_eq word (codes ":gesture") then Some Gesture
+    else (if bytes_eq word (codes ":priority") then Some Priority
+    else (if bytes_eq word (codes ":documentation") then Some Documentation
+    else (if bytes_eq word (codes ":tester") then Some Tester else None)))
+
 abbrev pub key_or : Option Key → Option Key → Option Key
 key_or (Some key) other = Some key
 key_or None other = other
 
 abbrev pub key_named : List ℕ → Option Key
-key_named word = key_or (section_key word) (value_key word)
+key_named word = key_or (section_key word) (key_or (value_key word) (translator_key word))
 
 abbrev pub same_key : Key → Key → Bool
 same_key a b = sameb the_type a b

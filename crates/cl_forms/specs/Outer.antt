@@ -4,7 +4,7 @@ use Rattle.std.specs.Str.{bytes_eq}
 use Rattle.cl_forms.specs.Datum.{Datum, number, literal, word, quoted, stray, list, in_order, offset, parts_of}
 use Rattle.cl_forms.specs.Naming.{name_in}
 use Rattle.cl_forms.specs.declared.outer.DeclarationKind.{DeclarationKind}
-use Rattle.cl_forms.specs.declared.outer.DeclarationKind.TheVariants.{Record, PresentationType, HostType, PresentMethod, AcceptMethod, Function, Display, CommandTable, Command, Frame}
+use Rattle.cl_forms.specs.declared.outer.DeclarationKind.TheVariants.{Record, PresentationType, HostType, PresentMethod, AcceptMethod, Function, Display, CommandTable, Command, Translator, CommandTranslator, Frame}
 use Rattle.cl_forms.specs.declared.outer.OuterKind.{OuterKind}
 use Rattle.cl_forms.specs.declared.outer.OuterKind.TheVariants.{Declared, Planned, Unknown, Headless}
 
@@ -32,7 +32,9 @@ declared_by x =
     else (if bytes_eq x (codes "define-display") then Some Display
     else (if bytes_eq x (codes "define-command-table") then Some CommandTable
     else (if bytes_eq x (codes "define-command") then Some Command
-    else (if bytes_eq x (codes "define-application-frame") then Some Frame else None))))
+    else (if bytes_eq x (codes "define-presentation-translator") then Some Translator
+    else (if bytes_eq x (codes "define-presentation-to-command-translator") then Some CommandTranslator
+    else (if bytes_eq x (codes "define-application-frame") then Some Frame else None))))))
 
 abbrev pub declared_or : Option DeclarationKind → Option DeclarationKind → Option DeclarationKind
 declared_or (Some kind) other = Some kind
@@ -43,10 +45,7 @@ declaration_named x = declared_or (type_declared x) (declared_by x)
 
 -- declarations that are not built yet
 abbrev pub is_planned : List ℕ → Bool
-is_planned x =
-    bytes_eq x (codes "define-presentation-translator")
-    || bytes_eq x (codes "define-presentation-to-command-translator") || bytes_eq x (codes "define-drag-and-drop-translator")
-    || bytes_eq x (codes "define-dialog")
+is_planned x = bytes_eq x (codes "define-drag-and-drop-translator") || bytes_eq x (codes "define-dialog")
 
 abbrev pub kind_or : Option DeclarationKind → OuterKind → OuterKind
 kind_or (Some kind) other = Declared kind
@@ -90,6 +89,8 @@ outer_name (Declared AcceptMethod) ds = first_of ds
 outer_name (Declared Function) ds = first_of ds
 outer_name (Declared Display) ds = first_of ds
 outer_name (Declared CommandTable) ds = first_of ds
+outer_name (Declared Translator) ds = first_of ds
+outer_name (Declared CommandTranslator) ds = first_of ds
 outer_name (Declared Frame) ds = first_of ds
 outer_name (Planned at) ds = first_of ds
 outer_name (Unknown at) ds = first_of ds

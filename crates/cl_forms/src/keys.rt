@@ -3,13 +3,13 @@ ghost use Rattle.std.specs.Prelude.{◌≡◌, ◌++◌, ◌∷◌, [], IfOk, ma
 ghost use Rattle.std.specs.List.{list_any};
 ghost use Rattle.cl_forms.specs.DatumView.{datum_of};
 ghost use Rattle.cl_forms.specs.KeyedView.{keyed_of};
-ghost use Rattle.cl_forms.specs.Keys.{key_named, section_key, value_key, same_key, is_among, key_in, has_key, is_key, values_behind, section_values, section_of, section_in, pair_in, keyed_sections, keyed_pairs, values_of};
+ghost use Rattle.cl_forms.specs.Keys.{key_named, section_key, value_key, translator_key, same_key, is_among, key_in, has_key, is_key, values_behind, section_values, section_of, section_in, pair_in, keyed_sections, keyed_pairs, values_of};
 
 use crate::datum::Datum;
 use crate::naming::symbol_of;
 use std::alloc::{AllocError, Global};
 
-/// The keys of declarations, of arguments, of types and of presentations.
+/// The keys of declarations, of arguments, of types, of presentations and of translators.
 #[derive(Clone, Copy, PartialEq, Eq)]
 pub enum Key {
     Size,
@@ -25,6 +25,10 @@ pub enum Key {
     SingleBox,
     Default,
     Prompt,
+    Gesture,
+    Priority,
+    Documentation,
+    Tester,
 }
 
 /// A key with what stands behind it.
@@ -43,7 +47,10 @@ pub fn key_named(word: &[u8]) -> Option<Key>
     if let Some(key) = section_key(word) {
         return Some(key);
     }
-    value_key(word)
+    if let Some(key) = value_key(word) {
+        return Some(key);
+    }
+    translator_key(word)
 }
 
 /// The key that a word is, if it begins a section of a frame.
@@ -85,6 +92,23 @@ fn value_key(word: &[u8]) -> Option<Key>
         Some(Key::Default)
     } else if word == b":prompt".as_slice() {
         Some(Key::Prompt)
+    } else {
+        None
+    }
+}
+
+/// The key that a word is, if a translator alone may have it.
+fn translator_key(word: &[u8]) -> Option<Key>
+    ensures { result ≡ translator_key word.now }
+{
+    if word == b":gesture".as_slice() {
+        Some(Key::Gesture)
+    } else if word == b":priority".as_slice() {
+        Some(Key::Priority)
+    } else if word == b":documentation".as_slice() {
+        Some(Key::Documentation)
+    } else if word == b":tester".as_slice() {
+        Some(Key::Tester)
     } else {
         None
     }

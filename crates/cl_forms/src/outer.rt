@@ -21,6 +21,8 @@ pub enum DeclarationKind {
     Display,
     CommandTable,
     Command,
+    Translator,
+    CommandTranslator,
     Frame,
 }
 
@@ -182,6 +184,10 @@ fn declared_by(word: &[u8]) -> Option<DeclarationKind>
         Some(DeclarationKind::CommandTable)
     } else if word == b"define-command".as_slice() {
         Some(DeclarationKind::Command)
+    } else if word == b"define-presentation-translator".as_slice() {
+        Some(DeclarationKind::Translator)
+    } else if word == b"define-presentation-to-command-translator".as_slice() {
+        Some(DeclarationKind::CommandTranslator)
     } else if word == b"define-application-frame".as_slice() {
         Some(DeclarationKind::Frame)
     } else {
@@ -192,10 +198,7 @@ fn declared_by(word: &[u8]) -> Option<DeclarationKind>
 fn is_planned(word: &[u8]) -> bool
     ensures { result ≡ is_planned word.now }
 {
-    word == b"define-presentation-translator".as_slice()
-        || word == b"define-presentation-to-command-translator".as_slice()
-        || word == b"define-drag-and-drop-translator".as_slice()
-        || word == b"define-dialog".as_slice()
+    word == b"define-drag-and-drop-translator".as_slice() || word == b"define-dialog".as_slice()
 }
 
 /// What stands where the name of such a form is.
@@ -212,6 +215,8 @@ fn outer_name(kind: OuterKind, parts: &[Datum]) -> Option<&Datum>
         OuterKind::Declared(DeclarationKind::Function) => first_of(parts),
         OuterKind::Declared(DeclarationKind::Display) => first_of(parts),
         OuterKind::Declared(DeclarationKind::CommandTable) => first_of(parts),
+        OuterKind::Declared(DeclarationKind::Translator) => first_of(parts),
+        OuterKind::Declared(DeclarationKind::CommandTranslator) => first_of(parts),
         OuterKind::Declared(DeclarationKind::Frame) => first_of(parts),
         OuterKind::Planned(_) => first_of(parts),
         OuterKind::Unknown(_) => first_of(parts),

@@ -11,7 +11,7 @@ use Rattle.cl_forms.specs.Keys.{section_values}
 use Rattle.cl_forms.specs.declared.keys.Key.TheVariants.{Slots}
 use Rattle.cl_forms.specs.Outer.{Outer, declared_name, behind_name}
 use Rattle.cl_forms.specs.declared.outer.DeclarationKind.{DeclarationKind}
-use Rattle.cl_forms.specs.declared.outer.DeclarationKind.TheVariants.{Record, PresentationType, HostType, PresentMethod, AcceptMethod, Command, Frame}
+use Rattle.cl_forms.specs.declared.outer.DeclarationKind.TheVariants.{Record, PresentationType, HostType, PresentMethod, AcceptMethod, Command, Translator, CommandTranslator, Frame}
 use Rattle.cl_forms.specs.declared.outer.DeclarationKind.TheVariants as kind
 use Rattle.cl_forms.specs.declared.outer.OuterKind.{OuterKind}
 use Rattle.cl_forms.specs.declared.outer.OuterKind.TheVariants.{Declared, Planned, Unknown, Headless}
@@ -116,6 +116,8 @@ declaration_named w kind.Function o h = callee_named w Function (declared_name o
 declaration_named w kind.Display o h = callee_named w Display (declared_name o) (parameters_counted (behind_name o)) h (outer_named o.name)
 declaration_named w kind.CommandTable o h = table_named w (declared_name o) h
 declaration_named w Command o h = command_named w (declared_name o) h
+declaration_named w Translator o h = h
+declaration_named w CommandTranslator o h = h
 declaration_named w Frame o h = sections_named w (behind_name o) h
 
 kind_named : (w : Signatures) (k : OuterKind) (o : Outer) → DeclaresNamed w → DeclaresNamed (with_outer_kind w k o)

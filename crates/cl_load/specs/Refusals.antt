@@ -50,6 +50,7 @@ app_of s f = record {
   displays = s.displays;
   tables = s.tables;
   commands = s.commands;
+  translators = s.translators;
   frame = f;
 }
 

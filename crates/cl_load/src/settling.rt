@@ -78,6 +78,7 @@ fn app_of(declarations: Declarations, frame: FrameDecl) -> App
         displays: declarations.displays,
         tables: declarations.tables,
         commands: declarations.commands,
+        translators: declarations.translators,
         frame,
     }
 }

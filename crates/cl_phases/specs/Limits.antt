@@ -5,7 +5,7 @@ use Rattle.cl_forms.specs.Keys.{section_values}
 use Rattle.cl_forms.specs.declared.keys.Key.TheVariants.{Slots, Panes, Name}
 use Rattle.cl_forms.specs.Outer.{Outer, behind_name, outer_in}
 use Rattle.cl_forms.specs.declared.outer.DeclarationKind.{DeclarationKind}
-use Rattle.cl_forms.specs.declared.outer.DeclarationKind.TheVariants.{Record, PresentationType, HostType, PresentMethod, AcceptMethod, Function, Display, CommandTable, Command, Frame}
+use Rattle.cl_forms.specs.declared.outer.DeclarationKind.TheVariants.{Record, PresentationType, HostType, PresentMethod, AcceptMethod, Function, Display, CommandTable, Command, Translator, CommandTranslator, Frame}
 use Rattle.cl_forms.specs.declared.outer.OuterKind.{OuterKind}
 use Rattle.cl_forms.specs.declared.outer.OuterKind.TheVariants.{Declared, Planned, Unknown, Headless}
 use Rattle.cl_phases.specs.CommandNames.{head_value}
@@ -57,6 +57,8 @@ past_kind Function more = past_parameters more
 past_kind Display more = past_parameters more
 past_kind CommandTable more = None
 past_kind Command more = past_parameters more
+past_kind Translator more = None
+past_kind CommandTranslator more = None
 past_kind Frame more = past_sections more
 
 abbrev pub past_outer : OuterKind → List Datum → Option ℕ

@@ -21,6 +21,8 @@ pub enum Space {
     /// Command tables.
     Tables,
     Commands,
+    /// Translators of both kinds.
+    Translators,
     Frames,
 }
 
@@ -44,6 +46,8 @@ fn space_of(kind: DeclarationKind) -> Space
         DeclarationKind::Display => Space::Callees,
         DeclarationKind::CommandTable => Space::Tables,
         DeclarationKind::Command => Space::Commands,
+        DeclarationKind::Translator => Space::Translators,
+        DeclarationKind::CommandTranslator => Space::Translators,
         DeclarationKind::Frame => Space::Frames,
     }
 }
@@ -71,6 +75,7 @@ pub fn is_reserved(space: Space, name: &[u8]) -> bool
         Space::AcceptMethods => false,
         Space::Tables => is_global_table(name),
         Space::Commands => false,
+        Space::Translators => false,
         Space::Frames => false,
     }
 }

@@ -140,6 +140,8 @@ fn past_kind(kind: DeclarationKind, more: &[Datum]) -> Option<u32>
         DeclarationKind::Display => past_parameters(more),
         DeclarationKind::CommandTable => None,
         DeclarationKind::Command => past_parameters(more),
+        DeclarationKind::Translator => None,
+        DeclarationKind::CommandTranslator => None,
         DeclarationKind::Frame => past_sections(more),
     }
 }

@@ -30,8 +30,12 @@ fn spaces_twice(alloc: Global, outers: &[Outer<'_>]) -> Result<Option<u32>, Allo
     let callees = space_twice(alloc, Space::Callees, outers)?;
     let types = types_twice(alloc, outers)?;
     let tables = tables_twice(alloc, outers)?;
+    let translators = space_twice(alloc, Space::Translators, outers)?;
     let frames = space_twice(alloc, Space::Frames, outers)?;
-    Ok(earlier(earlier(callees, types), earlier(tables, frames)))
+    Ok(earlier(
+        earlier(callees, types),
+        earlier(tables, earlier(translators, frames)),
+    ))
 }
 
 fn tables_twice(alloc: Global, outers: &[Outer<'_>]) -> Result<Option<u32>, AllocError>
@@ -125,6 +129,8 @@ fn parts_twice(
         DeclarationKind::Display => parameters_twice(alloc, more),
         DeclarationKind::CommandTable => Ok(None),
         DeclarationKind::Command => parameters_twice(alloc, more),
+        DeclarationKind::Translator => Ok(None),
+        DeclarationKind::CommandTranslator => Ok(None),
         DeclarationKind::Frame => sections_twice(alloc, more),
     }
 }

@@ -9,7 +9,7 @@ use Rattle.cl_forms.specs.Keys.{section_values}
 use Rattle.cl_forms.specs.declared.keys.Key.TheVariants.{Slots}
 use Rattle.cl_forms.specs.Outer.{Outer, declared_name, behind_name}
 use Rattle.cl_forms.specs.declared.outer.DeclarationKind.{DeclarationKind}
-use Rattle.cl_forms.specs.declared.outer.DeclarationKind.TheVariants.{Record, PresentationType, HostType, PresentMethod, AcceptMethod, CommandTable, Command, Frame}
+use Rattle.cl_forms.specs.declared.outer.DeclarationKind.TheVariants.{Record, PresentationType, HostType, PresentMethod, AcceptMethod, CommandTable, Command, Translator, CommandTranslator, Frame}
 use Rattle.cl_forms.specs.declared.outer.DeclarationKind.TheVariants as kind
 use Rattle.cl_forms.specs.declared.outer.OuterKind.{OuterKind}
 use Rattle.cl_forms.specs.declared.outer.OuterKind.TheVariants.{Declared, Planned, Unknown, Headless}
@@ -84,6 +84,8 @@ with_declaration w kind.Function o = with_callee w Function (declared_name o) (p
 with_declaration w kind.Display o = with_callee w Display (declared_name o) (parameters_counted (behind_name o))
 with_declaration w CommandTable o = with_table w (declared_name o)
 with_declaration w Command o = with_command w (declared_name o)
+with_declaration w Translator o = w
+with_declaration w CommandTranslator o = w
 with_declaration w Frame o = with_sections w (behind_name o)
 
 abbrev pub with_outer_kind : Signatures → OuterKind → Outer → Signatures

@@ -173,6 +173,8 @@ fn add_declaration(
         ),
         DeclarationKind::CommandTable => add_table(signatures, name),
         DeclarationKind::Command => add_command(signatures, name),
+        DeclarationKind::Translator => Ok(()),
+        DeclarationKind::CommandTranslator => Ok(()),
         DeclarationKind::Frame => add_sections(signatures, more),
     }
 }
