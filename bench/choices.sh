@@ -1,6 +1,6 @@
 #!/usr/bin/env bash
 # What a choice takes where no translator applies, through the built program that answers what is chosen at places, which is built here
-# where it is not yet. A pane shows 1,000 presentations of numbers, and 120 translators are declared, with as many from-types. For each
+# where it is not yet. A pane shows 1,000 presentations of numbers, and 200 translators are declared, with as many from-types. For each
 # question it prints the processor instructions of one choice where valgrind is there, and its microseconds of user and system processor
 # time. Each is the difference of a run that asks once and of one that asks many times, so what loads the application and evaluates the
 # display falls out.
@@ -15,13 +15,11 @@ source "$(dirname "$0")/program.sh"
 # application FORM TYPE GESTURE: a pane that shows FORM 1,000 times; the last translator is for TYPE and GESTURE
 application() {
     awk -v form="$1" -v last="$2" -v gesture="$3" 'BEGIN {
-        printf "(define-application-frame f (:size 80 25) (:slots (c symbol \047a)"
-        for (i = 0; i < 120; i++) printf " (t%d-from %s) (t%d-to string \"\")", i, i < 119 ? "r" i " (make r" i " 0)" : last, i
-        print ") (:panes (p 0 0 80 25 show)))"
-        for (i = 0; i < 119; i++) print "(define-record r" i " x)"
-        for (i = 0; i < 120; i++) print "(define-function t" i "-body (o) \"\")"
+        print "(define-application-frame f (:size 80 25) (:slots (c symbol \047a)) (:panes (p 0 0 80 25 show)))"
+        for (i = 0; i < 199; i++) print "(define-record r" i " x)"
         print "(define-display show () (dolist (x (range 0 999)) (with-output-as-presentation (x integer) " form ")))"
-        for (i = 0; i < 120; i++) print "! t" i " global-command-table " (i < 119 ? "select" : gesture) " 0"
+        for (i = 0; i < 199; i++) print "(define-presentation-translator t" i " (r" i " string) (o) \"\")"
+        print "(define-presentation-translator t199 (" last " string :gesture " gesture ") (o) \"\")"
     }'
 }
 
@@ -71,8 +69,8 @@ choose() {
 
 beside='(draw-point (* 2 (mod x 40)) (div x 40) "x")'
 above='(draw-point 10 2 "x")'
-choose 'beside' 1000 "$beside" 'integer 0' select
-choose 'above, other types' 0 "$above" "symbol 'a" select
-choose 'above, other gestures' 0 "$above" 'integer 0' describe
-choose 'above, no context' 0 "$above" 'integer 0' select
+choose 'beside' 1000 "$beside" integer select
+choose 'above, other types' 0 "$above" symbol select
+choose 'above, other gestures' 0 "$above" integer describe
+choose 'above, no context' 0 "$above" integer select
 exit "$status"

@@ -11,3 +11,4 @@ pub mod Touched
 pub mod TouchWalks
 pub mod Ends
 pub mod TouchSteps
+pub mod Gathered

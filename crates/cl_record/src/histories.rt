@@ -1,14 +1,15 @@
 //! The history of a pane.
-ghost use Rattle.std.specs.Prelude.{◌≡◌, ◌++◌, ◌∷◌, ℤ, [], OnErr, OnOk, option_map, true};
+ghost use Rattle.std.specs.Prelude.{◌≡◌, ◌++◌, ◌∷◌, ℤ, [], IfOk, OnErr, OnOk, map, option_map, reverse, true};
 ghost use Rattle.cl_region.specs.Places.{one_holds, holds};
 ghost use Rattle.cl_record.specs.Counts.{count_of};
 ghost use Rattle.cl_record.specs.Lines.{history_lines};
 ghost use Rattle.cl_record.specs.Marks.{history_marks};
 ghost use Rattle.cl_record.specs.Replays.{Paints, items_drawn, cell_after, items_touching};
-ghost use Rattle.cl_record.specs.Touches.{touched_at};
+ghost use Rattle.cl_record.specs.Touches.{touch_of_label, touched, touched_at};
 ghost use Rattle.cl_record.specs.TouchWalks.{touch_of};
 
 use crate::canvases::Canvas;
+use crate::gathering::gather_row;
 use crate::lines::Printable;
 use crate::nodes::Nodes;
 use crate::printing::print_inside;
@@ -133,6 +134,18 @@ impl<L: Leaf> History<L> {
             Search::Found(label) => Some(Touch::of_label(label)),
             Search::Passed(_) => None,
         }
+    }
+
+    /// All presentations that this place touches, the one that began latest first, in one walk.
+    pub fn touches(&self, alloc: Global, x: i64, y: i64) -> Result<Vec<Touch<'_>>, AllocError>
+        ensures { IfOk result (λ ts. map touch_of ts.items
+            ≡ map touch_of_label (reverse (touched L.bounds x y (history_marks L.moved_by self.now)))) }
+    {
+        // What the rows keep is known from here on.
+        let _ = self.nodes.summary();
+        let mut gathered = Vec::new(alloc);
+        gather_row(&self.nodes, STILL, Spot { x, y }, &mut gathered)?;
+        Ok(gathered)
     }
 }
 

@@ -3,6 +3,7 @@
 
 mod branches;
 mod canvases;
+mod gathering;
 mod heads;
 mod histories;
 mod labels;

@@ -75,7 +75,7 @@ fn box_holds(items: Option<Rect>, at: Shift, spot: Spot) -> bool
 }
 
 // Whether the box of the items of a row, moved by `at`, holds the place.
-fn row_box_holds<L: Leaf>(inside: &Nodes<L>, at: Shift, spot: Spot) -> bool
+pub(crate) fn row_box_holds<L: Leaf>(inside: &Nodes<L>, at: Shift, spot: Spot) -> bool
     requires { ArePlaced L.bounds L.moved_by at (trees_of inside.now) }
     ensures { result ≡ box_holds (items_box L.bounds (items_drawn (move_marks L.moved_by at
         (marks_of_all L.moved_by (trees_of inside.now))))) spot.x spot.y }
@@ -131,7 +131,7 @@ fn row_holds<L: Leaf>(inside: &Nodes<L>, at: Shift, spot: Spot) -> bool
 }
 
 // Whether the place touches a presentation, the inside of which is moved by `at`.
-fn is_touched<L: Leaf>(presented: &Presented<L>, at: Shift, spot: Spot) -> bool
+pub(crate) fn is_touched<L: Leaf>(presented: &Presented<L>, at: Shift, spot: Spot) -> bool
     requires { ArePlaced L.bounds L.moved_by at (trees_of presented.now.inside) }
     ensures { result ≡ touches L.bounds spot.x spot.y presented.now.label (items_drawn (move_marks L.moved_by at
         (marks_of_all L.moved_by (trees_of presented.now.inside)))) }

@@ -1,5 +1,5 @@
 -- What is pointed at, by the program's parts.
-use Rattle.std.proofs.Common.{◌≡◌, ℕ, ℤ, ◌+◌, ◌≤◌, ◌++◌, true, List, [], ◌∷◌, length, map, flat_map, nat_le, Option, Some, Result, Ok, Err, IfOk, refl, sym, ◌∙◌, ap, subst}
+use Rattle.std.proofs.Common.{◌≡◌, ℕ, ℤ, ◌+◌, ◌≤◌, true, List, [], ◌∷◌, length, map, nat_le, Option, Some, Result, Ok, Err, IfOk, refl, sym, ◌∙◌, ap, subst}
 use Rattle.std.proofs.lemmas.Bool.{le-leb}
 use Rattle.cl_application.specs.App.{command_named}
 use Rattle.cl_application.specs.declared.declarations.CommandDecl.{CommandDecl}
@@ -24,21 +24,10 @@ use Rattle.cl_syntax.specs.TypeSpecTree.{TypeSpecTree}
 use Rattle.cl_tables.specs.Enabled.{States, is_enabled}
 use Rattle.cl_translate.specs.Choices.{Given, blank_area, candidates, chosen}
 use Rattle.cl_translate.specs.Scenes.{Scene}
-use Rattle.cl_translators.specs.Order.{digits, in_order, translators_of, with_low}
 use Rattle.cl_value.specs.Data.{Data, symbol, list, item, items_of}
 use Rattle.cl_value.specs.Value.{data_of}
 use Rattle.cl_value.specs.declared.Value.{Value}
 use Rattle.cl_value.specs.declared.Value.TheVariants as value
-
--- ---- translators
-
-all_empty : {A B : Type 0} (f : A → List B) → ((a : A) → f a ≡ []) → (xs : List A) → flat_map f xs ≡ []
-all_empty f each [] = refl
-all_empty f each (x ∷ xs) = ap (λ ys. ys ++ flat_map f xs) (each x) ∙ all_empty f each xs
-
--- where none stand, none are seen
-pub no_translators : (order : List (List ℕ)) → in_order order (translators_of []) ≡ []
-no_translators order = all_empty (with_low order []) (λ low. all_empty (λ table. []) (λ table. refl) order) digits
 
 -- ---- objects
 
@@ -88,7 +77,6 @@ pub same_scene : (g : Ground) (slots : Slots) (states : States) (a : Accessible)
       commands = a.tables.commands;
       enabled = λ x. is_enabled x states;
       translators = a.translators;
-      declared = a.declarations;
     }) (scene_by g slots (enabled_in states))
 same_scene g slots states a is = λ i. record {
   app = g.app;
@@ -98,7 +86,6 @@ same_scene g slots states a is = λ i. record {
   commands = (is.tables i).commands;
   enabled = λ x. is_enabled x states;
   translators = is.translators i;
-  declared = is.declarations i;
 }
 
 -- a choice by the same scene, contexts and marks, at the same place

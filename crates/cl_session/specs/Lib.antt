@@ -1,6 +1,7 @@
 pub mod World
 pub mod Current
 pub mod Naming
+pub mod TranslatorPlaces
 pub mod Accessible
 pub mod Pointing
 pub mod Step

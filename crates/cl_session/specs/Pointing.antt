@@ -17,6 +17,7 @@ use Rattle.cl_line.specs.declared.places.Named.{Named}
 use Rattle.cl_medium.specs.Items.{item_bounds}
 use Rattle.cl_record.specs.Touches.{TouchAt, touched}
 use Rattle.cl_session.specs.Naming.{command_of_line, sight_in}
+use Rattle.cl_session.specs.TranslatorPlaces.{translators_in}
 use Rattle.cl_session.specs.World.{Enabled, World}
 use Rattle.cl_syntax.specs.TypeSpecTree.{TypeSpecTree}
 use Rattle.cl_table.specs.Names.{declared_at}
@@ -84,7 +85,7 @@ line_with t d line = pointed (front_start line + length t.command.line_name) (va
 
 -- ---- the choice
 
--- what a choice is made by on these slots, with these commands enabled: no translator is declared, so the identity translator is all there is
+-- what a choice is made by on these slots, with these commands enabled
 abbrev pub scene_by : Ground → Slots → Enabled → Scene
 scene_by g slots enabled = record {
   app = g.app;
@@ -93,8 +94,7 @@ scene_by g slots enabled = record {
   slots = slots;
   commands = (sight_in g.app).commands;
   enabled = λ x. unwrap_or (enabled x) false;
-  translators = [];
-  declared = [];
+  translators = translators_in g.app;
 }
 
 -- a column and a row lie within a pane

@@ -12,12 +12,14 @@ mod serving;
 mod sessions;
 mod speaking;
 mod telling;
+mod translators;
 mod writing;
 
-pub use accessible::Accessible;
+pub use accessible::{Accessible, accessible_of};
 pub use answers::Replies;
 pub use cl_eval::Lines;
 pub use cl_frame::{PaneReport, Report};
 pub use handling::Desk;
+pub use naming::enabled_of;
 pub use serving::End;
 pub use sessions::{DEPTH, Session};

@@ -196,7 +196,6 @@ fn choice_at<T: Types>(
         tables: &accessible.tables,
         enabled,
         translators: &accessible.translators,
-        declarations: &accessible.declarations,
     };
     let point = Point {
         pane: &target.declared.name,

@@ -1,6 +1,7 @@
 -- What translators give.
 use Rattle.std.proofs.Common.{◌≡◌, ◌+◌, ◌-◌, ◌++◌, ◌∷◌, ◌<◌, ℕ, zero, suc, List, drop, map, refl, sym, ap, ◌∙◌, arith}
 use Rattle.std.specs.Prelude.{Option, Some, None}
+use Rattle.cl_application.specs.declared.declarations.TranslatorDecl.{TranslatorDecl}
 use Rattle.cl_record.specs.Touches.{TouchAt}
 use Rattle.cl_syntax.specs.TypeSpecTree.{TypeSpecTree}
 use Rattle.cl_table.specs.Names.{named}
@@ -11,11 +12,10 @@ use Rattle.cl_translators.specs.declared.declarations.TranslatorPlace.{Translato
 use Rattle.cl_translate.specs.Applies.{translated}
 use Rattle.cl_translate.specs.Choices.{declared, given_by, gives, identities, place_gives}
 use Rattle.cl_translate.specs.Scenes.{Scene}
-use Rattle.cl_translate.specs.declared.declarations.TranslatorDecl.{TranslatorDecl}
 use Rattle.cl_translate.proofs.FirstLemmas.{First, none_before, same_answers, some_before}
 
 -- what the declaration under its name gives
-pub of_declared : (s : Scene) (context : TypeSpecTree) (c : TouchAt) (p : TranslatorPlace) (t : TranslatorDecl) (o : Option Data) → named p.name s.declared ≡ Some t
+pub of_declared : (s : Scene) (context : TypeSpecTree) (c : TouchAt) (p : TranslatorPlace) (t : TranslatorDecl) (o : Option Data) → named p.name s.app.translators ≡ Some t
     → o ≡ translated s context t c.object → o ≡ place_gives s context c p
 of_declared s context c p t o is h = h ∙ ap (given_by s context c.object) (sym is)
 

@@ -1,6 +1,7 @@
 -- When a translator applies to an object in an input context, and what it gives.
 use Rattle.std.specs.Prelude.{ℕ, Bool, true, false, ◌&&◌, if◌then◌else◌, List, [], ◌∷◌, Option, Some, None, codes}
 use Rattle.std.specs.Str.{bytes_eq}
+use Rattle.cl_application.specs.declared.declarations.TranslatorDecl.{TranslatorDecl}
 use Rattle.cl_eval.specs.Evaluated.{outcome_of_eval}
 use Rattle.cl_eval.specs.Outcome.{Outcome, Gives, Traps}
 use Rattle.cl_eval.specs.declared.metering.Limits.{Limits}
@@ -10,7 +11,6 @@ use Rattle.cl_tables.specs.Lookups.{is_accessible}
 use Rattle.cl_value.specs.Data.{Data, int, bool, text, symbol, null, list, rec, none, item}
 use Rattle.cl_translate.specs.Heads.{heads, some_listed}
 use Rattle.cl_translate.specs.Scenes.{Scene}
-use Rattle.cl_translate.specs.declared.declarations.TranslatorDecl.{TranslatorDecl}
 
 -- ---- testers and bodies
 

@@ -1,6 +1,7 @@
 -- The choice: the first that applies among all that come into question.
 use Rattle.std.specs.Prelude.{◌+◌, ℤ, ℕ, if◌then◌else◌, List, [], ◌∷◌, ◌++◌, map, filter, reverse, Option, Some, None, option_map, codes}
 use Rattle.std.specs.List.{flat_map}
+use Rattle.cl_application.specs.declared.declarations.TranslatorDecl.{TranslatorDecl}
 use Rattle.cl_record.specs.Labels.{LabelAt}
 use Rattle.cl_record.specs.Touches.{TouchAt, touch_of_label}
 use Rattle.cl_syntax.specs.TypeSpecTree.{TypeSpecTree, name_of, plain_type}
@@ -14,7 +15,6 @@ use Rattle.cl_translators.specs.declared.declarations.TranslatorPlace.{Translato
 use Rattle.cl_translate.specs.Applies.{is_itself, precedence_of, translated}
 use Rattle.cl_translate.specs.Scenes.{Scene}
 use Rattle.cl_translate.specs.declared.choosing.Choice.{Choice}
-use Rattle.cl_translate.specs.declared.declarations.TranslatorDecl.{TranslatorDecl}
 
 -- an answer, or another where there is none
 abbrev pub or_else : {R : Type 0} → Option R → Option R → Option R
@@ -54,14 +54,14 @@ gathered ts g precedence = flat_map (gathered_high ts g precedence) digits
 abbrev pub translators_for : Scene → GestureName → List ℕ → List Translator
 translators_for s g x = map (λ t. declared t) (gathered s.translators g (precedence_of s x)) ++ identities g
 
--- what a declaration gives, if there is one
+-- what a declaration of the application gives, if there is one
 abbrev pub given_by : Scene → TypeSpecTree → Data → Option TranslatorDecl → Option Data
 given_by s context d None = None
 given_by s context d (Some t) = translated s context t d
 
 -- what a translator gives for a candidate in a context; None where it does not apply
 abbrev pub gives : Scene → TypeSpecTree → TouchAt → Translator → Option Data
-gives s context c (declared p) = given_by s context c.object (named p.name s.declared)
+gives s context c (declared p) = given_by s context c.object (named p.name s.app.translators)
 gives s context c identity = if is_itself s context (name_of c.spec) c.object then Some c.object else None
 
 -- the same of a declared translator

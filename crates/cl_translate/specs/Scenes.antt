@@ -8,10 +8,9 @@ use Rattle.cl_tables.specs.Enabled.{is_enabled}
 use Rattle.cl_tables.specs.declared.declarations.CommandPlace.{CommandPlace}
 use Rattle.cl_translators.specs.declared.declarations.TranslatorPlace.{TranslatorPlace}
 use Rattle.cl_translate.specs.declared.choosers.Chooser.{Chooser}
-use Rattle.cl_translate.specs.declared.declarations.TranslatorDecl.{TranslatorDecl}
 
 -- an application, which values are members of its types and which types stand above which, the slots, the accessible commands, which commands
--- are enabled, the accessible translators in their order, and what is declared of each
+-- are enabled, and the accessible translators in their order
 pub record Scene : Type 0 where
   pub app : App
   pub holds : Member
@@ -20,7 +19,6 @@ pub record Scene : Type 0 where
   pub commands : List CommandPlace
   pub enabled : List ℕ → Bool
   pub translators : List TranslatorPlace
-  pub declared : List (List ℕ × TranslatorDecl)
 
 -- that of a chooser, by what its types say
 abbrev pub scene_of : {T : Type 0} → (T → Member) → (T → Hierarchy) → Chooser T → Scene
@@ -32,5 +30,4 @@ scene_of holds hierarchy c = record {
   commands = c.tables.now.commands;
   enabled = λ x. is_enabled x c.enabled.now;
   translators = c.translators.now;
-  declared = c.declarations.now;
 }

@@ -7,7 +7,7 @@ ghost use Rattle.cl_translate.specs.Scenes.{scene_of};
 ghost use Rattle.cl_value.specs.Value.{data_of};
 
 use crate::choosers::Chooser;
-use crate::declarations::TranslatorDecl;
+use cl_application::TranslatorDecl;
 use cl_eval::Types;
 use cl_record::Touch;
 use cl_syntax::TypeSpec;
@@ -79,7 +79,7 @@ impl<T: Types> Chooser<'_, T> {
         ensures { IfOk result (λ o. option_map data_of o
             ≡ place_gives (scene_of T.holds T.hierarchy self.now) context.now (touch_of candidate.entry) place.now) }
     {
-        match self.declarations.get(place.name.as_slice()) {
+        match self.app.translators.get(place.name.as_slice()) {
             Some(translator) => self.translate(context, translator, candidate.object),
             None => Ok(None),
         }

@@ -1,5 +1,4 @@
 //! What a choice is made by.
-use crate::declarations::TranslatorDecls;
 use cl_application::App;
 use cl_eval::Slots;
 use cl_tables::{Enabled, Tables};
@@ -18,7 +17,6 @@ pub struct Chooser<'a, T> {
     pub tables: &'a Tables,
     pub enabled: &'a Enabled,
     pub translators: &'a Translators,
-    pub declarations: &'a TranslatorDecls,
 }
 
 /// A place of a pane: a column and a row.

@@ -6,7 +6,7 @@ ghost use Rattle.cl_value.specs.Data.{items_of, list, symbol};
 ghost use Rattle.cl_value.specs.Value.{data_of};
 
 use crate::choosers::Chooser;
-use crate::declarations::TranslatorDecl;
+use cl_application::TranslatorDecl;
 use cl_eval::{Env, Evaluated, Limits, Types, eval};
 use cl_outside::own_steps;
 use cl_syntax::Expr;

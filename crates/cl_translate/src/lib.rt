@@ -6,11 +6,9 @@ mod applying;
 mod candidates;
 mod choosers;
 mod choosing;
-mod declarations;
 mod evaluating;
 mod heads;
 mod running;
 
 pub use choosers::{Chooser, Point};
 pub use choosing::Choice;
-pub use declarations::{TranslatorDecl, TranslatorDecls};

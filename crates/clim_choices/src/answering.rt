@@ -1,6 +1,5 @@
 //! Answers the questions on an application.
 use crate::asking::answer_all;
-use crate::declaring::{GLOBAL_TABLE, commands_of, declarations_of, places_of, tables_of};
 use crate::faults::Fault;
 use crate::sheets::Sheet;
 use cl_application::App;
@@ -8,10 +7,9 @@ use cl_eval::Types;
 use cl_host::{month_number, shipped_types, weekday_number};
 use cl_load::{Loaded, load};
 use cl_ptext::{HostTypes, Hosts, TypeBook};
-use cl_table::Table;
-use cl_tables::{CommandPlace, Enabled, Tables, first_on_a_ring};
+use cl_session::{accessible_of, enabled_of};
+use cl_tables::Enabled;
 use cl_translate::Chooser;
-use cl_translators::Translators;
 use cl_value::Text;
 use std::alloc::{AllocError, Global};
 
@@ -32,99 +30,32 @@ fn answer_loaded<H: Hosts>(
     sheet: &Sheet,
 ) -> Result<String, Fault> {
     let book = TypeBook::new(alloc, &loaded.app, &loaded.lattice, hosts);
-    let places = commands_of(alloc, &loaded.app)?;
-    answer_with_types(alloc, loaded, &book, &places, sheet)
+    answer_with_types(alloc, loaded, &book, sheet)
 }
 
 fn answer_with_types<T: Types>(
     alloc: Global,
     loaded: &Loaded,
     types: &T,
-    places: &Table<CommandPlace>,
     sheet: &Sheet,
 ) -> Result<String, Fault> {
-    let commands = Commands {
-        tables: tables_seen(alloc, sheet.tables.as_slice(), places)?,
-        enabled: enabled_of(alloc, places, sheet.disabled.as_slice())?,
-    };
-    answer_with_commands(alloc, loaded, types, &commands, sheet)
-}
-
-/// What is known of commands.
-#[derive(Drop)]
-struct Commands {
-    tables: Tables,
-    enabled: Enabled,
-}
-
-fn answer_with_commands<T: Types>(
-    alloc: Global,
-    loaded: &Loaded,
-    types: &T,
-    commands: &Commands,
-    sheet: &Sheet,
-) -> Result<String, Fault> {
-    let translators = translators_of(alloc, &loaded.app, &commands.tables, sheet)?;
-    answer_with_translators(alloc, loaded, types, commands, &translators, sheet)
-}
-
-// The translators that the tables see.
-fn translators_of(
-    alloc: Global,
-    app: &App,
-    tables: &Tables,
-    sheet: &Sheet,
-) -> Result<Translators, Fault> {
-    let places = places_of(alloc, app, sheet.translators.as_slice())?;
-    Ok(Translators::build(alloc, tables.inheritance(), &places)?)
-}
-
-fn answer_with_translators<T: Types>(
-    alloc: Global,
-    loaded: &Loaded,
-    types: &T,
-    commands: &Commands,
-    translators: &Translators,
-    sheet: &Sheet,
-) -> Result<String, Fault> {
-    let declarations = declarations_of(alloc, &loaded.app, sheet.translators.as_slice())?;
+    let accessible = accessible_of(alloc, &loaded.app)?;
+    let enabled = enabled_without(alloc, &loaded.app, sheet.disabled.as_slice())?;
     let chooser = Chooser {
         alloc,
         app: &loaded.app,
         types,
         slots: &loaded.slots,
-        tables: &commands.tables,
-        enabled: &commands.enabled,
-        translators,
-        declarations: &declarations,
+        tables: &accessible.tables,
+        enabled: &enabled,
+        translators: &accessible.translators,
     };
     answer_all(&chooser, sheet.questions.as_slice())
 }
 
-// What the table of the first line sees, or the predeclared one where there is no line.
-fn tables_seen(
-    alloc: Global,
-    lines: &[&str],
-    places: &Table<CommandPlace>,
-) -> Result<Tables, Fault> {
-    let tables = tables_of(alloc, lines)?;
-    if first_on_a_ring(alloc, &tables)?.is_some() {
-        return Err(Fault::Wrong);
-    }
-    let root = match tables.at(0) {
-        Some(first) => first.name.as_slice(),
-        None => GLOBAL_TABLE.as_bytes(),
-    };
-    Ok(Tables::build(alloc, &tables, places, root)?)
-}
-
 // All commands enabled, but for these.
-fn enabled_of(
-    alloc: Global,
-    places: &Table<CommandPlace>,
-    disabled: &[&str],
-) -> Result<Enabled, AllocError> {
-    let mut enabled = Enabled::new(alloc, places)?;
+fn enabled_without(alloc: Global, app: &App, disabled: &[&str]) -> Result<Enabled, AllocError> {
+    let mut enabled = enabled_of(alloc, app)?;
     let mut switches = Vec::new(alloc);
     for command in disabled {
         switches.push((Text::from_slice(alloc, command.as_bytes())?, false))?;

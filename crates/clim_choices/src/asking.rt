@@ -1,5 +1,4 @@
 //! Answers what is chosen at places.
-use crate::declaring::gesture_named;
 use crate::faults::Fault;
 use cl_application::App;
 use cl_display::{History, Shown, display};
@@ -61,6 +60,18 @@ fn asked_of<'a>(question: &'a str) -> Result<Asked<'a>, Fault> {
         x: x.parse().map_err(|_| Fault::Wrong)?,
         y: y.parse().map_err(|_| Fault::Wrong)?,
     })
+}
+
+// The gesture of that name.
+fn gesture_named(word: &str) -> Result<GestureName, Fault> {
+    match word {
+        "select" => Ok(GestureName::Select),
+        "describe" => Ok(GestureName::Describe),
+        "menu" => Ok(GestureName::Menu),
+        "edit" => Ok(GestureName::Edit),
+        "delete" => Ok(GestureName::Delete),
+        _ => Err(Fault::Wrong),
+    }
 }
 
 fn is_pane(pane: &ShownPane, name: &str) -> bool {

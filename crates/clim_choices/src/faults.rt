@@ -7,7 +7,7 @@ use std::alloc::{AllocError, AllocFailed};
 pub enum Fault {
     /// An application does not load.
     Refused,
-    /// A line before or behind an application is not as it should be.
+    /// A question is not as it should be.
     Wrong,
     Unreadable,
     Output,

@@ -1,10 +1,6 @@
-//! Answers what is chosen at places of panes: reads applications with translators and questions from standard input, and writes a line
-//! for each answer.
+//! Answers what is chosen at places of panes: reads applications and questions from standard input, and writes a line for each answer.
 //!
-//! Among the lines of an application, `: TABLE PARENT ...` declares a command table, of which the first is that of the frame;
-//! `! NAME TABLE GESTURE PRIORITY` declares a translator, and `! NAME TABLE GESTURE PRIORITY COMMAND` one to a command; `- COMMAND`
-//! disables a command. All commands stand in `global-command-table`. The types of a translator are those of the slots `NAME-from` and
-//! `NAME-to`; its body calls the function `NAME-body` on the object, and its tester, if there is one, the function `NAME-test`.
+//! Among the lines of an application, `- COMMAND` disables a command.
 //!
 //! `? PANE GESTURE X Y CONTEXT ...` asks what is chosen at a place when the application has just opened. A context is the type of the
 //! slot of that name, or `command`. The answer is the number of the context and the value, or `nothing`.
@@ -12,7 +8,6 @@
 
 mod answering;
 mod asking;
-mod declaring;
 mod faults;
 mod sheets;
 
@@ -23,7 +18,7 @@ use std::io;
 use std::process::ExitCode;
 
 /// Ends with status 0 where all questions are answered, 1 where an application is refused, 2 where the text cannot be read or a
-/// line is wrong, 5 where the output fails, and 7 where memory runs out.
+/// question is wrong, 5 where the output fails, and 7 where memory runs out.
 fn main(rt: HostRuntime) -> ExitCode {
     ExitCode::from(match run(&rt) {
         Ok(()) => 0,

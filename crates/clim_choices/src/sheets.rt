@@ -1,12 +1,10 @@
-//! Applications with their tables, translators and questions, from a text.
+//! Applications with their questions, from a text.
 use std::alloc::{AllocError, Global};
 
-/// The text of an application, what is declared beside it, and the questions on it.
+/// The text of an application, the commands that are disabled, and the questions on it.
 #[derive(Drop)]
 pub struct Sheet<'a> {
     pub application: String,
-    pub tables: Vec<&'a str>,
-    pub translators: Vec<&'a str>,
     pub disabled: Vec<&'a str>,
     pub questions: Vec<&'a str>,
 }
@@ -15,8 +13,6 @@ impl<'a> Sheet<'a> {
     fn new(alloc: Global) -> Sheet<'a> {
         Sheet {
             application: String::new(alloc),
-            tables: Vec::new(alloc),
-            translators: Vec::new(alloc),
             disabled: Vec::new(alloc),
             questions: Vec::new(alloc),
         }
@@ -24,11 +20,7 @@ impl<'a> Sheet<'a> {
 
     // A line that is no question.
     fn add_line(&mut self, line: &'a str) -> Result<(), AllocError> {
-        if let Some(table) = line.strip_prefix(": ") {
-            self.tables.push(table)?;
-        } else if let Some(translator) = line.strip_prefix("! ") {
-            self.translators.push(translator)?;
-        } else if let Some(command) = line.strip_prefix("- ") {
+        if let Some(command) = line.strip_prefix("- ") {
             self.disabled.push(command)?;
         } else {
             self.application.push_str(line)?;
