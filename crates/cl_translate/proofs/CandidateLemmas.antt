@@ -1,8 +1,7 @@
 -- Going over candidates and contexts.
-use Rattle.std.proofs.Common.{◌≡◌, ◌+◌, ◌++◌, ◌∷◌, [], ◌<◌, ◌≤◌, ℤ, ℕ, zero, suc, List, drop, length, map, reverse, refl, sym, ap, subst, ◌∙◌, arith}
-use Rattle.std.specs.Prelude.{Option, Some, None, slice_get, option_map}
-use Rattle.std.proofs.lemmas.List.{length-map, length-reverse}
-use Rattle.std.proofs.lemmas.Option.{slice_get-map, slice_get_within}
+use Rattle.std.proofs.Common.{◌≡◌, ◌+◌, ◌++◌, ◌∷◌, [], ◌<◌, ◌≤◌, ℤ, ℕ, zero, suc, List, drop, get_or, length, map, reverse, refl, sym, ap, subst, ◌∙◌, arith}
+use Rattle.std.specs.Prelude.{Option, Some, None, option_map}
+use Rattle.std.proofs.lemmas.List.{map_push}
 use Rattle.cl_record.specs.Labels.{LabelAt}
 use Rattle.cl_record.specs.Touches.{TouchAt, touch_of_label}
 use Rattle.cl_syntax.specs.TypeSpecTree.{TypeSpecTree, name_of}
@@ -16,43 +15,29 @@ use Rattle.cl_translate.proofs.FirstLemmas.{First, Leads, found, mapped, passed,
 pub spot_is : (P : (x y : ℤ) → Type 0) (x y a b : ℤ) → a ≡ x → b ≡ y → P a b → P x y
 spot_is P x y a b e f h = rw (← e, ← f) h
 
-some-inj : {A : Type 0} (a b : A) → Some a ≡ Some b → a ≡ b
-some-inj a b e = cc
+seen_from : {X A : Type 0} (f : X → A) (xs : List X) (i : ℕ) (x : X) → i < length xs → x ≡ get_or xs i x → drop i (map f xs) ≡ f x ∷ drop (suc i) (map f xs)
+seen_from f (y ∷ xs) zero x within is = ap (λ z. f z ∷ map f xs) (sym is)
+seen_from f (y ∷ xs) (suc i) x within is = seen_from f xs i x (omega (arith, within)) is
+seen_from f [] i x within is = absurd (omega (arith, within))
 
-here_in : {A : Type 0} (xs ys : List A) (k : ℕ) (t : A) → slice_get xs k ≡ Some t → drop k (xs ++ ys) ≡ t ∷ drop (suc k) (xs ++ ys)
-here_in [] ys k t h = cc
-here_in (x ∷ xs) ys zero t h = ap (λ z. z ∷ (xs ++ ys)) (some-inj x t h)
-here_in (x ∷ xs) ys (suc k) t h = here_in xs ys k t h
+-- what is seen of an element in its place, and of those behind it
+pub seen_here : {X A : Type 0} (f : X → A) (xs : List X) (i : ℕ) (x : X) → i < length xs → x ≡ get_or xs i x → drop i (map f xs) ≡ f x ∷ drop (i + 1) (map f xs)
+seen_here f xs i x within is =
+    let next : suc i ≡ i + 1 = omega arith in
+    seen_from f xs i x within is ∙ ap (λ (n : ℕ). f x ∷ drop n (map f xs)) next
 
-none_in : {A : Type 0} (xs ys : List A) (k : ℕ) → slice_get xs k ≡ None → k ≤ length xs → drop k (xs ++ ys) ≡ ys
-none_in [] ys zero h l = refl
-none_in [] ys (suc k) h l = absurd (omega (arith, l))
-none_in (x ∷ xs) ys zero h l = cc
-none_in (x ∷ xs) ys (suc k) h l = none_in xs ys k h (omega (arith, l))
+-- behind the last nothing is seen
+pub none_behind : {X A : Type 0} (f : X → A) (xs : List X) (i : ℕ) → length xs ≤ i → drop i (map f xs) ≡ []
+none_behind f [] zero h = refl
+none_behind f [] (suc i) h = refl
+none_behind f (x ∷ xs) zero h = absurd (omega (arith, h))
+none_behind f (x ∷ xs) (suc i) h = none_behind f xs i (omega (arith, h))
 
-abbrev touches_of : List LabelAt → List TouchAt
-touches_of ls = map touch_of_label (reverse ls)
-
-as_many : (ls : List LabelAt) → length (touches_of ls) ≡ length ls
-as_many ls = length-map (reverse ls) touch_of_label ∙ length-reverse ls
-
--- the presentation that was touched, and those behind it
-pub touch_here : (ls : List LabelAt) (blank : TouchAt) (k : ℕ) (t : TouchAt) → option_map touch_of_label (slice_get (reverse ls) k) ≡ Some t
-    → drop k (candidates ls blank) ≡ t ∷ drop (k + 1) (candidates ls blank)
-touch_here ls blank k t h =
-    let next : suc k ≡ k + 1 = omega arith in
-    here_in (touches_of ls) (blank ∷ []) k t (slice_get-map touch_of_label (reverse ls) k ∙ h) ∙ ap (λ (n : ℕ). t ∷ drop n (candidates ls blank)) next
-
-pub touch_within : (ls : List LabelAt) (k : ℕ) (t : TouchAt) → option_map touch_of_label (slice_get (reverse ls) k) ≡ Some t → k < length ls
-touch_within ls k t h =
-    let within = slice_get_within (touches_of ls) k t (slice_get-map touch_of_label (reverse ls) k ∙ h) in
-    omega (arith, within, as_many ls)
-
--- behind all of them stands the place itself
-pub blank_here : (ls : List LabelAt) (blank : TouchAt) (k : ℕ) → option_map touch_of_label (slice_get (reverse ls) k) ≡ None → k ≤ length ls
-    → drop k (candidates ls blank) ≡ blank ∷ []
-blank_here ls blank k h l =
-    none_in (touches_of ls) (blank ∷ []) k (slice_get-map touch_of_label (reverse ls) k ∙ h) (omega (arith, l, as_many ls))
+-- the presentations that were touched, and behind them the place itself
+pub all_candidates : {X : Type 0} (seen : X → TouchAt) (touches all : List X) (last : X) (ls : List LabelAt) (blank : TouchAt)
+    → map seen touches ≡ map touch_of_label (reverse ls) → all ≡ touches ++ last ∷ [] → seen last ≡ blank → map seen all ≡ candidates ls blank
+all_candidates seen touches all last ls blank gathered is place =
+    ap (map seen) is ∙ (map_push seen touches last ∙ (ap (λ cs. cs ++ seen last ∷ []) gathered ∙ ap (λ c. map touch_of_label (reverse ls) ++ c ∷ []) place))
 
 -- ---- the first for a candidate
 

@@ -1,3 +1,4 @@
 mod CandidateLemmas
 mod FirstLemmas
 mod GivesLemmas
+mod HighLemmas

@@ -2,3 +2,4 @@ pub mod Heads
 pub mod Scenes
 pub mod Applies
 pub mod Choices
+pub mod Highs

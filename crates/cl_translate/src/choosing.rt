@@ -8,12 +8,14 @@ ghost use Rattle.cl_syntax.specs.TypeSpecTree.{name_of};
 ghost use Rattle.cl_translate.specs.Applies.{precedence_of};
 ghost use Rattle.cl_translate.specs.Choices.{blank_area, candidates, chosen, first_answer, given_of, gives, place_gives, trial_gives};
 ghost use Rattle.cl_translate.specs.Choices.{gathered, gathered_high, identities, translators_for, trials_in};
+ghost use Rattle.cl_translate.specs.Highs.{highs_of};
 ghost use Rattle.cl_translate.specs.Scenes.{scene_of};
 ghost use Rattle.cl_translators.specs.Order.{digits, is_for};
 ghost use Rattle.cl_value.specs.Value.{data_of};
 
 use crate::candidates::{blank_object, blank_type};
 use crate::choosers::{Chooser, Point};
+use crate::highs::highs_of;
 use cl_eval::Types;
 use cl_medium::Leaf;
 use cl_record::{History, Touch};
@@ -32,8 +34,7 @@ pub struct Choice {
 impl<T: Types> Chooser<'_, T> {
     /// The choice for a gesture at a place of a pane: for each context, the innermost first, and each candidate, the presentation
     /// that began latest first and the place itself last, the translators are tried in their order; the first that applies counts.
-    /// `None` exactly where none applies. It fails for want of memory, and where 2^32 presentations are touched, more than memory
-    /// holds.
+    /// `None` exactly where none applies. It fails for want of memory alone.
     pub fn choose<L: Leaf>(
         &self,
         history: &History<L>,
@@ -46,12 +47,19 @@ impl<T: Types> Chooser<'_, T> {
             (blank_area point.now.pane.now point.now.x point.now.y))) }
     {
         let (object, spec) = (blank_object(self.alloc, point)?, blank_type(self.alloc)?);
-        let blank = Touch {
+        let mut candidates = history.touches(self.alloc, point.x, point.y)?;
+        candidates.push(Touch {
             object: &object,
             spec: &spec,
-        };
+        })?;
+        let highs = highs_of(self.alloc, gesture, self.translators.as_slice())?;
         for number in 0..contexts.len() {
-            let found = self.in_context(&contexts[number], history, point, blank, gesture)?;
+            let found = self.in_context(
+                &contexts[number],
+                candidates.as_slice(),
+                gesture,
+                highs.as_slice(),
+            )?;
             if let Some(value) = found {
                 return Ok(Some(Choice { number, value }));
             }
@@ -60,27 +68,25 @@ impl<T: Types> Chooser<'_, T> {
     }
 
     // The first in a context.
-    fn in_context<L: Leaf>(
+    fn in_context(
         &self,
         context: &TypeSpec,
-        history: &History<L>,
-        point: &Point<'_>,
-        blank: Touch<'_>,
+        candidates: &[Touch<'_>],
         gesture: GestureName,
+        highs: &[u8],
     ) -> Result<Option<Value>, AllocError>
+        requires { highs.now ≡ highs_of gesture self.now.translators.now }
         ensures { IfOk result (λ o. option_map data_of o
-            ≡ first_answer (trial_gives (scene_of T.holds T.hierarchy self.now) context.now) (trials_in (scene_of T.holds T.hierarchy self.now) gesture
-            (candidates (touched L.bounds point.now.x point.now.y (history_marks L.moved_by history.now)) (touch_of blank.entry)))) }
+            ≡ first_answer (trial_gives (scene_of T.holds T.hierarchy self.now) context.now)
+            (trials_in (scene_of T.holds T.hierarchy self.now) gesture (map touch_of candidates.now))) }
     {
-        let mut k = 0;
-        while let Some(touch) = history.touched(point.x, point.y, k) {
-            let found = self.of_candidate(context, touch, gesture)?;
+        for candidate in candidates {
+            let found = self.of_candidate(context, *candidate, gesture, highs)?;
             if found.is_some() {
                 return Ok(found);
             }
-            k = next_number(k)?;
         }
-        self.of_candidate(context, blank, gesture)
+        Ok(None)
     }
 
     // The first for a candidate.
@@ -89,13 +95,15 @@ impl<T: Types> Chooser<'_, T> {
         context: &TypeSpec,
         candidate: Touch<'_>,
         gesture: GestureName,
+        highs: &[u8],
     ) -> Result<Option<Value>, AllocError>
+        requires { highs.now ≡ highs_of gesture self.now.translators.now }
         ensures { IfOk result (λ o. option_map data_of o
             ≡ first_answer (gives (scene_of T.holds T.hierarchy self.now) context.now (touch_of candidate.entry))
             (translators_for (scene_of T.holds T.hierarchy self.now) gesture (name_of candidate.entry.spec.now))) }
     {
         let precedence = self.precedence_of(candidate.spec);
-        let found = self.of_gathered(context, candidate, gesture, precedence)?;
+        let found = self.of_gathered(context, candidate, gesture, highs, precedence)?;
         if found.is_some() {
             return Ok(found);
         }
@@ -127,13 +135,15 @@ impl<T: Types> Chooser<'_, T> {
         context: &TypeSpec,
         candidate: Touch<'_>,
         gesture: GestureName,
+        highs: &[u8],
         precedence: &[Text],
     ) -> Result<Option<Value>, AllocError>
+        requires { highs.now ≡ highs_of gesture self.now.translators.now }
         ensures { IfOk result (λ o. option_map data_of o
             ≡ first_answer (place_gives (scene_of T.holds T.hierarchy self.now) context.now (touch_of candidate.entry)) (gathered self.now.translators.now gesture precedence.now)) }
     {
-        for step in 0..10 {
-            let found = self.of_high(context, candidate, gesture, precedence, 9 - step)?;
+        for high in highs {
+            let found = self.of_high(context, candidate, gesture, precedence, *high)?;
             if found.is_some() {
                 return Ok(found);
             }
@@ -181,15 +191,5 @@ impl<T: Types> Chooser<'_, T> {
             }
         }
         Ok(None)
-    }
-}
-
-// One more.
-fn next_number(k: u32) -> Result<u32, AllocError>
-    ensures { IfOk result (λ n. n ≡ k + 1) }
-{
-    match k.checked_add(1) {
-        Some(next) => Ok(next),
-        None => Err(AllocError),
     }
 }

@@ -8,6 +8,7 @@ mod choosers;
 mod choosing;
 mod evaluating;
 mod heads;
+mod highs;
 mod running;
 
 pub use choosers::{Chooser, Point};
