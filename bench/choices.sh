@@ -7,8 +7,7 @@
 #   beside: the presentations stand side by side, and one of them is at the place.
 #   above: all stand at the place. `other types`: no translator is for their type, but for `other gestures`, where one is with another
 #     gesture; `no context`: one is for their type and gesture, and gives nothing that fits the context.
-# It ends with 1 where a choice among presentations side by side takes more than a millisecond. Where all stand at one place no bound is
-# set: each next presentation is looked for from the outermost records again.
+# It ends with 1 where a choice takes more than a millisecond.
 crate=clim_choices
 source "$(dirname "$0")/program.sh"
 
@@ -46,11 +45,11 @@ spent() {
     { time "$program" <"$files/asked" >/dev/null; } 2>&1 | awk '{ print $1 + $2 }'
 }
 
-# choose NAME BOUND FORM TYPE GESTURE: prints what a choice takes, at most so many microseconds
+# choose NAME FORM TYPE GESTURE: prints what a choice takes, at most a millisecond
 status=0
 choose() {
     local answer
-    application "$3" "$4" "$5" >"$files/application"
+    application "$2" "$3" "$4" >"$files/application"
     answer=$(asked 1 | "$program")
     if [ "$answer" != nothing ]; then
         echo "bench: the answer to $1 is $answer, not nothing" >&2
@@ -60,17 +59,17 @@ choose() {
     if command -v valgrind >/dev/null; then
         awk '{ printf " %11.0f instructions", ($2 - $1) / 10 }' <<<"$(instructions 1) $(instructions 11)"
     fi
-    awk -v bound="$2" '{
+    awk '{
         took = ($2 - $1) / 200 * 1000000
         printf " %11.2f us\n", took
-        exit bound && took > bound
+        exit took > 1000
     }' <<<"$(spent 1) $(spent 201)" || status=1
 }
 
 beside='(draw-point (* 2 (mod x 40)) (div x 40) "x")'
 above='(draw-point 10 2 "x")'
-choose 'beside' 1000 "$beside" integer select
-choose 'above, other types' 0 "$above" symbol select
-choose 'above, other gestures' 0 "$above" integer describe
-choose 'above, no context' 0 "$above" integer select
+choose 'beside' "$beside" integer select
+choose 'above, other types' "$above" symbol select
+choose 'above, other gestures' "$above" integer describe
+choose 'above, no context' "$above" integer select
 exit "$status"
