@@ -34,7 +34,8 @@ dig_on app (f ∷ fs) (g ∷ gs) o o' b e =
     let same : f ≡ g = (bytes_eq-Decides f g).0 t.0 in
     subst (λ (h : List ℕ). dig app gs (field_at app h o) ≡ dig app gs (field_at app h o')) same (dig_on app fs gs (field_at app f o) (field_at app f o') t.1 e)
 
-prefix_on : (app : App) (q p : Path) (s : Slots) (e : Env) (s' : Slots) (e' : Env) → is_prefix q p ≡ true → value_at app q s e ≡ value_at app q s' e' → value_at app p s e ≡ value_at app p s' e'
+prefix_on : (app : App) (q p : Path) (s : Slots) (e : Env) (s' : Slots) (e' : Env) → is_prefix q p ≡ true
+    → value_at app q s e ≡ value_at app q s' e' → value_at app p s e ≡ value_at app p s' e'
 prefix_on app q p s e s' e' h same =
     let t = both_true (same_root q.root p.root) (begins q.fields p.fields) h in
     let roots : q.root ≡ p.root = same_by q.root p.root t.0 in

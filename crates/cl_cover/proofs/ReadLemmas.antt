@@ -1,5 +1,6 @@
 -- The list of paths and the relation say the same.
-use Rattle.std.proofs.Common.{◌≡◌, ◌+◌, ◌++◌, ◌==◌, ℕ, zero, suc, Bool, true, false, cond, inl, inr, List, [], ◌∷◌, length, Option, Some, None, refl, sym, ap, subst, ◌∙◌, length-append}
+use Rattle.std.proofs.Common.{◌≡◌, ◌+◌, ◌++◌, ◌==◌, ℕ, zero, suc, Bool, true, false, cond, inl, inr, List, [], ◌∷◌, length, Option, Some, None}
+use Rattle.std.proofs.Common.{refl, sym, ap, subst, ◌∙◌, length-append}
 use Rattle.std.specs.Prelude.{◌↔◌, Contains, is_some}
 use Rattle.std.specs.Cmp.Lexicographic.{pointwise}
 use Rattle.std.proofs.lemmas.Slice.Eq.{bytes_eq-Decides}
@@ -144,7 +145,8 @@ module _ (app : App) (p : Path) where
   called_body n (callee.Display d) h = display_body n (display_named d app) h
 
   -- in steps, by what is read in the body of what is called
-  in_steps : (n : ℕ) → ((c : Callee) (ss : List Step) → Within n app p c → ReadIn (body_steps app) p (step.Calls c ∷ ss)) → (ss : List Step) → Any n ss → ReadIn (body_steps app) p ss
+  in_steps : (n : ℕ) → ((c : Callee) (ss : List Step) → Within n app p c → ReadIn (body_steps app) p (step.Calls c ∷ ss))
+      → (ss : List Step) → Any n ss → ReadIn (body_steps app) p ss
   in_steps n calls [] h = absurd h
   in_steps n calls (step.Reads q ∷ ss) (inl e) = at_once q ss e
   in_steps n calls (step.Calls c ∷ ss) (inl k) = calls c ss k

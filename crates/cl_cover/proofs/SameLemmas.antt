@@ -13,7 +13,8 @@ use Rattle.cl_eval.specs.Outcome.{Outcome, Gives, Traps, Run, give, trap, lift, 
 use Rattle.cl_eval.specs.Slots.{Slots, Env, is_name, value_named, bind_parameters}
 use Rattle.cl_eval.specs.Operators as operators
 use Rattle.cl_eval.specs.Operators.{within_limits, or_trap, truth, elements, operate, list_of}
-use Rattle.cl_eval.specs.Meaning.{Go, entering, truth_of, parts_of_list, each, every, some, bind_each, let_in, operation_on, map_each, filter_each, fold_each, call_function, parts, means}
+use Rattle.cl_eval.specs.Meaning.{Go, entering, truth_of, parts_of_list, each, every, some, bind_each, let_in, operation_on}
+use Rattle.cl_eval.specs.Meaning.{map_each, filter_each, fold_each, call_function, parts, means}
 use Rattle.cl_cover.specs.Paths.{Along, dig, field_of, placed, root_value, value_at}
 use Rattle.cl_cover.specs.Reads.{Apart, ApartAll, InFunction, IsSlot, Reads, ReadsAmong, ReadsBound, Within, taken}
 use Rattle.cl_cover.specs.declared.paths.Path.{Path}
@@ -158,7 +159,8 @@ module _ (app : App) (s s' : Slots) where
     same-mapped e e' x t a (d ∷ ds) es =
         λ i. same ((x, d) ∷ e) ((x, d) ∷ e') t (behind (In [] t) x d e e' a) i >>= λ v. same-mapped e e' x t a ds (es ++ v ∷ []) i
 
-    same-filtered : (e e' : Env) (x : List ℕ) (t : ExprTree) → On (Behind x (In [] t)) e e' → (ds es : List Data) → filter_each go level e x t ds es ≡ filter_each go' level e' x t ds es
+    same-filtered : (e e' : Env) (x : List ℕ) (t : ExprTree) → On (Behind x (In [] t)) e e' → (ds es : List Data)
+        → filter_each go level e x t ds es ≡ filter_each go' level e' x t ds es
     same-filtered e e' x t a [] es = refl
     same-filtered e e' x t a (d ∷ ds) es =
         λ i. same-tested ((x, d) ∷ e) ((x, d) ∷ e') t (behind (In [] t) x d e e' a) i

@@ -236,7 +236,8 @@ module _ (body : Body) where
   done_path w q p e (inl k) = subst (λ (x : Path). Contains w.paths x) e k
   done_path w q p e (inr b) = absurd b
 
-  inner_settled : (start : List Step) (w : Walked) → Search start [] w → (c : Callee) (inner : List Step) → body c ≡ Some inner → Settled [] w (step.Calls c) → AllSettled [] w inner
+  inner_settled : (start : List Step) (w : Walked) → Search start [] w → (c : Callee) (inner : List Step) → body c ≡ Some inner
+      → Settled [] w (step.Calls c) → AllSettled [] w inner
   inner_settled start w s c inner e (inl n) =
       let both : None ≡ Some inner = sym n ∙ e in cc
   inner_settled start w s c inner e (inr (inl t)) = s.bodies c inner t e

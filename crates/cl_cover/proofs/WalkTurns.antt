@@ -65,8 +65,8 @@ module _ (body : Body) where
       → n ≡ suc (n - 1) → pending ≡ s ∷ more → s ≡ step.Calls c → is_among c entered ≡ false → body c ≡ Some inner → then_pending ≡ inner ++ more → then_entered ≡ entered ++ c ∷ []
       → walk body n pending (record { paths = paths; entered = entered }) ≡ end → walk body (n - 1) then_pending (record { paths = paths; entered = then_entered }) ≡ end
   entering_turn n c s inner more pending then_pending paths entered then_entered end left next is new known_body before after so_far =
-      let turn : walk body n (step.Calls c ∷ more) (record { paths = paths; entered = entered }) ≡ walk body (n - 1) (inner ++ more) (record { paths = paths; entered = entered ++ c ∷ [] }) =
-      enters_on n (n - 1) c inner more (record { paths = paths; entered = entered }) left new known_body in
+      let w : Walked = record { paths = paths; entered = entered } in
+      let turn : walk body n (step.Calls c ∷ more) w ≡ walk body (n - 1) (inner ++ more) (with_callee c w) = enters_on n (n - 1) c inner more w left new known_body in
       (λ i. walk body (n - 1) (before i) (record { paths = paths; entered = after i })) ∙ sym turn
       ∙ sym (ap (λ (ss : List Step). walk body n ss (record { paths = paths; entered = entered })) (next ∙ ap (λ (t : Step). t ∷ more) is)) ∙ so_far
 

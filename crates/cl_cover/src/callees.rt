@@ -1,5 +1,5 @@
 //! What a text calls.
-ghost use Rattle.std.specs.Prelude.{◌≡◌, [], ◌∷◌, ◌++◌, IfOk, OnOk, false};
+ghost use Rattle.std.specs.Prelude.{◌≡◌, [], ◌∷◌, ◌++◌, OnOk, false};
 ghost use Rattle.cl_cover.specs.Walk.{is_among};
 
 use cl_value::Text;

@@ -1,5 +1,5 @@
 //! The steps of expressions, in the order of the text.
-ghost use Rattle.std.specs.Prelude.{◌≡◌, [], ◌∷◌, ◌++◌, IfOk, OnOk, length, ◌≢◌};
+ghost use Rattle.std.specs.Prelude.{◌≡◌, [], ◌∷◌, ◌++◌, IfOk, OnOk};
 ghost use Rattle.cl_syntax.specs.Expr.{bindings_of};
 ghost use Rattle.cl_syntax.specs.ExprTree as expr;
 ghost use Rattle.cl_syntax.specs.ExprTree.{expr_trees_of};

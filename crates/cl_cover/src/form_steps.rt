@@ -1,5 +1,5 @@
 //! The steps of display forms, in the order of the text.
-ghost use Rattle.std.specs.Prelude.{◌≡◌, [], ◌∷◌, ◌++◌, OnOk};
+ghost use Rattle.std.specs.Prelude.{◌≡◌, [], ◌++◌, OnOk};
 ghost use Rattle.cl_syntax.specs.ShapeTree.{shape_trees_of};
 ghost use Rattle.cl_cover.specs.Sights.{behind};
 ghost use Rattle.cl_cover.specs.Steps.{steps, steps_form, steps_forms};

@@ -17,7 +17,7 @@ use cl_value::Text;
 use std::alloc::{AllocError, Global};
 
 /// The paths of these steps, through all that they call. It looks at the body of what is called once.
-#[tactic(auto, using(crate::proofs::WalkTurns::reads_on, crate::proofs::WalkTurns::entered_on, crate::proofs::WalkTurns::undeclared_on, crate::proofs::WalkTurns::enters_on, crate::proofs::WalkTurns::none_left, crate::proofs::WalkTurns::walk_end))]
+#[tactic(auto, using(crate::proofs::WalkTurns::reads_on, crate::proofs::WalkTurns::entered_on, crate::proofs::WalkTurns::undeclared_on, crate::proofs::WalkTurns::none_left))]
 pub(crate) fn paths_along(
     alloc: Global,
     app: &App,

@@ -22,7 +22,9 @@ decreases-add_folded l = 2 * nodes l.body.now + 1
 
 abbrev pub invariant-add_among-loop-part : goal.invariant-add_among-loop-part
 invariant-add_among-loop-part l = record {
-  steps : l.out.items ++ steps_among l.initial.sight l.along (expr_trees_of (drop l.part-index l.parts)) ≡ l.initial.out.items ++ steps_among l.initial.sight l.along (expr_trees_of l.parts);
+  steps :
+      l.out.items ++ steps_among l.initial.sight l.along (expr_trees_of (drop l.part-index l.parts))
+      ≡ l.initial.out.items ++ steps_among l.initial.sight l.along (expr_trees_of l.parts);
   sight : l.sight ≡ l.initial.sight;
 }
 
