@@ -1,0 +1,11 @@
+pub mod Parts
+pub mod PrefixLemmas
+pub mod SightLemmas
+pub mod TakenLemmas
+pub mod WalkTurns
+pub mod CalleeLemmas
+pub mod WalkLemmas
+pub mod StepLemmas
+pub mod ReadLemmas
+pub mod CoverLemmas
+pub mod SameLemmas

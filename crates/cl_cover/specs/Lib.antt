@@ -1,0 +1,5 @@
+pub mod Paths
+pub mod Sights
+pub mod Reads
+pub mod Steps
+pub mod Walk

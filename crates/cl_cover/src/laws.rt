@@ -1,0 +1,45 @@
+//! What the definitions of this crate say. The contracts are the laws.
+ghost use Rattle.std.specs.Prelude.{◌≡◌, ◌≤◌, ◌+◌, ◌↔◌, ℕ, List, All, Contains, None, Some, true, false};
+ghost use Rattle.cl_value.specs.Data.{Data};
+ghost use Rattle.cl_syntax.specs.ExprTree.{ExprTree};
+ghost use Rattle.cl_syntax.specs.ShapeTree.{ShapeTrees};
+ghost use Rattle.cl_application.specs.declared.applications.App.{App};
+ghost use Rattle.cl_eval.specs.Meaning.{means};
+ghost use Rattle.cl_eval.specs.Outcome.{Gives};
+ghost use Rattle.cl_eval.specs.Slots.{Env, Slots};
+ghost use Rattle.cl_cover.specs.Paths.{first_uncovered, has_prefix, value_at};
+ghost use Rattle.cl_cover.specs.Reads.{AreRead, IsRead};
+ghost use Rattle.cl_cover.specs.Walk.{expression_reads, reads_of};
+ghost use Rattle.cl_cover.specs.declared.paths.Path.{Path};
+
+/// A path is in the list of what an expression, or display forms, read exactly where they read it.
+pub fn lists_have_what_is_read()
+    ensures expressions { (app : App) (t : ExprTree) (p : Path) → Contains (expression_reads app t) p ↔ IsRead app p t }
+    ensures forms { (app : App) (fs : ShapeTrees) (p : Path) → Contains (reads_of app fs) p ↔ AreRead app p fs }
+{}
+
+/// No path is uncovered exactly where each path that display forms read is one of the listed, or one of these is a beginning of it. A
+/// path that is uncovered is read, and none of the listed is the path itself or a beginning of it. Where no path is uncovered, and each
+/// of the listed has the same value in both, or none, each path that is read has so.
+pub fn covered_paths_are_begun()
+    ensures none { (app : App) (listed : List Path) (fs : ShapeTrees)
+        → (first_uncovered listed (reads_of app fs) ≡ None) ↔ ((p : Path) → AreRead app p fs → has_prefix listed p ≡ true) }
+    ensures some { (app : App) (listed : List Path) (fs : ShapeTrees) (p : Path) → first_uncovered listed (reads_of app fs) ≡ Some p
+        → AreRead app p fs × (has_prefix listed p ≡ false) }
+    ensures values { (app : App) (listed : List Path) (fs : ShapeTrees) (slots : Slots) (env : Env) (other_slots : Slots) (other_env : Env)
+        → first_uncovered listed (reads_of app fs) ≡ None → All (λ q. value_at app q slots env ≡ value_at app q other_slots other_env) listed
+        → (p : Path) → AreRead app p fs → value_at app p slots env ≡ value_at app p other_slots other_env }
+{}
+
+/// The outcome of an expression depends on the values at the paths that it reads alone: where each has the same value in both, or none, it
+/// ends with the same value or trap, cost and reach. Where it ends with a value under some limits, it ends with the same value, cost and
+/// reach under all limits that these do not pass.
+pub fn read_values_alone_matter()
+    ensures same_limits { (depth budget level : ℕ) (app : App) (t : ExprTree) (slots : Slots) (env : Env) (other_slots : Slots) (other_env : Env)
+        → ((p : Path) → IsRead app p t → value_at app p slots env ≡ value_at app p other_slots other_env) → (cost reach : ℕ)
+        → means depth budget app slots level env t cost reach ≡ means depth budget app other_slots level other_env t cost reach }
+    ensures other_limits { (depth budget other_depth other_budget level : ℕ) (app : App) (t : ExprTree) (slots : Slots) (env : Env) (other_slots : Slots) (other_env : Env)
+        → ((p : Path) → IsRead app p t → value_at app p slots env ≡ value_at app p other_slots other_env) → (c k : ℕ) (d : Data) (cost reach : ℕ)
+        → means depth budget app slots level env t c k ≡ Gives d cost reach → cost ≤ other_budget → reach ≤ level + other_depth
+        → means other_depth other_budget app other_slots level other_env t c k ≡ Gives d cost reach }
+{}

@@ -1,0 +1,20 @@
+//! What expressions and display forms read, as paths: variables and slots with the fields that are taken of them. A `present` form and
+//! a `with-output-as-presentation` form read what their parts read; what present methods read is not looked at.
+#![tactic(auto)]
+
+mod callees;
+mod coverage;
+mod expression_steps;
+mod form_steps;
+mod laws;
+mod paths;
+mod pending;
+mod sights;
+mod steps;
+mod walk;
+
+pub use callees::Callee;
+pub use coverage::{expression_reads, first_uncovered, reads};
+pub use laws::{covered_paths_are_begun, lists_have_what_is_read, read_values_alone_matter};
+pub use paths::{Path, Root};
+pub use steps::Step;

@@ -1,0 +1,12 @@
+//! What a text reads and calls.
+use crate::callees::Callee;
+use crate::paths::Path;
+
+/// A step through a text: it reads a path, or calls something.
+#[derive(Drop)]
+pub enum Step {
+    /// It reads a path.
+    Reads(Path),
+    /// It calls something.
+    Calls(Callee),
+}
