@@ -12,10 +12,16 @@ same_callee (callee.Function x) (callee.Function y) h = ap callee.Function ((byt
 same_callee (callee.Function x) (callee.Display y) h = cc
 same_callee (callee.Display x) (callee.Function y) h = cc
 same_callee (callee.Display x) (callee.Display y) h = ap callee.Display ((bytes_eq-Decides x y).0 h)
+same_callee (callee.Function x) (callee.PresentMethod y) h = cc
+same_callee (callee.Display x) (callee.PresentMethod y) h = cc
+same_callee (callee.PresentMethod x) (callee.Function y) h = cc
+same_callee (callee.PresentMethod x) (callee.Display y) h = cc
+same_callee (callee.PresentMethod x) (callee.PresentMethod y) h = ap callee.PresentMethod ((bytes_eq-Decides x y).0 h)
 
 pub own_callee : (c : Callee) → (callee_eq.ghosts).eq c c ≡ true
 own_callee (callee.Function x) = (bytes_eq-Decides x x).1 refl
 own_callee (callee.Display x) = (bytes_eq-Decides x x).1 refl
+own_callee (callee.PresentMethod x) = (bytes_eq-Decides x x).1 refl
 
 pub no : false ≡ true → ⊥
 no e = cc

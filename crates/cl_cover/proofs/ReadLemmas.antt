@@ -1,19 +1,21 @@
 -- The list of paths and the relation say the same.
 use Rattle.std.proofs.Common.{◌≡◌, ◌+◌, ◌++◌, ◌==◌, ℕ, zero, suc, Bool, true, false, cond, inl, inr, List, [], ◌∷◌, length, Option, Some, None}
 use Rattle.std.proofs.Common.{refl, sym, ap, subst, ◌∙◌, length-append}
-use Rattle.std.specs.Prelude.{◌↔◌, Contains, is_some}
+use Rattle.std.specs.Prelude.{◌⊎◌, ◌↔◌, Contains, is_some}
 use Rattle.std.specs.Cmp.Lexicographic.{pointwise}
 use Rattle.std.proofs.lemmas.Slice.Eq.{bytes_eq-Decides}
 use Rattle.cl_syntax.specs.ExprTree.{ExprTree}
 use Rattle.cl_syntax.specs.ShapeTree.{ShapeTrees, shape_trees_of}
 use Rattle.cl_table.specs.Names.{named}
-use Rattle.cl_application.specs.App.{display_named, function_named}
+use Rattle.cl_application.specs.App.{display_named, function_named, present_method}
 use Rattle.cl_application.specs.declared.applications.App.{App}
 use Rattle.cl_application.specs.declared.declarations.DisplayDecl.{DisplayDecl}
 use Rattle.cl_application.specs.declared.declarations.FunctionDecl.{FunctionDecl}
-use Rattle.cl_cover.specs.Reads.{AreRead, InDisplay, InFunction, IsRead, IsSlot, Within}
+use Rattle.cl_application.specs.declared.declarations.MethodDecl.{MethodDecl}
+use Rattle.cl_syntax.specs.declared.type_decls.TypeDecl.{TypeDecl}
+use Rattle.cl_cover.specs.Reads.{AreRead, InDisplay, InFunction, InPresented, IsRead, IsSlot, Within}
 use Rattle.cl_cover.specs.Sights.{everything, slots}
-use Rattle.cl_cover.specs.Steps.{body_steps, display_steps, function_steps, steps, steps_forms}
+use Rattle.cl_cover.specs.Steps.{body_steps, display_steps, function_steps, presented_steps, steps, steps_forms, steps_spec}
 use Rattle.cl_cover.specs.Walk.{callees, expression_reads, is_among, nothing, paths_along, reads_of, walk}
 use Rattle.cl_cover.specs.declared.callees.Callee.{Callee}
 use Rattle.cl_cover.specs.declared.callees.Callee.TheVariants as callee
@@ -23,7 +25,7 @@ use Rattle.cl_cover.specs.declared.paths.Root.TheVariants as root
 use Rattle.cl_cover.specs.declared.steps.Step.{Step}
 use Rattle.cl_cover.specs.declared.steps.Step.TheVariants as step
 use Rattle.cl_cover.proofs.CalleeLemmas.{among_more, or_left, or_right, own_callee}
-use Rattle.cl_cover.proofs.StepLemmas.{AnySource, Visible, of_forms, of_term, slot_visible, stands, stands_forms}
+use Rattle.cl_cover.proofs.StepLemmas.{AnySource, Visible, of_forms, of_spec, of_term, slot_visible, stands, stands_forms, stands_spec}
 use Rattle.cl_cover.proofs.WalkLemmas.{ReadIn, at_once, in_callee, later, walk_finds}
 
 -- ---- the callees of an application
@@ -32,17 +34,33 @@ abbrev pub named_callees : {D : Type 0} → (List ℕ → Callee) → List (List
 named_callees make [] = []
 named_callees make (e ∷ es) = make e.0 ∷ named_callees make es
 
-abbrev pub known : App → List Callee
-known app = named_callees callee.Function app.functions ++ named_callees callee.Display app.displays
+abbrev bodies : App → List Callee
+bodies app = named_callees callee.Function app.functions ++ named_callees callee.Display app.displays
+
+abbrev presenters : App → List Callee
+presenters app = named_callees callee.PresentMethod app.present_methods ++ named_callees callee.PresentMethod app.types
+
+abbrev known : App → List Callee
+known app = bodies app ++ presenters app
 
 as_many : {D : Type 0} (make : List ℕ → Callee) (es : List (List ℕ × D)) → length (named_callees make es) ≡ length es
 as_many make [] = refl
 as_many make (e ∷ es) = ap suc (as_many make es)
 
-known_many : (app : App) → length (known app) ≡ callees app
-known_many app =
+bodies_many : (app : App) → length (bodies app) ≡ length app.functions + length app.displays
+bodies_many app =
     length-append (named_callees callee.Function app.functions) (named_callees callee.Display app.displays)
     ∙ (λ i. as_many callee.Function app.functions i + as_many callee.Display app.displays i)
+
+presenters_many : (app : App) → length (presenters app) ≡ length app.present_methods + length app.types
+presenters_many app =
+    length-append (named_callees callee.PresentMethod app.present_methods) (named_callees callee.PresentMethod app.types)
+    ∙ (λ i. as_many callee.PresentMethod app.present_methods i + as_many callee.PresentMethod app.types i)
+
+known_many : (app : App) → length (known app) ≡ callees app
+known_many app =
+    length-append (bodies app) (presenters app)
+    ∙ (λ i. bodies_many app i + presenters_many app i)
 
 among_right : (c : Callee) (xs ys : List Callee) → is_among c ys ≡ true → is_among c (xs ++ ys) ≡ true
 among_right c [] ys h = h
@@ -69,13 +87,32 @@ display_there : (o : Option DisplayDecl) (ss : List Step) → display_steps o �
 display_there None ss h = cc
 display_there (Some d) ss h = refl
 
+presenter_there : (m : Option MethodDecl) (o : Option TypeDecl) (ss : List Step) → presented_steps m o ≡ Some ss → (is_some m ≡ true) ⊎ (is_some o ≡ true)
+presenter_there (Some m) o ss h = inl refl
+presenter_there None None ss h = cc
+presenter_there None (Some d) ss h = inr refl
+
+known_presenter : (app : App) (x : List ℕ) → (is_some (present_method x app) ≡ true) ⊎ (is_some (named x app.types) ≡ true)
+    → is_among (callee.PresentMethod x) (presenters app) ≡ true
+known_presenter app x (inl h) =
+    among_more (callee.PresentMethod x) (named_callees callee.PresentMethod app.present_methods) (named_callees callee.PresentMethod app.types)
+    (is_named callee.PresentMethod x app.present_methods h)
+known_presenter app x (inr h) =
+    among_right (callee.PresentMethod x) (named_callees callee.PresentMethod app.present_methods) (named_callees callee.PresentMethod app.types)
+    (is_named callee.PresentMethod x app.types h)
+
 all_known : (app : App) (c : Callee) (ss : List Step) → body_steps app c ≡ Some ss → is_among c (known app) ≡ true
 all_known app (callee.Function f) ss h =
-    among_more (callee.Function f) (named_callees callee.Function app.functions) (named_callees callee.Display app.displays)
-    (is_named callee.Function f app.functions (function_there (function_named f app) ss h))
+    among_more (callee.Function f) (bodies app) (presenters app)
+    (among_more (callee.Function f) (named_callees callee.Function app.functions) (named_callees callee.Display app.displays)
+    (is_named callee.Function f app.functions (function_there (function_named f app) ss h)))
 all_known app (callee.Display d) ss h =
-    among_right (callee.Display d) (named_callees callee.Function app.functions) (named_callees callee.Display app.displays)
-    (is_named callee.Display d app.displays (display_there (display_named d app) ss h))
+    among_more (callee.Display d) (bodies app) (presenters app)
+    (among_right (callee.Display d) (named_callees callee.Function app.functions) (named_callees callee.Display app.displays)
+    (is_named callee.Display d app.displays (display_there (display_named d app) ss h)))
+all_known app (callee.PresentMethod x) ss h =
+    among_right (callee.PresentMethod x) (bodies app) (presenters app)
+    (known_presenter app x (presenter_there (present_method x app) (named x app.types) ss h))
 
 -- ---- through calls
 
@@ -88,10 +125,16 @@ module _ (app : App) (p : Path) where
   display_slots n None h = absurd h
   display_slots n (Some d) h = h.0
 
+  presented_slots : (n : ℕ) (m : Option MethodDecl) (o : Option TypeDecl) → InPresented (Within n app p) p m o → IsSlot p.root
+  presented_slots n (Some m) o h = h.0
+  presented_slots n None None h = absurd h
+  presented_slots n None (Some d) h = h.0
+
   within_slots : (n : ℕ) (c : Callee) → Within n app p c → IsSlot p.root
   within_slots zero c h = absurd h
   within_slots (suc n) (callee.Function f) h = function_slots n (function_named f app) h
   within_slots (suc n) (callee.Display d) h = display_slots n (display_named d app) h
+  within_slots (suc n) (callee.PresentMethod x) h = presented_slots n (present_method x app) (named x app.types) h
 
   abbrev Any : ℕ → List Step → Type 0
   Any n ss = AnySource (Within n app p) p ss
@@ -115,9 +158,22 @@ module _ (app : App) (p : Path) where
       let r = of_forms (Within n app p) p (within_slots n) slots (shape_trees_of d.body) (subst (Any n) (sym same) h) in
       (slots_seen p.root r.0, r.1)
 
+  presented_reads : (n : ℕ) (m : Option MethodDecl) (o : Option TypeDecl) (inner : List Step) → presented_steps m o ≡ Some inner → Any n inner
+      → InPresented (Within n app p) p m o
+  presented_reads n (Some m) o inner e h =
+      let same : steps slots [] m.body ≡ inner = cc in
+      let r = of_term (Within n app p) p (within_slots n) slots [] m.body (subst (Any n) (sym same) h) in
+      (slots_seen p.root r.0, r.1)
+  presented_reads n None None inner e h = cc
+  presented_reads n None (Some d) inner e h =
+      let same : steps_spec d.inherit_from ≡ inner = cc in
+      let r = of_spec (Within n app p) p (within_slots n) slots d.inherit_from (subst (Any n) (sym same) h) in
+      (slots_seen p.root r.0, r.1)
+
   body_reads : (n : ℕ) (c : Callee) (inner : List Step) → body_steps app c ≡ Some inner → Any n inner → Within (suc n) app p c
   body_reads n (callee.Function f) inner e h = function_reads n (function_named f app) inner e h
   body_reads n (callee.Display d) inner e h = display_reads n (display_named d app) inner e h
+  body_reads n (callee.PresentMethod x) inner e h = presented_reads n (present_method x app) (named x app.types) inner e h
 
   one_call : (c : Callee) (ss inner : List Step) → body_steps app c ≡ Some inner → (n : ℕ) × Any n inner → (n : ℕ) × Any n (step.Calls c ∷ ss)
   one_call c ss inner e r = (suc r.0, inl (body_reads r.0 c inner e r.1))
@@ -140,9 +196,16 @@ module _ (app : App) (p : Path) where
   display_body n (Some d) h =
       (steps_forms slots (shape_trees_of d.body), (refl, stands_forms (Within n app p) p slots (shape_trees_of d.body) (slot_visible slots p.root h.0) h.1))
 
+  presented_body : (n : ℕ) (m : Option MethodDecl) (o : Option TypeDecl) → InPresented (Within n app p) p m o
+      → (inner : List Step) × ((presented_steps m o ≡ Some inner) × Any n inner)
+  presented_body n (Some m) o h = (steps slots [] m.body, (refl, stands (Within n app p) p slots [] m.body (slot_visible slots p.root h.0) h.1))
+  presented_body n None None h = absurd h
+  presented_body n None (Some d) h = (steps_spec d.inherit_from, (refl, stands_spec (Within n app p) p d.inherit_from h.1))
+
   called_body : (n : ℕ) (c : Callee) → Within (suc n) app p c → Body n c
   called_body n (callee.Function f) h = function_body n (function_named f app) h
   called_body n (callee.Display d) h = display_body n (display_named d app) h
+  called_body n (callee.PresentMethod x) h = presented_body n (present_method x app) (named x app.types) h
 
   -- in steps, by what is read in the body of what is called
   in_steps : (n : ℕ) → ((c : Callee) (ss : List Step) → Within n app p c → ReadIn (body_steps app) p (step.Calls c ∷ ss))

@@ -5,11 +5,13 @@ use Rattle.cl_syntax.specs.ExprTree as expr
 use Rattle.cl_syntax.specs.ExprTree.{ExprTree, ExprTrees, Bindings, none, part, unbound, binding}
 use Rattle.cl_syntax.specs.ShapeTree as shape
 use Rattle.cl_syntax.specs.ShapeTree.{ShapeTree, ShapeTrees}
+use Rattle.cl_syntax.specs.TypeSpecTree as type_spec
+use Rattle.cl_syntax.specs.TypeSpecTree.{TypeSpecTree, specifier, TypeArgTree, Constant, Any, Param, Spec, Names, TypeArgTrees, argument}
 use Rattle.cl_eval.specs.Slots.{is_name}
 use Rattle.cl_cover.specs.Paths.{Along}
-use Rattle.cl_cover.specs.Reads.{Apart, ApartAll, IsSlot, Reads, ReadsAmong, ReadsBound, ReadsForm, ReadsForms, taken}
+use Rattle.cl_cover.specs.Reads.{Apart, ApartAll, IsSlot, Reads, ReadsAmong, ReadsArg, ReadsArgs, ReadsBound, ReadsForm, ReadsForms, ReadsSpec, taken}
 use Rattle.cl_cover.specs.Sights.{behind, behind_all, is_hidden, is_name_among}
-use Rattle.cl_cover.specs.Steps.{steps, steps_among, steps_bound, steps_form, steps_forms}
+use Rattle.cl_cover.specs.Steps.{steps, steps_among, steps_arg, steps_args, steps_bound, steps_form, steps_forms, steps_spec}
 use Rattle.cl_cover.specs.declared.callees.Callee.{Callee}
 use Rattle.cl_cover.specs.declared.callees.Callee.TheVariants as callee
 use Rattle.cl_cover.specs.declared.paths.Path.{Path}
@@ -156,6 +158,22 @@ module _ (calls : Callee → Type 0) (p : Path) where
         (λ k. stands_bound (behind x sight) bs (seen_behind x sight p.root v k.0) k.1) r
 
   mutual
+    pub stands_spec : (s : TypeSpecTree) → ReadsSpec calls s → AnySource (steps_spec s)
+    stands_spec (specifier x ts o) (inl k) = inl k
+    stands_spec (specifier x ts o) (inr r) = inr (stands_args ts r)
+
+    stands_args : (ts : TypeArgTrees) → ReadsArgs calls ts → AnySource (steps_args ts)
+    stands_args type_spec.none r = absurd r
+    stands_args (argument a ts) r = gives (steps_arg a) (steps_args ts) (λ k. stands_arg a k) (λ k. stands_args ts k) r
+
+    stands_arg : (a : TypeArgTree) → ReadsArg calls a → AnySource (steps_arg a)
+    stands_arg (Constant d) r = absurd r
+    stands_arg Any r = absurd r
+    stands_arg (Param x) r = absurd r
+    stands_arg (Spec s) r = stands_spec s r
+    stands_arg (Names xs) r = absurd r
+
+  mutual
     pub stands_form : (sight : Sight) (f : ShapeTree) → Visible sight p.root → ReadsForm calls p f → AnySource (steps_form sight f)
     stands_form sight (shape.WriteText t) v r = stands sight [] t v r
     stands_form sight shape.Newline v r = absurd r
@@ -165,7 +183,7 @@ module _ (calls : Callee → Type 0) (p : Path) where
     stands_form sight (shape.Ink t fs) v r =
         gives (steps sight [] t) (steps_forms sight fs) (λ k. stands sight [] t v k) (λ k. stands_forms sight fs v k) r
     stands_form sight (shape.Room fs) v r = stands_forms sight fs v r
-    stands_form sight (shape.Present t spec) v r = stands sight [] t v r
+    stands_form sight (shape.Present t spec) v r = gives (steps sight [] t) (steps_spec spec) (λ k. stands sight [] t v k) (λ k. stands_spec spec k) r
     stands_form sight (shape.AsPresentation q fs) v r =
         gives (steps sight [] q.object) (steps_forms sight fs) (λ k. stands sight [] q.object v k) (λ k. stands_forms sight fs v k) r
     stands_form sight (shape.If t f g) v r =
@@ -265,6 +283,23 @@ module _ (calls : Callee → Type 0) (p : Path) where
           both sight (steps sight [] t) (steps_bound (behind x sight) bs) (λ k. of_term sight [] t k) (λ k. under x sight (of_bound (behind x sight) bs k)) h
 
     mutual
+      pub of_spec : (sight : Sight) (s : TypeSpecTree) → AnySource (steps_spec s) → Read sight (ReadsSpec calls s)
+      of_spec sight (specifier x ts o) (inl k) =
+          to_left {A = calls (callee.PresentMethod x)} {B = ReadsArgs calls ts} sight (slot_visible sight p.root (slots_alone (callee.PresentMethod x) k), k)
+      of_spec sight (specifier x ts o) (inr h) = to_right {A = calls (callee.PresentMethod x)} {B = ReadsArgs calls ts} sight (of_args sight ts h)
+
+      of_args : (sight : Sight) (ts : TypeArgTrees) → AnySource (steps_args ts) → Read sight (ReadsArgs calls ts)
+      of_args sight type_spec.none h = absurd h
+      of_args sight (argument a ts) h = both sight (steps_arg a) (steps_args ts) (λ k. of_arg sight a k) (λ k. of_args sight ts k) h
+
+      of_arg : (sight : Sight) (a : TypeArgTree) → AnySource (steps_arg a) → Read sight (ReadsArg calls a)
+      of_arg sight (Constant d) h = absurd h
+      of_arg sight Any h = absurd h
+      of_arg sight (Param x) h = absurd h
+      of_arg sight (Spec s) h = of_spec sight s h
+      of_arg sight (Names xs) h = absurd h
+
+    mutual
       pub of_form : (sight : Sight) (f : ShapeTree) → AnySource (steps_form sight f) → Read sight (ReadsForm calls p f)
       of_form sight (shape.WriteText t) h = of_term sight [] t h
       of_form sight shape.Newline h = absurd h
@@ -272,7 +307,7 @@ module _ (calls : Callee → Type 0) (p : Path) where
       of_form sight (shape.Indent t fs) h = both sight (steps sight [] t) (steps_forms sight fs) (λ k. of_term sight [] t k) (λ k. of_forms sight fs k) h
       of_form sight (shape.Ink t fs) h = both sight (steps sight [] t) (steps_forms sight fs) (λ k. of_term sight [] t k) (λ k. of_forms sight fs k) h
       of_form sight (shape.Room fs) h = of_forms sight fs h
-      of_form sight (shape.Present t spec) h = of_term sight [] t h
+      of_form sight (shape.Present t spec) h = both sight (steps sight [] t) (steps_spec spec) (λ k. of_term sight [] t k) (λ k. of_spec sight spec k) h
       of_form sight (shape.AsPresentation q fs) h =
           both sight (steps sight [] q.object) (steps_forms sight fs) (λ k. of_term sight [] q.object k) (λ k. of_forms sight fs k) h
       of_form sight (shape.If t f g) h =

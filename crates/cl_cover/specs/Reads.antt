@@ -1,18 +1,24 @@
 -- Which paths an expression, a display form and what they call read. Where a form binds a variable, its body's is another one. What is
 -- called reads slots alone, since its parameters are all the variables that its body sees. What a branch reads counts whether or not
--- it is taken.
+-- it is taken. A text that presents an object may be given by the present method of any type in the specifier; a form that presents an
+-- object by its body calls none.
 use Rattle.std.specs.Prelude.{◌≡◌, ℕ, zero, suc, false, ◌⊎◌, List, [], ◌∷◌, Option, Some, None}
 use Rattle.cl_syntax.specs.ExprTree as expr
 use Rattle.cl_syntax.specs.ExprTree.{ExprTree, ExprTrees, Bindings, none, part, unbound, binding}
 use Rattle.cl_syntax.specs.ShapeTree as shape
 use Rattle.cl_syntax.specs.ShapeTree.{ShapeTree, ShapeTrees, shape_trees_of}
+use Rattle.cl_syntax.specs.TypeSpecTree as type_spec
+use Rattle.cl_syntax.specs.TypeSpecTree.{TypeSpecTree, specifier, TypeArgTree, Constant, Any, Param, Spec, Names, TypeArgTrees, argument}
+use Rattle.cl_syntax.specs.declared.type_decls.TypeDecl.{TypeDecl}
 use Rattle.cl_syntax.specs.declared.operators.Operator.{Operator}
 use Rattle.cl_syntax.specs.declared.operators.Operator.TheVariants as operator
 use Rattle.cl_syntax.specs.declared.operators.RecordOperator.TheVariants as fields
-use Rattle.cl_application.specs.App.{function_named, display_named}
+use Rattle.cl_application.specs.App.{function_named, display_named, present_method}
 use Rattle.cl_application.specs.declared.applications.App.{App}
 use Rattle.cl_application.specs.declared.declarations.FunctionDecl.{FunctionDecl}
 use Rattle.cl_application.specs.declared.declarations.DisplayDecl.{DisplayDecl}
+use Rattle.cl_application.specs.declared.declarations.MethodDecl.{MethodDecl}
+use Rattle.cl_table.specs.Names.{named}
 use Rattle.cl_eval.specs.Slots.{is_name}
 use Rattle.cl_cover.specs.Paths.{Along}
 use Rattle.cl_cover.specs.declared.callees.Callee.{Callee}
@@ -68,6 +74,22 @@ abbrev mutual
   ReadsBound calls p unbound = ⊥
   ReadsBound calls p (binding x t bs) = Reads calls p [] t ⊎ (Apart x p.root × ReadsBound calls p bs)
 
+-- the present methods of the types that stand in a specifier do, at any depth
+abbrev mutual
+  pub ReadsSpec : (Callee → Type 0) → TypeSpecTree → Type 0
+  ReadsSpec calls (specifier x ts o) = calls (callee.PresentMethod x) ⊎ ReadsArgs calls ts
+
+  pub ReadsArgs : (Callee → Type 0) → TypeArgTrees → Type 0
+  ReadsArgs calls type_spec.none = ⊥
+  ReadsArgs calls (argument a ts) = ReadsArg calls a ⊎ ReadsArgs calls ts
+
+  pub ReadsArg : (Callee → Type 0) → TypeArgTree → Type 0
+  ReadsArg calls (Constant d) = ⊥
+  ReadsArg calls Any = ⊥
+  ReadsArg calls (Param x) = ⊥
+  ReadsArg calls (Spec s) = ReadsSpec calls s
+  ReadsArg calls (Names xs) = ⊥
+
 -- a display form reads a path
 abbrev mutual
   pub ReadsForm : (Callee → Type 0) → Path → ShapeTree → Type 0
@@ -77,7 +99,7 @@ abbrev mutual
   ReadsForm calls p (shape.Indent t fs) = Reads calls p [] t ⊎ ReadsForms calls p fs
   ReadsForm calls p (shape.Ink t fs) = Reads calls p [] t ⊎ ReadsForms calls p fs
   ReadsForm calls p (shape.Room fs) = ReadsForms calls p fs
-  ReadsForm calls p (shape.Present t spec) = Reads calls p [] t
+  ReadsForm calls p (shape.Present t spec) = Reads calls p [] t ⊎ ReadsSpec calls spec
   ReadsForm calls p (shape.AsPresentation q fs) = Reads calls p [] q.object ⊎ ReadsForms calls p fs
   ReadsForm calls p (shape.If t f g) = Reads calls p [] t ⊎ (ReadsForm calls p f ⊎ ReadsForm calls p g)
   ReadsForm calls p (shape.When t fs) = Reads calls p [] t ⊎ ReadsForms calls p fs
@@ -101,10 +123,17 @@ abbrev pub InDisplay : (Callee → Type 0) → Path → Option DisplayDecl → T
 InDisplay calls p None = ⊥
 InDisplay calls p (Some d) = IsSlot p.root × ReadsForms calls p (shape_trees_of d.body)
 
+-- the body of a type's present method reads a slot, or its fields; where it has none, those of what it inherits from do
+abbrev pub InPresented : (Callee → Type 0) → Path → Option MethodDecl → Option TypeDecl → Type 0
+InPresented calls p (Some m) o = IsSlot p.root × Reads calls p [] m.body
+InPresented calls p None None = ⊥
+InPresented calls p None (Some d) = IsSlot p.root × ReadsSpec calls d.inherit_from
+
 -- the body of what is called does
 abbrev pub InBody : (Callee → Type 0) → App → Path → Callee → Type 0
 InBody calls app p (callee.Function f) = InFunction calls p (function_named f app)
 InBody calls app p (callee.Display d) = InDisplay calls p (display_named d app)
+InBody calls app p (callee.PresentMethod x) = InPresented calls p (present_method x app) (named x app.types)
 
 -- it reads the path, itself or by what it calls in turn, so many one within the other
 abbrev pub Within : ℕ → App → Path → Callee → Type 0

@@ -4,10 +4,15 @@ use Rattle.cl_syntax.specs.ExprTree as expr
 use Rattle.cl_syntax.specs.ExprTree.{ExprTree, ExprTrees, Bindings, none, part, unbound, binding}
 use Rattle.cl_syntax.specs.ShapeTree as shape
 use Rattle.cl_syntax.specs.ShapeTree.{ShapeTree, ShapeTrees, shape_trees_of}
-use Rattle.cl_application.specs.App.{function_named, display_named}
+use Rattle.cl_syntax.specs.TypeSpecTree as type_spec
+use Rattle.cl_syntax.specs.TypeSpecTree.{TypeSpecTree, specifier, TypeArgTree, Constant, Any, Param, Spec, Names, TypeArgTrees, argument}
+use Rattle.cl_syntax.specs.declared.type_decls.TypeDecl.{TypeDecl}
+use Rattle.cl_table.specs.Names.{named}
+use Rattle.cl_application.specs.App.{function_named, display_named, present_method}
 use Rattle.cl_application.specs.declared.applications.App.{App}
 use Rattle.cl_application.specs.declared.declarations.FunctionDecl.{FunctionDecl}
 use Rattle.cl_application.specs.declared.declarations.DisplayDecl.{DisplayDecl}
+use Rattle.cl_application.specs.declared.declarations.MethodDecl.{MethodDecl}
 use Rattle.cl_cover.specs.Paths.{Along}
 use Rattle.cl_cover.specs.Reads.{taken}
 use Rattle.cl_cover.specs.Sights.{behind, behind_all, is_hidden, slots}
@@ -45,6 +50,22 @@ abbrev mutual
   steps_bound sight unbound = []
   steps_bound sight (binding x t bs) = steps sight [] t ++ steps_bound (behind x sight) bs
 
+-- a call for the type of a specifier, and for each that stands in its arguments
+abbrev mutual
+  pub steps_spec : TypeSpecTree → List Step
+  steps_spec (specifier x ts o) = step.Calls (callee.PresentMethod x) ∷ steps_args ts
+
+  pub steps_args : TypeArgTrees → List Step
+  steps_args type_spec.none = []
+  steps_args (argument a ts) = steps_arg a ++ steps_args ts
+
+  pub steps_arg : TypeArgTree → List Step
+  steps_arg (Constant d) = []
+  steps_arg Any = []
+  steps_arg (Param x) = []
+  steps_arg (Spec s) = steps_spec s
+  steps_arg (Names xs) = []
+
 -- the steps of a display form
 abbrev mutual
   pub steps_form : Sight → ShapeTree → List Step
@@ -54,7 +75,7 @@ abbrev mutual
   steps_form sight (shape.Indent t fs) = steps sight [] t ++ steps_forms sight fs
   steps_form sight (shape.Ink t fs) = steps sight [] t ++ steps_forms sight fs
   steps_form sight (shape.Room fs) = steps_forms sight fs
-  steps_form sight (shape.Present t spec) = steps sight [] t
+  steps_form sight (shape.Present t spec) = steps sight [] t ++ steps_spec spec
   steps_form sight (shape.AsPresentation q fs) = steps sight [] q.object ++ steps_forms sight fs
   steps_form sight (shape.If t f g) = steps sight [] t ++ (steps_form sight f ++ steps_form sight g)
   steps_form sight (shape.When t fs) = steps sight [] t ++ steps_forms sight fs
@@ -78,7 +99,14 @@ abbrev pub display_steps : Option DisplayDecl → Option (List Step)
 display_steps None = None
 display_steps (Some d) = Some (steps_forms slots (shape_trees_of d.body))
 
+-- the steps of a type's present method; where it has none, those of what it inherits from
+abbrev pub presented_steps : Option MethodDecl → Option TypeDecl → Option (List Step)
+presented_steps (Some m) o = Some (steps slots [] m.body)
+presented_steps None None = None
+presented_steps None (Some d) = Some (steps_spec d.inherit_from)
+
 -- the steps of what is called; None where it is not declared
 abbrev pub body_steps : App → Callee → Option (List Step)
 body_steps app (callee.Function f) = function_steps (function_named f app)
 body_steps app (callee.Display d) = display_steps (display_named d app)
+body_steps app (callee.PresentMethod x) = presented_steps (present_method x app) (named x app.types)

@@ -21,6 +21,7 @@ pub record Walked : Type 0 where
   pub paths : List Path
   pub entered : List Callee
 
+-- no path, and no callee
 abbrev pub nothing : Walked
 nothing = record { paths = []; entered = [] }
 
@@ -54,9 +55,9 @@ abbrev pub walk : Body → ℕ → List Step → Walked → Walked
 walk body zero ss w = through body (λ c more v. v) ss w
 walk body (suc n) ss w = through body (λ c more v. walk body n more (with_callee c v)) ss w
 
--- how many callees an application has
+-- how many callees an application has, at most
 abbrev pub callees : App → ℕ
-callees app = length app.functions + length app.displays
+callees app = (length app.functions + length app.displays) + (length app.present_methods + length app.types)
 
 -- the paths of steps, through all that they call
 abbrev pub paths_along : App → List Step → List Path

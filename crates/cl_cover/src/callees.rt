@@ -14,6 +14,8 @@ pub enum Callee {
     Function(Text),
     /// `(DISPLAY E ...)`
     Display(Text),
+    /// The present method of the type of that name, or else those that it inherits.
+    PresentMethod(Text),
 }
 
 /// Callees that were entered, each once, seen as their list.

@@ -7,6 +7,7 @@ ghost use Rattle.cl_cover.specs.Steps.{steps, steps_form, steps_forms};
 use crate::callees::Callee;
 use crate::expression_steps::{add_among, add_bound, add_steps};
 use crate::sights::Sight;
+use crate::spec_steps::add_spec;
 use crate::steps::Step;
 use cl_syntax::{Expr, Shape, ShapeKind};
 use cl_table::Names;
@@ -33,7 +34,10 @@ fn add_form(
         ShapeKind::Indent(number, body) => add_with(alloc, number, body.as_slice(), sight, out),
         ShapeKind::Ink(number, body) => add_with(alloc, number, body.as_slice(), sight, out),
         ShapeKind::Room(body) => add_forms(alloc, body.as_slice(), sight, out),
-        ShapeKind::Present(object, _) => add_steps(alloc, object, &whole, sight, out),
+        ShapeKind::Present(object, spec) => {
+            add_steps(alloc, object, &whole, sight, out)?;
+            add_spec(spec, out)
+        }
         ShapeKind::AsPresentation(presentation, body) => {
             add_with(alloc, presentation.object(), body.as_slice(), sight, out)
         }

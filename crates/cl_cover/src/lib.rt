@@ -1,5 +1,4 @@
-//! What expressions and display forms read, as paths: variables and slots with the fields that are taken of them. A `present` form and
-//! a `with-output-as-presentation` form read what their parts read; what present methods read is not looked at.
+//! What expressions and display forms read, as paths: variables and slots with the fields that are taken of them.
 #![tactic(auto)]
 
 mod callees;
@@ -10,6 +9,7 @@ mod laws;
 mod paths;
 mod pending;
 mod sights;
+mod spec_steps;
 mod steps;
 mod walk;
 

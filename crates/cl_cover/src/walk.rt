@@ -1,7 +1,8 @@
 //! The paths of steps, through all that they call.
 ghost use Rattle.std.specs.Prelude.{◌≡◌, IfOk, option_map};
-ghost use Rattle.cl_application.specs.App.{display_named, function_named};
-ghost use Rattle.cl_cover.specs.Steps.{body_steps, display_steps, function_steps};
+ghost use Rattle.cl_application.specs.App.{display_named, function_named, present_method};
+ghost use Rattle.cl_table.specs.Names.{named};
+ghost use Rattle.cl_cover.specs.Steps.{body_steps, display_steps, function_steps, presented_steps};
 ghost use Rattle.cl_cover.specs.Walk.{paths_along};
 
 use crate::callees::{Callee, Callees};
@@ -10,6 +11,7 @@ use crate::form_steps::add_forms;
 use crate::paths::Path;
 use crate::pending::Pending;
 use crate::sights::Sight;
+use crate::spec_steps::add_spec;
 use crate::steps::Step;
 use cl_application::App;
 use cl_table::Names;
@@ -26,6 +28,7 @@ pub(crate) fn paths_along(
     ensures { IfOk result (λ paths. paths.items ≡ paths_along app.now steps.items) }
 {
     let mut left = app.functions.len() as u128 + app.displays.len() as u128;
+    left += app.present_methods.len() as u128 + app.types.len() as u128;
     let mut paths = Vec::new(alloc);
     let mut entered = Callees::new(alloc);
     let mut pending = Pending::new(alloc);
@@ -62,6 +65,7 @@ fn body_steps(alloc: Global, app: &App, callee: &Callee) -> Result<Option<Vec<St
     match callee {
         Callee::Function(name) => function_steps(alloc, app, name),
         Callee::Display(name) => display_steps(alloc, app, name),
+        Callee::PresentMethod(name) => presented_steps(alloc, app, name),
     }
 }
 
@@ -87,5 +91,22 @@ fn display_steps(alloc: Global, app: &App, name: &Text) -> Result<Option<Vec<Ste
     let mut sight = Sight::slots(alloc);
     let mut steps = Vec::new(alloc);
     add_forms(alloc, display.body.as_slice(), &mut sight, &mut steps)?;
+    Ok(Some(steps))
+}
+
+fn presented_steps(alloc: Global, app: &App, name: &Text) -> Result<Option<Vec<Step>>, AllocError>
+    ensures { IfOk result (λ body. option_map (λ v. v.items) body ≡ presented_steps (present_method name.now app.now) (named name.now app.now.types)) }
+{
+    let mut steps = Vec::new(alloc);
+    if let Some(method) = app.present_method(name.as_slice()) {
+        let whole = Names::new(alloc);
+        let mut sight = Sight::slots(alloc);
+        add_steps(alloc, &method.body, &whole, &mut sight, &mut steps)?;
+        return Ok(Some(steps));
+    }
+    let Some(declared) = app.types.get(name.as_slice()) else {
+        return Ok(None);
+    };
+    add_spec(&declared.inherit_from, &mut steps)?;
     Ok(Some(steps))
 }

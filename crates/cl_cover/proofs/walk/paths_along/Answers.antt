@@ -15,7 +15,9 @@ loop-step-preserved c =
 
 pub returns : goal.returns
 returns c =
-    let many : c.len.result + c.len-2.result ≡ callees c.args.app.now = λ i. c.len.ensures i + c.len-2.ensures i in
-    paths_at_end (body_steps c.args.app.now) c.loop-step.left (c.len.result + c.len-2.result) (callees c.args.app.now) c.loop-step.pending c.put_first.new.self
+    let many : (c.len.result + c.len-2.result) + (c.len-3.result + c.len-4.result) ≡ callees c.args.app.now =
+    λ i. (c.len.ensures i + c.len-2.ensures i) + (c.len-3.ensures i + c.len-4.ensures i) in
+    paths_at_end (body_steps c.args.app.now) c.loop-step.left ((c.len.result + c.len-2.result) + (c.len-3.result + c.len-4.result))
+    (callees c.args.app.now) c.loop-step.pending c.put_first.new.self
     c.args.steps.items c.new-pending.result c.loop-step.paths.items c.new-paths.result.items c.loop-step.entered c.new-entered.result c.in_default.ensures many
     c.in_ok-put_first.ensures c.new-pending.ensures c.new-paths.ensures.items c.new-entered.ensures c.loop-step.invariant
