@@ -17,11 +17,19 @@ same_callee (callee.Display x) (callee.PresentMethod y) h = cc
 same_callee (callee.PresentMethod x) (callee.Function y) h = cc
 same_callee (callee.PresentMethod x) (callee.Display y) h = cc
 same_callee (callee.PresentMethod x) (callee.PresentMethod y) h = ap callee.PresentMethod ((bytes_eq-Decides x y).0 h)
+same_callee (callee.Function x) (callee.Inherited y) h = cc
+same_callee (callee.Display x) (callee.Inherited y) h = cc
+same_callee (callee.PresentMethod x) (callee.Inherited y) h = cc
+same_callee (callee.Inherited x) (callee.Function y) h = cc
+same_callee (callee.Inherited x) (callee.Display y) h = cc
+same_callee (callee.Inherited x) (callee.PresentMethod y) h = cc
+same_callee (callee.Inherited x) (callee.Inherited y) h = ap callee.Inherited ((bytes_eq-Decides x y).0 h)
 
 pub own_callee : (c : Callee) → (callee_eq.ghosts).eq c c ≡ true
 own_callee (callee.Function x) = (bytes_eq-Decides x x).1 refl
 own_callee (callee.Display x) = (bytes_eq-Decides x x).1 refl
 own_callee (callee.PresentMethod x) = (bytes_eq-Decides x x).1 refl
+own_callee (callee.Inherited x) = (bytes_eq-Decides x x).1 refl
 
 pub no : false ≡ true → ⊥
 no e = cc

@@ -1,7 +1,7 @@
 -- The list of paths and the relation say the same.
 use Rattle.std.proofs.Common.{◌≡◌, ◌+◌, ◌++◌, ◌==◌, ℕ, zero, suc, Bool, true, false, cond, inl, inr, List, [], ◌∷◌, length, Option, Some, None}
 use Rattle.std.proofs.Common.{refl, sym, ap, subst, ◌∙◌, length-append}
-use Rattle.std.specs.Prelude.{◌⊎◌, ◌↔◌, Contains, is_some}
+use Rattle.std.specs.Prelude.{◌↔◌, Contains, is_some}
 use Rattle.std.specs.Cmp.Lexicographic.{pointwise}
 use Rattle.std.proofs.lemmas.Slice.Eq.{bytes_eq-Decides}
 use Rattle.cl_syntax.specs.ExprTree.{ExprTree}
@@ -13,9 +13,9 @@ use Rattle.cl_application.specs.declared.declarations.DisplayDecl.{DisplayDecl}
 use Rattle.cl_application.specs.declared.declarations.FunctionDecl.{FunctionDecl}
 use Rattle.cl_application.specs.declared.declarations.MethodDecl.{MethodDecl}
 use Rattle.cl_syntax.specs.declared.type_decls.TypeDecl.{TypeDecl}
-use Rattle.cl_cover.specs.Reads.{AreRead, InDisplay, InFunction, InPresented, IsRead, IsSlot, Within}
+use Rattle.cl_cover.specs.Reads.{AreRead, InDisplay, InFunction, InInherited, InMethod, IsRead, IsSlot, Within}
 use Rattle.cl_cover.specs.Sights.{everything, slots}
-use Rattle.cl_cover.specs.Steps.{body_steps, display_steps, function_steps, presented_steps, steps, steps_forms, steps_spec}
+use Rattle.cl_cover.specs.Steps.{body_steps, display_steps, function_steps, inherited_steps, method_steps, steps, steps_forms, steps_spec}
 use Rattle.cl_cover.specs.Walk.{callees, expression_reads, is_among, nothing, paths_along, reads_of, walk}
 use Rattle.cl_cover.specs.declared.callees.Callee.{Callee}
 use Rattle.cl_cover.specs.declared.callees.Callee.TheVariants as callee
@@ -38,7 +38,7 @@ abbrev bodies : App → List Callee
 bodies app = named_callees callee.Function app.functions ++ named_callees callee.Display app.displays
 
 abbrev presenters : App → List Callee
-presenters app = named_callees callee.PresentMethod app.present_methods ++ named_callees callee.PresentMethod app.types
+presenters app = named_callees callee.PresentMethod app.present_methods ++ named_callees callee.Inherited app.types
 
 abbrev known : App → List Callee
 known app = bodies app ++ presenters app
@@ -54,8 +54,8 @@ bodies_many app =
 
 presenters_many : (app : App) → length (presenters app) ≡ length app.present_methods + length app.types
 presenters_many app =
-    length-append (named_callees callee.PresentMethod app.present_methods) (named_callees callee.PresentMethod app.types)
-    ∙ (λ i. as_many callee.PresentMethod app.present_methods i + as_many callee.PresentMethod app.types i)
+    length-append (named_callees callee.PresentMethod app.present_methods) (named_callees callee.Inherited app.types)
+    ∙ (λ i. as_many callee.PresentMethod app.present_methods i + as_many callee.Inherited app.types i)
 
 known_many : (app : App) → length (known app) ≡ callees app
 known_many app =
@@ -87,19 +87,13 @@ display_there : (o : Option DisplayDecl) (ss : List Step) → display_steps o �
 display_there None ss h = cc
 display_there (Some d) ss h = refl
 
-presenter_there : (m : Option MethodDecl) (o : Option TypeDecl) (ss : List Step) → presented_steps m o ≡ Some ss → (is_some m ≡ true) ⊎ (is_some o ≡ true)
-presenter_there (Some m) o ss h = inl refl
-presenter_there None None ss h = cc
-presenter_there None (Some d) ss h = inr refl
+method_there : (o : Option MethodDecl) (ss : List Step) → method_steps o ≡ Some ss → is_some o ≡ true
+method_there None ss h = cc
+method_there (Some m) ss h = refl
 
-known_presenter : (app : App) (x : List ℕ) → (is_some (present_method x app) ≡ true) ⊎ (is_some (named x app.types) ≡ true)
-    → is_among (callee.PresentMethod x) (presenters app) ≡ true
-known_presenter app x (inl h) =
-    among_more (callee.PresentMethod x) (named_callees callee.PresentMethod app.present_methods) (named_callees callee.PresentMethod app.types)
-    (is_named callee.PresentMethod x app.present_methods h)
-known_presenter app x (inr h) =
-    among_right (callee.PresentMethod x) (named_callees callee.PresentMethod app.present_methods) (named_callees callee.PresentMethod app.types)
-    (is_named callee.PresentMethod x app.types h)
+type_there : (o : Option TypeDecl) (ss : List Step) → inherited_steps o ≡ Some ss → is_some o ≡ true
+type_there None ss h = cc
+type_there (Some d) ss h = refl
 
 all_known : (app : App) (c : Callee) (ss : List Step) → body_steps app c ≡ Some ss → is_among c (known app) ≡ true
 all_known app (callee.Function f) ss h =
@@ -112,7 +106,12 @@ all_known app (callee.Display d) ss h =
     (is_named callee.Display d app.displays (display_there (display_named d app) ss h)))
 all_known app (callee.PresentMethod x) ss h =
     among_right (callee.PresentMethod x) (bodies app) (presenters app)
-    (known_presenter app x (presenter_there (present_method x app) (named x app.types) ss h))
+    (among_more (callee.PresentMethod x) (named_callees callee.PresentMethod app.present_methods) (named_callees callee.Inherited app.types)
+    (is_named callee.PresentMethod x app.present_methods (method_there (present_method x app) ss h)))
+all_known app (callee.Inherited x) ss h =
+    among_right (callee.Inherited x) (bodies app) (presenters app)
+    (among_right (callee.Inherited x) (named_callees callee.PresentMethod app.present_methods) (named_callees callee.Inherited app.types)
+    (is_named callee.Inherited x app.types (type_there (named x app.types) ss h)))
 
 -- ---- through calls
 
@@ -125,16 +124,20 @@ module _ (app : App) (p : Path) where
   display_slots n None h = absurd h
   display_slots n (Some d) h = h.0
 
-  presented_slots : (n : ℕ) (m : Option MethodDecl) (o : Option TypeDecl) → InPresented (Within n app p) p m o → IsSlot p.root
-  presented_slots n (Some m) o h = h.0
-  presented_slots n None None h = absurd h
-  presented_slots n None (Some d) h = h.0
+  method_slots : (n : ℕ) (o : Option MethodDecl) → InMethod (Within n app p) p o → IsSlot p.root
+  method_slots n None h = absurd h
+  method_slots n (Some m) h = h.0
+
+  inherited_slots : (n : ℕ) (o : Option TypeDecl) → InInherited (Within n app p) p o → IsSlot p.root
+  inherited_slots n None h = absurd h
+  inherited_slots n (Some d) h = h.0
 
   within_slots : (n : ℕ) (c : Callee) → Within n app p c → IsSlot p.root
   within_slots zero c h = absurd h
   within_slots (suc n) (callee.Function f) h = function_slots n (function_named f app) h
   within_slots (suc n) (callee.Display d) h = display_slots n (display_named d app) h
-  within_slots (suc n) (callee.PresentMethod x) h = presented_slots n (present_method x app) (named x app.types) h
+  within_slots (suc n) (callee.PresentMethod x) h = method_slots n (present_method x app) h
+  within_slots (suc n) (callee.Inherited x) h = inherited_slots n (named x app.types) h
 
   abbrev Any : ℕ → List Step → Type 0
   Any n ss = AnySource (Within n app p) p ss
@@ -158,14 +161,16 @@ module _ (app : App) (p : Path) where
       let r = of_forms (Within n app p) p (within_slots n) slots (shape_trees_of d.body) (subst (Any n) (sym same) h) in
       (slots_seen p.root r.0, r.1)
 
-  presented_reads : (n : ℕ) (m : Option MethodDecl) (o : Option TypeDecl) (inner : List Step) → presented_steps m o ≡ Some inner → Any n inner
-      → InPresented (Within n app p) p m o
-  presented_reads n (Some m) o inner e h =
+  method_reads : (n : ℕ) (o : Option MethodDecl) (inner : List Step) → method_steps o ≡ Some inner → Any n inner → InMethod (Within n app p) p o
+  method_reads n None inner e h = cc
+  method_reads n (Some m) inner e h =
       let same : steps slots [] m.body ≡ inner = cc in
       let r = of_term (Within n app p) p (within_slots n) slots [] m.body (subst (Any n) (sym same) h) in
       (slots_seen p.root r.0, r.1)
-  presented_reads n None None inner e h = cc
-  presented_reads n None (Some d) inner e h =
+
+  inherited_reads : (n : ℕ) (o : Option TypeDecl) (inner : List Step) → inherited_steps o ≡ Some inner → Any n inner → InInherited (Within n app p) p o
+  inherited_reads n None inner e h = cc
+  inherited_reads n (Some d) inner e h =
       let same : steps_spec d.inherit_from ≡ inner = cc in
       let r = of_spec (Within n app p) p (within_slots n) slots d.inherit_from (subst (Any n) (sym same) h) in
       (slots_seen p.root r.0, r.1)
@@ -173,7 +178,8 @@ module _ (app : App) (p : Path) where
   body_reads : (n : ℕ) (c : Callee) (inner : List Step) → body_steps app c ≡ Some inner → Any n inner → Within (suc n) app p c
   body_reads n (callee.Function f) inner e h = function_reads n (function_named f app) inner e h
   body_reads n (callee.Display d) inner e h = display_reads n (display_named d app) inner e h
-  body_reads n (callee.PresentMethod x) inner e h = presented_reads n (present_method x app) (named x app.types) inner e h
+  body_reads n (callee.PresentMethod x) inner e h = method_reads n (present_method x app) inner e h
+  body_reads n (callee.Inherited x) inner e h = inherited_reads n (named x app.types) inner e h
 
   one_call : (c : Callee) (ss inner : List Step) → body_steps app c ≡ Some inner → (n : ℕ) × Any n inner → (n : ℕ) × Any n (step.Calls c ∷ ss)
   one_call c ss inner e r = (suc r.0, inl (body_reads r.0 c inner e r.1))
@@ -196,16 +202,19 @@ module _ (app : App) (p : Path) where
   display_body n (Some d) h =
       (steps_forms slots (shape_trees_of d.body), (refl, stands_forms (Within n app p) p slots (shape_trees_of d.body) (slot_visible slots p.root h.0) h.1))
 
-  presented_body : (n : ℕ) (m : Option MethodDecl) (o : Option TypeDecl) → InPresented (Within n app p) p m o
-      → (inner : List Step) × ((presented_steps m o ≡ Some inner) × Any n inner)
-  presented_body n (Some m) o h = (steps slots [] m.body, (refl, stands (Within n app p) p slots [] m.body (slot_visible slots p.root h.0) h.1))
-  presented_body n None None h = absurd h
-  presented_body n None (Some d) h = (steps_spec d.inherit_from, (refl, stands_spec (Within n app p) p d.inherit_from h.1))
+  method_body : (n : ℕ) (o : Option MethodDecl) → InMethod (Within n app p) p o → (inner : List Step) × ((method_steps o ≡ Some inner) × Any n inner)
+  method_body n None h = absurd h
+  method_body n (Some m) h = (steps slots [] m.body, (refl, stands (Within n app p) p slots [] m.body (slot_visible slots p.root h.0) h.1))
+
+  inherited_body : (n : ℕ) (o : Option TypeDecl) → InInherited (Within n app p) p o → (inner : List Step) × ((inherited_steps o ≡ Some inner) × Any n inner)
+  inherited_body n None h = absurd h
+  inherited_body n (Some d) h = (steps_spec d.inherit_from, (refl, stands_spec (Within n app p) p d.inherit_from h.1))
 
   called_body : (n : ℕ) (c : Callee) → Within (suc n) app p c → Body n c
   called_body n (callee.Function f) h = function_body n (function_named f app) h
   called_body n (callee.Display d) h = display_body n (display_named d app) h
-  called_body n (callee.PresentMethod x) h = presented_body n (present_method x app) (named x app.types) h
+  called_body n (callee.PresentMethod x) h = method_body n (present_method x app) h
+  called_body n (callee.Inherited x) h = inherited_body n (named x app.types) h
 
   -- in steps, by what is read in the body of what is called
   in_steps : (n : ℕ) → ((c : Callee) (ss : List Step) → Within n app p c → ReadIn (body_steps app) p (step.Calls c ∷ ss))

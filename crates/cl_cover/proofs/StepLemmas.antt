@@ -160,7 +160,7 @@ module _ (calls : Callee → Type 0) (p : Path) where
   mutual
     pub stands_spec : (s : TypeSpecTree) → ReadsSpec calls s → AnySource (steps_spec s)
     stands_spec (specifier x ts o) (inl k) = inl k
-    stands_spec (specifier x ts o) (inr r) = inr (stands_args ts r)
+    stands_spec (specifier x ts o) (inr r) = inr (gives (steps_args ts) (step.Calls (callee.Inherited x) ∷ []) (λ k. stands_args ts k) (λ k. inl k) r)
 
     stands_args : (ts : TypeArgTrees) → ReadsArgs calls ts → AnySource (steps_args ts)
     stands_args type_spec.none r = absurd r
@@ -285,8 +285,11 @@ module _ (calls : Callee → Type 0) (p : Path) where
     mutual
       pub of_spec : (sight : Sight) (s : TypeSpecTree) → AnySource (steps_spec s) → Read sight (ReadsSpec calls s)
       of_spec sight (specifier x ts o) (inl k) =
-          to_left {A = calls (callee.PresentMethod x)} {B = ReadsArgs calls ts} sight (slot_visible sight p.root (slots_alone (callee.PresentMethod x) k), k)
-      of_spec sight (specifier x ts o) (inr h) = to_right {A = calls (callee.PresentMethod x)} {B = ReadsArgs calls ts} sight (of_args sight ts h)
+          to_left {A = calls (callee.PresentMethod x)} {B = ReadsArgs calls ts ⊎ calls (callee.Inherited x)} sight
+          (slot_visible sight p.root (slots_alone (callee.PresentMethod x) k), k)
+      of_spec sight (specifier x ts o) (inr h) =
+          to_right {A = calls (callee.PresentMethod x)} {B = ReadsArgs calls ts ⊎ calls (callee.Inherited x)} sight
+          (both sight (steps_args ts) (step.Calls (callee.Inherited x) ∷ []) (λ k. of_args sight ts k) (λ k. call_read sight (callee.Inherited x) k) h)
 
       of_args : (sight : Sight) (ts : TypeArgTrees) → AnySource (steps_args ts) → Read sight (ReadsArgs calls ts)
       of_args sight type_spec.none h = absurd h

@@ -1,7 +1,7 @@
 -- Which paths an expression, a display form and what they call read. Where a form binds a variable, its body's is another one. What is
 -- called reads slots alone, since its parameters are all the variables that its body sees. What a branch reads counts whether or not
--- it is taken. A text that presents an object may be given by the present method of any type in the specifier; a form that presents an
--- object by its body calls none.
+-- it is taken. A text that presents an object may be given by any present method that the specifier reaches; a form that presents an object
+-- by its body calls none.
 use Rattle.std.specs.Prelude.{◌≡◌, ℕ, zero, suc, false, ◌⊎◌, List, [], ◌∷◌, Option, Some, None}
 use Rattle.cl_syntax.specs.ExprTree as expr
 use Rattle.cl_syntax.specs.ExprTree.{ExprTree, ExprTrees, Bindings, none, part, unbound, binding}
@@ -74,10 +74,10 @@ abbrev mutual
   ReadsBound calls p unbound = ⊥
   ReadsBound calls p (binding x t bs) = Reads calls p [] t ⊎ (Apart x p.root × ReadsBound calls p bs)
 
--- the present methods of the types that stand in a specifier do, at any depth
+-- the present methods that a specifier reaches do: that of its name, those of its parts, and those of what its type inherits from
 abbrev mutual
   pub ReadsSpec : (Callee → Type 0) → TypeSpecTree → Type 0
-  ReadsSpec calls (specifier x ts o) = calls (callee.PresentMethod x) ⊎ ReadsArgs calls ts
+  ReadsSpec calls (specifier x ts o) = calls (callee.PresentMethod x) ⊎ (ReadsArgs calls ts ⊎ calls (callee.Inherited x))
 
   pub ReadsArgs : (Callee → Type 0) → TypeArgTrees → Type 0
   ReadsArgs calls type_spec.none = ⊥
@@ -123,17 +123,22 @@ abbrev pub InDisplay : (Callee → Type 0) → Path → Option DisplayDecl → T
 InDisplay calls p None = ⊥
 InDisplay calls p (Some d) = IsSlot p.root × ReadsForms calls p (shape_trees_of d.body)
 
--- the body of a type's present method reads a slot, or its fields; where it has none, those of what it inherits from do
-abbrev pub InPresented : (Callee → Type 0) → Path → Option MethodDecl → Option TypeDecl → Type 0
-InPresented calls p (Some m) o = IsSlot p.root × Reads calls p [] m.body
-InPresented calls p None None = ⊥
-InPresented calls p None (Some d) = IsSlot p.root × ReadsSpec calls d.inherit_from
+-- the body of a type's present method reads a slot, or its fields
+abbrev pub InMethod : (Callee → Type 0) → Path → Option MethodDecl → Type 0
+InMethod calls p None = ⊥
+InMethod calls p (Some m) = IsSlot p.root × Reads calls p [] m.body
+
+-- a present method that what a user type inherits from reaches does
+abbrev pub InInherited : (Callee → Type 0) → Path → Option TypeDecl → Type 0
+InInherited calls p None = ⊥
+InInherited calls p (Some d) = IsSlot p.root × ReadsSpec calls d.inherit_from
 
 -- the body of what is called does
 abbrev pub InBody : (Callee → Type 0) → App → Path → Callee → Type 0
 InBody calls app p (callee.Function f) = InFunction calls p (function_named f app)
 InBody calls app p (callee.Display d) = InDisplay calls p (display_named d app)
-InBody calls app p (callee.PresentMethod x) = InPresented calls p (present_method x app) (named x app.types)
+InBody calls app p (callee.PresentMethod x) = InMethod calls p (present_method x app)
+InBody calls app p (callee.Inherited x) = InInherited calls p (named x app.types)
 
 -- it reads the path, itself or by what it calls in turn, so many one within the other
 abbrev pub Within : ℕ → App → Path → Callee → Type 0

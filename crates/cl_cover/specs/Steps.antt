@@ -50,10 +50,10 @@ abbrev mutual
   steps_bound sight unbound = []
   steps_bound sight (binding x t bs) = steps sight [] t ++ steps_bound (behind x sight) bs
 
--- a call for the type of a specifier, and for each that stands in its arguments
+-- a call for the present method of a specifier's type, those of its arguments, and one for what the type inherits from
 abbrev mutual
   pub steps_spec : TypeSpecTree → List Step
-  steps_spec (specifier x ts o) = step.Calls (callee.PresentMethod x) ∷ steps_args ts
+  steps_spec (specifier x ts o) = step.Calls (callee.PresentMethod x) ∷ (steps_args ts ++ step.Calls (callee.Inherited x) ∷ [])
 
   pub steps_args : TypeArgTrees → List Step
   steps_args type_spec.none = []
@@ -99,14 +99,19 @@ abbrev pub display_steps : Option DisplayDecl → Option (List Step)
 display_steps None = None
 display_steps (Some d) = Some (steps_forms slots (shape_trees_of d.body))
 
--- the steps of a type's present method; where it has none, those of what it inherits from
-abbrev pub presented_steps : Option MethodDecl → Option TypeDecl → Option (List Step)
-presented_steps (Some m) o = Some (steps slots [] m.body)
-presented_steps None None = None
-presented_steps None (Some d) = Some (steps_spec d.inherit_from)
+-- the steps of a type's present method
+abbrev pub method_steps : Option MethodDecl → Option (List Step)
+method_steps None = None
+method_steps (Some m) = Some (steps slots [] m.body)
+
+-- the steps of what a user type inherits from
+abbrev pub inherited_steps : Option TypeDecl → Option (List Step)
+inherited_steps None = None
+inherited_steps (Some d) = Some (steps_spec d.inherit_from)
 
 -- the steps of what is called; None where it is not declared
 abbrev pub body_steps : App → Callee → Option (List Step)
 body_steps app (callee.Function f) = function_steps (function_named f app)
 body_steps app (callee.Display d) = display_steps (display_named d app)
-body_steps app (callee.PresentMethod x) = presented_steps (present_method x app) (named x app.types)
+body_steps app (callee.PresentMethod x) = method_steps (present_method x app)
+body_steps app (callee.Inherited x) = inherited_steps (named x app.types)

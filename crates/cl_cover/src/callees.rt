@@ -14,8 +14,10 @@ pub enum Callee {
     Function(Text),
     /// `(DISPLAY E ...)`
     Display(Text),
-    /// The present method of the type of that name, or else those that it inherits.
+    /// The present method of the type of that name.
     PresentMethod(Text),
+    /// What the user type of that name inherits from: the present methods of that specifier.
+    Inherited(Text),
 }
 
 /// Callees that were entered, each once, seen as their list.

@@ -9,13 +9,15 @@ use crate::steps::Step;
 use cl_syntax::{TypeArg, TypeSpec};
 use std::alloc::AllocError;
 
-/// Adds a call for the type of a specifier, and for each that stands in its arguments.
+/// Adds a call for the type of a specifier, those of its arguments, and one for what the type inherits from.
 #[cycle(add_spec)]
 pub(crate) fn add_spec(spec: &TypeSpec, out: &mut Vec<Step>) -> Result<(), AllocError>
     ensures { OnOk result (out.new.items ≡ out.old.items ++ steps_spec spec.now) }
 {
     out.push(Step::Calls(Callee::PresentMethod(spec.name.text().copy()?)))?;
-    add_args(spec.args.as_slice(), out)
+    add_args(spec.args.as_slice(), out)?;
+    out.push(Step::Calls(Callee::Inherited(spec.name.text().copy()?)))?;
+    Ok(())
 }
 
 #[cycle(add_spec)]

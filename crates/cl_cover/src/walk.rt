@@ -2,7 +2,7 @@
 ghost use Rattle.std.specs.Prelude.{◌≡◌, IfOk, option_map};
 ghost use Rattle.cl_application.specs.App.{display_named, function_named, present_method};
 ghost use Rattle.cl_table.specs.Names.{named};
-ghost use Rattle.cl_cover.specs.Steps.{body_steps, display_steps, function_steps, presented_steps};
+ghost use Rattle.cl_cover.specs.Steps.{body_steps, display_steps, function_steps, inherited_steps, method_steps};
 ghost use Rattle.cl_cover.specs.Walk.{paths_along};
 
 use crate::callees::{Callee, Callees};
@@ -65,7 +65,8 @@ fn body_steps(alloc: Global, app: &App, callee: &Callee) -> Result<Option<Vec<St
     match callee {
         Callee::Function(name) => function_steps(alloc, app, name),
         Callee::Display(name) => display_steps(alloc, app, name),
-        Callee::PresentMethod(name) => presented_steps(alloc, app, name),
+        Callee::PresentMethod(name) => method_steps(alloc, app, name),
+        Callee::Inherited(name) => inherited_steps(alloc, app, name),
     }
 }
 
@@ -94,19 +95,26 @@ fn display_steps(alloc: Global, app: &App, name: &Text) -> Result<Option<Vec<Ste
     Ok(Some(steps))
 }
 
-fn presented_steps(alloc: Global, app: &App, name: &Text) -> Result<Option<Vec<Step>>, AllocError>
-    ensures { IfOk result (λ body. option_map (λ v. v.items) body ≡ presented_steps (present_method name.now app.now) (named name.now app.now.types)) }
+fn method_steps(alloc: Global, app: &App, name: &Text) -> Result<Option<Vec<Step>>, AllocError>
+    ensures { IfOk result (λ body. option_map (λ v. v.items) body ≡ method_steps (present_method name.now app.now)) }
 {
+    let Some(method) = app.present_method(name.as_slice()) else {
+        return Ok(None);
+    };
+    let whole = Names::new(alloc);
+    let mut sight = Sight::slots(alloc);
     let mut steps = Vec::new(alloc);
-    if let Some(method) = app.present_method(name.as_slice()) {
-        let whole = Names::new(alloc);
-        let mut sight = Sight::slots(alloc);
-        add_steps(alloc, &method.body, &whole, &mut sight, &mut steps)?;
-        return Ok(Some(steps));
-    }
+    add_steps(alloc, &method.body, &whole, &mut sight, &mut steps)?;
+    Ok(Some(steps))
+}
+
+fn inherited_steps(alloc: Global, app: &App, name: &Text) -> Result<Option<Vec<Step>>, AllocError>
+    ensures { IfOk result (λ body. option_map (λ v. v.items) body ≡ inherited_steps (named name.now app.now.types)) }
+{
     let Some(declared) = app.types.get(name.as_slice()) else {
         return Ok(None);
     };
+    let mut steps = Vec::new(alloc);
     add_spec(&declared.inherit_from, &mut steps)?;
     Ok(Some(steps))
 }
