@@ -1,0 +1,99 @@
+//! Paths as texts have them: `x`, `(slot a)` and `(get PATH f)`.
+use crate::faults::Fault;
+use cl_cover::{Path, Root};
+use cl_forms::{Datum, LoadRefusal, name_in, symbol_of};
+use cl_questions::data_in_text;
+use cl_table::Names;
+use cl_value::Text;
+use std::alloc::{AllocError, Global};
+
+/// The paths of a text, with `|` between them.
+pub fn paths_in(alloc: Global, text: &str) -> Result<Vec<Path>, Fault> {
+    let mut paths = Vec::new(alloc);
+    for piece in text.split('|') {
+        paths.push(path_of(alloc, piece)?)?;
+    }
+    Ok(paths)
+}
+
+// The path that a text is.
+fn path_of(alloc: Global, text: &str) -> Result<Path, Fault> {
+    let data = data_in_text(alloc, text.as_bytes()).map_err(fault_of)?;
+    match data.as_slice() {
+        [datum] => path_in(alloc, datum),
+        _ => Err(Fault::Wrong),
+    }
+}
+
+fn fault_of(refusal: LoadRefusal) -> Fault {
+    match refusal {
+        LoadRefusal::Refused(..) => Fault::Wrong,
+        LoadRefusal::Memory => Fault::Memory,
+    }
+}
+
+// The path that a datum is.
+#[cycle(path)]
+fn path_in(alloc: Global, datum: &Datum) -> Result<Path, Fault> {
+    match datum {
+        Datum::List(parts, _) => path_listed(alloc, parts.as_slice()),
+        _ => Ok(whole(alloc, Root::Variable(name_of(datum)?))),
+    }
+}
+
+// `(slot NAME)` or `(get PATH NAME)`, by its parts.
+#[cycle(path)]
+fn path_listed(alloc: Global, parts: &[Datum]) -> Result<Path, Fault> {
+    match parts {
+        [head, name] if symbol_of(head) == b"slot".as_slice() => {
+            Ok(whole(alloc, Root::Slot(name_of(name)?)))
+        }
+        [head, inner, name] if symbol_of(head) == b"get".as_slice() => {
+            let mut path = path_in(alloc, inner)?;
+            path.fields.push(name_of(name)?)?;
+            Ok(path)
+        }
+        _ => Err(Fault::Wrong),
+    }
+}
+
+// A root of which no field is taken.
+fn whole(alloc: Global, root: Root) -> Path {
+    Path {
+        root,
+        fields: Names::new(alloc),
+    }
+}
+
+fn name_of(datum: &Datum) -> Result<Text, Fault> {
+    match name_in(datum) {
+        Some(name) => Ok(name.copy()?),
+        None => Err(Fault::Wrong),
+    }
+}
+
+/// Puts the text of a path behind bytes.
+pub fn put_path(path: &Path, bytes: &mut Vec<u8>) -> Result<(), AllocError> {
+    for _ in path.fields.as_slice() {
+        bytes.extend_from_slice(b"(get ")?;
+    }
+    put_root(&path.root, bytes)?;
+    for field in path.fields.as_slice() {
+        bytes.push(b' ')?;
+        bytes.extend_from_slice(field.as_slice())?;
+        bytes.push(b')')?;
+    }
+    Ok(())
+}
+
+fn put_root(root: &Root, bytes: &mut Vec<u8>) -> Result<(), AllocError> {
+    match root {
+        Root::Variable(name) => bytes.extend_from_slice(name.as_slice()),
+        Root::Slot(name) => {
+            bytes.extend_from_slice(b"(slot ")?;
+            bytes.extend_from_slice(name.as_slice())?;
+            bytes.push(b')')?;
+            Ok(())
+        }
+    }
+}
