@@ -3,9 +3,9 @@ use Rattle.std.proofs.Common.{◌≡◌, ◌≤◌, ◌+◌, ◌++◌, ℕ, Bool
 use Rattle.std.specs.Prelude.{◌⊎◌, ◌||◌}
 use Rattle.std.proofs.lemmas.Slice.Eq.{bytes_eq-Decides}
 use Rattle.cl_cover.specs.Walk.{is_among}
-use Rattle.cl_cover.specs.contracts.callees.CalleePartialEq.TheImpl as callee_eq
-use Rattle.cl_cover.specs.declared.callees.Callee.{Callee}
-use Rattle.cl_cover.specs.declared.callees.Callee.TheVariants as callee
+use Rattle.cl_syntax.specs.contracts.callees.CalleePartialEq.TheImpl as callee_eq
+use Rattle.cl_syntax.specs.declared.callees.Callee.{Callee}
+use Rattle.cl_syntax.specs.declared.callees.Callee.TheVariants as callee
 
 pub same_callee : (c d : Callee) → (callee_eq.ghosts).eq c d ≡ true → c ≡ d
 same_callee (callee.Function x) (callee.Function y) h = ap callee.Function ((bytes_eq-Decides x y).0 h)

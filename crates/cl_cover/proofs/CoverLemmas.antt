@@ -7,12 +7,13 @@ use Rattle.cl_value.specs.Data.{Data}
 use Rattle.cl_syntax.specs.ShapeTree.{ShapeTrees}
 use Rattle.cl_application.specs.declared.applications.App.{App}
 use Rattle.cl_eval.specs.Slots.{Slots, Env, is_name}
-use Rattle.cl_cover.specs.Paths.{Along, begins, dig, field_at, first_uncovered, has_prefix, is_prefix, root_value, same_root, value_at}
-use Rattle.cl_cover.specs.Reads.{AreRead}
+use Rattle.cl_syntax.specs.Paths.{Along, begins, first_uncovered, has_prefix, is_prefix, same_root}
+use Rattle.cl_eval.specs.PathValues.{dig, field_at, root_value, value_at}
+use Rattle.cl_eval.specs.ReadPaths.{AreRead}
 use Rattle.cl_cover.specs.Walk.{reads_of}
-use Rattle.cl_cover.specs.declared.paths.Path.{Path}
-use Rattle.cl_cover.specs.declared.paths.Root.{Root}
-use Rattle.cl_cover.specs.declared.paths.Root.TheVariants as root
+use Rattle.cl_syntax.specs.declared.paths.Path.{Path}
+use Rattle.cl_syntax.specs.declared.paths.Root.{Root}
+use Rattle.cl_syntax.specs.declared.paths.Root.TheVariants as root
 use Rattle.cl_cover.proofs.ReadLemmas.{forms_listed}
 
 both_true : (a b : Bool) → (if a then b else false) ≡ true → (a ≡ true) × (b ≡ true)

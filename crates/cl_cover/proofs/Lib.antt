@@ -1,5 +1,4 @@
 pub mod Parts
-pub mod PrefixLemmas
 pub mod SightLemmas
 pub mod TakenLemmas
 pub mod WalkTurns
@@ -8,4 +7,3 @@ pub mod WalkLemmas
 pub mod StepLemmas
 pub mod ReadLemmas
 pub mod CoverLemmas
-pub mod SameLemmas

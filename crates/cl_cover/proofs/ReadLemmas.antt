@@ -13,15 +13,15 @@ use Rattle.cl_application.specs.declared.declarations.DisplayDecl.{DisplayDecl}
 use Rattle.cl_application.specs.declared.declarations.FunctionDecl.{FunctionDecl}
 use Rattle.cl_application.specs.declared.declarations.MethodDecl.{MethodDecl}
 use Rattle.cl_syntax.specs.declared.type_decls.TypeDecl.{TypeDecl}
-use Rattle.cl_cover.specs.Reads.{AreRead, InDisplay, InFunction, InInherited, InMethod, IsRead, IsSlot, Within}
+use Rattle.cl_eval.specs.ReadPaths.{AreRead, InDisplay, InFunction, InInherited, InMethod, IsRead, IsSlot, Within}
 use Rattle.cl_cover.specs.Sights.{everything, slots}
 use Rattle.cl_cover.specs.Steps.{body_steps, display_steps, function_steps, inherited_steps, method_steps, steps, steps_forms, steps_spec}
 use Rattle.cl_cover.specs.Walk.{callees, expression_reads, is_among, nothing, paths_along, reads_of, walk}
-use Rattle.cl_cover.specs.declared.callees.Callee.{Callee}
-use Rattle.cl_cover.specs.declared.callees.Callee.TheVariants as callee
-use Rattle.cl_cover.specs.declared.paths.Path.{Path}
-use Rattle.cl_cover.specs.declared.paths.Root.{Root}
-use Rattle.cl_cover.specs.declared.paths.Root.TheVariants as root
+use Rattle.cl_syntax.specs.declared.callees.Callee.{Callee}
+use Rattle.cl_syntax.specs.declared.callees.Callee.TheVariants as callee
+use Rattle.cl_syntax.specs.declared.paths.Path.{Path}
+use Rattle.cl_syntax.specs.declared.paths.Root.{Root}
+use Rattle.cl_syntax.specs.declared.paths.Root.TheVariants as root
 use Rattle.cl_cover.specs.declared.steps.Step.{Step}
 use Rattle.cl_cover.specs.declared.steps.Step.TheVariants as step
 use Rattle.cl_cover.proofs.CalleeLemmas.{among_more, or_left, or_right, own_callee}

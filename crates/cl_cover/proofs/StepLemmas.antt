@@ -8,15 +8,15 @@ use Rattle.cl_syntax.specs.ShapeTree.{ShapeTree, ShapeTrees}
 use Rattle.cl_syntax.specs.TypeSpecTree as type_spec
 use Rattle.cl_syntax.specs.TypeSpecTree.{TypeSpecTree, specifier, TypeArgTree, Constant, Any, Param, Spec, Names, TypeArgTrees, argument}
 use Rattle.cl_eval.specs.Slots.{is_name}
-use Rattle.cl_cover.specs.Paths.{Along}
-use Rattle.cl_cover.specs.Reads.{Apart, ApartAll, IsSlot, Reads, ReadsAmong, ReadsArg, ReadsArgs, ReadsBound, ReadsForm, ReadsForms, ReadsSpec, taken}
+use Rattle.cl_syntax.specs.Paths.{Along}
+use Rattle.cl_eval.specs.ReadPaths.{Apart, ApartAll, IsSlot, Reads, ReadsAmong, ReadsArg, ReadsArgs, ReadsBound, ReadsForm, ReadsForms, ReadsSpec, taken}
 use Rattle.cl_cover.specs.Sights.{behind, behind_all, is_hidden, is_name_among}
 use Rattle.cl_cover.specs.Steps.{steps, steps_among, steps_arg, steps_args, steps_bound, steps_form, steps_forms, steps_spec}
-use Rattle.cl_cover.specs.declared.callees.Callee.{Callee}
-use Rattle.cl_cover.specs.declared.callees.Callee.TheVariants as callee
-use Rattle.cl_cover.specs.declared.paths.Path.{Path}
-use Rattle.cl_cover.specs.declared.paths.Root.{Root}
-use Rattle.cl_cover.specs.declared.paths.Root.TheVariants as root
+use Rattle.cl_syntax.specs.declared.callees.Callee.{Callee}
+use Rattle.cl_syntax.specs.declared.callees.Callee.TheVariants as callee
+use Rattle.cl_syntax.specs.declared.paths.Path.{Path}
+use Rattle.cl_syntax.specs.declared.paths.Root.{Root}
+use Rattle.cl_syntax.specs.declared.paths.Root.TheVariants as root
 use Rattle.cl_cover.specs.declared.sights.Sight.{Sight}
 use Rattle.cl_cover.specs.declared.steps.Step.{Step}
 use Rattle.cl_cover.specs.declared.steps.Step.TheVariants as step

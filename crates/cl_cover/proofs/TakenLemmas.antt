@@ -3,8 +3,8 @@ use Rattle.std.proofs.Common.{◌≡◌, ◌≢◌, ℕ, List, [], ◌∷◌, le
 use Rattle.cl_syntax.specs.ExprTree.{ExprTree, expr_trees_of}
 use Rattle.cl_syntax.specs.declared.operators.Operator.TheVariants as operator
 use Rattle.cl_syntax.specs.declared.operators.RecordOperator.TheVariants as fields
-use Rattle.cl_cover.specs.Paths.{Along}
-use Rattle.cl_cover.specs.Reads.{taken}
+use Rattle.cl_syntax.specs.Paths.{Along}
+use Rattle.cl_eval.specs.ReadPaths.{taken}
 
 pub taken_of_one : (f : List ℕ) (ts : List ExprTree) (along : Along) → length ts ≡ 1 → taken (operator.Record (fields.Get f)) (expr_trees_of ts) along ≡ f ∷ along
 taken_of_one f [] along e = absurd (omega (arith, e))

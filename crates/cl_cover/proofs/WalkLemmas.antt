@@ -3,8 +3,8 @@ use Rattle.std.proofs.Common.{◌≡◌, ◌≤◌, ◌+◌, ◌++◌, ℕ, zero
 use Rattle.std.specs.Prelude.{◌⊎◌, ◌↔◌, Contains}
 use Rattle.std.proofs.lemmas.List.Elements.{Contains-append_left, Contains-push, Contains-push_cases}
 use Rattle.cl_cover.specs.Walk.{Body, Walked, is_among, nothing, through, unless_entered, walk, with_callee, with_path}
-use Rattle.cl_cover.specs.declared.callees.Callee.{Callee}
-use Rattle.cl_cover.specs.declared.paths.Path.{Path}
+use Rattle.cl_syntax.specs.declared.callees.Callee.{Callee}
+use Rattle.cl_syntax.specs.declared.paths.Path.{Path}
 use Rattle.cl_cover.specs.declared.steps.Step.{Step}
 use Rattle.cl_cover.specs.declared.steps.Step.TheVariants as step
 use Rattle.cl_cover.proofs.CalleeLemmas.{among_before, among_last, among_more, missing, missing_all, missing_less, no}

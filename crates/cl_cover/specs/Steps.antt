@@ -13,12 +13,12 @@ use Rattle.cl_application.specs.declared.applications.App.{App}
 use Rattle.cl_application.specs.declared.declarations.FunctionDecl.{FunctionDecl}
 use Rattle.cl_application.specs.declared.declarations.DisplayDecl.{DisplayDecl}
 use Rattle.cl_application.specs.declared.declarations.MethodDecl.{MethodDecl}
-use Rattle.cl_cover.specs.Paths.{Along}
-use Rattle.cl_cover.specs.Reads.{taken}
+use Rattle.cl_syntax.specs.Paths.{Along}
+use Rattle.cl_eval.specs.ReadPaths.{taken}
 use Rattle.cl_cover.specs.Sights.{behind, behind_all, is_hidden, slots}
-use Rattle.cl_cover.specs.declared.callees.Callee.{Callee}
-use Rattle.cl_cover.specs.declared.callees.Callee.TheVariants as callee
-use Rattle.cl_cover.specs.declared.paths.Root.TheVariants as root
+use Rattle.cl_syntax.specs.declared.callees.Callee.{Callee}
+use Rattle.cl_syntax.specs.declared.callees.Callee.TheVariants as callee
+use Rattle.cl_syntax.specs.declared.paths.Root.TheVariants as root
 use Rattle.cl_cover.specs.declared.sights.Sight.{Sight}
 use Rattle.cl_cover.specs.declared.steps.Step.{Step}
 use Rattle.cl_cover.specs.declared.steps.Step.TheVariants as step

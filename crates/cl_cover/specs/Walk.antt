@@ -6,9 +6,9 @@ use Rattle.cl_syntax.specs.ShapeTree.{ShapeTrees}
 use Rattle.cl_application.specs.declared.applications.App.{App}
 use Rattle.cl_cover.specs.Sights.{everything}
 use Rattle.cl_cover.specs.Steps.{body_steps, steps, steps_forms}
-use Rattle.cl_cover.specs.contracts.callees.CalleePartialEq.TheImpl as callee_eq
-use Rattle.cl_cover.specs.declared.callees.Callee.{Callee}
-use Rattle.cl_cover.specs.declared.paths.Path.{Path}
+use Rattle.cl_syntax.specs.contracts.callees.CalleePartialEq.TheImpl as callee_eq
+use Rattle.cl_syntax.specs.declared.callees.Callee.{Callee}
+use Rattle.cl_syntax.specs.declared.paths.Path.{Path}
 use Rattle.cl_cover.specs.declared.steps.Step.{Step}
 use Rattle.cl_cover.specs.declared.steps.Step.TheVariants as step
 

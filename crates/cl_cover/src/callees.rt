@@ -1,24 +1,11 @@
-//! What a text calls.
+//! Callees among others.
 ghost use Rattle.std.specs.Prelude.{◌≡◌, [], ◌∷◌, ◌++◌, OnOk, false};
 ghost use Rattle.cl_cover.specs.Walk.{is_among};
 
-use cl_value::Text;
+use cl_syntax::Callee;
 use indexmap::IndexSet;
 use std::alloc::{AllocError, Global};
 use std::marker::Model;
-
-/// What a form calls, by its name.
-#[derive(Drop, PartialEq, Eq, Hash)]
-pub enum Callee {
-    /// `(FUNCTION E ...)`
-    Function(Text),
-    /// `(DISPLAY E ...)`
-    Display(Text),
-    /// The present method of the type of that name.
-    PresentMethod(Text),
-    /// What the user type of that name inherits from: the present methods of that specifier.
-    Inherited(Text),
-}
 
 /// Callees that were entered, each once, seen as their list.
 #[derive(Drop)]
@@ -28,7 +15,7 @@ pub(crate) struct Callees {
 
 impl Model for Callees {
     ghost use Rattle.std.specs.Prelude.{List};
-    ghost use Rattle.cl_cover.specs.declared.callees.Callee.{Callee};
+    ghost use Rattle.cl_syntax.specs.declared.callees.Callee.{Callee};
 
     ghost Value = { List Callee };
 

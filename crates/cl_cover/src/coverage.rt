@@ -1,16 +1,16 @@
 //! What expressions and display forms read, and whether listed paths cover it.
 ghost use Rattle.std.specs.Prelude.{◌≡◌, IfOk};
 ghost use Rattle.cl_syntax.specs.ShapeTree.{shape_trees_of};
-ghost use Rattle.cl_cover.specs.Paths.{first_uncovered};
+ghost use Rattle.cl_syntax.specs.Paths.{first_uncovered};
 ghost use Rattle.cl_cover.specs.Walk.{expression_reads, reads_of};
 
 use crate::expression_steps::add_steps;
 use crate::form_steps::add_forms;
-use crate::paths::{Path, has_prefix};
+use crate::paths::has_prefix;
 use crate::sights::Sight;
 use crate::walk::paths_along;
 use cl_application::App;
-use cl_syntax::{Expr, Shape};
+use cl_syntax::{Expr, Path, Shape};
 use cl_table::Names;
 use std::alloc::{AllocError, Global};
 

@@ -4,12 +4,11 @@ ghost use Rattle.cl_syntax.specs.ShapeTree.{shape_trees_of};
 ghost use Rattle.cl_cover.specs.Sights.{behind};
 ghost use Rattle.cl_cover.specs.Steps.{steps, steps_form, steps_forms};
 
-use crate::callees::Callee;
 use crate::expression_steps::{add_among, add_bound, add_steps};
 use crate::sights::Sight;
 use crate::spec_steps::add_spec;
 use crate::steps::Step;
-use cl_syntax::{Expr, Shape, ShapeKind};
+use cl_syntax::{Callee, Expr, Shape, ShapeKind};
 use cl_table::Names;
 use cl_value::Text;
 use std::alloc::{AllocError, Global};

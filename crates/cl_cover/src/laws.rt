@@ -7,10 +7,11 @@ ghost use Rattle.cl_application.specs.declared.applications.App.{App};
 ghost use Rattle.cl_eval.specs.Meaning.{means};
 ghost use Rattle.cl_eval.specs.Outcome.{Gives};
 ghost use Rattle.cl_eval.specs.Slots.{Env, Slots};
-ghost use Rattle.cl_cover.specs.Paths.{first_uncovered, has_prefix, value_at};
-ghost use Rattle.cl_cover.specs.Reads.{AreRead, IsRead};
+ghost use Rattle.cl_syntax.specs.Paths.{first_uncovered, has_prefix};
+ghost use Rattle.cl_eval.specs.PathValues.{value_at};
+ghost use Rattle.cl_eval.specs.ReadPaths.{AreRead, IsRead};
 ghost use Rattle.cl_cover.specs.Walk.{expression_reads, reads_of};
-ghost use Rattle.cl_cover.specs.declared.paths.Path.{Path};
+ghost use Rattle.cl_syntax.specs.declared.paths.Path.{Path};
 
 /// A path is in the list of what an expression, or display forms, read exactly where they read it.
 pub fn lists_have_what_is_read()
@@ -29,17 +30,4 @@ pub fn covered_paths_are_begun()
     ensures values { (app : App) (listed : List Path) (fs : ShapeTrees) (slots : Slots) (env : Env) (other_slots : Slots) (other_env : Env)
         → first_uncovered listed (reads_of app fs) ≡ None → All (λ q. value_at app q slots env ≡ value_at app q other_slots other_env) listed
         → (p : Path) → AreRead app p fs → value_at app p slots env ≡ value_at app p other_slots other_env }
-{}
-
-/// The outcome of an expression depends on the values at the paths that it reads alone: where each has the same value in both, or none, it
-/// ends with the same value or trap, cost and reach. Where it ends with a value under some limits, it ends with the same value, cost and
-/// reach under all limits that these do not pass.
-pub fn read_values_alone_matter()
-    ensures same_limits { (depth budget level : ℕ) (app : App) (t : ExprTree) (slots : Slots) (env : Env) (other_slots : Slots) (other_env : Env)
-        → ((p : Path) → IsRead app p t → value_at app p slots env ≡ value_at app p other_slots other_env) → (cost reach : ℕ)
-        → means depth budget app slots level env t cost reach ≡ means depth budget app other_slots level other_env t cost reach }
-    ensures other_limits { (depth budget other_depth other_budget level : ℕ) (app : App) (t : ExprTree) (slots : Slots) (env : Env) (other_slots : Slots) (other_env : Env)
-        → ((p : Path) → IsRead app p t → value_at app p slots env ≡ value_at app p other_slots other_env) → (c k : ℕ) (d : Data) (cost reach : ℕ)
-        → means depth budget app slots level env t c k ≡ Gives d cost reach → cost ≤ other_budget → reach ≤ level + other_depth
-        → means other_depth other_budget app other_slots level other_env t c k ≡ Gives d cost reach }
 {}

@@ -13,8 +13,6 @@ mod spec_steps;
 mod steps;
 mod walk;
 
-pub use callees::Callee;
 pub use coverage::{expression_reads, first_uncovered, reads};
-pub use laws::{covered_paths_are_begun, lists_have_what_is_read, read_values_alone_matter};
-pub use paths::{Path, Root};
+pub use laws::{covered_paths_are_begun, lists_have_what_is_read};
 pub use steps::Step;

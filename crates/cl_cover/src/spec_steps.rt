@@ -4,9 +4,8 @@ ghost use Rattle.cl_syntax.specs.TypeSpec.{arg_tree_of};
 ghost use Rattle.cl_syntax.specs.TypeSpecTree.{arg_trees_of};
 ghost use Rattle.cl_cover.specs.Steps.{steps_arg, steps_args, steps_spec};
 
-use crate::callees::Callee;
 use crate::steps::Step;
-use cl_syntax::{TypeArg, TypeSpec};
+use cl_syntax::{Callee, TypeArg, TypeSpec};
 use std::alloc::AllocError;
 
 /// Adds a call for the type of a specifier, those of its arguments, and one for what the type inherits from.

@@ -1,6 +1,5 @@
 //! What a text reads and calls.
-use crate::callees::Callee;
-use crate::paths::Path;
+use cl_syntax::{Callee, Path};
 
 /// A step through a text: it reads a path, or calls something.
 #[derive(Drop)]

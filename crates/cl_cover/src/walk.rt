@@ -5,15 +5,15 @@ ghost use Rattle.cl_table.specs.Names.{named};
 ghost use Rattle.cl_cover.specs.Steps.{body_steps, display_steps, function_steps, inherited_steps, method_steps};
 ghost use Rattle.cl_cover.specs.Walk.{paths_along};
 
-use crate::callees::{Callee, Callees};
+use crate::callees::Callees;
 use crate::expression_steps::add_steps;
 use crate::form_steps::add_forms;
-use crate::paths::Path;
 use crate::pending::Pending;
 use crate::sights::Sight;
 use crate::spec_steps::add_spec;
 use crate::steps::Step;
 use cl_application::App;
+use cl_syntax::{Callee, Path};
 use cl_table::Names;
 use cl_value::Text;
 use std::alloc::{AllocError, Global};

@@ -6,7 +6,7 @@ pub mod CalculationLemmas
 pub mod MappingLemmas
 pub mod StatementLemmas
 pub mod LimitLemmas
-pub mod NameLemmas
+pub mod SameLemmas
 pub mod ListLemmas
 pub mod NumberLemmas
 pub mod KeepLemmas

@@ -11,5 +11,6 @@ pub mod Evaluated
 pub mod Statements
 pub mod Stage
 pub mod Executed
-pub mod Uses
+pub mod PathValues
+pub mod ReadPaths
 pub mod TypeMeanings

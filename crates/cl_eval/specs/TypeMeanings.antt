@@ -10,7 +10,7 @@ use Rattle.cl_eval.specs.declared.metering.Limits.{Limits}
 use Rattle.cl_eval.specs.Outcome.{Outcome, Gives, cost_of}
 use Rattle.cl_eval.specs.Slots.{Slots}
 use Rattle.cl_eval.specs.Statements.{Member}
-use Rattle.cl_eval.specs.Uses.{AgreeOn}
+use Rattle.cl_eval.specs.ReadPaths.{AgreeOn}
 
 -- the text of a value by a type, on slots and under limits: the value that it is with its cost and its reach, or a trap
 abbrev pub Presents : Type 0

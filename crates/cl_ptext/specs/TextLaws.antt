@@ -4,12 +4,12 @@ use Rattle.std.specs.Prelude.{Some}
 use Rattle.cl_application.specs.App.{present_method}
 use Rattle.cl_application.specs.declared.declarations.MethodDecl.{MethodDecl}
 use Rattle.cl_eval.proofs.LimitLemmas.{goes-give, goes-means, goes-then}
-use Rattle.cl_eval.proofs.NameLemmas.{same-means}
+use Rattle.cl_eval.proofs.SameLemmas.{same-whole}
 use Rattle.cl_eval.specs.Meaning.{means}
 use Rattle.cl_eval.specs.Outcome.{Outcome, Gives, Traps, after, cost_of, give}
 use Rattle.cl_eval.specs.Slots.{Slots}
 use Rattle.cl_eval.specs.TypeMeanings.{AreTexts, IsText}
-use Rattle.cl_eval.specs.Uses.{AgreeOn}
+use Rattle.cl_eval.specs.ReadPaths.{AgreeOn}
 use Rattle.cl_eval.specs.declared.metering.Limits.{Limits}
 use Rattle.cl_lattice.specs.Expanded.{Expanded}
 use Rattle.cl_syntax.specs.TypeSpecTree.{TypeSpecTree}
@@ -40,7 +40,7 @@ same_slots b limits slots other agree t s d =
     let go = means limits.depth limits.budget b.app slots in
     let go' = means limits.depth limits.budget b.app other in
     let same = text-same b go go' 0
-    (λ x m found e. λ i. same-means b.app slots other limits.depth limits.budget 0 ((m.parameter, e) ∷ []) ((m.parameter, e) ∷ []) m.body (λ r n p. agree x m found e r (record { calls = n; named = p })) i)
+    (λ x m found e. λ i. same-whole b.app slots other limits.depth limits.budget 0 ((m.parameter, e) ∷ []) ((m.parameter, e) ∷ []) m.body (λ p n h. agree x m found e p (record { calls = n; reads = h })) i)
     t s d [] in
     λ i. after (same i 0 0) (λ y. give (text y))
 

@@ -4,7 +4,7 @@ ghost use Rattle.cl_application.specs.App.{present_method};
 ghost use Rattle.cl_application.specs.declared.declarations.MethodDecl.{MethodDecl};
 ghost use Rattle.cl_eval.specs.Outcome.{Gives};
 ghost use Rattle.cl_eval.specs.Slots.{Slots};
-ghost use Rattle.cl_eval.specs.Uses.{AgreeOn};
+ghost use Rattle.cl_eval.specs.ReadPaths.{AgreeOn};
 ghost use Rattle.cl_eval.specs.declared.metering.Limits.{Limits};
 ghost use Rattle.cl_lattice.specs.Expanded.{Expanded};
 ghost use Rattle.cl_lattice.specs.Members.{is_member};

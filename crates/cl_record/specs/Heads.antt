@@ -6,6 +6,7 @@ use Rattle.cl_region.specs.Places.{move_rect}
 use Rattle.cl_region.specs.declared.rects.Rect.{Rect}
 use Rattle.cl_region.specs.declared.rects.Shift.{Shift}
 use Rattle.cl_record.specs.declared.heads.Measures.{Measures}
+use Rattle.cl_syntax.specs.UpdateTree.{site_code}
 use Rattle.cl_syntax.specs.declared.sites.Site.{Site}
 
 -- a cursor or an origin
@@ -78,9 +79,6 @@ abbrev pub move_head : Shift → HeadAt → HeadAt
 move_head v h = record h { measures = move_measures v h.measures }
 
 -- ---- how the logic stores heads
-
-abbrev pub site_code : Coded Site
-site_code = code_by (ℕ × ℕ) (coded× coded_ℕ coded_ℕ) (λ s. (s.form, s.query)) (λ p. record { form = p.0; query = p.1 }) (λ _. refl)
 
 abbrev pub point_code : Coded Point
 point_code = code_by (ℤ × ℤ) (coded× coded_ℤ coded_ℤ) (λ q. (q.x, q.y)) (λ p. record { x = p.0; y = p.1 }) (λ _. refl)

@@ -4,6 +4,7 @@ pub mod ExprTreeCode
 pub mod Expr
 pub mod ExprFalls
 pub mod PresentationTree
+pub mod UpdateTree
 pub mod ShapeTree
 pub mod ShapeTreeCode
 pub mod Shape
@@ -13,6 +14,7 @@ pub mod ActTreeCode
 pub mod Act
 pub mod ActFalls
 pub mod StandardTypes
+pub mod Paths
 pub mod TypeSpecTree
 pub mod TypeSpecTreeCode
 pub mod TypeSpec

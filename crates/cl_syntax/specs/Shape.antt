@@ -15,6 +15,7 @@ shape_tree_of (kind.Ink t fs) = shape.Ink t (shape_trees_of fs)
 shape_tree_of (kind.Room fs) = shape.Room (shape_trees_of fs)
 shape_tree_of (kind.Present t spec) = shape.Present t spec.value
 shape_tree_of (kind.AsPresentation p fs) = shape.AsPresentation p (shape_trees_of fs)
+shape_tree_of (kind.Update u fs) = shape.Update u (shape_trees_of fs)
 shape_tree_of (kind.If c) = shape.If c.value.test c.value.then c.value.other
 shape_tree_of (kind.When t fs) = shape.When t (shape_trees_of fs)
 shape_tree_of (kind.Let bs fs) = shape.Let (bindings_of bs.items) (shape_trees_of fs)

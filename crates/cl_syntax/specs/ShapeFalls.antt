@@ -21,6 +21,7 @@ kind-nodes (kind.Ink t fs) = omega arith
 kind-nodes (kind.Room fs) = omega arith
 kind-nodes (kind.Present t spec) = omega arith
 kind-nodes (kind.AsPresentation p fs) = omega arith
+kind-nodes (kind.Update u fs) = omega arith
 kind-nodes (kind.If c) = omega arith
 kind-nodes (kind.When t fs) = omega arith
 kind-nodes (kind.Let bs fs) = omega arith

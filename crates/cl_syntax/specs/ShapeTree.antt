@@ -3,6 +3,7 @@ use Rattle.std.specs.Prelude.{ℕ, ◌+◌, List, [], ◌∷◌}
 use Rattle.cl_syntax.specs.ExprTree.{ExprTree, ExprTrees, Bindings}
 use Rattle.cl_syntax.specs.PresentationTree.{PresentationTree}
 use Rattle.cl_syntax.specs.TypeSpecTree.{TypeSpecTree}
+use Rattle.cl_syntax.specs.UpdateTree.{UpdateTree}
 use Rattle.cl_syntax.specs.declared.figures.Figure.{Figure}
 
 mutual
@@ -22,6 +23,8 @@ mutual
     Present : ExprTree → TypeSpecTree → ShapeTree
     -- (with-output-as-presentation (E SPEC :single-box BOOL) FORM ...)
     AsPresentation : PresentationTree → ShapeTrees → ShapeTree
+    -- (updating-output (:unique-id E :cache-value (list PATH ...)) FORM ...)
+    Update : UpdateTree → ShapeTrees → ShapeTree
     -- (if TEST THEN ELSE)
     If : ExprTree → ShapeTree → ShapeTree → ShapeTree
     -- (when TEST FORM ...)
@@ -54,6 +57,7 @@ abbrev mutual
   nodes (Room fs) = nodes_all fs + 1
   nodes (Present t spec) = 1
   nodes (AsPresentation p fs) = nodes_all fs + 1
+  nodes (Update u fs) = nodes_all fs + 1
   nodes (If t f g) = nodes f + nodes g + 1
   nodes (When t fs) = nodes_all fs + 1
   nodes (Let bs fs) = nodes_all fs + 1

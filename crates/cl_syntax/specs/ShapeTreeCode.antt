@@ -6,10 +6,11 @@ use base.Stored.{Gv, gnil, gnum, gcons}
 use Rattle.cl_syntax.specs.contracts.figures.Figure as figure_code
 use Rattle.cl_syntax.specs.Code.{head, tail, tag, has_parts, name_code, name_code-inj}
 use Rattle.cl_syntax.specs.ExprTreeCode.{coded_expr_tree, coded_expr_trees, coded_bindings}
-use Rattle.cl_syntax.specs.ShapeTree.{ShapeTree, WriteText, Newline, Draw, Indent, Ink, Room, Present, AsPresentation, If, When}
+use Rattle.cl_syntax.specs.ShapeTree.{ShapeTree, WriteText, Newline, Draw, Indent, Ink, Room, Present, AsPresentation, Update, If, When}
 use Rattle.cl_syntax.specs.ShapeTree.{Let, Dolist, Progn, Call, ShapeTrees, none, form}
 use Rattle.cl_syntax.specs.PresentationTree.{coded_presentation}
 use Rattle.cl_syntax.specs.TypeSpecTreeCode.{coded_type_spec_tree}
+use Rattle.cl_syntax.specs.UpdateTree.{coded_update}
 
 -- the place of a row in its table
 abbrev pub row : ShapeTree → ℕ
@@ -21,12 +22,13 @@ row (Ink t fs) = 4
 row (Room fs) = 5
 row (Present t spec) = 6
 row (AsPresentation p fs) = 7
-row (If t e f) = 8
-row (When t fs) = 9
-row (Let bs fs) = 10
-row (Dolist x t fs) = 11
-row (Progn fs) = 12
-row (Call d ts) = 13
+row (Update u fs) = 8
+row (If t e f) = 9
+row (When t fs) = 10
+row (Let bs fs) = 11
+row (Dolist x t fs) = 12
+row (Progn fs) = 13
+row (Call d ts) = 14
 
 abbrev mutual
   pub code : ShapeTree → Gv
@@ -38,12 +40,13 @@ abbrev mutual
   code (Room fs) = gcons (gnum 5) (code_all fs)
   code (Present t spec) = gcons (gnum 6) (gcons (coded_expr_tree.code t) (coded_type_spec_tree.code spec))
   code (AsPresentation p fs) = gcons (gnum 7) (gcons (coded_presentation.code p) (code_all fs))
-  code (If t e f) = gcons (gnum 8) (gcons (coded_expr_tree.code t) (gcons (code e) (code f)))
-  code (When t fs) = gcons (gnum 9) (gcons (coded_expr_tree.code t) (code_all fs))
-  code (Let bs fs) = gcons (gnum 10) (gcons (coded_bindings.code bs) (code_all fs))
-  code (Dolist x t fs) = gcons (gnum 11) (gcons (name_code x) (gcons (coded_expr_tree.code t) (code_all fs)))
-  code (Progn fs) = gcons (gnum 12) (code_all fs)
-  code (Call d ts) = gcons (gnum 13) (gcons (name_code d) (coded_expr_trees.code ts))
+  code (Update u fs) = gcons (gnum 8) (gcons (coded_update.code u) (code_all fs))
+  code (If t e f) = gcons (gnum 9) (gcons (coded_expr_tree.code t) (gcons (code e) (code f)))
+  code (When t fs) = gcons (gnum 10) (gcons (coded_expr_tree.code t) (code_all fs))
+  code (Let bs fs) = gcons (gnum 11) (gcons (coded_bindings.code bs) (code_all fs))
+  code (Dolist x t fs) = gcons (gnum 12) (gcons (name_code x) (gcons (coded_expr_tree.code t) (code_all fs)))
+  code (Progn fs) = gcons (gnum 13) (code_all fs)
+  code (Call d ts) = gcons (gnum 14) (gcons (name_code d) (coded_expr_trees.code ts))
 
   pub code_all : ShapeTrees → Gv
   code_all none = gnil
@@ -74,6 +77,10 @@ mutual
       let pq : q ≡ q' = coded_presentation.inj q q' (ap (λ g. head (tail g)) p) in
       let pfs : fs ≡ fs' = code_all-inj fs fs' (ap (λ g. tail (tail g)) p) in
       λ i. AsPresentation (pq i) (pfs i)
+  code-inj (Update u fs) (Update u' fs') p =
+      let pu : u ≡ u' = coded_update.inj u u' (ap (λ g. head (tail g)) p) in
+      let pfs : fs ≡ fs' = code_all-inj fs fs' (ap (λ g. tail (tail g)) p) in
+      λ i. Update (pu i) (pfs i)
   code-inj (If t e f) (If t' e' f') p =
       let pt : t ≡ t' = coded_expr_tree.inj t t' (ap (λ g. head (tail g)) p) in
       let pe : e ≡ e' = code-inj e e' (ap (λ g. head (tail (tail g))) p) in

@@ -1,5 +1,5 @@
 -- A specifier's parts have fewer nodes than it has, by which a recursion over specifiers ends.
-use Rattle.std.specs.Prelude.{◌≤◌, ◌+◌, List, [], ◌∷◌, Vec, Option, Some, None, map}
+use Rattle.std.specs.Prelude.{◌≤◌, List, [], ◌∷◌, Vec, Option, Some, None, map}
 use Rattle.std.specs.declared.alloc.Global.{Global}
 use Rattle.std.specs.declared.rc.Rc.{Rc}
 use Rattle.std.proofs.Common.{arith}

@@ -1,5 +1,5 @@
 -- A specifier of a presentation type as a tree.
-use Rattle.std.specs.Prelude.{ℕ, ◌+◌, List, [], ◌∷◌, Option, None}
+use Rattle.std.specs.Prelude.{ℕ, ◌+◌, List, [], ◌∷◌, None}
 use Rattle.cl_value.specs.Data.{Data}
 use Rattle.cl_syntax.specs.declared.type_specs.TypeOptions.{TypeOptions}
 

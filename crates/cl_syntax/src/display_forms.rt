@@ -8,6 +8,7 @@ use crate::expressions::{Binding, Expr};
 use crate::figures::Figure;
 use crate::presentations::Presentation;
 use crate::type_specs::TypeSpec;
+use crate::updates::Update;
 use cl_value::Text;
 use std::alloc::{AllocError, Global};
 use std::marker::Model;
@@ -40,6 +41,8 @@ pub enum ShapeKind {
     Present(Expr, Rc<TypeSpec>),
     /// `(with-output-as-presentation (E SPEC :single-box BOOL) FORM ...)`
     AsPresentation(Presentation, Shapes),
+    /// `(updating-output (:unique-id E :cache-value (list PATH ...)) FORM ...)`
+    Update(Update, Shapes),
     /// `(if TEST THEN ELSE)`
     If(Box<ShapeChoice>),
     /// `(when TEST FORM ...)`
@@ -182,6 +185,15 @@ impl Shape {
     {
         Shape {
             kind: ShapeKind::AsPresentation(presentation, body),
+        }
+    }
+
+    /// `(updating-output (:unique-id E :cache-value (list PATH ...)) FORM ...)`
+    pub fn update(update: Update, body: Shapes) -> Shape
+        ensures { result ≡ shape.Update update (shape.shape_trees_of body) }
+    {
+        Shape {
+            kind: ShapeKind::Update(update, body),
         }
     }
 

@@ -1,5 +1,5 @@
 use Rattle.std.proofs.Common.{◌≡◌, drop}
-use Rattle.cl_cover.specs.Paths.{first_uncovered}
+use Rattle.cl_syntax.specs.Paths.{first_uncovered}
 use Rattle.cl_cover.proofs.coverage.first_without.Given as goal
 
 abbrev pub invariant-loop-path : goal.invariant-loop-path

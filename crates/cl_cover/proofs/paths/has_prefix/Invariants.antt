@@ -1,5 +1,5 @@
 use Rattle.std.proofs.Common.{◌≡◌, drop}
-use Rattle.cl_cover.specs.Paths.{has_prefix}
+use Rattle.cl_syntax.specs.Paths.{has_prefix}
 use Rattle.cl_cover.proofs.paths.has_prefix.Given as goal
 
 abbrev pub invariant-loop-one : goal.invariant-loop-one

@@ -2,8 +2,8 @@ use Rattle.std.proofs.Common.{◌≡◌, ◌∙◌, sym}
 use Rattle.cl_eval.specs.Meaning.{means}
 use Rattle.cl_eval.specs.Outcome.{Gives}
 use Rattle.cl_eval.proofs.LimitLemmas.{goes-means}
-use Rattle.cl_cover.proofs.SameLemmas.{same-whole}
-use Rattle.cl_cover.proofs.laws.read_values_alone_matter.Goals as goal
+use Rattle.cl_eval.proofs.SameLemmas.{same-whole}
+use Rattle.cl_eval.proofs.laws.read_values_alone_matter.Goals as goal
 
 pub returns-clause-same_limits : goal.returns-clause-same_limits
 returns-clause-same_limits c = λ depth budget level app t slots env other_slots other_env agree cost reach.

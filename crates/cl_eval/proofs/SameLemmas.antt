@@ -15,11 +15,12 @@ use Rattle.cl_eval.specs.Operators as operators
 use Rattle.cl_eval.specs.Operators.{within_limits, or_trap, truth, elements, operate, list_of}
 use Rattle.cl_eval.specs.Meaning.{Go, entering, truth_of, parts_of_list, each, every, some, bind_each, let_in, operation_on}
 use Rattle.cl_eval.specs.Meaning.{map_each, filter_each, fold_each, call_function, parts, means}
-use Rattle.cl_cover.specs.Paths.{Along, dig, field_of, placed, root_value, value_at}
-use Rattle.cl_cover.specs.Reads.{Apart, ApartAll, InFunction, IsSlot, Reads, ReadsAmong, ReadsBound, Within, taken}
-use Rattle.cl_cover.specs.declared.paths.Path.{Path}
-use Rattle.cl_cover.specs.declared.paths.Root.{Root}
-use Rattle.cl_cover.specs.declared.paths.Root.TheVariants as root
+use Rattle.cl_syntax.specs.Paths.{Along}
+use Rattle.cl_eval.specs.PathValues.{dig, field_of, placed, root_value, value_at}
+use Rattle.cl_eval.specs.ReadPaths.{Apart, ApartAll, InFunction, IsSlot, Reads, ReadsAmong, ReadsBound, Within, taken}
+use Rattle.cl_syntax.specs.declared.paths.Path.{Path}
+use Rattle.cl_syntax.specs.declared.paths.Root.{Root}
+use Rattle.cl_syntax.specs.declared.paths.Root.TheVariants as root
 
 after-after : {A B C : Type 0} (o : Outcome A) (f : A → Run B) (h : B → Run C) → after (after o f) h ≡ after o (λ x. f x >>= h)
 after-after (Gives x c d) f h = refl

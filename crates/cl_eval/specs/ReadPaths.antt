@@ -19,13 +19,14 @@ use Rattle.cl_application.specs.declared.declarations.FunctionDecl.{FunctionDecl
 use Rattle.cl_application.specs.declared.declarations.DisplayDecl.{DisplayDecl}
 use Rattle.cl_application.specs.declared.declarations.MethodDecl.{MethodDecl}
 use Rattle.cl_table.specs.Names.{named}
-use Rattle.cl_eval.specs.Slots.{is_name}
-use Rattle.cl_cover.specs.Paths.{Along}
-use Rattle.cl_cover.specs.declared.callees.Callee.{Callee}
-use Rattle.cl_cover.specs.declared.callees.Callee.TheVariants as callee
-use Rattle.cl_cover.specs.declared.paths.Path.{Path}
-use Rattle.cl_cover.specs.declared.paths.Root.{Root}
-use Rattle.cl_cover.specs.declared.paths.Root.TheVariants as root
+use Rattle.cl_eval.specs.PathValues.{value_at}
+use Rattle.cl_eval.specs.Slots.{Slots, Env, is_name}
+use Rattle.cl_syntax.specs.Paths.{Along}
+use Rattle.cl_syntax.specs.declared.callees.Callee.{Callee}
+use Rattle.cl_syntax.specs.declared.callees.Callee.TheVariants as callee
+use Rattle.cl_syntax.specs.declared.paths.Path.{Path}
+use Rattle.cl_syntax.specs.declared.paths.Root.{Root}
+use Rattle.cl_syntax.specs.declared.paths.Root.TheVariants as root
 
 -- what the binding of a variable does not hide
 abbrev pub Apart : List ℕ → Root → Type 0
@@ -90,6 +91,16 @@ abbrev mutual
   ReadsArg calls (Spec s) = ReadsSpec calls s
   ReadsArg calls (Names xs) = ⊥
 
+-- the expression of an id does, if it is there
+abbrev pub ReadsId : (Callee → Type 0) → Path → Option ExprTree → Type 0
+ReadsId calls p None = ⊥
+ReadsId calls p (Some t) = Reads calls p [] t
+
+-- one of the paths of a cache does, if it is there
+abbrev pub ReadsCache : (Callee → Type 0) → Path → Option ExprTrees → Type 0
+ReadsCache calls p None = ⊥
+ReadsCache calls p (Some ts) = ReadsAmong calls p [] ts
+
 -- a display form reads a path
 abbrev mutual
   pub ReadsForm : (Callee → Type 0) → Path → ShapeTree → Type 0
@@ -101,6 +112,7 @@ abbrev mutual
   ReadsForm calls p (shape.Room fs) = ReadsForms calls p fs
   ReadsForm calls p (shape.Present t spec) = Reads calls p [] t ⊎ ReadsSpec calls spec
   ReadsForm calls p (shape.AsPresentation q fs) = Reads calls p [] q.object ⊎ ReadsForms calls p fs
+  ReadsForm calls p (shape.Update u fs) = ReadsId calls p u.id ⊎ (ReadsCache calls p u.cache ⊎ ReadsForms calls p fs)
   ReadsForm calls p (shape.If t f g) = Reads calls p [] t ⊎ (ReadsForm calls p f ⊎ ReadsForm calls p g)
   ReadsForm calls p (shape.When t fs) = Reads calls p [] t ⊎ ReadsForms calls p fs
   ReadsForm calls p (shape.Let bs fs) = ReadsBound calls p bs ⊎ (ApartAll bs p.root × ReadsForms calls p fs)
@@ -154,3 +166,8 @@ pub record IsRead (app : App) (p : Path) (t : ExprTree) : Type 0 where
 pub record AreRead (app : App) (p : Path) (fs : ShapeTrees) : Type 0 where
   pub calls : ℕ
   pub reads : ReadsForms (Within calls app p) p fs
+
+-- the same value, or none in both, at each path that an expression reads
+abbrev pub AgreeOn : App → ExprTree → Slots → Env → Slots → Env → Type 0
+AgreeOn app t slots env other_slots other_env =
+    (p : Path) → IsRead app p t → value_at app p slots env ≡ value_at app p other_slots other_env

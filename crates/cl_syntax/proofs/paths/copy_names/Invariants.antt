@@ -1,5 +1,5 @@
 use Rattle.std.proofs.Common.{◌≡◌, take}
-use Rattle.cl_cover.proofs.paths.copy_names.Given as goal
+use Rattle.cl_syntax.proofs.paths.copy_names.Given as goal
 
 abbrev pub invariant-loop-name : goal.invariant-loop-name
 invariant-loop-name l = l.copy ≡ take l.name-index l.name-items
