@@ -13,7 +13,7 @@ use Rattle.cl_forms.specs.Datum.{datums_of}
 use Rattle.cl_forms.specs.DatumView.{datum_of}
 use Rattle.cl_forms.specs.declared.datum.Datum.{Datum}
 use Rattle.cl_expressions.specs.Load.{Fault, Gives, Notes, after, give}
-use Rattle.cl_forms.specs.declared.refusals.LoadRefusal.{LoadRefusal}
+use Rattle.cl_forms.specs.declared.refusals.FormRefusal.{FormRefusal}
 use Rattle.cl_expressions.specs.Scopes.{Names}
 use Rattle.cl_expressions.proofs.Onto.{onto}
 use Rattle.cl_words.specs.declared.signatures.Signatures.{Signatures}
@@ -64,13 +64,13 @@ type_pushed w ps ds i d t as_read items s n in_range e h pushed =
     ∙ ap (λ ts. onto ts (parse_each_type (type_subs w ps (datums_of (map datum_of (drop (i + 1) ds)))) n)) (sym more)
 
 -- the row of a type with bounds, and that of one with a length
-pub bounds_row : (w : Signatures) (ps : Names) (t : Takes) (at : ℕ) (ds : List datum.Datum) (r : Result (Vec TypeArg Global) LoadRefusal) (s n : Notes) → t ≡ takes.Bounds
+pub bounds_row : (w : Signatures) (ps : Names) (t : Takes) (at : ℕ) (ds : List datum.Datum) (r : Result (Vec TypeArg Global) FormRefusal) (s n : Notes) → t ≡ takes.Bounds
     → Gives args_of r n (parse_at_most 2 ps wanted.NumberOrStar at ds s) → Gives args_of r n (parse_arguments ps t at (type_subs w ps (datums_of ds)) s)
 bounds_row w ps t at ds r s n e h =
     subst (λ k. Gives args_of r n (parse_arguments ps k at (type_subs w ps (datums_of ds)) s)) (sym e)
     (subst (λ es. Gives args_of r n (parse_at_most 2 ps wanted.NumberOrStar at es s)) (sym (shapes_of_subs w ps ds)) h)
 
-pub length_row : (w : Signatures) (ps : Names) (t : Takes) (at : ℕ) (ds : List datum.Datum) (r : Result (Vec TypeArg Global) LoadRefusal) (s n : Notes) → t ≡ takes.Length
+pub length_row : (w : Signatures) (ps : Names) (t : Takes) (at : ℕ) (ds : List datum.Datum) (r : Result (Vec TypeArg Global) FormRefusal) (s n : Notes) → t ≡ takes.Length
     → Gives args_of r n (parse_at_most 1 ps wanted.Number at ds s) → Gives args_of r n (parse_arguments ps t at (type_subs w ps (datums_of ds)) s)
 length_row w ps t at ds r s n e h =
     subst (λ k. Gives args_of r n (parse_arguments ps k at (type_subs w ps (datums_of ds)) s)) (sym e)

@@ -12,7 +12,7 @@ use crate::own::Own;
 use cl_expressions::{
     Notes, Reader, Scope, is_binding_list, parse_binding, parse_bindings, parse_expression,
 };
-use cl_forms::{Datum, LoadRefusal};
+use cl_forms::{Datum, FormRefusal};
 use cl_syntax::{Binding, Expr};
 use cl_value::Text;
 use cl_words::{Control, Head, head_named};
@@ -32,17 +32,17 @@ pub fn parse_form<L: Language>(
     context: L::Context,
     datum: &Datum,
     notes: &mut Notes,
-) -> Result<L, LoadRefusal>
+) -> Result<L, FormRefusal>
     ensures { Gives itself result notes.new
         (parse_form L.rows reader.now.signatures.now context (datum_of datum.now) (variables_of reader.now.scope.now) notes.old) }
 {
     match datum {
         Datum::List(parts, at) => parse_listed(reader, context, *at, parts.as_slice(), notes),
-        Datum::Number(_, at) => Err(LoadRefusal::Refused(6, *at)),
-        Datum::Literal(_, at) => Err(LoadRefusal::Refused(6, *at)),
-        Datum::Word(_, at) => Err(LoadRefusal::Refused(6, *at)),
-        Datum::Quoted(_, at, _) => Err(LoadRefusal::Refused(6, *at)),
-        Datum::Stray(at) => Err(LoadRefusal::Refused(6, *at)),
+        Datum::Number(_, at) => Err(FormRefusal::Refused(6, *at)),
+        Datum::Literal(_, at) => Err(FormRefusal::Refused(6, *at)),
+        Datum::Word(_, at) => Err(FormRefusal::Refused(6, *at)),
+        Datum::Quoted(_, at, _) => Err(FormRefusal::Refused(6, *at)),
+        Datum::Stray(at) => Err(FormRefusal::Refused(6, *at)),
     }
 }
 
@@ -54,7 +54,7 @@ pub fn parse_body<L: Language>(
     context: L::Context,
     parts: &[Datum],
     notes: &mut Notes,
-) -> Result<L::Body, LoadRefusal>
+) -> Result<L::Body, FormRefusal>
     ensures { Gives L.items result notes.new
         (parse_body L.rows reader.now.signatures.now context (datums_of (map datum_of parts.now)) (variables_of reader.now.scope.now)
         notes.old) }
@@ -75,18 +75,18 @@ fn parse_listed<L: Language>(
     at: u32,
     parts: &[Datum],
     notes: &mut Notes,
-) -> Result<L, LoadRefusal>
+) -> Result<L, FormRefusal>
     ensures { Gives itself result notes.new
         (parse_listed L.rows reader.now.signatures.now context at
         (parts_in L.rows reader.now.signatures.now (datums_of (map datum_of parts.now)))
         (variables_of reader.now.scope.now) notes.old) }
 {
     let Some((head, parts)) = parts.split_first() else {
-        return Err(LoadRefusal::Refused(6, at));
+        return Err(FormRefusal::Refused(6, at));
     };
     match head {
         Datum::Word(head, head_at) => parse_head(reader, context, head, *head_at, at, parts, notes),
-        _ => Err(LoadRefusal::Refused(6, at)),
+        _ => Err(FormRefusal::Refused(6, at)),
     }
 }
 
@@ -100,7 +100,7 @@ fn parse_head<L: Language>(
     at: u32,
     parts: &[Datum],
     notes: &mut Notes,
-) -> Result<L, LoadRefusal>
+) -> Result<L, FormRefusal>
     ensures { Gives itself result notes.new
         (parse_headed L.rows reader.now.signatures.now context (word head.now head_at) at
         (parts_in L.rows reader.now.signatures.now (datums_of (map datum_of parts.now)))
@@ -123,7 +123,7 @@ fn parse_control<L: Language>(
     at: u32,
     parts: &[Datum],
     notes: &mut Notes,
-) -> Result<L, LoadRefusal>
+) -> Result<L, FormRefusal>
     ensures { Gives itself result notes.new
         (parse_control L.rows reader.now.signatures.now context control at
         (parts_in L.rows reader.now.signatures.now (datums_of (map datum_of parts.now)))
@@ -145,7 +145,7 @@ fn parse_if<L: Language>(
     at: u32,
     parts: &[Datum],
     notes: &mut Notes,
-) -> Result<L, LoadRefusal>
+) -> Result<L, FormRefusal>
     ensures { Gives itself result notes.new
         (parse_if L.rows context at (parts_in L.rows reader.now.signatures.now (datums_of (map datum_of parts.now)))
         (variables_of reader.now.scope.now) notes.old) }
@@ -155,10 +155,10 @@ fn parse_if<L: Language>(
             let test = parse_expression(reader, test, notes)?;
             parse_then(reader, context, test, first, other, notes)
         }
-        [] => Err(LoadRefusal::Refused(6, at)),
-        [_] => Err(LoadRefusal::Refused(6, at)),
-        [_, _] => Err(LoadRefusal::Refused(6, at)),
-        [_, _, _, _, ..] => Err(LoadRefusal::Refused(6, at)),
+        [] => Err(FormRefusal::Refused(6, at)),
+        [_] => Err(FormRefusal::Refused(6, at)),
+        [_, _] => Err(FormRefusal::Refused(6, at)),
+        [_, _, _, _, ..] => Err(FormRefusal::Refused(6, at)),
     }
 }
 
@@ -170,7 +170,7 @@ fn parse_then<L: Language>(
     first: &Datum,
     other: &Datum,
     notes: &mut Notes,
-) -> Result<L, LoadRefusal>
+) -> Result<L, FormRefusal>
     ensures { Gives itself result notes.new
         (parse_then L.rows test
         (parse_form L.rows reader.now.signatures.now context (datum_of first.now) (variables_of reader.now.scope.now))
@@ -188,7 +188,7 @@ fn parse_else<L: Language>(
     opening: Opening<L>,
     other: &Datum,
     notes: &mut Notes,
-) -> Result<L, LoadRefusal>
+) -> Result<L, FormRefusal>
     ensures { Gives itself result notes.new
         (parse_else L.rows opening.test opening.first
         (parse_form L.rows reader.now.signatures.now context (datum_of other.now) (variables_of reader.now.scope.now)) notes.old) }
@@ -212,13 +212,13 @@ fn parse_when<L: Language>(
     at: u32,
     parts: &[Datum],
     notes: &mut Notes,
-) -> Result<L, LoadRefusal>
+) -> Result<L, FormRefusal>
     ensures { Gives itself result notes.new
         (parse_when L.rows context at (parts_in L.rows reader.now.signatures.now (datums_of (map datum_of parts.now)))
         (variables_of reader.now.scope.now) notes.old) }
 {
     let Some((test, body)) = parts.split_first() else {
-        return Err(LoadRefusal::Refused(6, at));
+        return Err(FormRefusal::Refused(6, at));
     };
     let test = parse_expression(reader, test, notes)?;
     let body = parse_body::<L>(reader, context, body, notes)?;
@@ -233,16 +233,16 @@ fn parse_let<L: Language>(
     at: u32,
     parts: &[Datum],
     notes: &mut Notes,
-) -> Result<L, LoadRefusal>
+) -> Result<L, FormRefusal>
     ensures { Gives itself result notes.new
         (parse_let L.rows context at (parts_in L.rows reader.now.signatures.now (datums_of (map datum_of parts.now)))
         (variables_of reader.now.scope.now) notes.old) }
 {
     let Some((bindings, body)) = parts.split_first() else {
-        return Err(LoadRefusal::Refused(6, at));
+        return Err(FormRefusal::Refused(6, at));
     };
     if !is_binding_list(bindings) {
-        return Err(LoadRefusal::Refused(6, at));
+        return Err(FormRefusal::Refused(6, at));
     }
     let bound = parse_bindings(reader, at, bindings, notes)?;
     let inner = Scope::Names(bound.names.as_slice(), reader.scope);
@@ -263,14 +263,14 @@ fn parse_dolist<L: Language>(
     at: u32,
     parts: &[Datum],
     notes: &mut Notes,
-) -> Result<L, LoadRefusal>
+) -> Result<L, FormRefusal>
     ensures { Gives itself result notes.new
         (parse_dolist L.rows reader.now.signatures.now context at
         (parts_in L.rows reader.now.signatures.now (datums_of (map datum_of parts.now)))
         (variables_of reader.now.scope.now) notes.old) }
 {
     let Some((binding, body)) = parts.split_first() else {
-        return Err(LoadRefusal::Refused(6, at));
+        return Err(FormRefusal::Refused(6, at));
     };
     let binding = parse_binding(reader, at, binding, notes)?;
     parse_dolist_body(reader, context, binding, body, notes)
@@ -283,7 +283,7 @@ fn parse_dolist_body<L: Language>(
     binding: Binding,
     body: &[Datum],
     notes: &mut Notes,
-) -> Result<L, LoadRefusal>
+) -> Result<L, FormRefusal>
     ensures { Gives itself result notes.new
         (parse_dolist_body L.rows context binding.name binding.value
         (parts_in L.rows reader.now.signatures.now (datums_of (map datum_of body.now))) (variables_of reader.now.scope.now)
@@ -311,7 +311,7 @@ fn parse_own<L: Language>(
     at: u32,
     parts: &[Datum],
     notes: &mut Notes,
-) -> Result<L, LoadRefusal>
+) -> Result<L, FormRefusal>
     ensures { Gives itself result notes.new
         (parse_own L.rows reader.now.signatures.now context head head_at at
         (parts_in L.rows reader.now.signatures.now (datums_of (map datum_of parts.now)))
@@ -332,7 +332,7 @@ fn parse_closed<L: Language>(
     opening: L::Opening,
     body: &[Datum],
     notes: &mut Notes,
-) -> Result<L, LoadRefusal>
+) -> Result<L, FormRefusal>
     ensures { Gives itself result notes.new
         (parse_closed L.rows context opening (parts_in L.rows reader.now.signatures.now (datums_of (map datum_of body.now)))
         (variables_of reader.now.scope.now) notes.old) }

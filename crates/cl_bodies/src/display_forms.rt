@@ -13,7 +13,7 @@ use crate::own::Own;
 use crate::plain_forms::{parse_call, parse_draw, parse_writing};
 use crate::presentations::parse_presented;
 use cl_expressions::{Notes, Reader, parse_expression};
-use cl_forms::{Datum, LoadRefusal};
+use cl_forms::{Datum, FormRefusal};
 use cl_syntax::{Binding, Expr, Presentation, Shape, Shapes};
 use cl_value::Text;
 use cl_words::{Head, Planned, Setting};
@@ -41,7 +41,7 @@ pub enum Opening {
 }
 
 /// The display form that a datum is. Where a name in it is not declared, the first such is noted.
-pub fn parse_shape(reader: &Reader, datum: &Datum, notes: &mut Notes) -> Result<Shape, LoadRefusal>
+pub fn parse_shape(reader: &Reader, datum: &Datum, notes: &mut Notes) -> Result<Shape, FormRefusal>
     ensures { Gives itself result notes.new
         (parse_shape reader.now.signatures.now (datum_of datum.now) (variables_of reader.now.scope.now) notes.old) }
 {
@@ -53,7 +53,7 @@ pub fn parse_shapes(
     reader: &Reader,
     parts: &[Datum],
     notes: &mut Notes,
-) -> Result<Shapes, LoadRefusal>
+) -> Result<Shapes, FormRefusal>
     ensures { Gives itself result notes.new
         (parse_shapes reader.now.signatures.now (datums_of (map datum_of parts.now)) (variables_of reader.now.scope.now)
         notes.old) }
@@ -110,7 +110,7 @@ impl Language for Shape {
         at: u32,
         parts: &[Datum],
         notes: &mut Notes,
-    ) -> Result<Own<Shape, Opening, Context>, LoadRefusal> {
+    ) -> Result<Own<Shape, Opening, Context>, FormRefusal> {
         parse_own(reader, context, head, head_at, at, parts, notes)
     }
 
@@ -121,7 +121,7 @@ impl Language for Shape {
         at: u32,
         parts: &[Datum],
         notes: &mut Notes,
-    ) -> Result<Shape, LoadRefusal> {
+    ) -> Result<Shape, FormRefusal> {
         parse_call(reader, head, head_at, at, parts, notes)
     }
 
@@ -139,7 +139,7 @@ fn parse_own(
     at: u32,
     parts: &[Datum],
     notes: &mut Notes,
-) -> Result<Own<Shape, Opening, Context>, LoadRefusal>
+) -> Result<Own<Shape, Opening, Context>, FormRefusal>
     ensures { Gives itself result notes.new
         (parse_own reader.now.signatures.now context head head_at at
         (subs reader.now.signatures.now (datums_of (map datum_of parts.now)))
@@ -149,8 +149,8 @@ fn parse_own(
         Head::Figure(figure) => Ok(Own::Whole(parse_draw(reader, figure, at, parts, notes)?)),
         Head::Setting(setting) => parse_setting(reader, context, setting, at, parts, notes),
         Head::Writing(writing) => Ok(Own::Whole(parse_writing(reader, writing, at, parts, notes)?)),
-        Head::Planned(Planned::Display) => Err(LoadRefusal::Refused(0, head_at)),
-        _ => Err(LoadRefusal::Refused(5, head_at)),
+        Head::Planned(Planned::Display) => Err(FormRefusal::Refused(0, head_at)),
+        _ => Err(FormRefusal::Refused(5, head_at)),
     }
 }
 
@@ -161,7 +161,7 @@ fn parse_setting(
     at: u32,
     parts: &[Datum],
     notes: &mut Notes,
-) -> Result<Own<Shape, Opening, Context>, LoadRefusal>
+) -> Result<Own<Shape, Opening, Context>, FormRefusal>
     ensures { Gives itself result notes.new
         (parse_setting reader.now.signatures.now context setting at (subs reader.now.signatures.now (datums_of (map datum_of parts.now)))
         (variables_of reader.now.scope.now) notes.old) }
@@ -181,13 +181,13 @@ fn parse_indent(
     at: u32,
     parts: &[Datum],
     notes: &mut Notes,
-) -> Result<Own<Shape, Opening, Context>, LoadRefusal>
+) -> Result<Own<Shape, Opening, Context>, FormRefusal>
     ensures { Gives itself result notes.new
         (parse_indent context at (subs reader.now.signatures.now (datums_of (map datum_of parts.now)))
         (variables_of reader.now.scope.now) notes.old) }
 {
     let Some((number, _)) = parts.split_first() else {
-        return Err(LoadRefusal::Refused(6, at));
+        return Err(FormRefusal::Refused(6, at));
     };
     let number = parse_expression(reader, number, notes)?;
     Ok(Own::Before(Opening::Indent(number), 1, context))
@@ -200,13 +200,13 @@ fn parse_ink(
     at: u32,
     parts: &[Datum],
     notes: &mut Notes,
-) -> Result<Own<Shape, Opening, Context>, LoadRefusal>
+) -> Result<Own<Shape, Opening, Context>, FormRefusal>
     ensures { Gives itself result notes.new
         (parse_ink context at (subs reader.now.signatures.now (datums_of (map datum_of parts.now))) (variables_of reader.now.scope.now)
         notes.old) }
 {
     let Some((number, _)) = parts.split_first() else {
-        return Err(LoadRefusal::Refused(6, at));
+        return Err(FormRefusal::Refused(6, at));
     };
     let number = parse_expression(reader, number, notes)?;
     Ok(Own::Before(Opening::Ink(number), 1, context))
@@ -219,14 +219,14 @@ fn parse_presentation(
     at: u32,
     parts: &[Datum],
     notes: &mut Notes,
-) -> Result<Own<Shape, Opening, Context>, LoadRefusal>
+) -> Result<Own<Shape, Opening, Context>, FormRefusal>
     ensures { Gives itself result notes.new
         (parse_presentation reader.now.signatures.now context at
         (subs reader.now.signatures.now (datums_of (map datum_of parts.now)))
         (variables_of reader.now.scope.now) notes.old) }
 {
     let Some((presented, _)) = parts.split_first() else {
-        return Err(LoadRefusal::Refused(6, at));
+        return Err(FormRefusal::Refused(6, at));
     };
     let presentation = parse_presented(reader, at, presented.parts(), notes)?;
     Ok(Own::Before(Opening::Presentation(presentation), 1, context))

@@ -8,7 +8,7 @@ ghost use Rattle.cl_expressions.specs.Expressions.{subs};
 
 use crate::own::Own;
 use cl_expressions::{Notes, Reader};
-use cl_forms::{Datum, LoadRefusal};
+use cl_forms::{Datum, FormRefusal};
 use cl_syntax::{Binding, Expr};
 use cl_value::Text;
 use cl_words::Head;
@@ -68,7 +68,7 @@ pub trait Language: Sized + Drop {
         at: u32,
         parts: &[Datum],
         notes: &mut Notes,
-    ) -> Result<Own<Self, Self::Opening, Self::Context>, LoadRefusal>
+    ) -> Result<Own<Self, Self::Opening, Self::Context>, FormRefusal>
         ensures { Gives itself result notes.new
             (rows.own reader.now.signatures.now context head head_at at
             (subs reader.now.signatures.now (datums_of (map datum_of parts.now))) (variables_of reader.now.scope.now)
@@ -82,7 +82,7 @@ pub trait Language: Sized + Drop {
         at: u32,
         parts: &[Datum],
         notes: &mut Notes,
-    ) -> Result<Self, LoadRefusal>
+    ) -> Result<Self, FormRefusal>
         ensures { Gives itself result notes.new
             (rows.call reader.now.signatures.now head.now head_at at
             (subs reader.now.signatures.now (datums_of (map datum_of parts.now)))

@@ -10,7 +10,7 @@ ghost use Rattle.cl_bodies.specs.DisplayForms.{parse_writing, parse_draw, parse_
 
 use crate::presentations::parse_present;
 use cl_expressions::{Notes, Reader, parse_each, parse_expression};
-use cl_forms::{Datum, LoadRefusal, fits};
+use cl_forms::{Datum, FormRefusal, fits};
 use cl_syntax::{Figure, Shape};
 use cl_value::Text;
 use cl_words::{Writing, figure_count};
@@ -24,13 +24,13 @@ pub fn parse_draw(
     at: u32,
     parts: &[Datum],
     notes: &mut Notes,
-) -> Result<Shape, LoadRefusal>
+) -> Result<Shape, FormRefusal>
     ensures { Gives itself result notes.new
         (parse_draw figure at (subs reader.now.signatures.now (datums_of (map datum_of parts.now)))
         (variables_of reader.now.scope.now) notes.old) }
 {
     if figure_count(figure) != parts.len() {
-        return Err(LoadRefusal::Refused(6, at));
+        return Err(FormRefusal::Refused(6, at));
     }
     let parts = parse_each(reader, parts, notes)?;
     Ok(Shape::draw(figure, parts))
@@ -43,7 +43,7 @@ pub fn parse_writing(
     at: u32,
     parts: &[Datum],
     notes: &mut Notes,
-) -> Result<Shape, LoadRefusal>
+) -> Result<Shape, FormRefusal>
     ensures { Gives itself result notes.new
         (parse_writing reader.now.signatures.now writing at (subs reader.now.signatures.now (datums_of (map datum_of parts.now)))
         (variables_of reader.now.scope.now) notes.old) }
@@ -62,28 +62,28 @@ fn parse_write(
     at: u32,
     parts: &[Datum],
     notes: &mut Notes,
-) -> Result<Shape, LoadRefusal>
+) -> Result<Shape, FormRefusal>
     ensures { Gives itself result notes.new
         (parse_write at (subs reader.now.signatures.now (datums_of (map datum_of parts.now))) (variables_of reader.now.scope.now)
         notes.old) }
 {
     match parts {
         [text] => Ok(Shape::write_text(parse_expression(reader, text, notes)?)),
-        [] => Err(LoadRefusal::Refused(6, at)),
-        [_, _, ..] => Err(LoadRefusal::Refused(6, at)),
+        [] => Err(FormRefusal::Refused(6, at)),
+        [_, _, ..] => Err(FormRefusal::Refused(6, at)),
     }
 }
 
 /// `(newline)`
 #[tactic(auto, using(crate::proofs::DisplayFormCounts::newline_counts))]
-fn parse_newline(at: u32, parts: &[Datum]) -> Result<Shape, LoadRefusal>
+fn parse_newline(at: u32, parts: &[Datum]) -> Result<Shape, FormRefusal>
     ensures { (w : Signatures) (notes : Notes)
         → Gives itself result notes
         (parse_newline at (subs w (datums_of (map datum_of parts.now))) notes) }
 {
     match parts {
         [] => Ok(Shape::newline()),
-        [_, ..] => Err(LoadRefusal::Refused(6, at)),
+        [_, ..] => Err(FormRefusal::Refused(6, at)),
     }
 }
 
@@ -96,17 +96,17 @@ pub fn parse_call(
     at: u32,
     parts: &[Datum],
     notes: &mut Notes,
-) -> Result<Shape, LoadRefusal>
+) -> Result<Shape, FormRefusal>
     ensures { Gives itself result notes.new
         (parse_call reader.now.signatures.now head.now head_at at
         (subs reader.now.signatures.now (datums_of (map datum_of parts.now))) (variables_of reader.now.scope.now)
         notes.old) }
 {
     let Some(count) = reader.signatures.display(head.as_slice()) else {
-        return Err(LoadRefusal::Refused(5, head_at));
+        return Err(FormRefusal::Refused(5, head_at));
     };
     if !fits(count, parts.len()) {
-        return Err(LoadRefusal::Refused(6, at));
+        return Err(FormRefusal::Refused(6, at));
     }
     let exprs = parse_each(reader, parts, notes)?;
     Ok(Shape::call(head.copy()?, exprs))

@@ -9,7 +9,7 @@ ghost use Rattle.cl_bodies.specs.Presentations.{parse_boxed, parse_object, parse
 
 use crate::specifiers::parse_type;
 use cl_expressions::{Notes, Reader, parse_expression};
-use cl_forms::{Datum, Key, LoadRefusal, keyed_pairs, symbol_of, values_of};
+use cl_forms::{Datum, Key, FormRefusal, keyed_pairs, symbol_of, values_of};
 use cl_syntax::{Presentation, Shape};
 use cl_table::Names;
 use std::alloc::{AllocError, Global};
@@ -24,7 +24,7 @@ pub fn parse_present(
     at: u32,
     parts: &[Datum],
     notes: &mut Notes,
-) -> Result<Shape, LoadRefusal>
+) -> Result<Shape, FormRefusal>
     ensures { Gives itself result notes.new
         (parse_present reader.now.signatures.now at (subs reader.now.signatures.now (datums_of (map datum_of parts.now)))
         (variables_of reader.now.scope.now) notes.old) }
@@ -35,9 +35,9 @@ pub fn parse_present(
             let spec = parse_type(reader, &Names::new(reader.alloc), spec, notes)?;
             Ok(Shape::present(reader.alloc, object, spec)?)
         }
-        [] => Err(LoadRefusal::Refused(6, at)),
-        [_] => Err(LoadRefusal::Refused(6, at)),
-        [_, _, _, ..] => Err(LoadRefusal::Refused(6, at)),
+        [] => Err(FormRefusal::Refused(6, at)),
+        [_] => Err(FormRefusal::Refused(6, at)),
+        [_, _, _, ..] => Err(FormRefusal::Refused(6, at)),
     }
 }
 
@@ -83,7 +83,7 @@ pub fn parse_presented(
     at: u32,
     parts: &[Datum],
     notes: &mut Notes,
-) -> Result<Presentation, LoadRefusal>
+) -> Result<Presentation, FormRefusal>
     ensures { Gives itself result notes.new
         (parse_presented reader.now.signatures.now at (map datum_of parts.now)
         (variables_of reader.now.scope.now) notes.old) }
@@ -91,10 +91,10 @@ pub fn parse_presented(
     match parts {
         [object, spec, keys @ ..] => match single_box_in(reader.alloc, keys)? {
             Some(single_box) => parse_object(reader, object, spec, single_box, notes),
-            None => Err(LoadRefusal::Refused(6, at)),
+            None => Err(FormRefusal::Refused(6, at)),
         },
-        [] => Err(LoadRefusal::Refused(6, at)),
-        [_] => Err(LoadRefusal::Refused(6, at)),
+        [] => Err(FormRefusal::Refused(6, at)),
+        [_] => Err(FormRefusal::Refused(6, at)),
     }
 }
 
@@ -105,7 +105,7 @@ fn parse_object(
     spec: &Datum,
     single_box: bool,
     notes: &mut Notes,
-) -> Result<Presentation, LoadRefusal>
+) -> Result<Presentation, FormRefusal>
     ensures { Gives itself result notes.new
         (parse_object reader.now.signatures.now (datum_of object.now) (datum_of spec.now) single_box
         (variables_of reader.now.scope.now) notes.old) }

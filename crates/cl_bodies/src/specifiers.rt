@@ -14,7 +14,7 @@ use crate::type_rows::{
     parse_tokens_and_type,
 };
 use cl_expressions::{Notes, Reader};
-use cl_forms::{Datum, LoadRefusal, name_in};
+use cl_forms::{Datum, FormRefusal, name_in};
 use cl_syntax::{StandardType, TypeArg, TypeArgs, TypeOptions, TypeSpec, standard_named};
 use cl_table::Names;
 use cl_value::Text;
@@ -102,7 +102,7 @@ pub fn parse_type(
     parameters: &Names,
     datum: &Datum,
     notes: &mut Notes,
-) -> Result<TypeSpec, LoadRefusal>
+) -> Result<TypeSpec, FormRefusal>
     ensures { Gives itself result notes.new
         (parse_type reader.now.signatures.now parameters.now (datum_of datum.now) notes.old) }
 {
@@ -120,17 +120,17 @@ fn parse_specifier(
     parameters: &Names,
     datum: &Datum,
     notes: &mut Notes,
-) -> Result<TypeSpec, LoadRefusal>
+) -> Result<TypeSpec, FormRefusal>
     ensures { Gives itself result notes.new
         (parse_specifier reader.now.signatures.now parameters.now (datum_of datum.now) notes.old) }
 {
     match datum {
         Datum::List(parts, at) => parse_listed(reader, parameters, *at, parts.as_slice(), notes),
         Datum::Word(_, at) => parse_headed(reader, parameters, *at, datum, &[], notes),
-        Datum::Number(_, at) => Err(LoadRefusal::Refused(6, *at)),
-        Datum::Literal(_, at) => Err(LoadRefusal::Refused(6, *at)),
-        Datum::Quoted(_, at, _) => Err(LoadRefusal::Refused(6, *at)),
-        Datum::Stray(at) => Err(LoadRefusal::Refused(6, *at)),
+        Datum::Number(_, at) => Err(FormRefusal::Refused(6, *at)),
+        Datum::Literal(_, at) => Err(FormRefusal::Refused(6, *at)),
+        Datum::Quoted(_, at, _) => Err(FormRefusal::Refused(6, *at)),
+        Datum::Stray(at) => Err(FormRefusal::Refused(6, *at)),
     }
 }
 
@@ -148,12 +148,12 @@ fn parse_listed(
     at: u32,
     parts: &[Datum],
     notes: &mut Notes,
-) -> Result<TypeSpec, LoadRefusal>
+) -> Result<TypeSpec, FormRefusal>
     ensures { Gives itself result notes.new
         (parse_listed reader.now.signatures.now parameters.now at (datums_of (map datum_of parts.now)) notes.old) }
 {
     match parts {
-        [] => Err(LoadRefusal::Refused(6, at)),
+        [] => Err(FormRefusal::Refused(6, at)),
         [first, more @ ..] => parse_first(reader, parameters, at, first, more, notes),
     }
 }
@@ -168,7 +168,7 @@ fn parse_first(
     first: &Datum,
     more: &[Datum],
     notes: &mut Notes,
-) -> Result<TypeSpec, LoadRefusal>
+) -> Result<TypeSpec, FormRefusal>
     ensures { Gives itself result notes.new
         (parse_first reader.now.signatures.now parameters.now at (datum_of first.now)
         (parse_inner reader.now.signatures.now parameters.now at (datum_of first.now))
@@ -179,10 +179,10 @@ fn parse_first(
             parse_optioned(reader, parameters, at, inner.as_slice(), more, notes)
         }
         Datum::Word(_, _) => parse_headed(reader, parameters, at, first, more, notes),
-        Datum::Number(_, _) => Err(LoadRefusal::Refused(6, at)),
-        Datum::Literal(_, _) => Err(LoadRefusal::Refused(6, at)),
-        Datum::Quoted(_, _, _) => Err(LoadRefusal::Refused(6, at)),
-        Datum::Stray(_) => Err(LoadRefusal::Refused(6, at)),
+        Datum::Number(_, _) => Err(FormRefusal::Refused(6, at)),
+        Datum::Literal(_, _) => Err(FormRefusal::Refused(6, at)),
+        Datum::Quoted(_, _, _) => Err(FormRefusal::Refused(6, at)),
+        Datum::Stray(_) => Err(FormRefusal::Refused(6, at)),
     }
 }
 
@@ -195,7 +195,7 @@ fn parse_optioned(
     parts: &[Datum],
     options: &[Datum],
     notes: &mut Notes,
-) -> Result<TypeSpec, LoadRefusal>
+) -> Result<TypeSpec, FormRefusal>
     ensures { Gives itself result notes.new
         (parse_optioned at (options_in (map datum_of options.now))
         (parse_parts reader.now.signatures.now parameters.now at (datums_of (map datum_of parts.now))) notes.old) }
@@ -205,7 +205,7 @@ fn parse_optioned(
             let spec = parse_parts(reader, parameters, at, parts, notes)?;
             Ok(with_options(options, spec))
         }
-        None => Err(LoadRefusal::Refused(6, at)),
+        None => Err(FormRefusal::Refused(6, at)),
     }
 }
 
@@ -217,12 +217,12 @@ fn parse_parts(
     at: u32,
     parts: &[Datum],
     notes: &mut Notes,
-) -> Result<TypeSpec, LoadRefusal>
+) -> Result<TypeSpec, FormRefusal>
     ensures { Gives itself result notes.new
         (parse_parts reader.now.signatures.now parameters.now at (datums_of (map datum_of parts.now)) notes.old) }
 {
     match parts {
-        [] => Err(LoadRefusal::Refused(6, at)),
+        [] => Err(FormRefusal::Refused(6, at)),
         [head, arguments @ ..] => parse_headed(reader, parameters, at, head, arguments, notes),
     }
 }
@@ -235,7 +235,7 @@ fn parse_headed(
     head: &Datum,
     arguments: &[Datum],
     notes: &mut Notes,
-) -> Result<TypeSpec, LoadRefusal>
+) -> Result<TypeSpec, FormRefusal>
     ensures { Gives itself result notes.new
         (parse_headed reader.now.signatures.now parameters.now at (datum_of head.now)
         (type_subs reader.now.signatures.now parameters.now (datums_of (map datum_of arguments.now))) notes.old) }
@@ -245,7 +245,7 @@ fn parse_headed(
             let place = (head.offset(), at);
             parse_named(reader, parameters, name, place, arguments, notes)
         }
-        None => Err(LoadRefusal::Refused(6, at)),
+        None => Err(FormRefusal::Refused(6, at)),
     }
 }
 
@@ -258,7 +258,7 @@ fn parse_named(
     place: (u32, u32),
     arguments: &[Datum],
     notes: &mut Notes,
-) -> Result<TypeSpec, LoadRefusal>
+) -> Result<TypeSpec, FormRefusal>
     ensures { Gives itself result notes.new
         (parse_named reader.now.signatures.now parameters.now name.now place.0 place.1
         (type_subs reader.now.signatures.now parameters.now (datums_of (map datum_of arguments.now))) notes.old) }
@@ -287,7 +287,7 @@ fn parse_arguments(
     at: u32,
     parts: &[Datum],
     notes: &mut Notes,
-) -> Result<Vec<TypeArg>, LoadRefusal>
+) -> Result<Vec<TypeArg>, FormRefusal>
     ensures { Gives args_of result notes.new
         (parse_arguments parameters.now takes at
         (type_subs reader.now.signatures.now parameters.now (datums_of (map datum_of parts.now))) notes.old) }

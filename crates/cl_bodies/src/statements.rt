@@ -11,14 +11,14 @@ use crate::bodies::{parse_body, parse_form};
 use crate::languages::Language;
 use crate::own::Own;
 use cl_expressions::{Notes, Reader, parse_expression};
-use cl_forms::{Datum, LoadRefusal, named_part, symbol_of};
+use cl_forms::{Datum, FormRefusal, named_part, symbol_of};
 use cl_syntax::{Act, Acts, Binding, Expr};
 use cl_value::Text;
 use cl_words::{Change, Head, Planned};
 use std::alloc::{AllocError, Global};
 
 /// The statement that a datum is. Where a name in it is not declared, the first such is noted.
-pub fn parse_act(reader: &Reader, datum: &Datum, notes: &mut Notes) -> Result<Act, LoadRefusal>
+pub fn parse_act(reader: &Reader, datum: &Datum, notes: &mut Notes) -> Result<Act, FormRefusal>
     ensures { Gives itself result notes.new
         (parse_act reader.now.signatures.now (datum_of datum.now) (variables_of reader.now.scope.now) notes.old) }
 {
@@ -26,7 +26,7 @@ pub fn parse_act(reader: &Reader, datum: &Datum, notes: &mut Notes) -> Result<Ac
 }
 
 /// The statements of a body, in order.
-pub fn parse_acts(reader: &Reader, parts: &[Datum], notes: &mut Notes) -> Result<Acts, LoadRefusal>
+pub fn parse_acts(reader: &Reader, parts: &[Datum], notes: &mut Notes) -> Result<Acts, FormRefusal>
     ensures { Gives itself result notes.new
         (parse_acts reader.now.signatures.now (datums_of (map datum_of parts.now)) (variables_of reader.now.scope.now)
         notes.old) }
@@ -83,7 +83,7 @@ impl Language for Act {
         at: u32,
         parts: &[Datum],
         notes: &mut Notes,
-    ) -> Result<Own<Act, (), ()>, LoadRefusal> {
+    ) -> Result<Own<Act, (), ()>, FormRefusal> {
         parse_own(reader, head, head_at, at, parts, notes)
     }
 
@@ -94,8 +94,8 @@ impl Language for Act {
         _: u32,
         _: &[Datum],
         _: &mut Notes,
-    ) -> Result<Act, LoadRefusal> {
-        Err(LoadRefusal::Refused(5, head_at))
+    ) -> Result<Act, FormRefusal> {
+        Err(FormRefusal::Refused(5, head_at))
     }
 
     fn closed(_: (), body: Acts) -> Act {
@@ -111,7 +111,7 @@ fn parse_own(
     at: u32,
     parts: &[Datum],
     notes: &mut Notes,
-) -> Result<Own<Act, (), ()>, LoadRefusal>
+) -> Result<Own<Act, (), ()>, FormRefusal>
     ensures { Gives itself result notes.new
         (parse_own reader.now.signatures.now head head_at at
         (subs reader.now.signatures.now (datums_of (map datum_of parts.now)))
@@ -119,8 +119,8 @@ fn parse_own(
 {
     match head {
         Head::Change(change) => Ok(Own::Whole(parse_change(reader, change, at, parts, notes)?)),
-        Head::Planned(Planned::Statement) => Err(LoadRefusal::Refused(0, head_at)),
-        _ => Err(LoadRefusal::Refused(5, head_at)),
+        Head::Planned(Planned::Statement) => Err(FormRefusal::Refused(0, head_at)),
+        _ => Err(FormRefusal::Refused(5, head_at)),
     }
 }
 
@@ -130,7 +130,7 @@ fn parse_change(
     at: u32,
     parts: &[Datum],
     notes: &mut Notes,
-) -> Result<Act, LoadRefusal>
+) -> Result<Act, FormRefusal>
     ensures { Gives itself result notes.new
         (parse_change reader.now.signatures.now change at
         (subs reader.now.signatures.now (datums_of (map datum_of parts.now)))
@@ -151,7 +151,7 @@ fn parse_setf(
     at: u32,
     parts: &[Datum],
     notes: &mut Notes,
-) -> Result<Act, LoadRefusal>
+) -> Result<Act, FormRefusal>
     ensures { Gives itself result notes.new
         (parse_setf reader.now.signatures.now at (subs reader.now.signatures.now (datums_of (map datum_of parts.now)))
         (variables_of reader.now.scope.now) notes.old) }
@@ -162,9 +162,9 @@ fn parse_setf(
             let value = parse_expression(reader, value, notes)?;
             Ok(Act::setf(name, value))
         }
-        [] => Err(LoadRefusal::Refused(6, at)),
-        [_] => Err(LoadRefusal::Refused(6, at)),
-        [_, _, _, ..] => Err(LoadRefusal::Refused(6, at)),
+        [] => Err(FormRefusal::Refused(6, at)),
+        [_] => Err(FormRefusal::Refused(6, at)),
+        [_, _, _, ..] => Err(FormRefusal::Refused(6, at)),
     }
 }
 
@@ -175,20 +175,20 @@ fn parse_place(
     at: u32,
     parts: &[Datum],
     notes: &mut Notes,
-) -> Result<Text, LoadRefusal>
+) -> Result<Text, FormRefusal>
     ensures { Gives itself result notes.new
         (parse_place reader.now.signatures.now at (map datum_of parts.now) notes.old) }
 {
     match parts {
         [slot, name] => {
             if symbol_of(slot) != b"slot".as_slice() {
-                return Err(LoadRefusal::Refused(6, at));
+                return Err(FormRefusal::Refused(6, at));
             }
             parse_place_name(reader, at, name, notes)
         }
-        [] => Err(LoadRefusal::Refused(6, at)),
-        [_] => Err(LoadRefusal::Refused(6, at)),
-        [_, _, _, ..] => Err(LoadRefusal::Refused(6, at)),
+        [] => Err(FormRefusal::Refused(6, at)),
+        [_] => Err(FormRefusal::Refused(6, at)),
+        [_, _, _, ..] => Err(FormRefusal::Refused(6, at)),
     }
 }
 
@@ -198,7 +198,7 @@ fn parse_place_name(
     at: u32,
     datum: &Datum,
     notes: &mut Notes,
-) -> Result<Text, LoadRefusal>
+) -> Result<Text, FormRefusal>
     ensures { Gives itself result notes.new
         (parse_place_name reader.now.signatures.now at (datum_of datum.now) notes.old) }
 {
@@ -214,15 +214,15 @@ fn parse_reply(
     at: u32,
     parts: &[Datum],
     notes: &mut Notes,
-) -> Result<Act, LoadRefusal>
+) -> Result<Act, FormRefusal>
     ensures { Gives itself result notes.new
         (parse_reply at (subs reader.now.signatures.now (datums_of (map datum_of parts.now))) (variables_of reader.now.scope.now)
         notes.old) }
 {
     match parts {
         [text] => Ok(Act::reply(parse_expression(reader, text, notes)?)),
-        [] => Err(LoadRefusal::Refused(6, at)),
-        [_, _, ..] => Err(LoadRefusal::Refused(6, at)),
+        [] => Err(FormRefusal::Refused(6, at)),
+        [_, _, ..] => Err(FormRefusal::Refused(6, at)),
     }
 }
 
@@ -234,15 +234,15 @@ fn parse_switch(
     at: u32,
     parts: &[Datum],
     notes: &mut Notes,
-) -> Result<Act, LoadRefusal>
+) -> Result<Act, FormRefusal>
     ensures { Gives itself result notes.new
         (parse_switch reader.now.signatures.now on at (subs reader.now.signatures.now (datums_of (map datum_of parts.now)))
         notes.old) }
 {
     match parts {
         [command] => Ok(Act::switch(parse_command_name(reader, at, command, notes)?, on)),
-        [] => Err(LoadRefusal::Refused(6, at)),
-        [_, _, ..] => Err(LoadRefusal::Refused(6, at)),
+        [] => Err(FormRefusal::Refused(6, at)),
+        [_, _, ..] => Err(FormRefusal::Refused(6, at)),
     }
 }
 
@@ -252,7 +252,7 @@ fn parse_command_name(
     at: u32,
     datum: &Datum,
     notes: &mut Notes,
-) -> Result<Text, LoadRefusal>
+) -> Result<Text, FormRefusal>
     ensures { Gives itself result notes.new
         (parse_command_name reader.now.signatures.now at (datum_of datum.now) notes.old) }
 {

@@ -9,7 +9,7 @@ ghost use Rattle.cl_bodies.specs.TypeViews.{args_of};
 use crate::specifiers::parse_type;
 use crate::type_arguments::{Wanted, arguments_in, first_stray, may_all_stand, tokens_in};
 use cl_expressions::{Notes, Reader};
-use cl_forms::{Datum, LoadRefusal, fits};
+use cl_forms::{Datum, FormRefusal, fits};
 use cl_syntax::TypeArg;
 use cl_table::Names;
 use std::alloc::Global;
@@ -19,12 +19,12 @@ pub(crate) fn parse_nothing(
     alloc: Global,
     at: u32,
     parts: &[Datum],
-) -> Result<Vec<TypeArg>, LoadRefusal>
+) -> Result<Vec<TypeArg>, FormRefusal>
     ensures { (n : Noted) → Gives args_of result n (parse_nothing at (map datum_of parts.now) n) }
 {
     match parts {
         [] => Ok(Vec::new(alloc)),
-        [_, ..] => Err(LoadRefusal::Refused(6, at)),
+        [_, ..] => Err(FormRefusal::Refused(6, at)),
     }
 }
 
@@ -35,14 +35,14 @@ pub(crate) fn parse_constants(
     wanted: Wanted,
     at: u32,
     parts: &[Datum],
-) -> Result<Vec<TypeArg>, LoadRefusal>
+) -> Result<Vec<TypeArg>, FormRefusal>
     ensures { (n : Noted) → Gives args_of result n (parse_constants parameters.now wanted at (map datum_of parts.now) n) }
 {
     if !may_all_stand(parameters, wanted, parts)? {
-        return Err(LoadRefusal::Refused(6, at));
+        return Err(FormRefusal::Refused(6, at));
     }
     match first_stray(parts) {
-        Some(stray_at) => Err(LoadRefusal::Refused(6, stray_at)),
+        Some(stray_at) => Err(FormRefusal::Refused(6, stray_at)),
         None => Ok(arguments_in(alloc, parameters, parts)?),
     }
 }
@@ -55,11 +55,11 @@ pub(crate) fn parse_at_most(
     wanted: Wanted,
     at: u32,
     parts: &[Datum],
-) -> Result<Vec<TypeArg>, LoadRefusal>
+) -> Result<Vec<TypeArg>, FormRefusal>
     ensures { (n : Noted) → Gives args_of result n (parse_at_most most parameters.now wanted at (map datum_of parts.now) n) }
 {
     if parts.len() > most {
-        return Err(LoadRefusal::Refused(6, at));
+        return Err(FormRefusal::Refused(6, at));
     }
     parse_constants(alloc, parameters, wanted, at, parts)
 }
@@ -71,11 +71,11 @@ pub(crate) fn parse_given(
     parameters: &Names,
     at: u32,
     parts: &[Datum],
-) -> Result<Vec<TypeArg>, LoadRefusal>
+) -> Result<Vec<TypeArg>, FormRefusal>
     ensures { (n : Noted) → Gives args_of result n (parse_given count parameters.now at (map datum_of parts.now) n) }
 {
     if !fits(count, parts.len()) {
-        return Err(LoadRefusal::Refused(6, at));
+        return Err(FormRefusal::Refused(6, at));
     }
     parse_constants(alloc, parameters, Wanted::ConstantOrStar, at, parts)
 }
@@ -89,12 +89,12 @@ pub(crate) fn parse_one_type(
     at: u32,
     parts: &[Datum],
     notes: &mut Notes,
-) -> Result<Vec<TypeArg>, LoadRefusal>
+) -> Result<Vec<TypeArg>, FormRefusal>
     ensures { Gives args_of result notes.new
         (parse_one_type at (type_subs reader.now.signatures.now parameters.now (datums_of (map datum_of parts.now))) notes.old) }
 {
     if parts.len() != 1 {
-        return Err(LoadRefusal::Refused(6, at));
+        return Err(FormRefusal::Refused(6, at));
     }
     parse_each_type(reader, parameters, parts, notes)
 }
@@ -108,12 +108,12 @@ pub(crate) fn parse_some_types(
     at: u32,
     parts: &[Datum],
     notes: &mut Notes,
-) -> Result<Vec<TypeArg>, LoadRefusal>
+) -> Result<Vec<TypeArg>, FormRefusal>
     ensures { Gives args_of result notes.new
         (parse_some_types at (type_subs reader.now.signatures.now parameters.now (datums_of (map datum_of parts.now))) notes.old) }
 {
     if parts.is_empty() {
-        return Err(LoadRefusal::Refused(6, at));
+        return Err(FormRefusal::Refused(6, at));
     }
     parse_each_type(reader, parameters, parts, notes)
 }
@@ -127,14 +127,14 @@ pub(crate) fn parse_tokens_and_type(
     at: u32,
     parts: &[Datum],
     notes: &mut Notes,
-) -> Result<Vec<TypeArg>, LoadRefusal>
+) -> Result<Vec<TypeArg>, FormRefusal>
     ensures { Gives args_of result notes.new
         (parse_tokens_and_type at (type_subs reader.now.signatures.now parameters.now (datums_of (map datum_of parts.now))) notes.old) }
 {
     match parts {
         [tokens, inner] => {
             let Some(tokens) = tokens_in(reader.alloc, tokens)? else {
-                return Err(LoadRefusal::Refused(6, at));
+                return Err(FormRefusal::Refused(6, at));
             };
             let spec = parse_type(reader, parameters, inner, notes)?;
             let mut args = Vec::new(reader.alloc);
@@ -142,9 +142,9 @@ pub(crate) fn parse_tokens_and_type(
             args.push(TypeArg::Spec(spec))?;
             Ok(args)
         }
-        [] => Err(LoadRefusal::Refused(6, at)),
-        [_] => Err(LoadRefusal::Refused(6, at)),
-        [_, _, _, ..] => Err(LoadRefusal::Refused(6, at)),
+        [] => Err(FormRefusal::Refused(6, at)),
+        [_] => Err(FormRefusal::Refused(6, at)),
+        [_, _, _, ..] => Err(FormRefusal::Refused(6, at)),
     }
 }
 
@@ -156,7 +156,7 @@ fn parse_each_type(
     parameters: &Names,
     parts: &[Datum],
     notes: &mut Notes,
-) -> Result<Vec<TypeArg>, LoadRefusal>
+) -> Result<Vec<TypeArg>, FormRefusal>
     ensures { Gives args_of result notes.new
         (parse_each_type (type_subs reader.now.signatures.now parameters.now (datums_of (map datum_of parts.now))) notes.old) }
 {

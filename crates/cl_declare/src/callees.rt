@@ -8,20 +8,20 @@ use crate::names::{is_name_list, names_in};
 use cl_application::{DisplayDecl, FunctionDecl};
 use cl_bodies::parse_shapes;
 use cl_expressions::{Notes, Reader, Scope, parse_expression};
-use cl_forms::{Datum, LoadRefusal, are_names, name_in, symbol_text};
+use cl_forms::{Datum, FormRefusal, are_names, name_in, symbol_text};
 use cl_syntax::RecordDecl;
 use std::alloc::Global;
 
 /// `(define-record NAME FIELD FIELD ...)`
-pub fn parse_record(alloc: Global, at: u32, parts: &[Datum]) -> Result<RecordDecl, LoadRefusal>
+pub fn parse_record(alloc: Global, at: u32, parts: &[Datum]) -> Result<RecordDecl, FormRefusal>
     ensures { (n : Noted) → Gives itself result n (parse_record at (map datum_of parts.now) n) }
 {
     match parts {
-        [] => Err(LoadRefusal::Refused(6, at)),
-        [_] => Err(LoadRefusal::Refused(6, at)),
+        [] => Err(FormRefusal::Refused(6, at)),
+        [_] => Err(FormRefusal::Refused(6, at)),
         [name, fields @ ..] => {
             if !are_names(parts) {
-                return Err(LoadRefusal::Refused(6, at));
+                return Err(FormRefusal::Refused(6, at));
             }
             Ok(RecordDecl {
                 name: symbol_text(alloc, name)?,
@@ -39,14 +39,14 @@ pub fn parse_function(
     at: u32,
     parts: &[Datum],
     notes: &mut Notes,
-) -> Result<FunctionDecl, LoadRefusal>
+) -> Result<FunctionDecl, FormRefusal>
     ensures { Gives itself result notes.new
         (parse_function reader.now.signatures.now at (map datum_of parts.now) notes.old) }
 {
     match parts {
         [name, parameters, body] => {
             if name_in(name).is_none() || !is_name_list(parameters) {
-                return Err(LoadRefusal::Refused(6, at));
+                return Err(FormRefusal::Refused(6, at));
             }
             let parameters = names_in(reader.alloc, parameters.parts())?;
             let outside = reader.seeing(&Scope::Empty);
@@ -59,10 +59,10 @@ pub fn parse_function(
                 at,
             })
         }
-        [] => Err(LoadRefusal::Refused(6, at)),
-        [_] => Err(LoadRefusal::Refused(6, at)),
-        [_, _] => Err(LoadRefusal::Refused(6, at)),
-        [_, _, _, _, ..] => Err(LoadRefusal::Refused(6, at)),
+        [] => Err(FormRefusal::Refused(6, at)),
+        [_] => Err(FormRefusal::Refused(6, at)),
+        [_, _] => Err(FormRefusal::Refused(6, at)),
+        [_, _, _, _, ..] => Err(FormRefusal::Refused(6, at)),
     }
 }
 
@@ -72,16 +72,16 @@ pub fn parse_display(
     at: u32,
     parts: &[Datum],
     notes: &mut Notes,
-) -> Result<DisplayDecl, LoadRefusal>
+) -> Result<DisplayDecl, FormRefusal>
     ensures { Gives itself result notes.new
         (parse_display reader.now.signatures.now at (map datum_of parts.now) notes.old) }
 {
     match parts {
-        [] => Err(LoadRefusal::Refused(6, at)),
-        [_] => Err(LoadRefusal::Refused(6, at)),
+        [] => Err(FormRefusal::Refused(6, at)),
+        [_] => Err(FormRefusal::Refused(6, at)),
         [name, parameters, body @ ..] => {
             if name_in(name).is_none() || !is_name_list(parameters) {
-                return Err(LoadRefusal::Refused(6, at));
+                return Err(FormRefusal::Refused(6, at));
             }
             let parameters = names_in(reader.alloc, parameters.parts())?;
             let outside = reader.seeing(&Scope::Empty);

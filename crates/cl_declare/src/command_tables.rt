@@ -9,7 +9,7 @@ ghost use Rattle.cl_declare.specs.CommandTables.{note_named_table, note_tables, 
 
 use crate::names::{is_name_list, names_in};
 use cl_expressions::{Notes, Reader};
-use cl_forms::{Datum, Key, LoadRefusal, keyed_pairs, name_in, values_of};
+use cl_forms::{Datum, Key, FormRefusal, keyed_pairs, name_in, values_of};
 use cl_table::Names;
 use cl_tables::TableDecl;
 use cl_value::Text;
@@ -24,18 +24,18 @@ pub fn parse_table(
     at: u32,
     parts: &[Datum],
     notes: &mut Notes,
-) -> Result<TableDecl, LoadRefusal>
+) -> Result<TableDecl, FormRefusal>
     ensures { Gives itself result notes.new
         (parse_table reader.now.signatures.now at (map datum_of parts.now) notes.old) }
 {
     let Some((name, keys)) = parts.split_first() else {
-        return Err(LoadRefusal::Refused(6, at));
+        return Err(FormRefusal::Refused(6, at));
     };
     let Some(name) = name_in(name) else {
-        return Err(LoadRefusal::Refused(6, at));
+        return Err(FormRefusal::Refused(6, at));
     };
     let Some(keys) = keyed_pairs(reader.alloc, &TABLE_KEYS, keys)? else {
-        return Err(LoadRefusal::Refused(6, at));
+        return Err(FormRefusal::Refused(6, at));
     };
     parse_inheriting(
         reader,
@@ -52,7 +52,7 @@ fn parse_inheriting(
     name: &Text,
     parents: Option<&[Datum]>,
     notes: &mut Notes,
-) -> Result<TableDecl, LoadRefusal>
+) -> Result<TableDecl, FormRefusal>
     ensures { Gives itself result notes.new
         (parse_inheriting reader.now.signatures.now at name.now
         (option_map (λ v. map datum_of v.now) parents.entry) notes.old) }
@@ -68,7 +68,7 @@ fn parse_inheriting(
                 at,
             })
         }
-        Some([]) => Err(LoadRefusal::Refused(6, at)),
+        Some([]) => Err(FormRefusal::Refused(6, at)),
         Some([parents, ..]) => parse_parents(reader, at, name, parents, notes),
     }
 }
@@ -80,12 +80,12 @@ fn parse_parents(
     name: &Text,
     parents: &Datum,
     notes: &mut Notes,
-) -> Result<TableDecl, LoadRefusal>
+) -> Result<TableDecl, FormRefusal>
     ensures { Gives itself result notes.new
         (parse_parents reader.now.signatures.now at name.now (datum_of parents.now) notes.old) }
 {
     if !is_name_list(parents) {
-        return Err(LoadRefusal::Refused(6, at));
+        return Err(FormRefusal::Refused(6, at));
     }
     note_tables(reader, parents.parts(), notes);
     Ok(TableDecl {

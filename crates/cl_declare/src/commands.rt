@@ -19,7 +19,7 @@ use crate::names::is_list;
 use cl_application::{ArgumentDecl, ArgumentDecls, CommandDecl, DefaultDecl};
 use cl_bodies::{parse_acts, parse_type, text_behind};
 use cl_expressions::{Notes, Reader, Scope, parse_expression};
-use cl_forms::{Datum, Key, Keyed, LoadRefusal, keyed_pairs, symbol_text, values_of};
+use cl_forms::{Datum, Key, Keyed, FormRefusal, keyed_pairs, symbol_text, values_of};
 use cl_syntax::Acts;
 use cl_table::Names;
 use cl_value::Text;
@@ -31,16 +31,16 @@ pub fn parse_command(
     at: u32,
     parts: &[Datum],
     notes: &mut Notes,
-) -> Result<CommandDecl, LoadRefusal>
+) -> Result<CommandDecl, FormRefusal>
     ensures { Gives itself result notes.new
         (parse_command reader.now.signatures.now at (map datum_of parts.now) notes.old) }
 {
     match parts {
-        [] => Err(LoadRefusal::Refused(6, at)),
-        [_] => Err(LoadRefusal::Refused(6, at)),
+        [] => Err(FormRefusal::Refused(6, at)),
+        [_] => Err(FormRefusal::Refused(6, at)),
         [head, arguments, body @ ..] => {
             if !is_list(arguments) || !are_arguments(reader.alloc, arguments.parts())? {
-                return Err(LoadRefusal::Refused(6, at));
+                return Err(FormRefusal::Refused(6, at));
             }
             parse_headed(reader, at, head, arguments.parts(), body, notes)
         }
@@ -54,16 +54,16 @@ fn parse_headed(
     arguments: &[Datum],
     body: &[Datum],
     notes: &mut Notes,
-) -> Result<CommandDecl, LoadRefusal>
+) -> Result<CommandDecl, FormRefusal>
     ensures { Gives itself result notes.new
         (parse_headed reader.now.signatures.now at (datum_of head.now) (head_keys (datum_of head.now))
         (map datum_of arguments.now) (map datum_of body.now) notes.old) }
 {
     let Some(keys) = head_keys(reader.alloc, head)? else {
-        return Err(LoadRefusal::Refused(6, at));
+        return Err(FormRefusal::Refused(6, at));
     };
     let Some(shape) = command_shape(reader.alloc, head_name(head), keys.as_slice())? else {
-        return Err(LoadRefusal::Refused(6, at));
+        return Err(FormRefusal::Refused(6, at));
     };
     note_tables(reader, behind(Key::CommandTable, keys.as_slice()), notes);
     let decls = parse_arguments(reader, arguments, notes)?;
@@ -85,7 +85,7 @@ fn parse_body(
     arguments: &[Datum],
     body: &[Datum],
     notes: &mut Notes,
-) -> Result<Acts, LoadRefusal>
+) -> Result<Acts, FormRefusal>
     ensures { Gives itself result notes.new
         (parse_acts reader.now.signatures.now (datums_of (map datum_of body.now))
         (in_sight (argument_names (map datum_of arguments.now)) []) notes.old) }
@@ -126,7 +126,7 @@ fn parse_arguments(
     reader: &Reader,
     arguments: &[Datum],
     notes: &mut Notes,
-) -> Result<ArgumentDecls, LoadRefusal>
+) -> Result<ArgumentDecls, FormRefusal>
     ensures { Gives itself result notes.new
         (parse_arguments reader.now.signatures.now (map datum_of arguments.now) [] notes.old) }
 {
@@ -150,7 +150,7 @@ fn parse_argument(
     parts: &[Datum],
     decls: &mut ArgumentDecls,
     notes: &mut Notes,
-) -> Result<(), LoadRefusal>
+) -> Result<(), FormRefusal>
     ensures { Leaves result decls.new notes.new
         (parse_argument reader.now.signatures.now at (map datum_of parts.now) decls.old notes.old) }
 {
@@ -182,7 +182,7 @@ fn parse_default(
     reader: &Reader,
     values: Option<&[Datum]>,
     notes: &mut Notes,
-) -> Result<Option<DefaultDecl>, LoadRefusal>
+) -> Result<Option<DefaultDecl>, FormRefusal>
     ensures { Gives itself result notes.new
         (parse_default reader.now.signatures.now (option_map (λ v. map datum_of v.now) values.entry) notes.old) }
 {
@@ -198,7 +198,7 @@ fn parse_default_value(
     reader: &Reader,
     datum: &Datum,
     notes: &mut Notes,
-) -> Result<DefaultDecl, LoadRefusal>
+) -> Result<DefaultDecl, FormRefusal>
     ensures { Gives itself result notes.new
         (parse_default_value reader.now.signatures.now (datum_of datum.now) notes.old) }
 {

@@ -19,7 +19,7 @@ use cl_application::{
     Commands, Displays, Functions, HostDecls, Methods, TableDecls, TranslatorDecls,
 };
 use cl_expressions::{Notes, Reader};
-use cl_forms::{Datum, DeclarationKind, LoadRefusal, Outer, OuterKind};
+use cl_forms::{Datum, DeclarationKind, FormRefusal, Outer, OuterKind};
 use cl_syntax::{Records, UserTypes};
 
 /// What a text declares: tables by name, of two of one name the first, and all frames in their order.
@@ -44,7 +44,7 @@ pub fn parse_declarations(
     reader: &Reader,
     outers: &[Outer],
     notes: &mut Notes,
-) -> Result<Declarations, LoadRefusal>
+) -> Result<Declarations, FormRefusal>
     ensures { Gives itself result notes.new
         (parse_declarations reader.now.signatures.now (map outer_of outers.now) notes.old) }
 {
@@ -72,7 +72,7 @@ fn parse_declaration(
     outer: &Outer,
     declarations: &mut Declarations,
     notes: &mut Notes,
-) -> Result<(), LoadRefusal>
+) -> Result<(), FormRefusal>
     ensures { Leaves result declarations.new notes.new
         (parse_declaration reader.now.signatures.now (outer_of outer.now) declarations.old
         notes.old) }
@@ -81,9 +81,9 @@ fn parse_declaration(
         OuterKind::Declared(kind) => {
             parse_declared(reader, kind, outer.at, outer.parts, declarations, notes)
         }
-        OuterKind::Planned(head_at) => Err(LoadRefusal::Refused(0, head_at)),
-        OuterKind::Unknown(head_at) => Err(LoadRefusal::Refused(5, head_at)),
-        OuterKind::Headless => Err(LoadRefusal::Refused(6, outer.at)),
+        OuterKind::Planned(head_at) => Err(FormRefusal::Refused(0, head_at)),
+        OuterKind::Unknown(head_at) => Err(FormRefusal::Refused(5, head_at)),
+        OuterKind::Headless => Err(FormRefusal::Refused(6, outer.at)),
     }
 }
 
@@ -94,7 +94,7 @@ fn parse_declared(
     parts: &[Datum],
     declarations: &mut Declarations,
     notes: &mut Notes,
-) -> Result<(), LoadRefusal>
+) -> Result<(), FormRefusal>
     ensures { Leaves result declarations.new notes.new
         (parse_declared reader.now.signatures.now kind at (map datum_of parts.now) declarations.old
         notes.old) }

@@ -10,7 +10,7 @@ ghost use Rattle.cl_declare.specs.Methods.{may_have_methods, parse_method, parse
 use crate::type_shapes::name_alone;
 use cl_application::MethodDecl;
 use cl_expressions::{Notes, Reader, Scope, parse_expression};
-use cl_forms::{Datum, LoadRefusal, name_in};
+use cl_forms::{Datum, FormRefusal, name_in};
 use cl_syntax::Expr;
 use cl_table::Names;
 use cl_value::Text;
@@ -23,7 +23,7 @@ pub fn parse_method(
     at: u32,
     parts: &[Datum],
     notes: &mut Notes,
-) -> Result<MethodDecl, LoadRefusal>
+) -> Result<MethodDecl, FormRefusal>
     ensures { Gives itself result notes.new
         (parse_method reader.now.signatures.now at (map datum_of parts.now) notes.old) }
 {
@@ -33,10 +33,10 @@ pub fn parse_method(
             let parameter = name_alone(parameters.parts());
             parse_named_method(reader, place, name_in(name), parameter, body, notes)
         }
-        [] => Err(LoadRefusal::Refused(6, at)),
-        [_] => Err(LoadRefusal::Refused(6, at)),
-        [_, _] => Err(LoadRefusal::Refused(6, at)),
-        [_, _, _, _, ..] => Err(LoadRefusal::Refused(6, at)),
+        [] => Err(FormRefusal::Refused(6, at)),
+        [_] => Err(FormRefusal::Refused(6, at)),
+        [_, _] => Err(FormRefusal::Refused(6, at)),
+        [_, _, _, _, ..] => Err(FormRefusal::Refused(6, at)),
     }
 }
 
@@ -48,16 +48,16 @@ fn parse_named_method(
     parameter: Option<&Text>,
     body: &Datum,
     notes: &mut Notes,
-) -> Result<MethodDecl, LoadRefusal>
+) -> Result<MethodDecl, FormRefusal>
     ensures { Gives itself result notes.new
         (parse_named_method reader.now.signatures.now place.0 place.1 (option_map (λ n. n.now) name.entry)
         (option_map (λ p. p.now) parameter.entry) (datum_of body.now) notes.old) }
 {
     let Some(name) = name else {
-        return Err(LoadRefusal::Refused(6, place.0));
+        return Err(FormRefusal::Refused(6, place.0));
     };
     let Some(parameter) = parameter else {
-        return Err(LoadRefusal::Refused(6, place.0));
+        return Err(FormRefusal::Refused(6, place.0));
     };
     note_method(reader, name, place.1, notes);
     let body = parse_body(reader, parameter, body, notes)?;
@@ -84,7 +84,7 @@ fn parse_body(
     parameter: &Text,
     body: &Datum,
     notes: &mut Notes,
-) -> Result<Expr, LoadRefusal>
+) -> Result<Expr, FormRefusal>
     ensures { Gives itself result notes.new
         (parse_expression reader.now.signatures.now (datum_of body.now) (in_sight (parameter.now ∷ []) []) notes.old) }
 {

@@ -13,7 +13,7 @@ use crate::frames::{FRAME_KEYS, FrameForm, frame_shape};
 use cl_application::{SlotDecl, SlotDecls};
 use cl_bodies::parse_type;
 use cl_expressions::{Notes, Reader, Scope, parse_expression};
-use cl_forms::{Datum, Key, Keyed, LoadRefusal, keyed_sections, name_in, symbol_text};
+use cl_forms::{Datum, Key, Keyed, FormRefusal, keyed_sections, name_in, symbol_text};
 use cl_table::Names;
 use std::alloc::AllocError;
 
@@ -23,19 +23,19 @@ pub fn parse_frame(
     at: u32,
     parts: &[Datum],
     notes: &mut Notes,
-) -> Result<FrameForm, LoadRefusal>
+) -> Result<FrameForm, FormRefusal>
     ensures { Gives itself result notes.new
         (parse_frame reader.now.signatures.now at (map datum_of parts.now) notes.old) }
 {
     let Some((name, sections)) = parts.split_first() else {
-        return Err(LoadRefusal::Refused(6, at));
+        return Err(FormRefusal::Refused(6, at));
     };
     let Some(sections) = keyed_sections(reader.alloc, &FRAME_KEYS, sections)? else {
-        return Err(LoadRefusal::Refused(6, at));
+        return Err(FormRefusal::Refused(6, at));
     };
     let shape = frame_shape(reader.alloc, reader.signatures, name, sections.as_slice())?;
     let Some(shape) = shape else {
-        return Err(LoadRefusal::Refused(6, at));
+        return Err(FormRefusal::Refused(6, at));
     };
     let slots = parse_sections(reader, sections.as_slice(), notes)?;
     Ok(FrameForm {
@@ -54,7 +54,7 @@ fn parse_sections(
     reader: &Reader,
     sections: &[Keyed],
     notes: &mut Notes,
-) -> Result<SlotDecls, LoadRefusal>
+) -> Result<SlotDecls, FormRefusal>
     ensures { Gives itself result notes.new
         (parse_sections reader.now.signatures.now (map keyed_of sections.now) [] notes.old) }
 {
@@ -70,7 +70,7 @@ fn parse_section(
     section: &Keyed,
     slots: &mut SlotDecls,
     notes: &mut Notes,
-) -> Result<(), LoadRefusal>
+) -> Result<(), FormRefusal>
     ensures { Leaves result slots.new notes.new
         (parse_section reader.now.signatures.now (keyed_of section.now) slots.old notes.old) }
 {
@@ -106,7 +106,7 @@ fn parse_slots(
     parts: &[Datum],
     slots: &mut SlotDecls,
     notes: &mut Notes,
-) -> Result<(), LoadRefusal>
+) -> Result<(), FormRefusal>
     ensures { Leaves result slots.new notes.new
         (parse_slots reader.now.signatures.now (map datum_of parts.now) slots.old notes.old) }
 {
@@ -124,7 +124,7 @@ fn parse_slot(
     parts: &[Datum],
     slots: &mut SlotDecls,
     notes: &mut Notes,
-) -> Result<(), LoadRefusal>
+) -> Result<(), FormRefusal>
     ensures { Leaves result slots.new notes.new
         (parse_slot reader.now.signatures.now at (map datum_of parts.now) slots.old notes.old) }
 {

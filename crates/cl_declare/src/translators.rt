@@ -18,7 +18,7 @@ use crate::translator_shapes::{
 use cl_application::TranslatorDecl;
 use cl_bodies::parse_type;
 use cl_expressions::{Notes, Reader, Scope, parse_expression};
-use cl_forms::{Datum, Key, Keyed, LoadRefusal, keyed_pairs, name_in};
+use cl_forms::{Datum, Key, Keyed, FormRefusal, keyed_pairs, name_in};
 use cl_syntax::{Expr, TypeSpec};
 use cl_table::Names;
 use cl_value::Text;
@@ -31,18 +31,18 @@ pub fn parse_translator(
     at: u32,
     parts: &[Datum],
     notes: &mut Notes,
-) -> Result<TranslatorDecl, LoadRefusal>
+) -> Result<TranslatorDecl, FormRefusal>
     ensures { Gives itself result notes.new
         (parse_translator reader.now.signatures.now kind at (map datum_of parts.now) notes.old) }
 {
     let Some(form) = translator_form(parts) else {
-        return Err(LoadRefusal::Refused(6, at));
+        return Err(FormRefusal::Refused(6, at));
     };
     let Some(keys) = keyed_pairs(reader.alloc, &TRANSLATOR_KEYS, form.keys)? else {
-        return Err(LoadRefusal::Refused(6, at));
+        return Err(FormRefusal::Refused(6, at));
     };
     let Some(shape) = translator_shape(reader.alloc, kind, form, keys.as_slice())? else {
-        return Err(LoadRefusal::Refused(6, at));
+        return Err(FormRefusal::Refused(6, at));
     };
     parse_shaped(reader, (kind, at), form, keys.as_slice(), shape, notes)
 }
@@ -55,7 +55,7 @@ fn parse_shaped(
     keys: &[Keyed],
     shape: TranslatorShape,
     notes: &mut Notes,
-) -> Result<TranslatorDecl, LoadRefusal>
+) -> Result<TranslatorDecl, FormRefusal>
     ensures { Gives itself result notes.new
         (parse_shaped reader.now.signatures.now place.0 place.1 (form_of form.entry) (map keyed_of keys.now) (Some shape) notes.old) }
 {
@@ -90,7 +90,7 @@ fn parse_target(
     kind: TranslatorKind,
     to: &Datum,
     notes: &mut Notes,
-) -> Result<TypeSpec, LoadRefusal>
+) -> Result<TypeSpec, FormRefusal>
     ensures { Gives itself result notes.new
         (parse_target reader.now.signatures.now kind (datum_of to.now) notes.old) }
 {
@@ -120,7 +120,7 @@ fn parse_translator_keys(
     reader: &Reader,
     keys: &[Keyed],
     notes: &mut Notes,
-) -> Result<Option<Expr>, LoadRefusal>
+) -> Result<Option<Expr>, FormRefusal>
     ensures { Gives itself result notes.new
         (parse_translator_keys reader.now.signatures.now (variables_of reader.now.scope.now) (map keyed_of keys.now) None notes.old) }
 {
@@ -136,7 +136,7 @@ fn parse_translator_key(
     key: &Keyed,
     tester: &mut Option<Expr>,
     notes: &mut Notes,
-) -> Result<(), LoadRefusal>
+) -> Result<(), FormRefusal>
     ensures { Leaves result tester.new notes.new
         (parse_translator_key reader.now.signatures.now (variables_of reader.now.scope.now) (keyed_of key.now) tester.old notes.old) }
 {
@@ -170,7 +170,7 @@ fn parse_tester(
     values: &[Datum],
     tester: &mut Option<Expr>,
     notes: &mut Notes,
-) -> Result<(), LoadRefusal>
+) -> Result<(), FormRefusal>
     ensures { Leaves result tester.new notes.new
         (parse_tester reader.now.signatures.now (variables_of reader.now.scope.now) (map datum_of values.now) tester.old notes.old) }
 {

@@ -13,7 +13,7 @@ use crate::type_shapes::{TYPE_KEYS, type_shape};
 use cl_application::HostDecl;
 use cl_bodies::parse_type;
 use cl_expressions::{Notes, Reader};
-use cl_forms::{Datum, Key, Keyed, LoadRefusal, keyed_pairs, name_in, symbol_text};
+use cl_forms::{Datum, Key, Keyed, FormRefusal, keyed_pairs, name_in, symbol_text};
 use cl_syntax::{TypeDecl, TypeSpec};
 use cl_table::Names;
 use cl_value::Text;
@@ -25,20 +25,20 @@ pub fn parse_user_type(
     at: u32,
     parts: &[Datum],
     notes: &mut Notes,
-) -> Result<TypeDecl, LoadRefusal>
+) -> Result<TypeDecl, FormRefusal>
     ensures { Gives itself result notes.new
         (parse_user_type reader.now.signatures.now at (map datum_of parts.now) notes.old) }
 {
     match parts {
-        [] => Err(LoadRefusal::Refused(6, at)),
-        [_] => Err(LoadRefusal::Refused(6, at)),
+        [] => Err(FormRefusal::Refused(6, at)),
+        [_] => Err(FormRefusal::Refused(6, at)),
         [name, parameters, keys @ ..] => {
             let Some(keys) = keyed_pairs(reader.alloc, &TYPE_KEYS, keys)? else {
-                return Err(LoadRefusal::Refused(6, at));
+                return Err(FormRefusal::Refused(6, at));
             };
             let shape = type_shape(reader.signatures, name, parameters, keys.as_slice())?;
             let Some(shape) = shape else {
-                return Err(LoadRefusal::Refused(6, at));
+                return Err(FormRefusal::Refused(6, at));
             };
             let parameters = names_in(reader.alloc, parameters.parts())?;
             let inherited = parse_type_keys(reader, &parameters, keys.as_slice(), notes)?;
@@ -71,7 +71,7 @@ fn parse_type_keys(
     parameters: &Names,
     keys: &[Keyed],
     notes: &mut Notes,
-) -> Result<Option<TypeSpec>, LoadRefusal>
+) -> Result<Option<TypeSpec>, FormRefusal>
     ensures { Gives itself result notes.new
         (parse_type_keys reader.now.signatures.now parameters.now (map keyed_of keys.now) None notes.old) }
 {
@@ -88,7 +88,7 @@ fn parse_type_key(
     key: &Keyed,
     inherited: &mut Option<TypeSpec>,
     notes: &mut Notes,
-) -> Result<(), LoadRefusal>
+) -> Result<(), FormRefusal>
     ensures { Leaves result inherited.new notes.new
         (parse_type_key reader.now.signatures.now parameters.now (keyed_of key.now) inherited.old notes.old) }
 {
@@ -122,7 +122,7 @@ fn parse_inherited(
     values: &[Datum],
     inherited: &mut Option<TypeSpec>,
     notes: &mut Notes,
-) -> Result<(), LoadRefusal>
+) -> Result<(), FormRefusal>
     ensures { Leaves result inherited.new notes.new
         (parse_inherited reader.now.signatures.now parameters.now (map datum_of values.now) inherited.old notes.old) }
 {
@@ -159,20 +159,20 @@ fn note_function(reader: &Reader, function: &Datum, notes: &mut Notes)
 
 /// `(define-host-type NAME)`
 #[tactic(auto, using(crate::proofs::DeclarationCounts::host_type_counts))]
-pub fn parse_host_type(alloc: Global, at: u32, parts: &[Datum]) -> Result<HostDecl, LoadRefusal>
+pub fn parse_host_type(alloc: Global, at: u32, parts: &[Datum]) -> Result<HostDecl, FormRefusal>
     ensures { (n : Noted) → Gives itself result n (parse_host_type at (map datum_of parts.now) n) }
 {
     match parts {
         [name] => {
             if name_in(name).is_none() {
-                return Err(LoadRefusal::Refused(6, at));
+                return Err(FormRefusal::Refused(6, at));
             }
             Ok(HostDecl {
                 name: symbol_text(alloc, name)?,
                 at,
             })
         }
-        [] => Err(LoadRefusal::Refused(6, at)),
-        [_, _, ..] => Err(LoadRefusal::Refused(6, at)),
+        [] => Err(FormRefusal::Refused(6, at)),
+        [_, _, ..] => Err(FormRefusal::Refused(6, at)),
     }
 }

@@ -3,8 +3,8 @@ use Rattle.std.specs.Prelude.{◌≡◌, ℕ, Bool, true, false, List, [], lengt
 use Rattle.std.specs.List.{insert}
 use Rattle.cl_syntax.specs.TypeSpecTree.{TypeSpecTree}
 use Rattle.cl_syntax.specs.declared.type_decls.PlacedSpec.{PlacedSpec}
-use Rattle.cl_forms.specs.declared.refusals.LoadRefusal.{LoadRefusal}
-use Rattle.cl_forms.specs.declared.refusals.LoadRefusal.TheVariants.{Refused, Memory}
+use Rattle.cl_forms.specs.declared.refusals.FormRefusal.{FormRefusal}
+use Rattle.cl_forms.specs.declared.refusals.FormRefusal.TheVariants.{Refused, Memory}
 
 -- the number of a refusal, and its offset
 abbrev pub Fault : Type 0
@@ -65,7 +65,7 @@ abbrev pub placed : List (List ℕ) → ℕ → Load TypeSpecTree → Load TypeS
 placed parameters at m notes = after (m notes) λ spec later. Ok (spec, with_specifier (length notes.specifiers) spec parameters at later)
 
 -- what the program answers
-abbrev pub Gives : {A B : Type 0} → (A → B) → Result A LoadRefusal → Notes → Result (B × Notes) Fault → Type 0
+abbrev pub Gives : {A B : Type 0} → (A → B) → Result A FormRefusal → Notes → Result (B × Notes) Fault → Type 0
 Gives f (Ok x) notes r = r ≡ Ok (f x, notes)
 Gives f (Err (Refused number at)) notes r = r ≡ Err (number, at)
 Gives f (Err Memory) notes r = Unit {0}

@@ -11,7 +11,7 @@ use crate::expressions::parse_expression;
 use crate::notes::Notes;
 use crate::readers::Reader;
 use crate::scopes::Scope;
-use cl_forms::{Datum, LoadRefusal, name_in, named_part};
+use cl_forms::{Datum, FormRefusal, name_in, named_part};
 use cl_syntax::{Binding, Expr};
 use cl_value::Text;
 
@@ -29,13 +29,13 @@ pub fn parse_bindings(
     at: u32,
     datum: &Datum,
     notes: &mut Notes,
-) -> Result<Bindings, LoadRefusal>
+) -> Result<Bindings, FormRefusal>
     ensures { Gives (bound_of (variables_of reader.now.scope.now)) result notes.new
         (parse_bindings reader.now.signatures.now (datum_of datum.now) at (variables_of reader.now.scope.now) notes.old) }
 {
     match datum {
         Datum::List(parts, _) => parse_each_binding(reader, at, parts.as_slice(), notes),
-        _ => Err(LoadRefusal::Refused(6, at)),
+        _ => Err(FormRefusal::Refused(6, at)),
     }
 }
 
@@ -46,7 +46,7 @@ fn parse_each_binding(
     at: u32,
     parts: &[Datum],
     notes: &mut Notes,
-) -> Result<Bindings, LoadRefusal>
+) -> Result<Bindings, FormRefusal>
     ensures { Gives (bound_of (variables_of reader.now.scope.now)) result notes.new
         (parse_each_binding reader.now.signatures.now (datums_of (map datum_of parts.now)) at (variables_of reader.now.scope.now)
         notes.old) }
@@ -69,13 +69,13 @@ pub fn parse_binding(
     at: u32,
     datum: &Datum,
     notes: &mut Notes,
-) -> Result<Binding, LoadRefusal>
+) -> Result<Binding, FormRefusal>
     ensures { Gives itself result notes.new
         (parse_binding reader.now.signatures.now (datum_of datum.now) at (variables_of reader.now.scope.now) notes.old) }
 {
     match datum {
         Datum::List(parts, _) => parse_binding_parts(reader, at, parts.as_slice(), notes),
-        _ => Err(LoadRefusal::Refused(6, at)),
+        _ => Err(FormRefusal::Refused(6, at)),
     }
 }
 
@@ -86,7 +86,7 @@ fn parse_binding_parts(
     at: u32,
     parts: &[Datum],
     notes: &mut Notes,
-) -> Result<Binding, LoadRefusal>
+) -> Result<Binding, FormRefusal>
     ensures { Gives itself result notes.new
         (parse_binding_parts at (subs reader.now.signatures.now (datums_of (map datum_of parts.now)))
         (variables_of reader.now.scope.now) notes.old) }
@@ -97,9 +97,9 @@ fn parse_binding_parts(
             let value = parse_expression(reader, value, notes)?;
             Ok(Binding { name, value })
         }
-        [] => Err(LoadRefusal::Refused(6, at)),
-        [_] => Err(LoadRefusal::Refused(6, at)),
-        [_, _, _, ..] => Err(LoadRefusal::Refused(6, at)),
+        [] => Err(FormRefusal::Refused(6, at)),
+        [_] => Err(FormRefusal::Refused(6, at)),
+        [_, _, _, ..] => Err(FormRefusal::Refused(6, at)),
     }
 }
 
@@ -111,7 +111,7 @@ pub fn parse_map(
     at: u32,
     parts: &[Datum],
     notes: &mut Notes,
-) -> Result<Expr, LoadRefusal>
+) -> Result<Expr, FormRefusal>
     ensures { Gives itself result notes.new
         (parse_map at (subs reader.now.signatures.now (datums_of (map datum_of parts.now))) (variables_of reader.now.scope.now)
         notes.old) }
@@ -124,10 +124,10 @@ pub fn parse_map(
             let body = parse_expression(&reader.seeing(&inner), body, notes)?;
             Ok(Expr::map(reader.alloc, name, list, body)?)
         }
-        [] => Err(LoadRefusal::Refused(6, at)),
-        [_] => Err(LoadRefusal::Refused(6, at)),
-        [_, _] => Err(LoadRefusal::Refused(6, at)),
-        [_, _, _, _, ..] => Err(LoadRefusal::Refused(6, at)),
+        [] => Err(FormRefusal::Refused(6, at)),
+        [_] => Err(FormRefusal::Refused(6, at)),
+        [_, _] => Err(FormRefusal::Refused(6, at)),
+        [_, _, _, _, ..] => Err(FormRefusal::Refused(6, at)),
     }
 }
 
@@ -139,7 +139,7 @@ pub fn parse_filter(
     at: u32,
     parts: &[Datum],
     notes: &mut Notes,
-) -> Result<Expr, LoadRefusal>
+) -> Result<Expr, FormRefusal>
     ensures { Gives itself result notes.new
         (parse_filter at (subs reader.now.signatures.now (datums_of (map datum_of parts.now)))
         (variables_of reader.now.scope.now) notes.old) }
@@ -152,10 +152,10 @@ pub fn parse_filter(
             let body = parse_expression(&reader.seeing(&inner), body, notes)?;
             Ok(Expr::filter(reader.alloc, name, list, body)?)
         }
-        [] => Err(LoadRefusal::Refused(6, at)),
-        [_] => Err(LoadRefusal::Refused(6, at)),
-        [_, _] => Err(LoadRefusal::Refused(6, at)),
-        [_, _, _, _, ..] => Err(LoadRefusal::Refused(6, at)),
+        [] => Err(FormRefusal::Refused(6, at)),
+        [_] => Err(FormRefusal::Refused(6, at)),
+        [_, _] => Err(FormRefusal::Refused(6, at)),
+        [_, _, _, _, ..] => Err(FormRefusal::Refused(6, at)),
     }
 }
 
@@ -167,7 +167,7 @@ pub fn parse_fold(
     at: u32,
     parts: &[Datum],
     notes: &mut Notes,
-) -> Result<Expr, LoadRefusal>
+) -> Result<Expr, FormRefusal>
     ensures { Gives itself result notes.new
         (parse_fold at (subs reader.now.signatures.now (datums_of (map datum_of parts.now))) (variables_of reader.now.scope.now)
         notes.old) }
@@ -183,12 +183,12 @@ pub fn parse_fold(
             let body = parse_expression(&reader.seeing(&inner), body, notes)?;
             Ok(Expr::fold(reader.alloc, name, list, accumulator, opening, body)?)
         }
-        [] => Err(LoadRefusal::Refused(6, at)),
-        [_] => Err(LoadRefusal::Refused(6, at)),
-        [_, _] => Err(LoadRefusal::Refused(6, at)),
-        [_, _, _] => Err(LoadRefusal::Refused(6, at)),
-        [_, _, _, _] => Err(LoadRefusal::Refused(6, at)),
-        [_, _, _, _, _, _, ..] => Err(LoadRefusal::Refused(6, at)),
+        [] => Err(FormRefusal::Refused(6, at)),
+        [_] => Err(FormRefusal::Refused(6, at)),
+        [_, _] => Err(FormRefusal::Refused(6, at)),
+        [_, _, _] => Err(FormRefusal::Refused(6, at)),
+        [_, _, _, _] => Err(FormRefusal::Refused(6, at)),
+        [_, _, _, _, _, _, ..] => Err(FormRefusal::Refused(6, at)),
     }
 }
 
@@ -200,7 +200,7 @@ pub fn parse_let(
     at: u32,
     parts: &[Datum],
     notes: &mut Notes,
-) -> Result<Expr, LoadRefusal>
+) -> Result<Expr, FormRefusal>
     ensures { Gives itself result notes.new
         (parse_let at (subs reader.now.signatures.now (datums_of (map datum_of parts.now))) (variables_of reader.now.scope.now)
         notes.old) }
@@ -208,16 +208,16 @@ pub fn parse_let(
     match parts {
         [bindings, body] => {
             if !is_binding_list(bindings) {
-                return Err(LoadRefusal::Refused(6, at));
+                return Err(FormRefusal::Refused(6, at));
             }
             let bound = parse_bindings(reader, at, bindings, notes)?;
             let inner = Scope::Names(bound.names.as_slice(), reader.scope);
             let body = parse_expression(&reader.seeing(&inner), body, notes)?;
             Ok(Expr::bind(reader.alloc, bound.bindings, body)?)
         }
-        [] => Err(LoadRefusal::Refused(6, at)),
-        [_] => Err(LoadRefusal::Refused(6, at)),
-        [_, _, _, ..] => Err(LoadRefusal::Refused(6, at)),
+        [] => Err(FormRefusal::Refused(6, at)),
+        [_] => Err(FormRefusal::Refused(6, at)),
+        [_, _, _, ..] => Err(FormRefusal::Refused(6, at)),
     }
 }
 

@@ -11,7 +11,7 @@ use crate::bindings::{parse_filter, parse_fold, parse_let, parse_map};
 use crate::notes::Notes;
 use crate::readers::Reader;
 use crate::records::{parse_get, parse_make, parse_with};
-use cl_forms::{Datum, LoadRefusal, fits, is_name, named_part};
+use cl_forms::{Datum, FormRefusal, fits, is_name, named_part};
 use cl_syntax::{Expr, Operator};
 use cl_value::{Text, Value};
 use cl_words::{Head, Special, count_of, head_named};
@@ -22,7 +22,7 @@ pub fn parse_expression(
     reader: &Reader,
     datum: &Datum,
     notes: &mut Notes,
-) -> Result<Expr, LoadRefusal>
+) -> Result<Expr, FormRefusal>
     ensures { Gives itself result notes.new
         (parse_expression reader.now.signatures.now (datum_of datum.now) (variables_of reader.now.scope.now) notes.old) }
 {
@@ -31,12 +31,12 @@ pub fn parse_expression(
         Datum::Literal(text, _) => Ok(Expr::constant(Value::Text(text.copy()?))),
         Datum::Quoted(name, _, _) => Ok(Expr::constant(Value::Symbol(name.copy()?))),
         Datum::Word(word, at) => parse_word(reader, word, *at, notes),
-        Datum::Stray(at) => Err(LoadRefusal::Refused(6, *at)),
+        Datum::Stray(at) => Err(FormRefusal::Refused(6, *at)),
         Datum::List(parts, at) => parse_form(reader, *at, parts.as_slice(), notes),
     }
 }
 
-fn parse_word(reader: &Reader, word: &Text, at: u32, notes: &mut Notes) -> Result<Expr, LoadRefusal>
+fn parse_word(reader: &Reader, word: &Text, at: u32, notes: &mut Notes) -> Result<Expr, FormRefusal>
     ensures { Gives itself result notes.new
         (parse_word word.now at (variables_of reader.now.scope.now) notes.old) }
 {
@@ -56,12 +56,12 @@ fn parse_variable(
     word: &Text,
     at: u32,
     notes: &mut Notes,
-) -> Result<Expr, LoadRefusal>
+) -> Result<Expr, FormRefusal>
     ensures { Gives itself result notes.new
         (parse_variable word.now at (variables_of reader.now.scope.now) notes.old) }
 {
     if !is_name(word.as_slice()) {
-        return Err(LoadRefusal::Refused(6, at));
+        return Err(FormRefusal::Refused(6, at));
     }
     let name = word.copy()?;
     notes.note(reader.scope.has(word.as_slice()), at);
@@ -75,17 +75,17 @@ fn parse_form(
     at: u32,
     parts: &[Datum],
     notes: &mut Notes,
-) -> Result<Expr, LoadRefusal>
+) -> Result<Expr, FormRefusal>
     ensures { Gives itself result notes.new
         (parse_form reader.now.signatures.now at (subs reader.now.signatures.now (datums_of (map datum_of parts.now)))
         (variables_of reader.now.scope.now) notes.old) }
 {
     let Some((head, parts)) = parts.split_first() else {
-        return Err(LoadRefusal::Refused(6, at));
+        return Err(FormRefusal::Refused(6, at));
     };
     match head {
         Datum::Word(head, head_at) => parse_head(reader, head, *head_at, at, parts, notes),
-        _ => Err(LoadRefusal::Refused(6, at)),
+        _ => Err(FormRefusal::Refused(6, at)),
     }
 }
 
@@ -97,7 +97,7 @@ fn parse_head(
     at: u32,
     parts: &[Datum],
     notes: &mut Notes,
-) -> Result<Expr, LoadRefusal>
+) -> Result<Expr, FormRefusal>
     ensures { Gives itself result notes.new
         (parse_headed reader.now.signatures.now (word head.now head_at) at
         (subs reader.now.signatures.now (datums_of (map datum_of parts.now))) (variables_of reader.now.scope.now)
@@ -109,7 +109,7 @@ fn parse_head(
         Some(Head::Let) => parse_let(reader, at, parts, notes),
         Some(Head::Special(special)) => parse_special(reader, special, at, parts, notes),
         Some(Head::Operator(operator)) => parse_operation(reader, operator, at, parts, notes),
-        Some(_) => Err(LoadRefusal::Refused(5, head_at)),
+        Some(_) => Err(FormRefusal::Refused(5, head_at)),
     }
 }
 
@@ -120,7 +120,7 @@ fn parse_special(
     at: u32,
     parts: &[Datum],
     notes: &mut Notes,
-) -> Result<Expr, LoadRefusal>
+) -> Result<Expr, FormRefusal>
     ensures { Gives itself result notes.new
         (parse_special reader.now.signatures.now special at (subs reader.now.signatures.now (datums_of (map datum_of parts.now)))
         (variables_of reader.now.scope.now) notes.old) }
@@ -145,7 +145,7 @@ pub fn parse_each(
     reader: &Reader,
     parts: &[Datum],
     notes: &mut Notes,
-) -> Result<Vec<Expr>, LoadRefusal>
+) -> Result<Vec<Expr>, FormRefusal>
     ensures { Gives terms_in result notes.new
         (parse_each (subs reader.now.signatures.now (datums_of (map datum_of parts.now))) (variables_of reader.now.scope.now)
         notes.old) }
@@ -166,7 +166,7 @@ fn parse_if(
     at: u32,
     parts: &[Datum],
     notes: &mut Notes,
-) -> Result<Expr, LoadRefusal>
+) -> Result<Expr, FormRefusal>
     ensures { Gives itself result notes.new
         (parse_if at (subs reader.now.signatures.now (datums_of (map datum_of parts.now))) (variables_of reader.now.scope.now)
         notes.old) }
@@ -178,10 +178,10 @@ fn parse_if(
             let other = parse_expression(reader, other, notes)?;
             Ok(Expr::choice(reader.alloc, test, then, other)?)
         }
-        [] => Err(LoadRefusal::Refused(6, at)),
-        [_] => Err(LoadRefusal::Refused(6, at)),
-        [_, _] => Err(LoadRefusal::Refused(6, at)),
-        [_, _, _, _, ..] => Err(LoadRefusal::Refused(6, at)),
+        [] => Err(FormRefusal::Refused(6, at)),
+        [_] => Err(FormRefusal::Refused(6, at)),
+        [_, _] => Err(FormRefusal::Refused(6, at)),
+        [_, _, _, _, ..] => Err(FormRefusal::Refused(6, at)),
     }
 }
 
@@ -192,14 +192,14 @@ fn parse_slot(
     at: u32,
     parts: &[Datum],
     notes: &mut Notes,
-) -> Result<Expr, LoadRefusal>
+) -> Result<Expr, FormRefusal>
     ensures { Gives itself result notes.new
         (parse_slot reader.now.signatures.now at (subs reader.now.signatures.now (datums_of (map datum_of parts.now))) notes.old) }
 {
     match parts {
         [name] => parse_slot_name(reader, at, name, notes),
-        [] => Err(LoadRefusal::Refused(6, at)),
-        [_, _, ..] => Err(LoadRefusal::Refused(6, at)),
+        [] => Err(FormRefusal::Refused(6, at)),
+        [_, _, ..] => Err(FormRefusal::Refused(6, at)),
     }
 }
 
@@ -208,7 +208,7 @@ fn parse_slot_name(
     at: u32,
     datum: &Datum,
     notes: &mut Notes,
-) -> Result<Expr, LoadRefusal>
+) -> Result<Expr, FormRefusal>
     ensures { Gives itself result notes.new
         (parse_slot_name reader.now.signatures.now at (datum_of datum.now) notes.old) }
 {
@@ -226,13 +226,13 @@ fn parse_operation(
     at: u32,
     parts: &[Datum],
     notes: &mut Notes,
-) -> Result<Expr, LoadRefusal>
+) -> Result<Expr, FormRefusal>
     ensures { Gives itself result notes.new
         (parse_operation operator at (subs reader.now.signatures.now (datums_of (map datum_of parts.now)))
         (variables_of reader.now.scope.now) notes.old) }
 {
     if !fits(count_of(&operator), parts.len()) {
-        return Err(LoadRefusal::Refused(6, at));
+        return Err(FormRefusal::Refused(6, at));
     }
     let exprs = parse_each(reader, parts, notes)?;
     Ok(Expr::operation(operator, exprs))
@@ -248,17 +248,17 @@ fn parse_call(
     at: u32,
     parts: &[Datum],
     notes: &mut Notes,
-) -> Result<Expr, LoadRefusal>
+) -> Result<Expr, FormRefusal>
     ensures { Gives itself result notes.new
         (parse_call reader.now.signatures.now head.now head_at at
         (subs reader.now.signatures.now (datums_of (map datum_of parts.now))) (variables_of reader.now.scope.now)
         notes.old) }
 {
     let Some(count) = reader.signatures.function(head.as_slice()) else {
-        return Err(LoadRefusal::Refused(5, head_at));
+        return Err(FormRefusal::Refused(5, head_at));
     };
     if !fits(count, parts.len()) {
-        return Err(LoadRefusal::Refused(6, at));
+        return Err(FormRefusal::Refused(6, at));
     }
     let exprs = parse_each(reader, parts, notes)?;
     Ok(Expr::call(head.copy()?, exprs))

@@ -13,7 +13,7 @@ ghost use Rattle.cl_expressions.specs.Expressions.{subs, parse_make, parse_make_
 use crate::expressions::{parse_each, parse_expression};
 use crate::notes::Notes;
 use crate::readers::Reader;
-use cl_forms::{Datum, LoadRefusal, fits, named_part};
+use cl_forms::{Datum, FormRefusal, fits, named_part};
 use cl_syntax::{Expr, Operator, RecordOperator};
 use cl_value::Text;
 use std::alloc::{AllocError, Global};
@@ -25,13 +25,13 @@ pub fn parse_make(
     at: u32,
     parts: &[Datum],
     notes: &mut Notes,
-) -> Result<Expr, LoadRefusal>
+) -> Result<Expr, FormRefusal>
     ensures { Gives itself result notes.new
         (parse_make reader.now.signatures.now at (subs reader.now.signatures.now (datums_of (map datum_of parts.now)))
         (variables_of reader.now.scope.now) notes.old) }
 {
     let Some((datum, parts)) = parts.split_first() else {
-        return Err(LoadRefusal::Refused(6, at));
+        return Err(FormRefusal::Refused(6, at));
     };
     let name = named_part(at, datum)?;
     parse_make_fields(reader, name, datum.offset(), at, parts, notes)
@@ -46,7 +46,7 @@ fn parse_make_fields(
     at: u32,
     parts: &[Datum],
     notes: &mut Notes,
-) -> Result<Expr, LoadRefusal>
+) -> Result<Expr, FormRefusal>
     ensures { Gives itself result notes.new
         (parse_make_fields (record_in reader.now.signatures.now name) name name_at at
         (subs reader.now.signatures.now (datums_of (map datum_of parts.now))) (variables_of reader.now.scope.now)
@@ -55,7 +55,7 @@ fn parse_make_fields(
     match reader.signatures.record_fields(name.as_slice()) {
         Some(count) => {
             if !fits(count, parts.len()) {
-                return Err(LoadRefusal::Refused(6, at));
+                return Err(FormRefusal::Refused(6, at));
             }
         }
         None => notes.note(false, name_at),
@@ -69,7 +69,7 @@ fn parse_make_parts(
     name: Text,
     parts: &[Datum],
     notes: &mut Notes,
-) -> Result<Expr, LoadRefusal>
+) -> Result<Expr, FormRefusal>
     ensures { Gives itself result notes.new
         (parse_make_parts name (subs reader.now.signatures.now (datums_of (map datum_of parts.now))) (variables_of reader.now.scope.now)
         notes.old) }
@@ -86,7 +86,7 @@ pub fn parse_get(
     at: u32,
     parts: &[Datum],
     notes: &mut Notes,
-) -> Result<Expr, LoadRefusal>
+) -> Result<Expr, FormRefusal>
     ensures { Gives itself result notes.new
         (parse_get at (subs reader.now.signatures.now (datums_of (map datum_of parts.now))) (variables_of reader.now.scope.now)
         notes.old) }
@@ -97,9 +97,9 @@ pub fn parse_get(
             let record = parse_expression(reader, record, notes)?;
             Ok(get_of(reader.alloc, field, record)?)
         }
-        [] => Err(LoadRefusal::Refused(6, at)),
-        [_] => Err(LoadRefusal::Refused(6, at)),
-        [_, _, _, ..] => Err(LoadRefusal::Refused(6, at)),
+        [] => Err(FormRefusal::Refused(6, at)),
+        [_] => Err(FormRefusal::Refused(6, at)),
+        [_, _, _, ..] => Err(FormRefusal::Refused(6, at)),
     }
 }
 
@@ -111,7 +111,7 @@ pub fn parse_with(
     at: u32,
     parts: &[Datum],
     notes: &mut Notes,
-) -> Result<Expr, LoadRefusal>
+) -> Result<Expr, FormRefusal>
     ensures { Gives itself result notes.new
         (parse_with at (subs reader.now.signatures.now (datums_of (map datum_of parts.now))) (variables_of reader.now.scope.now)
         notes.old) }
@@ -123,10 +123,10 @@ pub fn parse_with(
             let value = parse_expression(reader, value, notes)?;
             Ok(with_of(reader.alloc, field, record, value)?)
         }
-        [] => Err(LoadRefusal::Refused(6, at)),
-        [_] => Err(LoadRefusal::Refused(6, at)),
-        [_, _] => Err(LoadRefusal::Refused(6, at)),
-        [_, _, _, _, ..] => Err(LoadRefusal::Refused(6, at)),
+        [] => Err(FormRefusal::Refused(6, at)),
+        [_] => Err(FormRefusal::Refused(6, at)),
+        [_, _] => Err(FormRefusal::Refused(6, at)),
+        [_, _, _, _, ..] => Err(FormRefusal::Refused(6, at)),
     }
 }
 

@@ -27,5 +27,5 @@ pub use outer::{
     DeclarationKind, Outer, OuterKind, behind_first, first_of, first_or_itself, outer_in, outers_of,
 };
 pub use parse::all_forms;
-pub use refusals::LoadRefusal;
+pub use refusals::FormRefusal;
 pub use words::{is_constant, is_key, is_name};

@@ -6,7 +6,7 @@ ghost use Rattle.cl_forms.specs.Naming.{fits};
 ghost use Rattle.cl_forms.specs.Named.{NamesPart};
 
 use crate::datum::Datum;
-use crate::refusals::LoadRefusal;
+use crate::refusals::FormRefusal;
 use crate::words::is_name;
 use cl_value::Text;
 use std::alloc::{AllocError, Global};
@@ -98,12 +98,12 @@ pub fn list_counted(datum: &Datum) -> Option<usize>
 }
 
 /// The name that a datum is, where the form at this offset asks for one.
-pub fn named_part(at: u32, datum: &Datum) -> Result<Text, LoadRefusal>
+pub fn named_part(at: u32, datum: &Datum) -> Result<Text, FormRefusal>
     ensures { NamesPart result at (datum_of datum.now) }
 {
     match name_in(datum) {
         Some(name) => Ok(name.copy()?),
-        None => Err(LoadRefusal::Refused(6, at)),
+        None => Err(FormRefusal::Refused(6, at)),
     }
 }
 

@@ -4,8 +4,8 @@ use Rattle.std.specs.Prelude.{Option, Some, None, Result, Ok, Err}
 use Rattle.cl_application.specs.declared.applications.App.{App}
 use Rattle.cl_expressions.specs.Load.{Fault, Notes, nothing_noted}
 use Rattle.cl_forms.specs.Datum.{Datum}
-use Rattle.cl_forms.specs.declared.refusals.LoadRefusal.{LoadRefusal}
-use Rattle.cl_forms.specs.declared.refusals.LoadRefusal.TheVariants.{Refused, Memory}
+use Rattle.cl_forms.specs.declared.refusals.FormRefusal.{FormRefusal}
+use Rattle.cl_forms.specs.declared.refusals.FormRefusal.TheVariants.{Refused, Memory}
 use Rattle.cl_declare.specs.declared.declarations.Declarations.{Declarations}
 use Rattle.cl_load.specs.Answers.{Passes}
 use Rattle.cl_load.specs.Loads.{Concludes}
@@ -34,7 +34,7 @@ some_none : (at : ℕ) → ◌≡◌ {A = Option ℕ} (Some at) None → ⊥
 some_none at h = cc
 
 -- a fault of the forms comes before those of the types and of the frame
-pub refused_forms : (B : Type 0) (e : LoadRefusal) (bounds : Bounds) (size : ℕ) (ds : List Datum) (s : Declarations) (notes : Notes)
+pub refused_forms : (B : Type 0) (e : FormRefusal) (bounds : Bounds) (size : ℕ) (ds : List Datum) (s : Declarations) (notes : Notes)
     → parse ds nothing_noted ≡ Ok (s, notes) → Passes {B = B} (Err e) (first_fault (form_faults ds notes)) → Concludes (Err e) bounds size ds
 refused_forms B (Refused number at) bounds size ds s notes p h =
     let none_is : first_fault (form_faults ds notes) ≡ None → ⊥ = differ (number, at) (first_fault (form_faults ds notes)) h in
@@ -105,7 +105,7 @@ refused_so bounds size ds s notes number at none (inr (inl misfit)) =
 refused_so bounds size ds s notes number at none (inr (inr large)) =
     subst (λ (n : ℕ). Settled bounds size ds s notes (Err (n, at))) (sym large.0) (large_so bounds size ds s notes at none large.1 large.2 large.3)
 
-pub refused_types : (e : LoadRefusal) (bounds : Bounds) (size : ℕ) (ds : List Datum) (s : Declarations) (notes : Notes) → parse ds nothing_noted ≡ Ok (s, notes)
+pub refused_types : (e : FormRefusal) (bounds : Bounds) (size : ℕ) (ds : List Datum) (s : Declarations) (notes : Notes) → parse ds nothing_noted ≡ Ok (s, notes)
     → first_fault (form_faults ds notes) ≡ None → Builds (Err e) bounds s notes → Concludes (Err e) bounds size ds
 refused_types (Refused number at) bounds size ds s notes p none h =
     subst (λ r. Comes bounds size ds r (Err (number, at))) (sym p) (refused_so bounds size ds s notes number at none h)
@@ -128,7 +128,7 @@ settled_so bounds size ds s notes o none ring misfit large f = record {
 }
 
 -- where the types have none either, the frame decides
-pub settled_forms : (r : Result Opened LoadRefusal) (bounds : Bounds) (size : ℕ) (ds : List Datum) (s : Declarations) (notes : Notes) (w : World) → parse ds nothing_noted ≡ Ok (s, notes)
+pub settled_forms : (r : Result Opened FormRefusal) (bounds : Bounds) (size : ℕ) (ds : List Datum) (s : Declarations) (notes : Notes) (w : World) → parse ds nothing_noted ≡ Ok (s, notes)
     → first_fault (form_faults ds notes) ≡ None → Builds (Ok w) bounds s notes → Settles r bounds size s → Concludes r bounds size ds
 settled_forms (Ok opened) bounds size ds s notes w p none types f =
     (subst (λ r. Comes bounds size ds r (Ok opened.app)) (sym p) (settled_so bounds size ds s notes (Ok opened.app) none types.1 types.2 types.3 f.0), f.1)

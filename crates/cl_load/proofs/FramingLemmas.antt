@@ -4,8 +4,8 @@ use Rattle.std.specs.Prelude.{Some, Ok, Err, option_to_list}
 use Rattle.cl_application.specs.declared.applications.App.{App}
 use Rattle.cl_application.specs.declared.declarations.FrameDecl.{FrameDecl}
 use Rattle.cl_expressions.specs.Load.{itself}
-use Rattle.cl_forms.specs.declared.refusals.LoadRefusal.{LoadRefusal}
-use Rattle.cl_forms.specs.declared.refusals.LoadRefusal.TheVariants.{Refused, Memory}
+use Rattle.cl_forms.specs.declared.refusals.FormRefusal.{FormRefusal}
+use Rattle.cl_forms.specs.declared.refusals.FormRefusal.TheVariants.{Refused, Memory}
 use Rattle.cl_declare.specs.declared.declarations.Declarations.{Declarations}
 use Rattle.cl_declare.specs.declared.frames.FrameForm.{FrameForm}
 use Rattle.cl_load.specs.Answers.{Makes}
@@ -20,12 +20,12 @@ only_taken f g (x ∷ []) h = cc
 only_taken f g (x ∷ y ∷ left) h = cc
 
 -- no frame, or two
-pub misses_frame : (e : LoadRefusal) (size : ℕ) (s : Declarations) → TakesFrame (Err e) size s.frames → FramesApp (Err e) size s
+pub misses_frame : (e : FormRefusal) (size : ℕ) (s : Declarations) → TakesFrame (Err e) size s.frames → FramesApp (Err e) size s
 misses_frame (Refused number at) size s h = rw h refl
 misses_frame Memory size s h = tt
 
 -- no place for it
-pub misses_place : (e : LoadRefusal) (size : ℕ) (s : Declarations) (f : FrameForm) → s.frames ≡ f ∷ [] → Makes (itself {A = FrameDecl}) (Err e) (place_frame f)
+pub misses_place : (e : FormRefusal) (size : ℕ) (s : Declarations) (f : FrameForm) → s.frames ≡ f ∷ [] → Makes (itself {A = FrameDecl}) (Err e) (place_frame f)
     → FramesApp (Err e) size s
 misses_place (Refused number at) size s f one h = rw (one, h) refl
 misses_place Memory size s f one h = tt

@@ -7,8 +7,8 @@ use Rattle.cl_application.specs.declared.declarations.SlotDecl.{SlotDecl}
 use Rattle.cl_value.specs.Data.{Data}
 use Rattle.cl_eval.specs.Slots.{Slots, put}
 use Rattle.cl_load.specs.Opening.{Holds, first_unfit_opening, opened, opening_of, is_fit, value_in, opening_slots, OpensValue, OpensValues}
-use Rattle.cl_forms.specs.declared.refusals.LoadRefusal.{LoadRefusal}
-use Rattle.cl_forms.specs.declared.refusals.LoadRefusal.TheVariants.{Refused, Memory}
+use Rattle.cl_forms.specs.declared.refusals.FormRefusal.{FormRefusal}
+use Rattle.cl_forms.specs.declared.refusals.FormRefusal.TheVariants.{Refused, Memory}
 
 pub unfit_next : (holds : Holds) (app : App) (t : List (List ℕ × SlotDecl)) (i : ℕ) (d : SlotDecl) → Some d ≡ declared_at i t
     → first_unfit_opening holds app (drop i t) ≡ (if is_fit holds (opening_of app d) d.spec then first_unfit_opening holds app (drop (suc i) t) else Some d.opening_at)
@@ -24,7 +24,7 @@ opened_next app [] (suc i) d slots h = cc
 opened_next app (s ∷ t) zero d slots h = grind arith
 opened_next app (s ∷ t) (suc i) d slots h = opened_next app t i d slots h
 
-pub unfit_here : (e : LoadRefusal) (holds : Holds) (app : App) (i : ℕ) (d : SlotDecl) → Some d ≡ declared_at i app.frame.slots
+pub unfit_here : (e : FormRefusal) (holds : Holds) (app : App) (i : ℕ) (d : SlotDecl) → Some d ≡ declared_at i app.frame.slots
     → first_unfit_opening holds app (drop i app.frame.slots) ≡ first_unfit_opening holds app app.frame.slots → OpensValue (Err e) holds (opening_of app d) d
     → OpensValues (Err e) holds app
 unfit_here (Refused number at) holds app i d h same v = (v.0, rw (← same, unfit_next holds app app.frame.slots i d h, v.2, v.1) refl)

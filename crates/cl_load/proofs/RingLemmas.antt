@@ -3,7 +3,7 @@ use Rattle.std.proofs.Common.{◌≡◌, ◌==◌, inl, inr, ℕ, if◌then◌el
 use Rattle.std.specs.Prelude.{Option, Some, None, Ok, Err}
 use Rattle.cl_declare.specs.declared.declarations.Declarations.{Declarations}
 use Rattle.cl_expressions.specs.Load.{Notes}
-use Rattle.cl_forms.specs.declared.refusals.LoadRefusal.TheVariants.{Refused}
+use Rattle.cl_forms.specs.declared.refusals.FormRefusal.TheVariants.{Refused}
 use Rattle.cl_lattice.specs.Firsts.{StandsOnRing, offset_of}
 use Rattle.cl_lattice.specs.World.{World}
 use Rattle.cl_load.specs.Settling.{Builds, BuildsTypes}

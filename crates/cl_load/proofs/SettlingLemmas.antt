@@ -4,8 +4,8 @@ use Rattle.std.specs.Prelude.{Option, Some, None, Result, Ok, Err}
 use Rattle.cl_application.specs.declared.applications.App.{App}
 use Rattle.cl_application.specs.declared.declarations.HostDecl.{HostDecl}
 use Rattle.cl_expressions.specs.Load.{Fault}
-use Rattle.cl_forms.specs.declared.refusals.LoadRefusal.{LoadRefusal}
-use Rattle.cl_forms.specs.declared.refusals.LoadRefusal.TheVariants.{Refused, Memory}
+use Rattle.cl_forms.specs.declared.refusals.FormRefusal.{FormRefusal}
+use Rattle.cl_forms.specs.declared.refusals.FormRefusal.TheVariants.{Refused, Memory}
 use Rattle.cl_declare.specs.declared.declarations.Declarations.{Declarations}
 use Rattle.cl_load.specs.Answers.{Passes}
 use Rattle.cl_lattice.specs.World.{World}
@@ -30,7 +30,7 @@ after_reading bounds size s = numbered 14 (frame_missed size s.frames) ∷ no_pl
 stops_first : (a : Option Fault) (more : List (Option Fault)) (given : Option App) (fault : Fault) → a ≡ Some fault → IsVerdict (first_fault (a ∷ more)) given (Err fault)
 stops_first a more given fault p = rw p refl
 
-pub stops_reading : (B : Type 0) (e : LoadRefusal) (bounds : Bounds) (size : ℕ) (s : Declarations) (reading : Option ℕ) → FindsReading s reading
+pub stops_reading : (B : Type 0) (e : FormRefusal) (bounds : Bounds) (size : ℕ) (s : Declarations) (reading : Option ℕ) → FindsReading s reading
     → Passes {B = B} (Err e) (numbered 10 reading) → Settles (Err e) bounds size s
 stops_reading B (Refused number at) bounds size s reading found h =
     record { reading = reading; found = found; verdict = stops_first (numbered 10 reading) (after_reading bounds size s) (app_in s s.frames) (number, at) h }
@@ -50,7 +50,7 @@ stops_second : (a b c : Option Fault) (more : List (Option Fault)) (given : Opti
     → IsVerdict (first_fault (a ∷ b ∷ c ∷ more)) given (Err fault)
 stops_second a b c more given fault p h = rw (first_past a (b ∷ c ∷ more) p ∙ two_found b c more fault h) refl
 
-pub stops_frame : (e : LoadRefusal) (bounds : Bounds) (size : ℕ) (s : Declarations) (reading : Option ℕ) → FindsReading s reading → numbered 10 reading ≡ None
+pub stops_frame : (e : FormRefusal) (bounds : Bounds) (size : ℕ) (s : Declarations) (reading : Option ℕ) → FindsReading s reading → numbered 10 reading ≡ None
     → FramesApp (Err e) size s → Settles (Err e) bounds size s
 stops_frame (Refused number at) bounds size s reading found none h =
     record {
@@ -90,7 +90,7 @@ place_there s app framed = rw (framed.one, framed.placed) refl
 app_there : (s : Declarations) (app : App) → AppFramed s app → app_in s s.frames ≡ Some app
 app_there s app framed = ap (app_in s) framed.one ∙ ap (app_placed s) framed.placed ∙ ap (λ (a : App). Some a) (sym framed.made)
 
-pub opens : (r : Result Opened LoadRefusal) (bounds : Bounds) (size : ℕ) (s : Declarations) (w : World) (reading : Option ℕ) (app : App) → w ≡ declared_types bounds s
+pub opens : (r : Result Opened FormRefusal) (bounds : Bounds) (size : ℕ) (s : Declarations) (w : World) (reading : Option ℕ) (app : App) → w ≡ declared_types bounds s
     → FindsReading s reading → numbered 10 reading ≡ None → AppFramed s app → Opens r bounds app w → Settles r bounds size s
 opens (Ok opened) bounds size s w reading app types found none framed o =
     let right : w ≡ types_in bounds app = types ∙ types_framed bounds s app framed in
@@ -120,7 +120,7 @@ pub no_ring_framed : (s : Declarations) (app : App) → AppFramed s app → HasN
 no_ring_framed s app framed none = subst (λ (a : App). HasNoRing a.tables) (sym framed.made) none
 
 -- the last faults refuse an application
-pub opens_refused : (e : LoadRefusal) (bounds : Bounds) (app : App) (w : World) → OpensLast (Err e) bounds w app → Opens (Err e) bounds app w
+pub opens_refused : (e : FormRefusal) (bounds : Bounds) (app : App) (w : World) → OpensLast (Err e) bounds w app → Opens (Err e) bounds app w
 opens_refused (Refused number at) bounds app w h = h
 opens_refused Memory bounds app w h = tt
 
@@ -142,14 +142,14 @@ numbered_some : (number told : ℕ) (given : Option ℕ) (at : ℕ) → told ≡
 numbered_some number told given at same h = rw (same, h) refl
 
 -- a host type of which there is none
-pub stops_host : (B : Type 0) (e : LoadRefusal) (bounds : Bounds) (w : World) (app : App) → Passes {B = B} (Err e) (numbered 16 (first_missing bounds app.hosts))
+pub stops_host : (B : Type 0) (e : FormRefusal) (bounds : Bounds) (w : World) (app : App) → Passes {B = B} (Err e) (numbered 16 (first_missing bounds app.hosts))
     → OpensLast (Err e) bounds w app
 stops_host B (Refused number at) bounds w app h =
     first_of_two (numbered 16 (first_missing bounds app.hosts)) (numbered 12 (first_unfit (holds_in w app) app)) (number, at) h
 stops_host B Memory bounds w app h = tt
 
 -- the opening slots, where all host types are there
-pub slots_last : (r : Result Slots LoadRefusal) (bounds : Bounds) (w : World) (app : App) → numbered 16 (first_missing bounds app.hosts) ≡ None
+pub slots_last : (r : Result Slots FormRefusal) (bounds : Bounds) (w : World) (app : App) → numbered 16 (first_missing bounds app.hosts) ≡ None
     → OpensSlots r (holds_in w app) app → OpensLast r bounds w app
 slots_last (Ok slots) bounds w app none h = (
   none_of_two (numbered 16 (first_missing bounds app.hosts)) (numbered 12 (first_unfit (holds_in w app) app)) none
@@ -162,5 +162,5 @@ slots_last (Err (Refused number at)) bounds w app none h =
 slots_last (Err Memory) bounds w app none h = tt
 
 -- the slots by the membership of a book on an application and its types
-pub slots_held : (r : Result Slots LoadRefusal) (a b : App) (v w : World) → a ≡ b → v ≡ w → OpensSlots r (holds_in v a) b → OpensSlots r (holds_in w b) b
+pub slots_held : (r : Result Slots FormRefusal) (a b : App) (v w : World) → a ≡ b → v ≡ w → OpensSlots r (holds_in v a) b → OpensSlots r (holds_in w b) b
 slots_held r a b v w app types h = subst (λ (c : App). OpensSlots r (holds_in w c) b) app (subst (λ (u : World). OpensSlots r (holds_in u a) b) types h)

@@ -13,8 +13,8 @@ use Rattle.cl_syntax.specs.TypeSpecTree.{TypeSpecTree}
 use Rattle.cl_application.specs.declared.declarations.ArgumentDecl.{ArgumentDecl}
 use Rattle.cl_application.specs.declared.declarations.HostDecl.{HostDecl}
 use Rattle.cl_expressions.specs.Load.{Notes}
-use Rattle.cl_forms.specs.declared.refusals.LoadRefusal.{LoadRefusal}
-use Rattle.cl_forms.specs.declared.refusals.LoadRefusal.TheVariants.{Refused, Memory}
+use Rattle.cl_forms.specs.declared.refusals.FormRefusal.{FormRefusal}
+use Rattle.cl_forms.specs.declared.refusals.FormRefusal.TheVariants.{Refused, Memory}
 use Rattle.cl_declare.specs.declared.declarations.Declarations.{Declarations}
 use Rattle.cl_lattice.specs.Building.{NoRing}
 use Rattle.cl_lattice.specs.Firsts.{IsFirst, IsFirstLarge, InheritsTooMuch, IsTooLarge, StandsOnRing, is_past, offset_of}
@@ -126,7 +126,7 @@ types_fit bounds s notes w v world same ringless fit all free =
     )
 
 -- a lattice that was built, by the misfit that was found
-pub types_built : (r : Result World LoadRefusal) (bounds : Bounds) (s : Declarations) (notes : Notes) (w v : World) (misfit : Option ℕ) → v ≡ declared_types bounds s
+pub types_built : (r : Result World FormRefusal) (bounds : Bounds) (s : Declarations) (notes : Notes) (w v : World) (misfit : Option ℕ) → v ≡ declared_types bounds s
     → w ≡ v → NoRing w → All (λ p. fits w p.spec ≡ true) notes.specifiers → FindsMisfit s notes misfit → Fits r w misfit → BuildsTypes r bounds s notes
 types_built (Ok u) bounds s notes w v misfit world same ringless fit found h =
     let all : AllFit w = subst AllFit h.0 h.1 in

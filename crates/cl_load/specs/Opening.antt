@@ -14,8 +14,8 @@ use Rattle.cl_eval.specs.declared.metering.Limits.{Limits}
 use Rattle.cl_eval.specs.Evaluated.{outcome_of_eval}
 use Rattle.cl_eval.specs.Outcome.{Outcome, Gives, Traps}
 use Rattle.cl_eval.specs.Slots.{Slots, put}
-use Rattle.cl_forms.specs.declared.refusals.LoadRefusal.{LoadRefusal}
-use Rattle.cl_forms.specs.declared.refusals.LoadRefusal.TheVariants.{Refused, Memory}
+use Rattle.cl_forms.specs.declared.refusals.FormRefusal.{FormRefusal}
+use Rattle.cl_forms.specs.declared.refusals.FormRefusal.TheVariants.{Refused, Memory}
 use Rattle.cl_phases.specs.Earlier.{earlier}
 
 -- the limits of an opening value and of a default
@@ -87,25 +87,25 @@ opening_slots app = opened app app.frame.slots []
 -- ---- what the program answers
 
 -- the value, where it is a member of the slot's type
-abbrev pub IsMemberOf : Result Value LoadRefusal → Holds → Data → SlotDecl → Type 0
+abbrev pub IsMemberOf : Result Value FormRefusal → Holds → Data → SlotDecl → Type 0
 IsMemberOf (Ok v) holds d slot = (data_of v ≡ d) × (holds d slot.spec ≡ true)
 IsMemberOf (Err (Refused number at)) holds d slot = (number ≡ 12) × (at ≡ slot.opening_at) × (holds d slot.spec ≡ false)
 IsMemberOf (Err Memory) holds d slot = Unit {0}
 
 -- the value of one slot
-abbrev pub OpensValue : Result Value LoadRefusal → Holds → Outcome Data → SlotDecl → Type 0
+abbrev pub OpensValue : Result Value FormRefusal → Holds → Outcome Data → SlotDecl → Type 0
 OpensValue (Ok v) holds o d = (data_of v ≡ value_in o) × (is_fit holds o d.spec ≡ true)
 OpensValue (Err (Refused number at)) holds o d = (number ≡ 12) × (at ≡ d.opening_at) × (is_fit holds o d.spec ≡ false)
 OpensValue (Err Memory) holds o d = Unit {0}
 
 -- the slots, as far as their own values decide
-abbrev pub OpensValues : Result Slots LoadRefusal → Holds → App → Type 0
+abbrev pub OpensValues : Result Slots FormRefusal → Holds → App → Type 0
 OpensValues (Ok slots) holds app = (first_unfit_opening holds app app.frame.slots ≡ None) × (slots ≡ opening_slots app)
 OpensValues (Err (Refused number at)) holds app = (number ≡ 12) × (first_unfit_opening holds app app.frame.slots ≡ Some at)
 OpensValues (Err Memory) holds app = Unit {0}
 
 -- the slots
-abbrev pub OpensSlots : Result Slots LoadRefusal → Holds → App → Type 0
+abbrev pub OpensSlots : Result Slots FormRefusal → Holds → App → Type 0
 OpensSlots (Ok slots) holds app = (first_unfit holds app ≡ None) × (slots ≡ opening_slots app)
 OpensSlots (Err (Refused number at)) holds app = (number ≡ 12) × (first_unfit holds app ≡ Some at)
 OpensSlots (Err Memory) holds app = Unit {0}

@@ -2,8 +2,8 @@
 use Rattle.std.specs.Prelude.{◌≡◌, ℕ, ◌+◌, List, [], ◌∷◌, ℤ, pos, negsuc, Bool, true, ◌&&◌, nat_le, if◌then◌else◌, Option, Some, None, Result, Ok, Err}
 use Rattle.cl_expressions.specs.Load.{Fault}
 use Rattle.cl_forms.specs.Naming.{some_if}
-use Rattle.cl_forms.specs.declared.refusals.LoadRefusal.{LoadRefusal}
-use Rattle.cl_forms.specs.declared.refusals.LoadRefusal.TheVariants.{Refused, Memory}
+use Rattle.cl_forms.specs.declared.refusals.FormRefusal.{FormRefusal}
+use Rattle.cl_forms.specs.declared.refusals.FormRefusal.TheVariants.{Refused, Memory}
 use Rattle.cl_table.specs.Names.{with_first}
 use Rattle.cl_application.specs.Panes.{declared_by, lie_apart}
 use Rattle.cl_application.specs.declared.declarations.FrameDecl.{FrameDecl}
@@ -75,7 +75,7 @@ place_frame f = place_on f (side 512 f.width) (side 256 f.height)
 -- ---- what the program answers
 
 -- the panes that are placed now; want of memory answers nothing
-abbrev pub Places : {A : Type 0} → Result A LoadRefusal → PaneTable → Result PaneTable Fault → Type 0
+abbrev pub Places : {A : Type 0} → Result A FormRefusal → PaneTable → Result PaneTable Fault → Type 0
 Places (Ok done) placed r = r ≡ Ok placed
 Places (Err (Refused number at)) placed r = r ≡ Err (number, at)
 Places (Err Memory) placed r = Unit {0}

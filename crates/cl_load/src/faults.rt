@@ -5,12 +5,12 @@ ghost use Rattle.cl_load.specs.Answers.{Passes};
 ghost use Rattle.cl_load.specs.Refusals.{first_fault, form_faults, numbered};
 
 use cl_expressions::Notes;
-use cl_forms::{Datum, LoadRefusal, outers_of};
+use cl_forms::{Datum, FormRefusal, outers_of};
 use cl_phases::{first_past, first_twice};
 use std::alloc::Global;
 
 /// Refusals 13, 7 and 8, in this order.
-pub fn pass_forms(alloc: Global, forms: &[Datum], notes: &Notes) -> Result<(), LoadRefusal>
+pub fn pass_forms(alloc: Global, forms: &[Datum], notes: &Notes) -> Result<(), FormRefusal>
     ensures { Passes result (first_fault (form_faults (map datum_of forms.now) notes.now)) }
 {
     pass(13, first_past(forms))?;
@@ -20,11 +20,11 @@ pub fn pass_forms(alloc: Global, forms: &[Datum], notes: &Notes) -> Result<(), L
 }
 
 /// A refusal of this number, where there is an offset for it.
-pub fn pass(number: u8, at: Option<u32>) -> Result<(), LoadRefusal>
+pub fn pass(number: u8, at: Option<u32>) -> Result<(), FormRefusal>
     ensures { Passes result (numbered number at) }
 {
     match at {
-        Some(at) => Err(LoadRefusal::Refused(number, at)),
+        Some(at) => Err(FormRefusal::Refused(number, at)),
         None => Ok(()),
     }
 }

@@ -14,6 +14,6 @@ mod settling;
 mod types;
 
 pub use application::Loaded;
-pub use cl_forms::LoadRefusal;
+pub use cl_forms::FormRefusal;
 pub use laws::one_outcome;
 pub use loading::load;

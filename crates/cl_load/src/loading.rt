@@ -11,7 +11,7 @@ use crate::rings::build;
 use crate::settling::settle;
 use cl_declare::{Declarations, parse_declarations};
 use cl_expressions::{Notes, Reader, Scope};
-use cl_forms::{Datum, Forms, LoadRefusal, all_forms, data_in, outers_of};
+use cl_forms::{Datum, Forms, FormRefusal, all_forms, data_in, outers_of};
 use cl_ptext::Hosts;
 use cl_sexp::{ReadRefusal, read_forms};
 use cl_words::signatures_of;
@@ -24,7 +24,7 @@ const LONGEST: usize = 1_048_576;
 /// types and its opening slots, or the first of its refusals: 13 for the whole text, the first of 1 to 4,
 /// the first of 0, 5 and 6, 13, 7, 8, 9, 6 for an argument that comes to stand where it is not taken, 13 for
 /// expanded types, 10, 14, 15, 16 and 12, in this order.
-pub fn load<H: Hosts>(alloc: Global, text: &[u8], hosts: &H) -> Result<Loaded, LoadRefusal>
+pub fn load<H: Hosts>(alloc: Global, text: &[u8], hosts: &H) -> Result<Loaded, FormRefusal>
     ensures { Loads (H.bounds hosts.now) text.now result }
 {
     let forms = read(alloc, text)?;
@@ -38,16 +38,16 @@ pub fn load<H: Hosts>(alloc: Global, text: &[u8], hosts: &H) -> Result<Loaded, L
 }
 
 /// The forms of a text.
-fn read(alloc: Global, text: &[u8]) -> Result<Forms, LoadRefusal>
+fn read(alloc: Global, text: &[u8]) -> Result<Forms, FormRefusal>
     ensures { Reads text.now result }
 {
     if text.len() > LONGEST {
-        return Err(LoadRefusal::Refused(13, 1_048_576));
+        return Err(FormRefusal::Refused(13, 1_048_576));
     }
     match read_forms(alloc, text) {
         Ok(tokens) => Ok(all_forms(alloc, text, tokens.as_slice())?),
-        Err(ReadRefusal::Refused(number, at)) => Err(LoadRefusal::Refused(number, at)),
-        Err(ReadRefusal::Memory) => Err(LoadRefusal::Memory),
+        Err(ReadRefusal::Refused(number, at)) => Err(FormRefusal::Refused(number, at)),
+        Err(ReadRefusal::Memory) => Err(FormRefusal::Memory),
     }
 }
 
@@ -57,7 +57,7 @@ fn conclude<H: Hosts>(
     length: u32,
     forms: &[Datum],
     hosts: &H,
-) -> Result<Opened, LoadRefusal>
+) -> Result<Opened, FormRefusal>
     ensures { Concludes result (H.bounds hosts.now) length (map datum_of forms.now) }
 {
     let mut notes = Notes::new(alloc);
@@ -69,7 +69,7 @@ fn conclude<H: Hosts>(
 
 /// What the data of a text declare, and what is noted while they are read; or the first of refusals
 /// 0, 5 and 6.
-fn parse(alloc: Global, forms: &[Datum], notes: &mut Notes) -> Result<Declarations, LoadRefusal>
+fn parse(alloc: Global, forms: &[Datum], notes: &mut Notes) -> Result<Declarations, FormRefusal>
     ensures { Gives itself result notes.new (parse (map datum_of forms.now) notes.old) }
 {
     let outers = outers_of(alloc, forms)?;

@@ -8,7 +8,7 @@ ghost use Rattle.cl_value.specs.Value.{data_of};
 use crate::defaults::first_unfit_command;
 use cl_application::{App, SlotDecl};
 use cl_eval::{Env, Evaluated, Limits, Slots, Types, eval};
-use cl_forms::LoadRefusal;
+use cl_forms::FormRefusal;
 use cl_outside::own_steps;
 use cl_syntax::Expr;
 use cl_value::{Held, Value};
@@ -23,26 +23,26 @@ const LIMITS: Limits = Limits {
 /// The slots with their opening values, or the refusal of the first opening value or default that traps or is
 /// no member of its type.
 #[tactic(auto, unfolding(crate::specs::Opening::first_unfit))]
-pub fn opening_slots<T: Types>(alloc: Global, app: &App, types: &T) -> Result<Slots, LoadRefusal>
+pub fn opening_slots<T: Types>(alloc: Global, app: &App, types: &T) -> Result<Slots, FormRefusal>
     ensures { OpensSlots result (T.holds types.now) app.now }
 {
     let default = first_unfit_command(alloc, app, types)?;
     match opening_values(alloc, app, types) {
         Ok(slots) => match default {
             None => Ok(slots),
-            Some(at) => Err(LoadRefusal::Refused(12, at)),
+            Some(at) => Err(FormRefusal::Refused(12, at)),
         },
-        Err(LoadRefusal::Refused(number, at)) => {
-            Err(LoadRefusal::Refused(number, at_first(default, at)))
+        Err(FormRefusal::Refused(number, at)) => {
+            Err(FormRefusal::Refused(number, at_first(default, at)))
         }
-        Err(LoadRefusal::Memory) => Err(LoadRefusal::Memory),
+        Err(FormRefusal::Memory) => Err(FormRefusal::Memory),
     }
 }
 
 /// The slots with their opening values, or the refusal of the first value that traps or is no
 /// member of its slot's type.
 #[tactic(auto, using(crate::proofs::OpeningLemmas::unfit_next, crate::proofs::OpeningLemmas::opened_next))]
-fn opening_values<T: Types>(alloc: Global, app: &App, types: &T) -> Result<Slots, LoadRefusal>
+fn opening_values<T: Types>(alloc: Global, app: &App, types: &T) -> Result<Slots, FormRefusal>
     ensures { OpensValues result (T.holds types.now) app.now }
 {
     let declared = &app.frame.slots;
@@ -63,24 +63,24 @@ fn opening_value<T: Types>(
     app: &App,
     types: &T,
     slot: &SlotDecl,
-) -> Result<Value, LoadRefusal>
+) -> Result<Value, FormRefusal>
     ensures { OpensValue result (T.holds types.now) (opening_of app.now slot.now) slot.now }
 {
     match constant(alloc, app, &slot.opening) {
         Evaluated::Value(value, _, _) => member(types, value, slot),
-        Evaluated::Trap(_, _) => Err(LoadRefusal::Refused(12, slot.opening_at)),
-        Evaluated::Memory => Err(LoadRefusal::Memory),
+        Evaluated::Trap(_, _) => Err(FormRefusal::Refused(12, slot.opening_at)),
+        Evaluated::Memory => Err(FormRefusal::Memory),
     }
 }
 
 /// The value, where it is a member of the slot's type.
-fn member<T: Types>(types: &T, value: Value, slot: &SlotDecl) -> Result<Value, LoadRefusal>
+fn member<T: Types>(types: &T, value: Value, slot: &SlotDecl) -> Result<Value, FormRefusal>
     ensures { IsMemberOf result (T.holds types.now) (data_of value) slot.now }
 {
     match types.member(&value, &slot.spec) {
         Held::Yes => Ok(value),
-        Held::No => Err(LoadRefusal::Refused(12, slot.opening_at)),
-        Held::Memory => Err(LoadRefusal::Memory),
+        Held::No => Err(FormRefusal::Refused(12, slot.opening_at)),
+        Held::Memory => Err(FormRefusal::Memory),
     }
 }
 

@@ -7,7 +7,7 @@ ghost use Rattle.cl_load.specs.Answers.{Makes};
 
 use cl_application::{FrameDecl, PaneDecl, PaneDecls};
 use cl_declare::{FrameForm, PaneForm};
-use cl_forms::LoadRefusal;
+use cl_forms::FormRefusal;
 use std::alloc::{AllocError, Global};
 
 /// Cells along a side of the frame.
@@ -18,15 +18,15 @@ pub struct Span {
 }
 
 /// The frame on its device, or refusal 15.
-pub fn place_frame(alloc: Global, frame: FrameForm) -> Result<FrameDecl, LoadRefusal>
+pub fn place_frame(alloc: Global, frame: FrameForm) -> Result<FrameDecl, FormRefusal>
     ensures value { Makes itself result (place_frame frame) }
     ensures placed { IfOk result IsPlaced }
 {
     let Some(width) = side(512, frame.width) else {
-        return Err(LoadRefusal::Refused(15, frame.at));
+        return Err(FormRefusal::Refused(15, frame.at));
     };
     let Some(height) = side(256, frame.height) else {
-        return Err(LoadRefusal::Refused(15, frame.at));
+        return Err(FormRefusal::Refused(15, frame.at));
     };
     frame.panes.has_pane();
     let panes = place_panes(alloc, width, height, frame.panes.as_slice())?;
@@ -47,7 +47,7 @@ fn place_panes(
     width: u16,
     height: u16,
     panes: &[PaneForm],
-) -> Result<PaneDecls, LoadRefusal>
+) -> Result<PaneDecls, FormRefusal>
     ensures { Makes itself result (place_panes width height panes.now []) }
 {
     let mut placed = PaneDecls::new(alloc);
@@ -63,14 +63,14 @@ fn place_pane(
     height: u16,
     pane: &PaneForm,
     placed: &mut PaneDecls,
-) -> Result<(), LoadRefusal>
+) -> Result<(), FormRefusal>
     ensures { Places result placed.new (place_pane width height pane.now placed.old) }
 {
     let Some(decl) = pane_on(width, height, pane)? else {
-        return Err(LoadRefusal::Refused(15, pane.at));
+        return Err(FormRefusal::Refused(15, pane.at));
     };
     if !is_apart(&decl, placed) {
-        return Err(LoadRefusal::Refused(15, pane.at));
+        return Err(FormRefusal::Refused(15, pane.at));
     }
     Ok(placed.add_first(decl)?)
 }

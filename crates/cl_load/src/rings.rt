@@ -5,7 +5,7 @@ ghost use Rattle.cl_load.specs.Settling.{Builds};
 use crate::types::build_types;
 use cl_declare::Declarations;
 use cl_expressions::Notes;
-use cl_forms::LoadRefusal;
+use cl_forms::FormRefusal;
 use cl_lattice::Lattice;
 use cl_ptext::Hosts;
 use cl_tables::first_on_a_ring;
@@ -18,20 +18,20 @@ pub fn build<H: Hosts>(
     hosts: &H,
     declarations: &Declarations,
     notes: &Notes,
-) -> Result<Lattice, LoadRefusal>
+) -> Result<Lattice, FormRefusal>
     ensures { Builds result (H.bounds hosts.now) declarations.now notes.now }
 {
     let table = first_on_a_ring(alloc, &declarations.tables)?;
     match build_types(alloc, hosts, declarations, notes) {
         Ok(lattice) => match table {
             None => Ok(lattice),
-            Some(at) => Err(LoadRefusal::Refused(9, at)),
+            Some(at) => Err(FormRefusal::Refused(9, at)),
         },
-        Err(LoadRefusal::Refused(number, at)) => match table {
-            None => Err(LoadRefusal::Refused(number, at)),
-            Some(table_at) => Err(LoadRefusal::Refused(9, ring_at(table_at, number, at))),
+        Err(FormRefusal::Refused(number, at)) => match table {
+            None => Err(FormRefusal::Refused(number, at)),
+            Some(table_at) => Err(FormRefusal::Refused(9, ring_at(table_at, number, at))),
         },
-        Err(LoadRefusal::Memory) => Err(LoadRefusal::Memory),
+        Err(FormRefusal::Memory) => Err(FormRefusal::Memory),
     }
 }
 

@@ -15,7 +15,7 @@ use crate::types::first_missing;
 use cl_application::{App, FrameDecl};
 use cl_declare::{Declarations, FrameForm, FrameForms};
 use cl_eval::Slots;
-use cl_forms::LoadRefusal;
+use cl_forms::FormRefusal;
 use cl_lattice::Lattice;
 use cl_ptext::{Hosts, TypeBook};
 use std::alloc::Global;
@@ -28,7 +28,7 @@ pub fn settle<H: Hosts>(
     hosts: &H,
     declarations: Declarations,
     lattice: Lattice,
-) -> Result<Opened, LoadRefusal>
+) -> Result<Opened, FormRefusal>
     requires types { lattice ≡ declared_types (H.bounds hosts.now) declarations }
     requires no_ring { HasNoRing declarations.tables }
     ensures { Settles result (H.bounds hosts.now) length declarations }
@@ -40,7 +40,7 @@ pub fn settle<H: Hosts>(
 }
 
 /// The application of declarations with their one frame at its place, or the first of refusals 14 and 15.
-fn frame_app(alloc: Global, length: u32, declarations: Declarations) -> Result<App, LoadRefusal>
+fn frame_app(alloc: Global, length: u32, declarations: Declarations) -> Result<App, FormRefusal>
     ensures framed { FramesApp result length declarations }
     ensures placed { IfOk result (λ app. IsPlaced app.frame) }
 {
@@ -51,13 +51,13 @@ fn frame_app(alloc: Global, length: u32, declarations: Declarations) -> Result<A
 }
 
 /// The one frame.
-fn take_frame(length: u32, frames: &mut FrameForms) -> Result<FrameForm, LoadRefusal>
+fn take_frame(length: u32, frames: &mut FrameForms) -> Result<FrameForm, FormRefusal>
     ensures { TakesFrame result length frames.old }
 {
     match frames.as_slice() {
-        [] => return Err(LoadRefusal::Refused(14, length)),
+        [] => return Err(FormRefusal::Refused(14, length)),
         [_] => (),
-        [_, second, ..] => return Err(LoadRefusal::Refused(14, second.at)),
+        [_, second, ..] => return Err(FormRefusal::Refused(14, second.at)),
     }
     let Some(frame) = frames.pop() else {
         unreachable!()
@@ -89,7 +89,7 @@ fn open<H: Hosts>(
     hosts: &H,
     app: App,
     lattice: Lattice,
-) -> Result<Opened, LoadRefusal>
+) -> Result<Opened, FormRefusal>
     requires placed { IsPlaced app.frame }
     requires no_ring { HasNoRing app.tables }
     ensures { Opens result (H.bounds hosts.now) app lattice }
@@ -110,7 +110,7 @@ fn slots_by_types<H: Hosts>(
     hosts: &H,
     app: &App,
     lattice: &Lattice,
-) -> Result<Slots, LoadRefusal>
+) -> Result<Slots, FormRefusal>
     ensures { OpensLast result (H.bounds hosts.now) lattice.now app.now }
 {
     pass(16, first_missing(hosts, &app.hosts))?;

@@ -7,7 +7,7 @@ use cl_application::{ArgumentDecls, CommandDecl, Commands, HostDecl, HostDecls};
 use cl_arguments::first_misfit;
 use cl_declare::Declarations;
 use cl_expressions::Notes;
-use cl_forms::LoadRefusal;
+use cl_forms::FormRefusal;
 use cl_lattice::{BuildRefusal, Lattice};
 use cl_ptext::Hosts;
 use cl_syntax::{CommandType, CommandTypes, HostBound, HostBounds, TypeDecls, TypeSpecs};
@@ -21,7 +21,7 @@ pub fn build_types<H: Hosts>(
     hosts: &H,
     declarations: &Declarations,
     notes: &Notes,
-) -> Result<Lattice, LoadRefusal>
+) -> Result<Lattice, FormRefusal>
     ensures { BuildsTypes result (H.bounds hosts.now) declarations.now notes.now }
 {
     let bounds = host_bounds(alloc, hosts, &declarations.hosts)?;
@@ -36,21 +36,21 @@ pub fn build_types<H: Hosts>(
     let misfit = first_misfit(alloc, decls.types, decls.specs)?;
     match Lattice::build(alloc, &decls) {
         Ok(lattice) => fitting(lattice, misfit),
-        Err(BuildRefusal::Cycle(at)) => Err(LoadRefusal::Refused(9, at)),
+        Err(BuildRefusal::Cycle(at)) => Err(FormRefusal::Refused(9, at)),
         Err(BuildRefusal::Large(at)) => match misfit {
-            Some(misfit_at) => Err(LoadRefusal::Refused(6, misfit_at)),
-            None => Err(LoadRefusal::Refused(13, at)),
+            Some(misfit_at) => Err(FormRefusal::Refused(6, misfit_at)),
+            None => Err(FormRefusal::Refused(13, at)),
         },
-        Err(BuildRefusal::Memory) => Err(LoadRefusal::Memory),
+        Err(BuildRefusal::Memory) => Err(FormRefusal::Memory),
     }
 }
 
 /// The lattice, where no argument comes to stand where it is not taken.
-fn fitting(lattice: Lattice, misfit: Option<u32>) -> Result<Lattice, LoadRefusal>
+fn fitting(lattice: Lattice, misfit: Option<u32>) -> Result<Lattice, FormRefusal>
     ensures { Fits result lattice misfit }
 {
     match misfit {
-        Some(at) => Err(LoadRefusal::Refused(6, at)),
+        Some(at) => Err(FormRefusal::Refused(6, at)),
         None => {
             lattice.all_fit();
             Ok(lattice)

@@ -4,8 +4,8 @@ use Rattle.cl_application.specs.declared.applications.App.{App}
 use Rattle.cl_eval.specs.declared.metering.Limits.{Limits}
 use Rattle.cl_frame.specs.Ground.{Ground}
 use Rattle.cl_frame.specs.Sending.{Wire}
-use Rattle.cl_forms.specs.declared.refusals.LoadRefusal.{LoadRefusal}
-use Rattle.cl_forms.specs.declared.refusals.LoadRefusal.TheVariants as refusal
+use Rattle.cl_forms.specs.declared.refusals.FormRefusal.{FormRefusal}
+use Rattle.cl_forms.specs.declared.refusals.FormRefusal.TheVariants as refusal
 use Rattle.cl_load.specs.Application.{IsApplication, IsRefusal}
 use Rattle.cl_load.specs.Types.{Bounds}
 use Rattle.cl_outside.specs.Causes.{Rose}
@@ -85,7 +85,7 @@ RanText hosts text wire limits place_old place_new old new how.Memory = (new ≡
 RanText hosts text wire limits place_old place_new old new (how.Ended end) = OfApplication hosts text limits (λ g. Went wire g place_old place_new old new end)
 
 -- a text that declares an application, or has a refusal; nothing is said where memory was wanting
-abbrev pub Judges : Bounds → (text : List ℕ) → Option LoadRefusal → Type 0
+abbrev pub Judges : Bounds → (text : List ℕ) → Option FormRefusal → Type 0
 Judges bounds text None = (app : App) × IsApplication bounds text app
 Judges bounds text (Some (refusal.Refused number at)) = IsRefusal bounds text number at
 Judges bounds text (Some refusal.Memory) = Unit {0}

@@ -17,7 +17,7 @@ use crate::saying::{say_loads, say_refusal, say_usage};
 use crate::texts::{TextRead, read_text};
 use cl_eval::{Limits, Program, Slots, Types};
 use cl_invocation::{Invocation, read_words};
-use cl_load::{LoadRefusal, Loaded, load};
+use cl_load::{FormRefusal, Loaded, load};
 use cl_outside::{Ledger, NullDevice, Opened, Place, PlaceSink, Sink, Source, Steps};
 use cl_ptext::{Hosts, TypeBook};
 use cl_raster::WireDevice;
@@ -134,13 +134,13 @@ fn run_text<H: Hosts, P: Place, G: Source, O: Sink, L: Ledger>(
 {
     match load(setting.alloc, text, hosts) {
         Ok(loaded) => run_application(loaded, hosts, setting, place, gestures, out, steps),
-        Err(LoadRefusal::Refused(number, offset)) => {
+        Err(FormRefusal::Refused(number, offset)) => {
             if say_refusal(out, number, offset) {
                 return How::Refused;
             }
             How::RefusalCut
         }
-        Err(LoadRefusal::Memory) => How::Memory,
+        Err(FormRefusal::Memory) => How::Memory,
     }
 }
 
@@ -335,18 +335,18 @@ fn check_text<H: Hosts, O: Sink>(alloc: Global, text: &[u8], hosts: &H, out: &mu
             }
             How::LoadsCut
         }
-        Some(LoadRefusal::Refused(number, offset)) => {
+        Some(FormRefusal::Refused(number, offset)) => {
             if !say_refusal(out, number, offset) {
                 return How::RefusalCut;
             }
             How::Refused
         }
-        Some(LoadRefusal::Memory) => How::Memory,
+        Some(FormRefusal::Memory) => How::Memory,
     }
 }
 
 // Why a text does not load, where it does not.
-fn refusal_of<H: Hosts>(alloc: Global, text: &[u8], hosts: &H) -> Option<LoadRefusal>
+fn refusal_of<H: Hosts>(alloc: Global, text: &[u8], hosts: &H) -> Option<FormRefusal>
     ensures { Judges (H.bounds hosts.now) text.now result }
 {
     match load(alloc, text, hosts) {

@@ -2,22 +2,22 @@
 use crate::declarations::Declarations;
 use crate::predicates::NamedPredicates;
 use crate::questions::Question;
-use cl_forms::{Datum, LoadRefusal};
+use cl_forms::{Datum, FormRefusal};
 use cl_lattice::{BuildRefusal, Lattice};
 use cl_value::{Held, Text};
 use std::alloc::{AllocError, Global};
 
 /// The types that forms declare. A ring is refused with number 9, and a specifier past the limits with number 13.
-pub fn types_of(alloc: Global, forms: &[Datum]) -> Result<Lattice, LoadRefusal> {
+pub fn types_of(alloc: Global, forms: &[Datum]) -> Result<Lattice, FormRefusal> {
     let declared = Declarations::read(alloc, forms)?;
     Lattice::build(alloc, &declared.decls()).map_err(refusal_of)
 }
 
-fn refusal_of(refusal: BuildRefusal) -> LoadRefusal {
+fn refusal_of(refusal: BuildRefusal) -> FormRefusal {
     match refusal {
-        BuildRefusal::Cycle(at) => LoadRefusal::Refused(9, at),
-        BuildRefusal::Large(at) => LoadRefusal::Refused(13, at),
-        BuildRefusal::Memory => LoadRefusal::Memory,
+        BuildRefusal::Cycle(at) => FormRefusal::Refused(9, at),
+        BuildRefusal::Large(at) => FormRefusal::Refused(13, at),
+        BuildRefusal::Memory => FormRefusal::Memory,
     }
 }
 

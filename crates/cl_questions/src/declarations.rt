@@ -1,6 +1,6 @@
 //! Declarations of types as texts have them.
 use crate::specifiers::{names_in, specifier_in};
-use cl_forms::{Datum, LoadRefusal, name_in, symbol_of};
+use cl_forms::{Datum, FormRefusal, name_in, symbol_of};
 use cl_syntax::{
     CommandType, CommandTypes, HostBound, HostBounds, PlacedSpec, RecordDecl, Records, TypeDecl,
     TypeDecls, TypeSpec, TypeSpecs, UserTypes,
@@ -21,7 +21,7 @@ pub struct Declarations {
 
 impl Declarations {
     /// The declarations among outermost forms. Forms that declare no type and no command are left out.
-    pub fn read(alloc: Global, forms: &[Datum]) -> Result<Declarations, LoadRefusal> {
+    pub fn read(alloc: Global, forms: &[Datum]) -> Result<Declarations, FormRefusal> {
         let mut declared = Declarations::none(alloc);
         for form in forms {
             declared.add(alloc, form)?;
@@ -51,7 +51,7 @@ impl Declarations {
     }
 
     // What an outermost form declares.
-    fn add(&mut self, alloc: Global, form: &Datum) -> Result<(), LoadRefusal> {
+    fn add(&mut self, alloc: Global, form: &Datum) -> Result<(), FormRefusal> {
         match form.parts() {
             [] => Ok(()),
             [_] => Ok(()),
@@ -67,7 +67,7 @@ impl Declarations {
         head: &Datum,
         name: &Datum,
         more: &[Datum],
-    ) -> Result<(), LoadRefusal> {
+    ) -> Result<(), FormRefusal> {
         let Some(name) = name_in(name) else {
             return Ok(());
         };
@@ -91,7 +91,7 @@ impl Declarations {
         at: u32,
         name: &Text,
         fields: &[Datum],
-    ) -> Result<(), LoadRefusal> {
+    ) -> Result<(), FormRefusal> {
         let fields = names_in(alloc, fields)?;
         let name = name.copy()?;
         self.records.add_first(RecordDecl { name, fields, at })?;
@@ -104,9 +104,9 @@ impl Declarations {
         at: u32,
         name: &Text,
         more: &[Datum],
-    ) -> Result<(), LoadRefusal> {
+    ) -> Result<(), FormRefusal> {
         let Some((parameters, keys)) = more.split_first() else {
-            return Err(LoadRefusal::Refused(6, at));
+            return Err(FormRefusal::Refused(6, at));
         };
         let inherit_from = self.inherited(alloc, parameters.parts(), keys)?;
         let declared = type_decl(alloc, at, name, parameters.parts(), inherit_from, keys)?;
@@ -120,7 +120,7 @@ impl Declarations {
         alloc: Global,
         parameters: &[Datum],
         keys: &[Datum],
-    ) -> Result<TypeSpec, LoadRefusal> {
+    ) -> Result<TypeSpec, FormRefusal> {
         match behind_key(b":inherit-from", keys) {
             Some(inherited) => {
                 let parameters = names_in(alloc, parameters)?;
@@ -136,7 +136,7 @@ impl Declarations {
         alloc: Global,
         datum: &Datum,
         parameters: Names,
-    ) -> Result<TypeSpec, LoadRefusal> {
+    ) -> Result<TypeSpec, FormRefusal> {
         let spec = specifier_in(alloc, datum, &parameters)?;
         let at = datum.offset();
         let copy = spec.copy()?;
@@ -149,7 +149,7 @@ impl Declarations {
     }
 
     // The shipped host types alone have bounds.
-    fn add_host(&mut self, at: u32, name: &Text) -> Result<(), LoadRefusal> {
+    fn add_host(&mut self, at: u32, name: &Text) -> Result<(), FormRefusal> {
         if let Some((low, high)) = host_bounds(name.as_slice()) {
             let name = name.copy()?;
             self.hosts.add_first(HostBound {
@@ -168,9 +168,9 @@ impl Declarations {
         at: u32,
         name: &Text,
         more: &[Datum],
-    ) -> Result<(), LoadRefusal> {
+    ) -> Result<(), FormRefusal> {
         let Some((arguments, _)) = more.split_first() else {
-            return Err(LoadRefusal::Refused(6, at));
+            return Err(FormRefusal::Refused(6, at));
         };
         let args = self.argument_types(alloc, arguments.parts())?;
         let name = name.copy()?;
@@ -183,7 +183,7 @@ impl Declarations {
         &mut self,
         alloc: Global,
         arguments: &[Datum],
-    ) -> Result<TypeSpecs, LoadRefusal> {
+    ) -> Result<TypeSpecs, FormRefusal> {
         let mut args = Vec::new(alloc);
         for argument in arguments {
             args.push(self.argument_type(alloc, argument)?)?;
@@ -191,10 +191,10 @@ impl Declarations {
         Ok(TypeSpecs::from_vec(alloc, args)?)
     }
 
-    fn argument_type(&mut self, alloc: Global, argument: &Datum) -> Result<TypeSpec, LoadRefusal> {
+    fn argument_type(&mut self, alloc: Global, argument: &Datum) -> Result<TypeSpec, FormRefusal> {
         match argument.parts() {
             [_, spec, ..] => self.placed(alloc, spec, Names::new(alloc)),
-            _ => Err(LoadRefusal::Refused(6, argument.offset())),
+            _ => Err(FormRefusal::Refused(6, argument.offset())),
         }
     }
 }
@@ -206,7 +206,7 @@ fn type_decl(
     parameters: &[Datum],
     inherit_from: TypeSpec,
     keys: &[Datum],
-) -> Result<TypeDecl, LoadRefusal> {
+) -> Result<TypeDecl, FormRefusal> {
     let satisfies = match behind_key(b":satisfies", keys) {
         Some(function) => name_copy(function)?,
         None => None,
@@ -221,7 +221,7 @@ fn type_decl(
     })
 }
 
-fn name_copy(datum: &Datum) -> Result<Option<Text>, LoadRefusal> {
+fn name_copy(datum: &Datum) -> Result<Option<Text>, FormRefusal> {
     match name_in(datum) {
         Some(name) => Ok(Some(name.copy()?)),
         None => Ok(None),

@@ -1,6 +1,6 @@
 //! Specifiers as texts have them.
 use crate::values::constant_named;
-use cl_forms::{Datum, Key, Keyed, LoadRefusal, keyed_pairs, symbol_text, values_of};
+use cl_forms::{Datum, Key, Keyed, FormRefusal, keyed_pairs, symbol_text, values_of};
 use cl_syntax::{StandardType, TypeArg, TypeArgs, TypeOptions, TypeSpec, standard_named};
 use cl_table::Names;
 use cl_value::{Text, Value};
@@ -24,14 +24,14 @@ pub fn specifier_in(
     alloc: Global,
     datum: &Datum,
     parameters: &Names,
-) -> Result<TypeSpec, LoadRefusal> {
+) -> Result<TypeSpec, FormRefusal> {
     match datum {
         Datum::Word(name, _) => Ok(TypeSpec::plain(name.copy()?)),
         Datum::List(parts, at) => listed(alloc, *at, parts.as_slice(), parameters),
-        Datum::Number(_, at) => Err(LoadRefusal::Refused(6, *at)),
-        Datum::Literal(_, at) => Err(LoadRefusal::Refused(6, *at)),
-        Datum::Quoted(_, at, _) => Err(LoadRefusal::Refused(6, *at)),
-        Datum::Stray(at) => Err(LoadRefusal::Refused(6, *at)),
+        Datum::Number(_, at) => Err(FormRefusal::Refused(6, *at)),
+        Datum::Literal(_, at) => Err(FormRefusal::Refused(6, *at)),
+        Datum::Quoted(_, at, _) => Err(FormRefusal::Refused(6, *at)),
+        Datum::Stray(at) => Err(FormRefusal::Refused(6, *at)),
     }
 }
 
@@ -42,9 +42,9 @@ fn listed(
     at: u32,
     parts: &[Datum],
     parameters: &Names,
-) -> Result<TypeSpec, LoadRefusal> {
+) -> Result<TypeSpec, FormRefusal> {
     match parts {
-        [] => Err(LoadRefusal::Refused(6, at)),
+        [] => Err(FormRefusal::Refused(6, at)),
         [head, more @ ..] => match head {
             Datum::List(inner, inner_at) => {
                 let options = options_in(alloc, at, more)?;
@@ -63,15 +63,15 @@ fn headed(
     parts: &[Datum],
     parameters: &Names,
     options: TypeOptions,
-) -> Result<TypeSpec, LoadRefusal> {
+) -> Result<TypeSpec, FormRefusal> {
     match parts {
-        [] => Err(LoadRefusal::Refused(6, at)),
+        [] => Err(FormRefusal::Refused(6, at)),
         [head, more @ ..] => match head {
             Datum::Word(name, _) => {
                 let args = arguments_in(alloc, standard_named(name.as_slice()), more, parameters)?;
                 Ok(TypeSpec::new(name.copy()?, args, options))
             }
-            _ => Err(LoadRefusal::Refused(6, at)),
+            _ => Err(FormRefusal::Refused(6, at)),
         },
     }
 }
@@ -83,7 +83,7 @@ fn arguments_in(
     standard: Option<StandardType>,
     parts: &[Datum],
     parameters: &Names,
-) -> Result<TypeArgs, LoadRefusal> {
+) -> Result<TypeArgs, FormRefusal> {
     let mut args = Vec::new(alloc);
     let mut place: usize = 0;
     for part in parts {
@@ -99,7 +99,7 @@ fn argument_in(
     wanted: Wanted,
     part: &Datum,
     parameters: &Names,
-) -> Result<TypeArg, LoadRefusal> {
+) -> Result<TypeArg, FormRefusal> {
     match wanted {
         Wanted::Constant => constant_in(part, parameters),
         Wanted::Specifier => Ok(TypeArg::Spec(specifier_in(alloc, part, parameters)?)),
@@ -126,18 +126,18 @@ fn wanted_at(standard: Option<StandardType>, place: usize) -> Wanted {
 }
 
 // A constant, `*`, or a parameter.
-fn constant_in(part: &Datum, parameters: &Names) -> Result<TypeArg, LoadRefusal> {
+fn constant_in(part: &Datum, parameters: &Names) -> Result<TypeArg, FormRefusal> {
     match part {
         Datum::Number(number, _) => Ok(TypeArg::Constant(Value::Int(*number))),
         Datum::Literal(text, _) => Ok(TypeArg::Constant(Value::Text(text.copy()?))),
         Datum::Quoted(name, _, _) => Ok(TypeArg::Constant(Value::Symbol(name.copy()?))),
         Datum::Word(word, _) => word_in(word, parameters),
-        Datum::Stray(at) => Err(LoadRefusal::Refused(6, *at)),
-        Datum::List(_, at) => Err(LoadRefusal::Refused(6, *at)),
+        Datum::Stray(at) => Err(FormRefusal::Refused(6, *at)),
+        Datum::List(_, at) => Err(FormRefusal::Refused(6, *at)),
     }
 }
 
-fn word_in(word: &Text, parameters: &Names) -> Result<TypeArg, LoadRefusal> {
+fn word_in(word: &Text, parameters: &Names) -> Result<TypeArg, FormRefusal> {
     if parameters.place_of(word.as_slice()).is_some() {
         return Ok(TypeArg::Param(word.copy()?));
     }
@@ -151,7 +151,7 @@ fn word_in(word: &Text, parameters: &Names) -> Result<TypeArg, LoadRefusal> {
 }
 
 /// The symbols of data, in their order.
-pub fn names_in(alloc: Global, parts: &[Datum]) -> Result<Names, LoadRefusal> {
+pub fn names_in(alloc: Global, parts: &[Datum]) -> Result<Names, FormRefusal> {
     let mut names = Names::new(alloc);
     for part in parts {
         names.push(symbol_text(alloc, part)?)?;
@@ -160,17 +160,17 @@ pub fn names_in(alloc: Global, parts: &[Datum]) -> Result<Names, LoadRefusal> {
 }
 
 // The options of a specifier.
-fn options_in(alloc: Global, at: u32, parts: &[Datum]) -> Result<TypeOptions, LoadRefusal> {
+fn options_in(alloc: Global, at: u32, parts: &[Datum]) -> Result<TypeOptions, FormRefusal> {
     match keyed_pairs(alloc, &OPTION_KEYS, parts)? {
         Some(keyed) => Ok(TypeOptions {
             description: description_in(keyed.as_slice())?,
             separator: separator_in(keyed.as_slice()),
         }),
-        None => Err(LoadRefusal::Refused(6, at)),
+        None => Err(FormRefusal::Refused(6, at)),
     }
 }
 
-fn description_in(keyed: &[Keyed]) -> Result<Option<Text>, LoadRefusal> {
+fn description_in(keyed: &[Keyed]) -> Result<Option<Text>, FormRefusal> {
     match values_of(Key::Description, keyed) {
         Some([Datum::Literal(text, _)]) => Ok(Some(text.copy()?)),
         _ => Ok(None),

@@ -1,7 +1,7 @@
 //! Functions and methods, as texts have them.
 use cl_application::{FunctionDecl, Functions, MethodDecl, Methods};
 use cl_expressions::{Notes, Reader, Scope, parse_expression};
-use cl_forms::{Datum, LoadRefusal, name_in, named_part, outers_of, symbol_of};
+use cl_forms::{Datum, FormRefusal, name_in, named_part, outers_of, symbol_of};
 use cl_questions::names_in;
 use cl_table::Table;
 use cl_value::Text;
@@ -27,7 +27,7 @@ struct Parts<'a> {
 
 impl Bodies {
     /// The functions and the methods among outermost forms. A name that is not declared is refused with number 8.
-    pub(crate) fn read(alloc: Global, forms: &[Datum]) -> Result<Bodies, LoadRefusal> {
+    pub(crate) fn read(alloc: Global, forms: &[Datum]) -> Result<Bodies, FormRefusal> {
         let signatures = signatures_in(alloc, forms)?;
         let reader = Reader {
             alloc,
@@ -44,13 +44,13 @@ impl Bodies {
             bodies.add(&reader, form, &mut notes)?;
         }
         match notes.unknown() {
-            Some(at) => Err(LoadRefusal::Refused(8, at)),
+            Some(at) => Err(FormRefusal::Refused(8, at)),
             None => Ok(bodies),
         }
     }
 
     // What an outermost form declares.
-    fn add(&mut self, reader: &Reader, form: &Datum, notes: &mut Notes) -> Result<(), LoadRefusal> {
+    fn add(&mut self, reader: &Reader, form: &Datum, notes: &mut Notes) -> Result<(), FormRefusal> {
         match form.parts() {
             [head, name, parameters, body] => match name_in(name) {
                 Some(name) => {
@@ -75,7 +75,7 @@ impl Bodies {
         head: &[u8],
         parts: Parts<'_>,
         notes: &mut Notes,
-    ) -> Result<(), LoadRefusal> {
+    ) -> Result<(), FormRefusal> {
         if head == b"define-function".as_slice() {
             self.functions
                 .add_first(function_in(reader, parts, notes)?)?;
@@ -91,7 +91,7 @@ impl Bodies {
 }
 
 // What the bodies may name: functions, records, and the slots of forms `(slot NAME VALUE)`.
-fn signatures_in(alloc: Global, forms: &[Datum]) -> Result<Signatures, LoadRefusal> {
+fn signatures_in(alloc: Global, forms: &[Datum]) -> Result<Signatures, FormRefusal> {
     let outers = outers_of(alloc, forms)?;
     let mut signatures = signatures_of(alloc, outers.as_slice())?;
     for form in forms {
@@ -118,7 +118,7 @@ fn function_in(
     reader: &Reader,
     parts: Parts<'_>,
     notes: &mut Notes,
-) -> Result<FunctionDecl, LoadRefusal> {
+) -> Result<FunctionDecl, FormRefusal> {
     let parameters = names_in(reader.alloc, parts.parameters)?;
     let outside = reader.seeing(&Scope::Empty);
     let variables = Scope::Names(parameters.as_slice(), outside.scope);
@@ -136,10 +136,10 @@ fn method_in(
     reader: &Reader,
     parts: Parts<'_>,
     notes: &mut Notes,
-) -> Result<MethodDecl, LoadRefusal> {
+) -> Result<MethodDecl, FormRefusal> {
     let parameter = match parts.parameters {
         [parameter] => named_part(parts.at, parameter)?,
-        _ => return Err(LoadRefusal::Refused(6, parts.at)),
+        _ => return Err(FormRefusal::Refused(6, parts.at)),
     };
     let outside = reader.seeing(&Scope::Empty);
     let variables = Scope::One(&parameter, outside.scope);

@@ -2,7 +2,7 @@
 use crate::bodies::{Bodies, slot_in};
 use cl_application::{App, FrameDecl, HostDecl, HostDecls};
 use cl_eval::Slots;
-use cl_forms::{Datum, LoadRefusal, name_in, symbol_of};
+use cl_forms::{Datum, FormRefusal, name_in, symbol_of};
 use cl_lattice::Lattice;
 use cl_questions::{Declarations, types_of, value_in};
 use cl_table::Table;
@@ -19,7 +19,7 @@ pub struct Subject {
 
 /// What outermost forms declare: records, types, host types, commands, functions, the methods of types, and slots by
 /// `(slot NAME VALUE)`. Other forms are left out.
-pub fn subject_in(alloc: Global, forms: &[Datum]) -> Result<Subject, LoadRefusal> {
+pub fn subject_in(alloc: Global, forms: &[Datum]) -> Result<Subject, FormRefusal> {
     let lattice = types_of(alloc, forms)?;
     let slots = slots_in(alloc, forms)?;
     let app = app_in(alloc, forms)?;
@@ -31,7 +31,7 @@ pub fn subject_in(alloc: Global, forms: &[Datum]) -> Result<Subject, LoadRefusal
 }
 
 // An application without displays, commands and panes.
-fn app_in(alloc: Global, forms: &[Datum]) -> Result<App, LoadRefusal> {
+fn app_in(alloc: Global, forms: &[Datum]) -> Result<App, FormRefusal> {
     let declared = Declarations::read(alloc, forms)?;
     let hosts = hosts_in(alloc, forms)?;
     let bodies = Bodies::read(alloc, forms)?;
@@ -63,7 +63,7 @@ fn empty_frame(alloc: Global) -> Result<FrameDecl, AllocError> {
 }
 
 // The host types that forms `(define-host-type NAME)` name.
-fn hosts_in(alloc: Global, forms: &[Datum]) -> Result<HostDecls, LoadRefusal> {
+fn hosts_in(alloc: Global, forms: &[Datum]) -> Result<HostDecls, FormRefusal> {
     let mut hosts = Table::new(alloc);
     for form in forms {
         if let Some(name) = host_name(form) {
@@ -83,7 +83,7 @@ fn host_name(form: &Datum) -> Option<&Text> {
 }
 
 // The slots with their values; of two of one name the last counts.
-fn slots_in(alloc: Global, forms: &[Datum]) -> Result<Slots, LoadRefusal> {
+fn slots_in(alloc: Global, forms: &[Datum]) -> Result<Slots, FormRefusal> {
     let mut slots = Slots::new(alloc);
     for form in forms {
         if let Some((name, value)) = slot_in(form) {

@@ -1,5 +1,5 @@
 //! Why questions cannot be answered.
-use cl_load::LoadRefusal;
+use cl_load::FormRefusal;
 use std::alloc::{AllocError, AllocFailed};
 
 /// Why questions cannot be answered.
@@ -14,11 +14,11 @@ pub enum Fault {
     Memory,
 }
 
-impl From<LoadRefusal> for Fault {
-    fn from(refusal: LoadRefusal) -> Fault {
+impl From<FormRefusal> for Fault {
+    fn from(refusal: FormRefusal) -> Fault {
         match refusal {
-            LoadRefusal::Refused(..) => Fault::Refused,
-            LoadRefusal::Memory => Fault::Memory,
+            FormRefusal::Refused(..) => Fault::Refused,
+            FormRefusal::Memory => Fault::Memory,
         }
     }
 }

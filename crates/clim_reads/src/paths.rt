@@ -1,7 +1,7 @@
 //! Paths as texts have them: `x`, `(slot a)` and `(get PATH f)`.
 use crate::faults::Fault;
 use cl_cover::{Path, Root};
-use cl_forms::{Datum, LoadRefusal, name_in, symbol_of};
+use cl_forms::{Datum, FormRefusal, name_in, symbol_of};
 use cl_questions::data_in_text;
 use cl_table::Names;
 use cl_value::Text;
@@ -25,10 +25,10 @@ fn path_of(alloc: Global, text: &str) -> Result<Path, Fault> {
     }
 }
 
-fn fault_of(refusal: LoadRefusal) -> Fault {
+fn fault_of(refusal: FormRefusal) -> Fault {
     match refusal {
-        LoadRefusal::Refused(..) => Fault::Wrong,
-        LoadRefusal::Memory => Fault::Memory,
+        FormRefusal::Refused(..) => Fault::Wrong,
+        FormRefusal::Memory => Fault::Memory,
     }
 }
 

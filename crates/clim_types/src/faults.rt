@@ -1,5 +1,5 @@
 //! Why questions are not answered.
-use cl_forms::LoadRefusal;
+use cl_forms::FormRefusal;
 use std::alloc::AllocError;
 
 /// Why questions are not answered.
@@ -15,11 +15,11 @@ pub enum Fault {
     Memory,
 }
 
-impl From<LoadRefusal> for Fault {
-    fn from(refusal: LoadRefusal) -> Fault {
+impl From<FormRefusal> for Fault {
+    fn from(refusal: FormRefusal) -> Fault {
         match refusal {
-            LoadRefusal::Refused(_, _) => Fault::Refused,
-            LoadRefusal::Memory => Fault::Memory,
+            FormRefusal::Refused(_, _) => Fault::Refused,
+            FormRefusal::Memory => Fault::Memory,
         }
     }
 }

@@ -1,6 +1,6 @@
 //! What the questions are asked of, and how.
 use crate::{answer_of, data_in_text, question_in, types_of};
-use cl_forms::LoadRefusal;
+use cl_forms::FormRefusal;
 use cl_lattice::Lattice;
 use std::alloc::Global;
 use std::process::Abort;
@@ -40,12 +40,12 @@ pub const TYPES: &str = "(define-record point x y)
 (define-command com-pick ((n (or (within 3 5) (member red)))) (reply \"pick\"))
 ";
 
-fn types_in(alloc: Global, text: &str) -> Result<Lattice, LoadRefusal> {
+fn types_in(alloc: Global, text: &str) -> Result<Lattice, FormRefusal> {
     let data = data_in_text(alloc, text.as_bytes())?;
     types_of(alloc, data.as_slice())
 }
 
-fn asked(alloc: Global, lattice: &Lattice, question: &str) -> Result<String, LoadRefusal> {
+fn asked(alloc: Global, lattice: &Lattice, question: &str) -> Result<String, FormRefusal> {
     let data = data_in_text(alloc, question.as_bytes())?;
     let question = question_in(alloc, data.as_slice())?;
     Ok(answer_of(alloc, lattice, &question)?)
@@ -69,8 +69,8 @@ pub fn ask_all(
 fn built(alloc: Global, text: &str) -> Result<String, Fail> {
     match types_in(alloc, text) {
         Ok(_) => Ok(format!(in alloc; "built")?),
-        Err(LoadRefusal::Refused(9, at)) => Ok(format!(in alloc; "cycle {at}")?),
-        Err(LoadRefusal::Refused(13, at)) => Ok(format!(in alloc; "large {at}")?),
+        Err(FormRefusal::Refused(9, at)) => Ok(format!(in alloc; "cycle {at}")?),
+        Err(FormRefusal::Refused(13, at)) => Ok(format!(in alloc; "large {at}")?),
         Err(refusal) => Err(refusal.into()),
     }
 }

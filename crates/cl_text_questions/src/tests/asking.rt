@@ -1,6 +1,6 @@
 //! What the questions are asked of, and how.
 use crate::{Question, answer_of, question_in, subject_in};
-use cl_forms::LoadRefusal;
+use cl_forms::FormRefusal;
 use cl_host::{HostType, month_names, month_number, weekday_names, weekday_number};
 use cl_questions::{data_in_text, specifier_in};
 use cl_syntax::TypeSpec;
@@ -59,12 +59,12 @@ pub fn ask_raw(
     ask_rows(rt, declared, rows.as_slice())
 }
 
-fn question_of(alloc: Global, told: &str) -> Result<Question, LoadRefusal> {
+fn question_of(alloc: Global, told: &str) -> Result<Question, FormRefusal> {
     let data = data_in_text(alloc, told.as_bytes())?;
     question_in(alloc, data.as_slice())
 }
 
-fn raw_row(alloc: Global, asked: &Raw) -> Result<Row<'static>, LoadRefusal> {
+fn raw_row(alloc: Global, asked: &Raw) -> Result<Row<'static>, FormRefusal> {
     match asked {
         Raw::Text(bytes, spec, wanted) => {
             let text = Value::Text(Text::from_slice(alloc, bytes)?);
@@ -87,11 +87,11 @@ fn raw_row(alloc: Global, asked: &Raw) -> Result<Row<'static>, LoadRefusal> {
     }
 }
 
-fn specifier_of(alloc: Global, spec: &str) -> Result<TypeSpec, LoadRefusal> {
+fn specifier_of(alloc: Global, spec: &str) -> Result<TypeSpec, FormRefusal> {
     let data = data_in_text(alloc, spec.as_bytes())?;
     match data.as_slice() {
         [spec] => specifier_in(alloc, spec, &Names::new(alloc)),
-        _ => Err(LoadRefusal::Refused(6, 0)),
+        _ => Err(FormRefusal::Refused(6, 0)),
     }
 }
 
