@@ -11,7 +11,7 @@ use crate::rings::build;
 use crate::settling::settle;
 use cl_declare::{Declarations, parse_declarations};
 use cl_expressions::{Notes, Reader, Scope};
-use cl_forms::{Datum, Forms, FormRefusal, all_forms, data_in, outers_of};
+use cl_forms::{Datum, FormRefusal, Forms, all_forms, data_in, outers_of};
 use cl_ptext::Hosts;
 use cl_sexp::{ReadRefusal, read_forms};
 use cl_words::signatures_of;
