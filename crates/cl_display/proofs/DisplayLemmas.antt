@@ -49,7 +49,7 @@ adds-blank holds s p = record {
 
 -- what holds all that a display draws
 pub holds-blank : (holds : Member) (s : DrawingAt) → Adds MAX_WEIGHT holds blank_drawing s
-    → HoldsAll s.part.extent (items_in s.part.marks) × Holds s.part.extent (cursor_box s.ambient)
+    → HoldsAll s.part.extent s.part.marks × Holds s.part.extent (cursor_box s.ambient)
 holds-blank holds s p = (rw p.part.behind p.part.within, p.cursor (holds-itself (cursor_box ambient_start)))
 
 pub adds-fresh : (limits : Limits) (scene : Scene) (fs : List ShapeTree) (env : Env)
@@ -76,7 +76,7 @@ members-drawn limits scene fs env s cost reach p =
 
 pub holds_drawn : (limits : Limits) (scene : Scene) (fs : List ShapeTree) (env : Env) (s : DrawingAt) (cost reach : ℕ)
     → (fresh limits scene fs env).outcome ≡ Gives s cost reach
-    → HoldsAll s.part.extent (items_in s.part.marks) × Holds s.part.extent (cursor_box s.ambient)
+    → HoldsAll s.part.extent s.part.marks × Holds s.part.extent (cursor_box s.ambient)
 holds_drawn limits scene fs env s cost reach p = holds-blank scene.types.holds s (adds-gives limits scene fs env s cost reach p)
 
 pub adds-body : (left : ℕ) (allowed : Allowance) (scene : Scene) (level : ℕ) (env : Env) (body : ShapeTrees) (s end : DrawingAt)

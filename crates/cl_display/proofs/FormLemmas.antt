@@ -8,7 +8,6 @@ use Rattle.cl_syntax.specs.ShapeTree as shape
 use Rattle.cl_syntax.specs.ShapeTree.{ShapeTree, ShapeTrees, none, form, shape_trees_of}
 use Rattle.cl_syntax.specs.ExprTree.{ExprTree, ExprTrees, Bindings}
 use Rattle.cl_application.specs.App.{display_named}
-use Rattle.cl_application.specs.declared.applications.App.{App}
 use Rattle.cl_application.specs.declared.declarations.DisplayDecl.{DisplayDecl}
 use Rattle.cl_eval.specs.declared.metering.Meter.{Meter}
 use Rattle.cl_eval.specs.declared.metering.Stop.{Stop}
@@ -30,7 +29,8 @@ use Rattle.cl_display.specs.Figures.{draw_figure}
 use Rattle.cl_display.specs.Settings.{enter_room, indent, leave_room, restore_ink, restore_margin, set_ink}
 use Rattle.cl_display.specs.Outcomes.{Draw, DrawOutcome, opens_none, run_of, ◌>->◌, ◌>>=◌}
 use Rattle.cl_display.specs.Fresh.{Allowance, Draws, call_display, draws, draws_in, draws_to, for_each, in_order, shape_parts, within}
-use Rattle.cl_display.specs.Fresh.{Scene, for_members, presents_body, presents_text}
+use Rattle.cl_display.specs.Fresh.{Bodies, Scene, bodies_on, for_members, presents_body, presents_text}
+use Rattle.cl_display.proofs.UpdateLemmas.{grows-draws_update}
 use Rattle.cl_display.specs.Place.{allowance_at, draws_at, scene_at, texts_at}
 use Rattle.cl_display.specs.Presentations.{Texts, counted, enter_presentation, label_of, leave_presentation, present_text, texts_on, write_value}
 use Rattle.cl_display.specs.declared.places.Place.{Place}
@@ -142,44 +142,45 @@ grows-body_presented member most go g level env p body s d =
 
 -- ---- rows
 
-grows-shape_parts : (scene : Scene) (allowed : Allowance) (value : Go) (text : Texts) → GoGrows value → TextsGrow text → (go : Draws) → DrawsGrow go
+grows-shape_parts : (scene : Scene) (allowed : Allowance) (value : Go) (text : Texts) (bodies : Bodies) → GoGrows value → TextsGrow text → (go : Draws) → DrawsGrow go
     → (level : ℕ) (env : Env) (f : ShapeTree) (s : DrawingAt)
-    → DrawGrows (shape_parts scene allowed value text go level env f s)
-grows-shape_parts scene allowed value text v h go g level env (shape.WriteText t) s =
+    → DrawGrows (shape_parts scene allowed value text bodies go level env f s)
+grows-shape_parts scene allowed value text bodies v h go g level env (shape.WriteText t) s =
     value-then (value level env t) (λ d. opens_none (lift (write_value allowed.weight s d))) (v level env t)
     (λ d. grows-lift (write_value allowed.weight s d))
-grows-shape_parts scene allowed value text v h go g level env shape.Newline s = grows-lift (newline s)
-grows-shape_parts scene allowed value text v h go g level env (shape.Draw figure ts) s =
+grows-shape_parts scene allowed value text bodies v h go g level env shape.Newline s = grows-lift (newline s)
+grows-shape_parts scene allowed value text bodies v h go g level env (shape.Draw figure ts) s =
     value-then (each value level env ts []) (λ ds. opens_none (lift (draw_figure allowed.weight figure ds s)))
     (grows-each value v level env ts [])
     (λ ds. grows-lift (draw_figure allowed.weight figure ds s))
-grows-shape_parts scene allowed value text v h go g level env (shape.Indent t body) s =
+grows-shape_parts scene allowed value text bodies v h go g level env (shape.Indent t body) s =
     value-then (value level env t) (λ d. within go level env body (indent d s) (restore_margin s.ambient)) (v level env t)
     (λ d. grows-within go g level env body (indent d s) (restore_margin s.ambient))
-grows-shape_parts scene allowed value text v h go g level env (shape.Ink t body) s =
+grows-shape_parts scene allowed value text bodies v h go g level env (shape.Ink t body) s =
     value-then (value level env t) (λ d. within go level env body (set_ink d s) (restore_ink s.ambient)) (v level env t)
     (λ d. grows-within go g level env body (set_ink d s) (restore_ink s.ambient))
-grows-shape_parts scene allowed value text v h go g level env (shape.Room body) s =
+grows-shape_parts scene allowed value text bodies v h go g level env (shape.Room body) s =
     grows-draws_to go g level env body (leave_room s.ambient s.part) (enter_room s)
-grows-shape_parts scene allowed value text v h go g level env (shape.Present t spec) s =
+grows-shape_parts scene allowed value text bodies v h go g level env (shape.Present t spec) s =
     value-then (value level env t) (λ d. for_members scene.types.holds spec d (presents_text allowed.weight text level spec s d))
     (v level env t) (grows-presented scene.types.holds spec allowed.weight text h level s)
-grows-shape_parts scene allowed value text v h go g level env (shape.AsPresentation p body) s =
+grows-shape_parts scene allowed value text bodies v h go g level env (shape.AsPresentation p body) s =
     value-then (value level env p.object) (λ d. for_members scene.types.holds p.spec d (presents_body allowed.weight go level env p body s d))
     (v level env p.object) (grows-body_presented scene.types.holds allowed.weight go g level env p body s)
-grows-shape_parts scene allowed value text v h go g level env (shape.If t a b) s =
+grows-shape_parts scene allowed value text bodies v h go g level env (shape.Update u body) s = grows-draws_update allowed value v bodies level env u body s
+grows-shape_parts scene allowed value text bodies v h go g level env (shape.If t a b) s =
     value-then (truth_of value level env t) (λ holds. if holds then go level env a s else go level env b s) (grows-tested value v level env t)
     (grows-then_form go g level env a b s)
-grows-shape_parts scene allowed value text v h go g level env (shape.When t body) s =
+grows-shape_parts scene allowed value text bodies v h go g level env (shape.When t body) s =
     value-then (truth_of value level env t) (λ holds. if holds then in_order go level env body s else opens_none (give s))
     (grows-tested value v level env t)
     (grows-then_body go g level env body s)
-grows-shape_parts scene allowed value text v h go g level env (shape.Let bs body) s = grows-draws_in value v go g level bs body env s
-grows-shape_parts scene allowed value text v h go g level env (shape.Dolist x t body) s =
+grows-shape_parts scene allowed value text bodies v h go g level env (shape.Let bs body) s = grows-draws_in value v go g level bs body env s
+grows-shape_parts scene allowed value text bodies v h go g level env (shape.Dolist x t body) s =
     value-then (parts_of_list value level env t) (λ ds. for_each go level env x body ds s) (grows-listed value v level env t)
     (λ ds. grows-for_each go g level env x body ds s)
-grows-shape_parts scene allowed value text v h go g level env (shape.Progn body) s = grows-in_order go g level env body s
-grows-shape_parts scene allowed value text v h go g level env (shape.Call f ts) s =
+grows-shape_parts scene allowed value text bodies v h go g level env (shape.Progn body) s = grows-in_order go g level env body s
+grows-shape_parts scene allowed value text bodies v h go g level env (shape.Call f ts) s =
     value-then (each value level env ts []) (λ ds. call_display go level (display_named f scene.app) ds s) (grows-each value v level env ts [])
     (grows-call_display go g level (display_named f scene.app) s)
 
@@ -190,9 +191,9 @@ grows-draws (suc left) allowed scene level env f s =
     let value = means left allowed.budget scene.app scene.slots in
     let text = texts_on scene.types.presents scene.slots allowed.budget left in
     value-then (entering (suc left) allowed.budget level)
-    (λ _. shape_parts scene allowed value text (draws left allowed scene) (level + 1) env f s)
+    (λ _. shape_parts scene allowed value text (bodies_on left scene) (draws left allowed scene) (level + 1) env f s)
     (grows-entering (suc left) allowed.budget level)
-    (λ _. grows-shape_parts scene allowed value text (grows-means left allowed.budget scene.app scene.slots)
+    (λ _. grows-shape_parts scene allowed value text (bodies_on left scene) (grows-means left allowed.budget scene.app scene.slots)
     (grows-texts scene.types.presents scene.slots allowed.budget left) (draws left allowed scene) (grows-draws left allowed scene) (level + 1)
     env f s)
 
@@ -210,7 +211,7 @@ pub draws-entered : (left : ℕ) (allowed : Allowance) (scene : Scene) (level : 
     → entering left allowed.budget level cost deepest ≡ Gives tt c d
     → (draws left allowed scene level env f s cost deepest).outcome
     ≡ (shape_parts scene allowed (means (left - 1) allowed.budget scene.app scene.slots)
-    (texts_on scene.types.presents scene.slots allowed.budget (left - 1)) (draws (left - 1) allowed scene) (level + 1) env f s c d).outcome
+    (texts_on scene.types.presents scene.slots allowed.budget (left - 1)) (bodies_on (left - 1) scene) (draws (left - 1) allowed scene) (level + 1) env f s c d).outcome
 draws-entered zero allowed scene level env f s cost deepest c d p = absurd (no_entry (nat_le allowed.budget cost) cost deepest c d p)
 draws-entered (suc n) allowed scene level env f s cost deepest c d p =
     let less : suc n - 1 ≡ n = omega arith in
@@ -288,82 +289,82 @@ left-draws_to go level env body inner end after leave (Err Memory) m c d p q = r
 
 -- in each row
 
-pub stop-figure : (scene : Scene) (allowed : Allowance) (value : Go) (text : Texts) (go : Draws) → (level : ℕ) (env : Env) (figure : Figure) (ts : ExprTrees)
+pub stop-figure : (scene : Scene) (allowed : Allowance) (value : Go) (text : Texts) (bodies : Bodies) (go : Draws) → (level : ℕ) (env : Env) (figure : Figure) (ts : ExprTrees)
     (s s' : DrawingAt) (e : Stop) (m : Meter) (c d : ℕ)
     → Agrees items_are (Err e) m (each value level env ts [] c d)
-    → StopsAt s' e m (shape_parts scene allowed value text go level env (shape.Draw figure ts) s c d)
-stop-figure scene allowed value text go level env figure ts s s' e m c d =
+    → StopsAt s' e m (shape_parts scene allowed value text bodies go level env (shape.Draw figure ts) s c d)
+stop-figure scene allowed value text bodies go level env figure ts s s' e m c d =
     stop-value items_are s' e m (each value level env ts []) (λ ds. opens_none (lift (draw_figure allowed.weight figure ds s))) c d
     (λ ds. grows-lift (draw_figure allowed.weight figure ds s))
 
-pub stop-indent : (scene : Scene) (allowed : Allowance) (value : Go) (text : Texts) (go : Draws) → DrawsGrow go
+pub stop-indent : (scene : Scene) (allowed : Allowance) (value : Go) (text : Texts) (bodies : Bodies) (go : Draws) → DrawsGrow go
     → (level : ℕ) (env : Env) (t : ExprTree) (body : ShapeTrees)
     (s s' : DrawingAt) (e : Stop) (m : Meter) (c d : ℕ)
     → Agrees data_of (Err e) m (value level env t c d) → StopsAt s' e m
-    (shape_parts scene allowed value text go level env (shape.Indent t body) s c d)
-stop-indent scene allowed value text go g level env t body s s' e m c d =
+    (shape_parts scene allowed value text bodies go level env (shape.Indent t body) s c d)
+stop-indent scene allowed value text bodies go g level env t body s s' e m c d =
     stop-value data_of s' e m (value level env t) (λ v. within go level env body (indent v s) (restore_margin s.ambient)) c d
     (λ v. grows-within go g level env body (indent v s) (restore_margin s.ambient))
 
-pub stop-ink : (scene : Scene) (allowed : Allowance) (value : Go) (text : Texts) (go : Draws) → DrawsGrow go
+pub stop-ink : (scene : Scene) (allowed : Allowance) (value : Go) (text : Texts) (bodies : Bodies) (go : Draws) → DrawsGrow go
     → (level : ℕ) (env : Env) (t : ExprTree) (body : ShapeTrees)
     (s s' : DrawingAt) (e : Stop) (m : Meter) (c d : ℕ)
     → Agrees data_of (Err e) m (value level env t c d) → StopsAt s' e m
-    (shape_parts scene allowed value text go level env (shape.Ink t body) s c d)
-stop-ink scene allowed value text go g level env t body s s' e m c d =
+    (shape_parts scene allowed value text bodies go level env (shape.Ink t body) s c d)
+stop-ink scene allowed value text bodies go g level env t body s s' e m c d =
     stop-value data_of s' e m (value level env t) (λ v. within go level env body (set_ink v s) (restore_ink s.ambient)) c d
     (λ v. grows-within go g level env body (set_ink v s) (restore_ink s.ambient))
 
-pub stop-choice : (scene : Scene) (allowed : Allowance) (value : Go) (text : Texts) (go : Draws) → DrawsGrow go
+pub stop-choice : (scene : Scene) (allowed : Allowance) (value : Go) (text : Texts) (bodies : Bodies) (go : Draws) → DrawsGrow go
     → (level : ℕ) (env : Env) (t : ExprTree) (a b : ShapeTree)
     (s s' : DrawingAt) (e : Stop) (m : Meter) (c d : ℕ)
     → Agrees itself (Err e) m (truth_of value level env t c d) → StopsAt s' e m
-    (shape_parts scene allowed value text go level env (shape.If t a b) s c d)
-stop-choice scene allowed value text go g level env t a b s s' e m c d =
+    (shape_parts scene allowed value text bodies go level env (shape.If t a b) s c d)
+stop-choice scene allowed value text bodies go g level env t a b s s' e m c d =
     stop-value itself s' e m (truth_of value level env t) (λ holds. if holds then go level env a s else go level env b s) c d
     (grows-then_form go g level env a b s)
 
-pub stop-when : (scene : Scene) (allowed : Allowance) (value : Go) (text : Texts) (go : Draws) → DrawsGrow go
+pub stop-when : (scene : Scene) (allowed : Allowance) (value : Go) (text : Texts) (bodies : Bodies) (go : Draws) → DrawsGrow go
     → (level : ℕ) (env : Env) (t : ExprTree) (body : ShapeTrees)
     (s s' : DrawingAt) (e : Stop) (m : Meter) (c d : ℕ)
     → Agrees itself (Err e) m (truth_of value level env t c d) → StopsAt s' e m
-    (shape_parts scene allowed value text go level env (shape.When t body) s c d)
-stop-when scene allowed value text go g level env t body s s' e m c d =
+    (shape_parts scene allowed value text bodies go level env (shape.When t body) s c d)
+stop-when scene allowed value text bodies go g level env t body s s' e m c d =
     stop-value itself s' e m (truth_of value level env t) (λ holds. if holds then in_order go level env body s else opens_none (give s)) c d
     (grows-then_body go g level env body s)
 
-pub stop-dolist : (scene : Scene) (allowed : Allowance) (value : Go) (text : Texts) (go : Draws) → DrawsGrow go
+pub stop-dolist : (scene : Scene) (allowed : Allowance) (value : Go) (text : Texts) (bodies : Bodies) (go : Draws) → DrawsGrow go
     → (level : ℕ) (env : Env) (x : List ℕ) (t : ExprTree) (body : ShapeTrees)
     (s s' : DrawingAt) (e : Stop) (m : Meter) (c d : ℕ)
     → Agrees itself (Err e) m (parts_of_list value level env t c d) → StopsAt s' e m
-    (shape_parts scene allowed value text go level env (shape.Dolist x t body) s c d)
-stop-dolist scene allowed value text go g level env x t body s s' e m c d =
+    (shape_parts scene allowed value text bodies go level env (shape.Dolist x t body) s c d)
+stop-dolist scene allowed value text bodies go g level env x t body s s' e m c d =
     stop-value itself s' e m (parts_of_list value level env t) (λ ds. for_each go level env x body ds s) c d
     (λ ds. grows-for_each go g level env x body ds s)
 
-pub stop-call : (scene : Scene) (allowed : Allowance) (value : Go) (text : Texts) (go : Draws) → DrawsGrow go
+pub stop-call : (scene : Scene) (allowed : Allowance) (value : Go) (text : Texts) (bodies : Bodies) (go : Draws) → DrawsGrow go
     → (level : ℕ) (env : Env) (f : List ℕ) (ts : ExprTrees)
     (s s' : DrawingAt) (e : Stop) (m : Meter) (c d : ℕ)
     → Agrees items_are (Err e) m (each value level env ts [] c d)
-    → StopsAt s' e m (shape_parts scene allowed value text go level env (shape.Call f ts) s c d)
-stop-call scene allowed value text go g level env f ts s s' e m c d =
+    → StopsAt s' e m (shape_parts scene allowed value text bodies go level env (shape.Call f ts) s c d)
+stop-call scene allowed value text bodies go g level env f ts s s' e m c d =
     stop-value items_are s' e m (each value level env ts []) (λ ds. call_display go level (display_named f scene.app) ds s) c d
     (grows-call_display go g level (display_named f scene.app) s)
 
-pub stop-present : (scene : Scene) (allowed : Allowance) (value : Go) (text : Texts) → TextsGrow text → (go : Draws)
+pub stop-present : (scene : Scene) (allowed : Allowance) (value : Go) (text : Texts) (bodies : Bodies) → TextsGrow text → (go : Draws)
     → (level : ℕ) (env : Env) (t : ExprTree) (spec : TypeSpecTree) (s s' : DrawingAt) (e : Stop) (m : Meter) (c d : ℕ)
     → Agrees data_of (Err e) m (value level env t c d)
-    → StopsAt s' e m (shape_parts scene allowed value text go level env (shape.Present t spec) s c d)
-stop-present scene allowed value text h go level env t spec s s' e m c d =
+    → StopsAt s' e m (shape_parts scene allowed value text bodies go level env (shape.Present t spec) s c d)
+stop-present scene allowed value text bodies h go level env t spec s s' e m c d =
     stop-value data_of s' e m (value level env t)
     (λ v. for_members scene.types.holds spec v (presents_text allowed.weight text level spec s v)) c d
     (grows-presented scene.types.holds spec allowed.weight text h level s)
 
-pub stop-as_presentation : (scene : Scene) (allowed : Allowance) (value : Go) (text : Texts) (go : Draws) → DrawsGrow go
+pub stop-as_presentation : (scene : Scene) (allowed : Allowance) (value : Go) (text : Texts) (bodies : Bodies) (go : Draws) → DrawsGrow go
     → (level : ℕ) (env : Env) (p : PresentationTree) (body : ShapeTrees) (s s' : DrawingAt) (e : Stop) (m : Meter) (c d : ℕ)
     → Agrees data_of (Err e) m (value level env p.object c d)
-    → StopsAt s' e m (shape_parts scene allowed value text go level env (shape.AsPresentation p body) s c d)
-stop-as_presentation scene allowed value text go g level env p body s s' e m c d =
+    → StopsAt s' e m (shape_parts scene allowed value text bodies go level env (shape.AsPresentation p body) s c d)
+stop-as_presentation scene allowed value text bodies go g level env p body s s' e m c d =
     stop-value data_of s' e m (value level env p.object)
     (λ v. for_members scene.types.holds p.spec v (presents_body allowed.weight go level env p body s v)) c d
     (grows-body_presented scene.types.holds allowed.weight go g level env p body s)

@@ -1,53 +1,42 @@
 -- What the rows of display forms draw: marks behind those that were there, and their weight.
-use Rattle.std.proofs.Common.{◌≡◌, ℕ, zero, suc, ◌+◌, ◌≤◌, ◌==◌, pos, ◌+ℤ◌, Bool, true, false, if◌then◌else◌, nat_le, List}
+use Rattle.std.proofs.Common.{◌≡◌, ℕ, zero, suc, ◌+◌, ◌≤◌, ◌==◌, Bool, true, false, if◌then◌else◌, nat_le, List}
 use Rattle.std.proofs.Common.{[]}
 use Rattle.std.proofs.Common.{◌∷◌, ◌++◌, length, Option, Some, None, Result, Ok, Err, arith, refl}
 use Rattle.std.proofs.lemmas.Bool.Decides.{nat_tests}
-use Rattle.std.specs.Prelude.{negsuc, int_le, int_lt, ◌||◌}
 use Rattle.cl_value.specs.Data.{Data}
 use Rattle.cl_syntax.specs.ShapeTree as shape
 use Rattle.cl_syntax.specs.ShapeTree.{ShapeTree, ShapeTrees, none, form, shape_trees_of}
 use Rattle.cl_syntax.specs.ExprTree.{Bindings}
 use Rattle.cl_application.specs.App.{display_named}
-use Rattle.cl_application.specs.declared.applications.App.{App}
 use Rattle.cl_application.specs.declared.declarations.DisplayDecl.{DisplayDecl}
-use Rattle.cl_eval.specs.Outcome.{Outcome, Gives, Traps, Run, give, trap, lift, after}
-use Rattle.cl_eval.specs.Slots.{Slots, Env, bind_parameters}
+use Rattle.cl_eval.specs.Outcome.{Outcome, Gives, Traps, give, trap, lift, after}
+use Rattle.cl_eval.specs.Slots.{Env, bind_parameters}
 use Rattle.cl_eval.specs.Meaning.{Go, bind_each, each, entering, parts_of_list, means, truth_of}
-use Rattle.cl_medium.specs.Drawing.{text_leaf}
-use Rattle.cl_medium.specs.Ambients.{AmbientAt, after_indent, after_newline}
-use Rattle.cl_medium.specs.Items.{bounds_of, item_bounds, Item}
-use Rattle.cl_medium.specs.declared.areas.Area.{Area}
+use Rattle.cl_medium.specs.Items.{Item}
 use Rattle.cl_region.specs.Places.{box}
-use Rattle.cl_record.specs.Marks.{draw}
-use Rattle.cl_record.proofs.Replayed.{drawn-append}
-use Rattle.cl_display.specs.Drawings.{DrawingAt, add_item, after_text, cursor_box, cursor_to}
-use Rattle.cl_display.specs.Drawings.{is_in_range, is_near}
-use Rattle.cl_display.specs.Drawings.{newline, then_to, with_cursor, with_item, with_margin_used}
-use Rattle.cl_display.specs.Drawings.{write_text}
-use Rattle.cl_display.specs.Figures.{area_at, draw_figure, draw_parts, draw_shape, figure_parts, leaf_in, with_origin_used}
-use Rattle.cl_display.specs.declared.figures.FigureItem.{FigureItem}
-use Rattle.cl_display.specs.declared.figures.FigureItem.TheVariants as item
-use Rattle.cl_display.specs.declared.figures.FigureParts.{FigureParts}
-use Rattle.cl_display.specs.Settings.{behind_room, enter_room, indent, leave_room, margin_box, restore_ink, restore_margin, room_part}
-use Rattle.cl_display.specs.Settings.{set_ink, with_ink, with_margin}
-use Rattle.cl_display.specs.Outcomes.{Draw, opens_none, run_of, ◌>->◌, ◌>>=◌}
+use Rattle.cl_display.specs.Drawings.{DrawingAt, cursor_box}
+use Rattle.cl_display.specs.Drawings.{newline}
+use Rattle.cl_display.specs.Figures.{draw_figure, figure_parts}
+use Rattle.cl_display.specs.Settings.{behind_room, enter_room, indent, leave_room, restore_ink, restore_margin, room_part}
+use Rattle.cl_display.specs.Settings.{set_ink}
+use Rattle.cl_display.specs.Outcomes.{Draw, opens_none, run_of}
 use Rattle.cl_display.specs.Fresh.{Allowance, Draws, call_display, draws, draws_in, draws_to, for_each, in_order, shape_parts, within}
-use Rattle.cl_display.proofs.CornerLemmas.{box-first, box-second, holds-itself, holds-then, holds_all-then}
-use Rattle.cl_display.specs.Sums.{Holds, item_weight, weight_of}
-use Rattle.cl_display.proofs.PartLemmas.{PartAdds, part-join, part-none, part-then, weight_of-behind}
+use Rattle.cl_display.specs.Fresh.{Bodies, bodies_by}
+use Rattle.cl_display.proofs.UpdateSums.{BodiesAdd, adds-draws_update}
+use Rattle.cl_display.proofs.CornerLemmas.{box-first, box-second, holds-itself, holds-then, holds_all-behind, holds_all-then}
+use Rattle.cl_display.proofs.PartLemmas.{part-join, weight_of-behind}
 use Rattle.cl_display.specs.Drawings.{start}
 use Rattle.cl_display.specs.Fresh.{Scene, for_members, presents_body, presents_text}
 use Rattle.cl_display.specs.Presentations.{Texts, label_of, label_weight, leave_after, leave_presentation, present_text, presented_part, texts_on, write_inside, write_value}
 use Rattle.cl_display.proofs.PartLemmas.{items-closed, members-behind}
 use Rattle.cl_display.proofs.SumLemmas.{Adds, AddsOut, AddsRun, AddsTo, adds-choice, adds-draw_parts, adds-further, adds-give, adds-given, adds-indent}
 use Rattle.cl_display.proofs.SumLemmas.{adds-lift, adds-newline, adds-nothing, adds-run, adds-set_ink, adds-write_value}
-use Rattle.cl_display.specs.Sums.{AreMembers, HoldsAll, lowest_of}
+use Rattle.cl_display.specs.Sums.{lowest_of}
 use Rattle.cl_record.specs.Labels.{LabelAt}
 use Rattle.cl_record.specs.Marks.{Mark, close, open_presentation}
 use Rattle.cl_record.specs.Replays.{items_drawn}
 use Rattle.cl_eval.specs.Statements.{Member}
-use Rattle.std.proofs.Common.{ap, sym, subst, ◌∙◌}
+use Rattle.std.proofs.Common.{ap, sym, ◌∙◌}
 
 module _ (most : ℕ) (holds : Member) where
   -- ---- forms
@@ -92,7 +81,7 @@ module _ (most : ℕ) (holds : Member) where
         marks = p.marks;
         part =
             part-join s.part inner p.marks p.part.behind p.part.lowest
-            (holds_all-then (box t.part.extent (cursor_box behind)) t.part.extent (items_drawn p.marks)
+            (holds_all-then (box t.part.extent (cursor_box behind)) t.part.extent p.marks
             (box-first t.part.extent (cursor_box behind)) p.part.within);
         weight = p.weight;
         members = p.members;
@@ -126,7 +115,7 @@ module _ (most : ℕ) (holds : Member) where
         marks = marks;
         part =
             part-join s.part inner marks (ap (λ (ms : List (Mark Item)). open_presentation label ∷ (ms ++ close ∷ [])) p.part.behind)
-            (p.part.lowest ∙ sym (ap (λ (is : List Item). lowest_of is) same)) (subst (HoldsAll t.part.extent) (sym same) p.part.within);
+            (p.part.lowest ∙ sym (ap (λ (is : List Item). lowest_of is) same)) (holds_all-behind t.part.extent p.marks (close ∷ []) p.part.within tt);
         weight = omega (arith, p.weight, weight_of-behind p.marks (close ∷ []));
         members = (member, members-behind holds p.marks (close ∷ []) p.members tt);
         light = λ h. p.light light;
@@ -191,60 +180,70 @@ module _ (most : ℕ) (holds : Member) where
       (opens_none (trap 1))
       (adds-in_order go g level (bind_parameters f.parameters ds) (shape_trees_of f.body) s) (λ c d. tt)
 
-  adds-shape_parts : (scene : Scene) → scene.types.holds ≡ holds → (budget : ℕ) (value : Go) (text : Texts) (go : Draws) → AllAdd go
+  adds-shape_parts : (scene : Scene) → scene.types.holds ≡ holds → (budget : ℕ) (value : Go) (text : Texts) (bodies : Bodies) → BodiesAdd holds bodies → (go : Draws) → AllAdd go
       → (level : ℕ) (env : Env) (f : ShapeTree) (s : DrawingAt)
-      → AddsRun most holds s (shape_parts scene (record { budget = budget; weight = most }) value text go level env f s)
-  adds-shape_parts scene same budget value text go g level env (shape.WriteText t) s =
+      → AddsRun most holds s (shape_parts scene (record { budget = budget; weight = most }) value text bodies go level env f s)
+  adds-shape_parts scene same budget value text bodies b go g level env (shape.WriteText t) s =
       adds-given most holds s (value level env t) (λ d. opens_none (lift (write_value most s d)))
       (λ d. adds-lift most holds s (write_value most s d) (adds-write_value most holds s d))
-  adds-shape_parts scene same budget value text go g level env shape.Newline s = adds-lift most holds s (newline s) (adds-newline most holds s)
-  adds-shape_parts scene same budget value text go g level env (shape.Draw figure ts) s =
+  adds-shape_parts scene same budget value text bodies b go g level env shape.Newline s = adds-lift most holds s (newline s) (adds-newline most holds s)
+  adds-shape_parts scene same budget value text bodies b go g level env (shape.Draw figure ts) s =
       adds-given most holds s (each value level env ts []) (λ ds. opens_none (lift (draw_figure most figure ds s)))
       (λ ds. adds-lift most holds s (draw_figure most figure ds s) (adds-draw_parts most holds (figure_parts figure ds) s))
-  adds-shape_parts scene same budget value text go g level env (shape.Indent t body) s =
+  adds-shape_parts scene same budget value text bodies b go g level env (shape.Indent t body) s =
       adds-given most holds s (value level env t) (λ d. within go level env body (indent d s) (restore_margin s.ambient))
       (λ d. adds-within go g level env body s (indent d s) (restore_margin s.ambient) (adds-indent most holds d s)
       (λ end. adds-nothing most holds end (restore_margin s.ambient end) refl refl refl))
-  adds-shape_parts scene same budget value text go g level env (shape.Ink t body) s =
+  adds-shape_parts scene same budget value text bodies b go g level env (shape.Ink t body) s =
       adds-given most holds s (value level env t) (λ d. within go level env body (set_ink d s) (restore_ink s.ambient))
       (λ d. adds-within go g level env body s (set_ink d s) (restore_ink s.ambient) (adds-set_ink most holds d s)
       (λ end. adds-nothing most holds end (restore_ink s.ambient end) refl refl refl))
-  adds-shape_parts scene same budget value text go g level env (shape.Room body) s = adds-room go g level env body s
-  adds-shape_parts scene same budget value text go g level env (shape.Present t spec) s =
+  adds-shape_parts scene same budget value text bodies b go g level env (shape.Room body) s = adds-room go g level env body s
+  adds-shape_parts scene same budget value text bodies b go g level env (shape.Present t spec) s =
       rw same
       (adds-given most holds s (value level env t) (λ d. for_members holds spec d (presents_text most text level spec s d)) (λ d.
       adds-for_members s (holds d spec) (presents_text most text level spec s d) (λ member.
       adds-given most holds s (text level spec d) (λ x. opens_none (lift (present_text most (label_of spec false d) s x))) (λ x.
       adds-lift most holds s (present_text most (label_of spec false d) s x)
       (adds-present_text (label_of spec false d) s x member)))))
-  adds-shape_parts scene same budget value text go g level env (shape.AsPresentation p body) s =
+  adds-shape_parts scene same budget value text bodies b go g level env (shape.AsPresentation p body) s =
       rw same
       (adds-given most holds s (value level env p.object) (λ d. for_members holds p.spec d (presents_body most go level env p body s d)) (λ d.
       adds-for_members s (holds d p.spec) (presents_body most go level env p body s d)
       (adds-body_in go g level env body (label_of p.spec p.single_box d) s (nat_le (s.weight + label_weight d) most) refl)))
-  adds-shape_parts scene same budget value text go g level env (shape.If t a b) s =
-      adds-given most holds s (truth_of value level env t) (λ test. if test then go level env a s else go level env b s)
-      (λ test. adds-choice most holds s test (go level env a s) (go level env b s) (g level env a s) (g level env b s))
-  adds-shape_parts scene same budget value text go g level env (shape.When t body) s =
+  adds-shape_parts scene same budget value text bodies b go g level env (shape.Update u body) s =
+      adds-draws_update most holds (record { budget = budget; weight = most }) refl value bodies b level env u body s
+  adds-shape_parts scene same budget value text bodies b go g level env (shape.If t f h) s =
+      adds-given most holds s (truth_of value level env t) (λ test. if test then go level env f s else go level env h s)
+      (λ test. adds-choice most holds s test (go level env f s) (go level env h s) (g level env f s) (g level env h s))
+  adds-shape_parts scene same budget value text bodies b go g level env (shape.When t body) s =
       adds-given most holds s (truth_of value level env t) (λ test. if test then in_order go level env body s else opens_none (give s))
       (λ test. adds-choice most holds s test (in_order go level env body s) (opens_none (give s)) (adds-in_order go g level env body s)
       (adds-give most holds s))
-  adds-shape_parts scene same budget value text go g level env (shape.Let bs body) s = adds-draws_in value go g level bs body env s
-  adds-shape_parts scene same budget value text go g level env (shape.Dolist x t body) s =
+  adds-shape_parts scene same budget value text bodies b go g level env (shape.Let bs body) s = adds-draws_in value go g level bs body env s
+  adds-shape_parts scene same budget value text bodies b go g level env (shape.Dolist x t body) s =
       adds-given most holds s (parts_of_list value level env t) (λ ds. for_each go level env x body ds s) (λ ds. adds-for_each go g level env x body ds s)
-  adds-shape_parts scene same budget value text go g level env (shape.Progn body) s = adds-in_order go g level env body s
-  adds-shape_parts scene same budget value text go g level env (shape.Call f ts) s =
+  adds-shape_parts scene same budget value text bodies b go g level env (shape.Progn body) s = adds-in_order go g level env body s
+  adds-shape_parts scene same budget value text bodies b go g level env (shape.Call f ts) s =
       adds-given most holds s (each value level env ts []) (λ ds. call_display go level (display_named f scene.app) ds s)
       (λ ds. adds-call_display go g level (display_named f scene.app) ds s)
 
-  pub adds-draws : (left budget : ℕ) (scene : Scene) → scene.types.holds ≡ holds
-      → AllAdd (draws left (record { budget = budget; weight = most }) scene)
-  adds-draws zero budget scene same level env f s =
-      adds-given most holds s (entering 0 budget level) (λ _. opens_none (trap 6)) (λ _ c d. tt)
-  adds-draws (suc left) budget scene same level env f s =
-      let allowed : Allowance = record { budget = budget; weight = most } in
-      let value = means left budget scene.app scene.slots in
-      let text = texts_on scene.types.presents scene.slots budget left in
-      adds-given most holds s (entering (suc left) budget level)
-      (λ _. shape_parts scene allowed value text (draws left allowed scene) (level + 1) env f s)
-      (λ _. adds-shape_parts scene same budget value text (draws left allowed scene) (adds-draws left budget scene same) (level + 1) env f s)
+-- bodies whose forms add up
+adds-bodies : (holds : Member) (left : ℕ) (go : Allowance → Draws) → ((allowed : Allowance) → AllAdd allowed.weight holds (go allowed))
+    → BodiesAdd holds (bodies_by left go)
+adds-bodies holds left go g allowed env body s = adds-in_order allowed.weight holds (go allowed) (g allowed) 0 env body s 0 0
+
+pub adds-draws : (most : ℕ) (holds : Member) (left budget : ℕ) (scene : Scene) → scene.types.holds ≡ holds
+    → AllAdd most holds (draws left (record { budget = budget; weight = most }) scene)
+adds-draws most holds zero budget scene same level env f s =
+    adds-given most holds s (entering 0 budget level) (λ _. opens_none (trap 6)) (λ _ c d. tt)
+adds-draws most holds (suc left) budget scene same level env f s =
+    let allowed : Allowance = record { budget = budget; weight = most } in
+    let value = means left budget scene.app scene.slots in
+    let text = texts_on scene.types.presents scene.slots budget left in
+    let bodies = bodies_by left (λ inner. draws left inner scene) in
+    adds-given most holds s (entering (suc left) budget level)
+    (λ _. shape_parts scene allowed value text bodies (draws left allowed scene) (level + 1) env f s)
+    (λ _. adds-shape_parts most holds scene same budget value text bodies
+    (adds-bodies holds left (λ inner. draws left inner scene) (λ inner. adds-draws inner.weight holds left inner.budget scene same))
+    (draws left allowed scene) (adds-draws most holds left budget scene same) (level + 1) env f s)

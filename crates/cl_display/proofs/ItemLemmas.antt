@@ -4,10 +4,11 @@ use Rattle.std.proofs.lemmas.Bool.Decides.{nat_tests}
 use Rattle.cl_region.specs.declared.rects.Shift.{Shift}
 use Rattle.cl_medium.specs.Items.{move_item, Item}
 use Rattle.cl_medium.specs.ItemLaws.{item_stays}
+use Rattle.cl_record.specs.Heads.{HeadAt}
 use Rattle.cl_record.specs.Labels.{LabelAt}
-use Rattle.cl_record.specs.Marks.{Mark, close, history_marks, marks_of, move_marks, open_presentation}
+use Rattle.cl_record.specs.Marks.{Mark, close, history_marks, marks_of, move_marks, open_presentation, open_update}
 use Rattle.cl_record.specs.Shifts.{still}
-use Rattle.cl_record.specs.Trees.{Tree, presentation, trees_of}
+use Rattle.cl_record.specs.Trees.{Tree, presentation, trees_of, update}
 use Rattle.cl_record.proofs.Moves.{all-still}
 use Rattle.cl_display.specs.Drawings.{DrawingAt, add_item, with_item}
 
@@ -35,4 +36,11 @@ pub marks-presented : (label : LabelAt) (ts : List (Tree Item))
     → history_marks move_item (presentation label still (trees_of ts) ∷ []) ≡ open_presentation label ∷ (history_marks move_item ts ++ close ∷ [])
 marks-presented label ts =
     let marks = open_presentation label ∷ (history_marks move_item ts ++ close ∷ []) in
+    append-nil (move_marks move_item still marks) ∙ all-still move_item item_stays marks
+
+-- the marks of one record that is an update and stands where it is
+pub marks-updated : (head : HeadAt) (ts : List (Tree Item))
+    → history_marks move_item (update head still (trees_of ts) ∷ []) ≡ open_update head ∷ (history_marks move_item ts ++ close ∷ [])
+marks-updated head ts =
+    let marks = open_update head ∷ (history_marks move_item ts ++ close ∷ []) in
     append-nil (move_marks move_item still marks) ∙ all-still move_item item_stays marks

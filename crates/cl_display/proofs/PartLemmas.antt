@@ -2,7 +2,7 @@
 -- the origin stays so.
 use Rattle.std.proofs.Common.{◌≡◌, ◌∙◌, ap, sym, ◌+◌, ℤ, Bool, true, false, List}
 use Rattle.std.proofs.Common.{[]}
-use Rattle.std.proofs.Common.{◌∷◌, ◌++◌, Option, append_assoc, append-nil, arith, refl, subst}
+use Rattle.std.proofs.Common.{◌∷◌, ◌++◌, Option, append_assoc, append-nil, arith, refl}
 use Rattle.std.specs.Prelude.{◌||◌}
 use Rattle.cl_eval.specs.Statements.{Member}
 use Rattle.cl_medium.specs.Items.{Item}
@@ -21,7 +21,7 @@ pub record PartAdds (s t : PartAt) (marks : List (Mark Item)) : Type 0 where
   pub behind : t.marks ≡ s.marks ++ marks
   pub lowest : t.lowest ≡ lower_end s.lowest (lowest_of (items_in marks))
   pub wider : Holds t.extent s.extent
-  pub within : HoldsAll t.extent (items_in marks)
+  pub within : HoldsAll t.extent marks
   pub margin : s.margin_used ≡ true → t.margin_used ≡ true
   pub origin : s.origin_used ≡ true → t.origin_used ≡ true
 
@@ -68,22 +68,20 @@ part-then s t u xs ys p q = record {
       ∙ sym (ap (λ (e : Option ℤ). lower_end s.lowest e)
       (ap (λ (is : List Item). lowest_of is) (drawn-append xs ys) ∙ lowest_of-behind (items_in xs) (items_in ys)));
   wider = holds-then u.extent t.extent s.extent q.wider p.wider;
-  within =
-      subst (HoldsAll u.extent) (sym (drawn-append xs ys))
-      (holds_all-behind u.extent (items_in xs) (items_in ys) (holds_all-then u.extent t.extent (items_in xs) q.wider p.within) q.within);
+  within = holds_all-behind u.extent xs ys (holds_all-then u.extent t.extent xs q.wider p.within) q.within;
   margin = λ h. q.margin (p.margin h);
   origin = λ h. q.origin (p.origin h);
 }
 
 -- an inner part that started blank comes behind the outer one
 pub part-join : (s t : PartAt) (marks : List (Mark Item)) → t.marks ≡ marks → t.lowest ≡ lowest_of (items_in marks)
-    → HoldsAll t.extent (items_in marks)
+    → HoldsAll t.extent marks
     → PartAdds s (join_parts s t) marks
 part-join s t marks b l w = record {
   behind = ap (λ (ms : List (Mark Item)). s.marks ++ ms) b;
   lowest = ap (λ (e : Option ℤ). lower_end s.lowest e) l;
   wider = box-first s.extent t.extent;
-  within = holds_all-then (box s.extent t.extent) t.extent (items_in marks) (box-second s.extent t.extent) w;
+  within = holds_all-then (box s.extent t.extent) t.extent marks (box-second s.extent t.extent) w;
   margin = λ h. or-true t.margin_used s.margin_used h;
   origin = λ h. or-true t.origin_used s.origin_used h;
 }

@@ -18,17 +18,17 @@ use Rattle.cl_eval.specs.Statements.{Member}
 use Rattle.cl_eval.proofs.CostLemmas.{Agrees-lift}
 use Rattle.cl_display.specs.Drawings.{DrawingAt}
 use Rattle.cl_display.specs.Figures.{draw_figure}
-use Rattle.cl_display.specs.Fresh.{Allowance, Draws, Scene, for_members, presents_body, shape_parts}
+use Rattle.cl_display.specs.Fresh.{Allowance, Bodies, Draws, Scene, for_members, presents_body, shape_parts}
 use Rattle.cl_display.specs.Outcomes.{Draw, opens_none}
 use Rattle.cl_display.specs.Presentations.{Texts, check_member, enter_presentation, label_of, leave_presentation}
 use Rattle.cl_display.proofs.FormLemmas.{DrawGrows, DrawsGrow, StopsAt, grows-for_members, stop-set}
 
 -- a figure whose values are there ends as its drawing does
-pub ends-figure : (scene : Scene) (allowed : Allowance) (value : Go) (text : Texts) (go : Draws) (level : ℕ) (env : Env) (figure : Figure)
+pub ends-figure : (scene : Scene) (allowed : Allowance) (value : Go) (text : Texts) (bodies : Bodies) (go : Draws) (level : ℕ) (env : Env) (figure : Figure)
     (ts : ExprTrees) (s s' : DrawingAt) (ds : List Data) (r : Result (Unit {0}) Stop) (m : Meter) (c d : ℕ)
     → each value level env ts [] c d ≡ Gives ds m.cost m.deepest → Comes (always s') r (draw_figure allowed.weight figure ds s)
-    → Agrees (always s') r m (shape_parts scene allowed value text go level env (shape.Draw figure ts) s c d).outcome
-ends-figure scene allowed value text go level env figure ts s s' ds r m c d p q =
+    → Agrees (always s') r m (shape_parts scene allowed value text bodies go level env (shape.Draw figure ts) s c d).outcome
+ends-figure scene allowed value text bodies go level env figure ts s s' ds r m c d p q =
     rw p (Agrees-lift (always s') r m (draw_figure allowed.weight figure ds s) q)
 
 -- ---- a value that is looked at

@@ -1,19 +1,11 @@
 -- What forms draw: items behind those that were there, and their weight.
-use Rattle.std.proofs.Common.{◌≡◌, ℕ, zero, suc, ◌+◌, ◌≤◌, ◌==◌, pos, ◌+ℤ◌, Bool, true, false, if◌then◌else◌, nat_le, List}
+use Rattle.std.proofs.Common.{◌≡◌, ℕ, ◌+◌, ◌≤◌, pos, ◌+ℤ◌, Bool, true, false, if◌then◌else◌, nat_le, List}
 use Rattle.std.proofs.Common.{[]}
 use Rattle.std.proofs.Common.{◌∷◌, ◌++◌, length, Option, Some, None, Result, Ok, Err, arith, refl}
 use Rattle.std.proofs.lemmas.Bool.Decides.{nat_tests}
 use Rattle.std.specs.Prelude.{negsuc, int_le, int_lt, ◌||◌}
 use Rattle.cl_value.specs.Data.{Data, int, text}
-use Rattle.cl_syntax.specs.ShapeTree as shape
-use Rattle.cl_syntax.specs.ShapeTree.{ShapeTree, ShapeTrees, none, form, shape_trees_of}
-use Rattle.cl_syntax.specs.ExprTree.{Bindings}
-use Rattle.cl_application.specs.App.{display_named}
-use Rattle.cl_application.specs.declared.applications.App.{App}
-use Rattle.cl_application.specs.declared.declarations.DisplayDecl.{DisplayDecl}
-use Rattle.cl_eval.specs.Outcome.{Outcome, Gives, Traps, Run, give, trap, lift, after}
-use Rattle.cl_eval.specs.Slots.{Slots, Env, bind_parameters}
-use Rattle.cl_eval.specs.Meaning.{Go, bind_each, each, entering, parts_of_list, means, truth_of}
+use Rattle.cl_eval.specs.Outcome.{Outcome, Gives, Traps, Run, give, lift, after}
 use Rattle.cl_medium.specs.Drawing.{text_leaf}
 use Rattle.cl_medium.specs.Ambients.{AmbientAt, after_indent, after_newline}
 use Rattle.cl_medium.specs.Items.{bounds_of, item_bounds, Item}
@@ -25,16 +17,16 @@ use Rattle.cl_display.specs.Drawings.{DrawingAt, add_item, after_text, cursor_bo
 use Rattle.cl_display.specs.Drawings.{is_in_range, is_near}
 use Rattle.cl_display.specs.Drawings.{newline, then_to, with_cursor, with_item, with_margin_used}
 use Rattle.cl_display.specs.Drawings.{write_text}
-use Rattle.cl_display.specs.Figures.{area_at, draw_figure, draw_parts, draw_shape, figure_parts, leaf_in, with_origin_used}
+use Rattle.cl_display.specs.Figures.{area_at, draw_parts, draw_shape, leaf_in, with_origin_used}
 use Rattle.cl_display.specs.declared.figures.FigureItem.{FigureItem}
 use Rattle.cl_display.specs.declared.figures.FigureItem.TheVariants as item
 use Rattle.cl_display.specs.declared.figures.FigureParts.{FigureParts}
-use Rattle.cl_display.specs.Settings.{behind_room, enter_room, indent, leave_room, margin_box, restore_ink, restore_margin, room_part}
+use Rattle.cl_display.specs.Settings.{indent, margin_box}
 use Rattle.cl_display.specs.Settings.{set_ink, with_ink, with_margin}
 use Rattle.cl_display.specs.Outcomes.{Draw, opens_none, run_of, ◌>->◌, ◌>>=◌}
-use Rattle.cl_display.specs.Fresh.{Allowance, Draws, call_display, draws, draws_in, draws_to, for_each, in_order, shape_parts, within}
 use Rattle.cl_display.specs.Presentations.{write_value}
-use Rattle.cl_display.proofs.CornerLemmas.{box-first, box-second, holds-itself, holds-then, holds_all-then}
+use Rattle.std.proofs.lemmas.Int.{ints}
+use Rattle.cl_display.proofs.CornerLemmas.{IsUpright, box-first, box-second, corners-of, holds-itself, holds-then}
 use Rattle.cl_display.specs.Sums.{AreMembers, Holds, item_weight, weight_of}
 use Rattle.cl_display.proofs.PartLemmas.{PartAdds, members-behind, part-none, part-then, weight_of-behind}
 
@@ -116,14 +108,14 @@ module _ (most : ℕ) (holds : Member) where
   -- ---- what one form draws
 
   adds-item : (b : Bool) (leaf : Item) (weight : ℕ) (s : DrawingAt) → nat_le (s.weight + weight) most ≡ b → weight ≡ item_weight leaf
-      → AddsTo s (if b then Ok (record s { weight = s.weight + weight; part = with_item leaf s.part }) else Err 10)
-  adds-item true leaf weight s h e = record {
+      → IsUpright (item_bounds leaf) → AddsTo s (if b then Ok (record s { weight = s.weight + weight; part = with_item leaf s.part }) else Err 10)
+  adds-item true leaf weight s h e u = record {
     marks = draw leaf ∷ [];
     part = record {
       behind = refl;
       lowest = refl;
       wider = box-first s.part.extent (item_bounds leaf);
-      within = (box-second s.part.extent (item_bounds leaf), tt);
+      within = (corners-of (box s.part.extent (item_bounds leaf)) (item_bounds leaf) u (box-second s.part.extent (item_bounds leaf)), tt);
       margin = λ g. g;
       origin = λ g. g;
     };
@@ -134,10 +126,11 @@ module _ (most : ℕ) (holds : Member) where
         holds-then (box s.part.extent (item_bounds leaf)) s.part.extent (cursor_box s.ambient) (box-first s.part.extent (item_bounds leaf))
         g;
   }
-  adds-item false leaf weight s h e = tt
+  adds-item false leaf weight s h e u = tt
 
-  adds-add_item : (leaf : Item) (weight : ℕ) (s : DrawingAt) → weight ≡ item_weight leaf → AddsTo s (add_item most leaf weight s)
-  adds-add_item leaf weight s e = adds-item (nat_le (s.weight + weight) most) leaf weight s refl e
+  adds-add_item : (leaf : Item) (weight : ℕ) (s : DrawingAt) → weight ≡ item_weight leaf → IsUpright (item_bounds leaf)
+      → AddsTo s (add_item most leaf weight s)
+  adds-add_item leaf weight s e u = adds-item (nat_le (s.weight + weight) most) leaf weight s refl e u
 
   -- the cursor elsewhere
   adds-cursor : (a : AmbientAt) (s : DrawingAt) → Adds most holds s (cursor_to a s)
@@ -164,9 +157,9 @@ module _ (most : ℕ) (holds : Member) where
   adds-where s true k r p = p
   adds-where s false k r p = tt
 
-  adds-or_none : (s : DrawingAt) (b : Bool) (r : Result DrawingAt ℕ) → AddsTo s r → AddsTo s (if b then Ok s else r)
+  adds-or_none : (s : DrawingAt) (b : Bool) (r : Result DrawingAt ℕ) → (b ≡ false → AddsTo s r) → AddsTo s (if b then Ok s else r)
   adds-or_none s true r p = adds-nothing s s refl refl refl
-  adds-or_none s false r p = p
+  adds-or_none s false r p = p refl
 
   adds-write_text : (bs : List ℕ) (s : DrawingAt) → AddsTo s (write_text most bs s)
   adds-write_text [] s = adds-nothing s s refl refl refl
@@ -174,7 +167,8 @@ module _ (most : ℕ) (holds : Member) where
       let leaf = text_leaf s.ambient (b ∷ bs) in
       let added = add_item most leaf (length (b ∷ bs) + 1) s in
       adds-where s (is_in_range (item_bounds leaf)) 9 (then_to (after_text s.ambient (b ∷ bs)) added)
-      (adds-moved (after_text s.ambient (b ∷ bs)) s added (adds-add_item leaf (length (b ∷ bs) + 1) s refl))
+      (adds-moved (after_text s.ambient (b ∷ bs)) s added (adds-add_item leaf (length (b ∷ bs) + 1) s refl
+      (record { across = omega (arith, ints); down = omega (arith, ints) })))
 
   pub adds-write_value : (s : DrawingAt) (d : Data) → AddsTo s (write_value most s d)
   adds-write_value s (text bs) = adds-write_text bs s
@@ -189,12 +183,17 @@ module _ (most : ℕ) (holds : Member) where
       (λ h. h))
       (adds-cursor (after_newline s.ambient) used))
 
-  adds-draw_shape : (leaf : Item) (area : Area) (s : DrawingAt) → 1 ≡ item_weight leaf → AddsTo s (draw_shape most leaf area s)
-  adds-draw_shape leaf area s e =
+  -- an area with positive sides is upright
+  upright-area : (area : Area) → (int_le area.width (pos 0) || int_le area.height (pos 0)) ≡ false → IsUpright (bounds_of area)
+  upright-area area h = record { across = grind (arith, ints, h); down = grind (arith, ints, h) }
+
+  adds-draw_shape : (leaf : Item) (area : Area) (s : DrawingAt) → 1 ≡ item_weight leaf → item_bounds leaf ≡ bounds_of area
+      → AddsTo s (draw_shape most leaf area s)
+  adds-draw_shape leaf area s e same =
       adds-unless s (int_lt area.width (pos 0) || int_lt area.height (pos 0)) 9 _
       (adds-or_none s (int_le area.width (pos 0) || int_le area.height (pos 0)) _
-      (adds-where s (is_in_range (bounds_of area)) 9 (with_origin_used (add_item most leaf 1 s))
-      (adds-origin s (add_item most leaf 1 s) (adds-add_item leaf 1 s e))))
+      (λ h. adds-where s (is_in_range (bounds_of area)) 9 (with_origin_used (add_item most leaf 1 s))
+      (adds-origin s (add_item most leaf 1 s) (adds-add_item leaf 1 s e (rw same (upright-area area h))))))
 
   light-figure : (area : Area) (i : FigureItem) → 1 ≡ item_weight (leaf_in area i)
   light-figure area (item.Point byte) = refl
@@ -203,10 +202,18 @@ module _ (most : ℕ) (holds : Member) where
   light-figure area (item.Outline width height) = refl
   light-figure area (item.Filled width height byte) = refl
 
+  bounds-figure : (area : Area) (i : FigureItem) → item_bounds (leaf_in area i) ≡ bounds_of area
+  bounds-figure area (item.Point byte) = refl
+  bounds-figure area (item.HorizontalLine length) = refl
+  bounds-figure area (item.VerticalLine length) = refl
+  bounds-figure area (item.Outline width height) = refl
+  bounds-figure area (item.Filled width height byte) = refl
+
   pub adds-draw_parts : (parts : Option FigureParts) (s : DrawingAt) → AddsTo s (draw_parts most parts s)
   adds-draw_parts None s = tt
   adds-draw_parts (Some p) s =
       adds-draw_shape (leaf_in (area_at s.ambient p) p.item) (area_at s.ambient p) s (light-figure (area_at s.ambient p) p.item)
+      (bounds-figure (area_at s.ambient p) p.item)
 
   pub adds-indent : (d : Data) (s : DrawingAt) → AddsTo s (indent d s)
   adds-indent (int n) s =

@@ -9,10 +9,9 @@ use Rattle.cl_syntax.specs.ShapeTree.{ShapeTree, ShapeTrees, none, form, shape_t
 use Rattle.cl_syntax.specs.ExprTree.{ExprTree, ExprTrees}
 use Rattle.cl_syntax.specs.declared.figures.Figure.{Figure}
 use Rattle.cl_application.specs.App.{display_named}
-use Rattle.cl_application.specs.declared.applications.App.{App}
 use Rattle.cl_application.specs.declared.declarations.DisplayDecl.{DisplayDecl}
 use Rattle.cl_eval.specs.Outcome.{Outcome, Gives, Traps, after, give, trap, lift}
-use Rattle.cl_eval.specs.Slots.{Slots, Env, bind_parameters}
+use Rattle.cl_eval.specs.Slots.{Env, bind_parameters}
 use Rattle.cl_eval.specs.Meaning.{Go, bind_each, each, parts_of_list, truth_of}
 use Rattle.cl_medium.specs.Ambients.{AmbientAt, after_indent, after_newline}
 use Rattle.cl_medium.specs.Drawing.{text_leaf}
@@ -25,8 +24,10 @@ use Rattle.cl_display.specs.declared.figures.FigureParts.{FigureParts}
 use Rattle.cl_display.specs.Settings.{enter_room, indent, leave_room, restore_ink, restore_margin, set_ink, with_ink, with_margin}
 use Rattle.cl_display.specs.Outcomes.{Draw, opens_none, run_of}
 use Rattle.cl_display.specs.Fresh.{Allowance, Draws, call_display, draws, draws_to, for_each, in_order, shape_parts, within}
-use Rattle.cl_display.specs.Uses.{EndsWith, HasUsedMargin, IsPlain, NoneUses, UsesMargin, UsesNeither, UsesOrigin}
-use Rattle.cl_display.specs.Fresh.{Scene, for_members, presents_body, presents_text}
+use Rattle.cl_display.specs.Uses.{EndsWith, HasUsedMargin, IsPlain, NoBodyUses, NoneUses, UsesMargin, UsesNeither, UsesOrigin}
+use Rattle.cl_display.specs.Fresh.{Bodies, Scene, draws_body, draws_cached, draws_keyed, for_members, left_over, presents_body, presents_text}
+use Rattle.cl_display.specs.Siblings.{is_taken, note}
+use Rattle.cl_display.specs.Updates.{KeyAt, cache_of, ended, enter_body, head_at, id_of, key_at, key_weight, leave_update}
 use Rattle.cl_display.specs.Presentations.{Texts, label_of, label_weight, leave_after, leave_presentation, present_text, write_inside}
 use Rattle.cl_display.specs.Presentations.{write_value}
 use Rattle.cl_eval.specs.Statements.{Member}
@@ -209,57 +210,86 @@ unused-text most label s x weight true =
     unused-left label s inner (write_value most inner x) refl refl (text-unused most inner x)
 unused-text most label s x weight false = tt
 
-pub plain-unused : (scene : Scene) (allowed : Allowance) (value : Go) (texts : Texts) (go : Draws) (level : ℕ) (env : Env) (f : ShapeTree) (s : DrawingAt)
+-- a body that uses nothing leaves all unused around it
+unused-ended : (key : KeyAt) (level : ℕ) (s entered : DrawingAt) (o : Outcome DrawingAt) → entered.part ≡ s.part
+    → EndsWith (UsesNeither (enter_body entered)) o → (c d : ℕ) → EndsWith (UsesNeither s) (ended key level entered o c d)
+unused-ended key level s entered (Gives t n l) part p c d =
+    rw part (neither s (leave_update (head_at key entered.ambient t n l) t.part (record entered { part = s.part }))
+    (ap (λ (b : Bool). b || s.part.margin_used) p.margin) (ap (λ (b : Bool). b || s.part.origin_used) p.origin))
+unused-ended key level s entered (Traps k n l) part p c d = tt
+
+unused-keyed : (allowed : Allowance) (bodies : Bodies) → NoBodyUses bodies → (level : ℕ) (env : Env) (body : ShapeTrees) (s : DrawingAt) (key : KeyAt) (c d : ℕ)
+    → EndsWith (UsesNeither s) (draws_keyed allowed bodies level env body s key c d).outcome
+unused-keyed allowed bodies b level env body s key c d = opened (is_taken key.site key.id s.siblings) (nat_le (s.weight + key_weight key) allowed.weight)
+  where
+    entered : DrawingAt
+    entered = record s { weight = s.weight + key_weight key; siblings = note key.site key.id s.siblings }
+
+    opened : (taken fits : Bool)
+        → EndsWith (UsesNeither s) (after (lift (if taken then Err 8 else (if fits then Ok entered else Err 10)) c d)
+        (λ x. run_of (draws_body allowed bodies level env body key x)))
+    opened true fits = tt
+    opened false true =
+        unused-ended key level s entered (bodies.draw (left_over allowed c entered.weight) env body (enter_body entered)).outcome refl
+        (b (left_over allowed c entered.weight) env body (enter_body entered)) c d
+    opened false false = tt
+
+pub plain-unused : (scene : Scene) (allowed : Allowance) (value : Go) (texts : Texts) (bodies : Bodies) (go : Draws) (level : ℕ) (env : Env) (f : ShapeTree) (s : DrawingAt)
     (cost deepest : ℕ)
-    → IsPlain f → NoneUses go → EndsWith (UsesNeither s) (shape_parts scene allowed value texts go level env f s cost deepest).outcome
-plain-unused scene allowed value texts go level env (shape.WriteText t) s c d h g =
+    → IsPlain f → NoneUses go → NoBodyUses bodies → EndsWith (UsesNeither s) (shape_parts scene allowed value texts bodies go level env f s cost deepest).outcome
+plain-unused scene allowed value texts bodies go level env (shape.WriteText t) s c d h g b =
     ends-value (UsesNeither s) (value level env t c d) (λ v. opens_none (lift (write_value allowed.weight s v)))
     (λ v i j. ends-lift (UsesNeither s) (write_value allowed.weight s v) i j (text-unused allowed.weight s v))
-plain-unused scene allowed value texts go level env (shape.Ink t body) s c d h g =
+plain-unused scene allowed value texts bodies go level env (shape.Ink t body) s c d h g b =
     ends-value (UsesNeither s) (value level env t c d) (λ v. within go level env body (set_ink v s) (restore_ink s.ambient))
     (unused-ink go g level env body s)
-plain-unused scene allowed value texts go level env (shape.Present t spec) s c d h g =
+plain-unused scene allowed value texts bodies go level env (shape.Present t spec) s c d h g b =
     ends-value (UsesNeither s) (value level env t c d)
     (λ v. for_members scene.types.holds spec v (presents_text allowed.weight texts level spec s v))
     (λ v i j. ends-choice (UsesNeither s) (scene.types.holds v spec) (presents_text allowed.weight texts level spec s v) (opens_none (trap 1)) i j
     (ends-value (UsesNeither s) (texts level spec v i j) (λ x. opens_none (lift (present_text allowed.weight (label_of spec false v) s x)))
     (λ x k l. ends-lift (UsesNeither s) (present_text allowed.weight (label_of spec false v) s x) k l
     (unused-text allowed.weight (label_of spec false v) s x (s.weight + label_weight v) (nat_le (s.weight + label_weight v) allowed.weight)))) tt)
-plain-unused scene allowed value texts go level env (shape.AsPresentation p body) s c d h g =
+plain-unused scene allowed value texts bodies go level env (shape.AsPresentation p body) s c d h g b =
     ends-value (UsesNeither s) (value level env p.object c d)
     (λ v. for_members scene.types.holds p.spec v (presents_body allowed.weight go level env p body s v))
     (λ v i j. ends-choice (UsesNeither s) (scene.types.holds v p.spec) (presents_body allowed.weight go level env p body s v) (opens_none (trap 1)) i j
     (unused-body go g level env body (label_of p.spec p.single_box v) s (s.weight + label_weight v)
     (nat_le (s.weight + label_weight v) allowed.weight) i j) tt)
-plain-unused scene allowed value texts go level env (shape.If t a b) s c d h g =
-    ends-value (UsesNeither s) (truth_of value level env t c d) (λ holds. if holds then go level env a s else go level env b s)
-    (λ holds i j. ends-choice (UsesNeither s) holds (go level env a s) (go level env b s) i j (g level env a s i j) (g level env b s i j))
-plain-unused scene allowed value texts go level env (shape.When t body) s c d h g =
+plain-unused scene allowed value texts bodies go level env (shape.Update u body) s c d h g b =
+    ends-value (UsesNeither s) (id_of value level env s.siblings u.site u.id c d)
+    (draws_cached allowed value bodies level env u body s)
+    (λ id i j. ends-value (UsesNeither s) (cache_of value level env u.cache i j) (λ cache. draws_keyed allowed bodies level env body s (key_at u id cache))
+    (λ cache k l. unused-keyed allowed bodies b level env body s (key_at u id cache) k l))
+plain-unused scene allowed value texts bodies go level env (shape.If t e f) s c d h g b =
+    ends-value (UsesNeither s) (truth_of value level env t c d) (λ holds. if holds then go level env e s else go level env f s)
+    (λ holds i j. ends-choice (UsesNeither s) holds (go level env e s) (go level env f s) i j (g level env e s i j) (g level env f s i j))
+plain-unused scene allowed value texts bodies go level env (shape.When t body) s c d h g b =
     ends-value (UsesNeither s) (truth_of value level env t c d) (λ holds. if holds then in_order go level env body s else opens_none (give s))
     (λ holds i j. ends-choice (UsesNeither s) holds (in_order go level env body s) (opens_none (give s)) i j
     (unused-in_order go g level env body s i j) (neither s s refl refl))
-plain-unused scene allowed value texts go level env (shape.Let bs body) s c d h g =
+plain-unused scene allowed value texts bodies go level env (shape.Let bs body) s c d h g b =
     ends-value (UsesNeither s) (bind_each value level bs env c d) (λ inner. in_order go level inner body s)
     (λ inner i j. unused-in_order go g level inner body s i j)
-plain-unused scene allowed value texts go level env (shape.Dolist x t body) s c d h g =
+plain-unused scene allowed value texts bodies go level env (shape.Dolist x t body) s c d h g b =
     ends-value (UsesNeither s) (parts_of_list value level env t c d) (λ ds. for_each go level env x body ds s)
     (λ ds i j. unused-for_each go g level env x body ds s i j)
-plain-unused scene allowed value texts go level env (shape.Progn body) s c d h g = unused-in_order go g level env body s c d
-plain-unused scene allowed value texts go level env (shape.Call f ts) s c d h g =
+plain-unused scene allowed value texts bodies go level env (shape.Progn body) s c d h g b = unused-in_order go g level env body s c d
+plain-unused scene allowed value texts bodies go level env (shape.Call f ts) s c d h g b =
     ends-value (UsesNeither s) (each value level env ts [] c d) (λ ds. call_display go level (display_named f scene.app) ds s)
     (λ ds i j. unused-call go g level (display_named f scene.app) ds s i j)
-plain-unused scene allowed value texts go level env f s c d h g = absurd h
+plain-unused scene allowed value texts bodies go level env f s c d h g b = absurd h
 
 -- ---- forms that use one
 
-pub newline-uses : (scene : Scene) (allowed : Allowance) (value : Go) (texts : Texts) (go : Draws) (level : ℕ) (env : Env) (s : DrawingAt) (cost deepest : ℕ)
-    → EndsWith (UsesMargin s) (shape_parts scene allowed value texts go level env shape.Newline s cost deepest).outcome
-newline-uses scene allowed value texts go level env s c d = ends-lift (UsesMargin s) (newline s) c d (newline-used s)
+pub newline-uses : (scene : Scene) (allowed : Allowance) (value : Go) (texts : Texts) (bodies : Bodies) (go : Draws) (level : ℕ) (env : Env) (s : DrawingAt) (cost deepest : ℕ)
+    → EndsWith (UsesMargin s) (shape_parts scene allowed value texts bodies go level env shape.Newline s cost deepest).outcome
+newline-uses scene allowed value texts bodies go level env s c d = ends-lift (UsesMargin s) (newline s) c d (newline-used s)
 
-pub figure-uses : (scene : Scene) (allowed : Allowance) (value : Go) (texts : Texts) (go : Draws) (level : ℕ) (env : Env) (figure : Figure) (ts : ExprTrees)
+pub figure-uses : (scene : Scene) (allowed : Allowance) (value : Go) (texts : Texts) (bodies : Bodies) (go : Draws) (level : ℕ) (env : Env) (figure : Figure) (ts : ExprTrees)
     (s : DrawingAt) (cost deepest : ℕ)
-    → EndsWith (UsesOrigin s) (shape_parts scene allowed value texts go level env (shape.Draw figure ts) s cost deepest).outcome
-figure-uses scene allowed value texts go level env figure ts s c d =
+    → EndsWith (UsesOrigin s) (shape_parts scene allowed value texts bodies go level env (shape.Draw figure ts) s cost deepest).outcome
+figure-uses scene allowed value texts bodies go level env figure ts s c d =
     ends-value (UsesOrigin s) (each value level env ts [] c d) (λ ds. opens_none (lift (draw_figure allowed.weight figure ds s)))
     (λ ds i j. ends-lift (UsesOrigin s) (draw_figure allowed.weight figure ds s) i j
     (figure-used allowed.weight (figure_parts figure ds) s))
@@ -269,10 +299,10 @@ ends-left : (P : DrawingAt → Type 0) (o : Outcome DrawingAt) (leave : DrawingA
 ends-left P (Gives t c d) leave h = h t
 ends-left P (Traps k c d) leave h = tt
 
-pub room-uses : (scene : Scene) (allowed : Allowance) (value : Go) (texts : Texts) (go : Draws) (level : ℕ) (env : Env) (body : ShapeTrees) (s : DrawingAt)
+pub room-uses : (scene : Scene) (allowed : Allowance) (value : Go) (texts : Texts) (bodies : Bodies) (go : Draws) (level : ℕ) (env : Env) (body : ShapeTrees) (s : DrawingAt)
     (cost deepest : ℕ)
-    → EndsWith (UsesMargin s) (shape_parts scene allowed value texts go level env (shape.Room body) s cost deepest).outcome
-room-uses scene allowed value texts go level env body s c d =
+    → EndsWith (UsesMargin s) (shape_parts scene allowed value texts bodies go level env (shape.Room body) s cost deepest).outcome
+room-uses scene allowed value texts bodies go level env body s c d =
     ends-left (UsesMargin s) (in_order go level env body (enter_room s) c d).outcome (leave_room s.ambient s.part)
     (λ t. record { margin = refl; origin = refl })
 
@@ -281,11 +311,11 @@ margin-stays : (most : ℕ) (holds : Member) (s : DrawingAt) (o : Outcome Drawin
 margin-stays most holds s (Gives t c d) p h = p.part.margin h
 margin-stays most holds s (Traps k c d) p h = tt
 
-pub indent-uses : (left : ℕ) (allowed : Allowance) (scene : Scene) (value : Go) (texts : Texts) (level : ℕ) (env : Env) (t : ExprTree)
+pub indent-uses : (left : ℕ) (allowed : Allowance) (scene : Scene) (value : Go) (texts : Texts) (bodies : Bodies) (level : ℕ) (env : Env) (t : ExprTree)
     (body : ShapeTrees) (s : DrawingAt) (cost deepest : ℕ)
-    → EndsWith HasUsedMargin (shape_parts scene allowed value texts (draws left allowed scene) level env (shape.Indent t body) s cost
+    → EndsWith HasUsedMargin (shape_parts scene allowed value texts bodies (draws left allowed scene) level env (shape.Indent t body) s cost
     deepest).outcome
-indent-uses left allowed scene value texts level env t body s c d =
+indent-uses left allowed scene value texts bodies level env t body s c d =
     let go = draws left allowed scene in
     ends-value HasUsedMargin (value level env t c d) (λ v. within go level env body (indent v s) (restore_margin s.ambient))
     (λ v i j. ends-set (UsesMargin s) HasUsedMargin (indent v s) i j (draws_to go level env body (restore_margin s.ambient))
@@ -297,10 +327,10 @@ indent-uses left allowed scene value texts level env t body s c d =
     (λ end q k l. q)))
 
 -- forms inside that use no origin leave it unused
-pub indent-alone : (scene : Scene) (allowed : Allowance) (value : Go) (texts : Texts) (go : Draws) (level : ℕ) (env : Env) (t : ExprTree) (body : ShapeTrees)
+pub indent-alone : (scene : Scene) (allowed : Allowance) (value : Go) (texts : Texts) (bodies : Bodies) (go : Draws) (level : ℕ) (env : Env) (t : ExprTree) (body : ShapeTrees)
     (s : DrawingAt) (cost deepest : ℕ)
-    → NoneUses go → EndsWith (UsesMargin s) (shape_parts scene allowed value texts go level env (shape.Indent t body) s cost deepest).outcome
-indent-alone scene allowed value texts go level env t body s c d g =
+    → NoneUses go → EndsWith (UsesMargin s) (shape_parts scene allowed value texts bodies go level env (shape.Indent t body) s cost deepest).outcome
+indent-alone scene allowed value texts bodies go level env t body s c d g =
     ends-value (UsesMargin s) (value level env t c d) (λ v. within go level env body (indent v s) (restore_margin s.ambient))
     (λ v i j. ends-set (UsesMargin s) (UsesMargin s) (indent v s) i j (draws_to go level env body (restore_margin s.ambient))
     (indent-used s v)

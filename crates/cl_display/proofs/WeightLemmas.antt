@@ -1,36 +1,22 @@
 -- What a form draws under some weight it draws under every weight that the drawing at its end does not pass.
-use Rattle.std.proofs.Common.{◌≡◌, ap, ℕ, zero, suc, ◌+◌, ◌≤◌, ◌==◌, Bool, true, false, if◌then◌else◌, nat_le, List, [], ◌∷◌, length}
+use Rattle.std.proofs.Common.{◌≡◌, ap, ℕ, ◌+◌, ◌≤◌, Bool, true, false, if◌then◌else◌, nat_le, [], ◌∷◌, length}
 use Rattle.std.proofs.Common.{Option, Some, None, Result, Ok, Err, arith, refl}
 use Rattle.std.proofs.lemmas.Bool.Decides.{nat_tests}
 use Rattle.std.specs.Prelude.{pos, int_le, int_lt, ◌||◌}
 use Rattle.cl_value.specs.Data.{Data, text}
-use Rattle.cl_syntax.specs.ShapeTree as shape
-use Rattle.cl_syntax.specs.ShapeTree.{ShapeTree, ShapeTrees, none, form, shape_trees_of}
-use Rattle.cl_application.specs.App.{display_named}
-use Rattle.cl_application.specs.declared.applications.App.{App}
-use Rattle.cl_application.specs.declared.declarations.DisplayDecl.{DisplayDecl}
-use Rattle.cl_eval.specs.declared.metering.Limits.{Limits}
-use Rattle.cl_eval.specs.Outcome.{Outcome, Gives, Traps, Run, after, give, trap, lift}
-use Rattle.cl_eval.specs.Slots.{Slots, Env, bind_parameters}
-use Rattle.cl_eval.specs.Meaning.{Go, bind_each, each, entering, parts_of_list, means, truth_of}
-use Rattle.cl_eval.proofs.LimitLemmas.{GoGoes, Goes, entered-above, goes-bound, goes-each, goes-entering, goes-listed, goes-means}
-use Rattle.cl_eval.proofs.LimitLemmas.{goes-tested, never, no_value}
 use Rattle.cl_medium.specs.Ambients.{AmbientAt}
 use Rattle.cl_medium.specs.Drawing.{text_leaf}
 use Rattle.cl_medium.specs.Items.{bounds_of, item_bounds, Item}
-use Rattle.cl_display.specs.Drawings.{DrawingAt, add_item, after_text, blank_drawing, is_in_range, newline, then_to, with_item}
-use Rattle.cl_display.specs.Figures.{area_at, draw_figure, draw_parts, figure_parts, leaf_in, with_origin_used}
+use Rattle.cl_display.specs.Drawings.{DrawingAt, add_item, after_text, is_in_range, then_to, with_item}
+use Rattle.cl_display.specs.Figures.{area_at, draw_parts, leaf_in, with_origin_used}
 use Rattle.cl_display.specs.declared.figures.FigureParts.{FigureParts}
-use Rattle.cl_display.specs.Settings.{enter_room, indent, leave_room, restore_ink, restore_margin, set_ink}
-use Rattle.cl_display.specs.Outcomes.{Draw, opens_none, run_of, ◌>->◌, ◌>>=◌}
-use Rattle.cl_display.specs.Fresh.{Allowance, Draws, call_display, draws, draws_to, for_each, in_order, shape_parts, within}
-use Rattle.cl_display.specs.Script.{fresh, whole_allowance}
-use Rattle.cl_display.proofs.SumLemmas.{AddsTo, adds-draw_parts, adds-indent, adds-newline, adds-set_ink, adds-write_value}
-use Rattle.cl_display.proofs.DisplayLemmas.{adds_up}
+use Rattle.cl_display.proofs.SumLemmas.{AddsTo, adds-write_value}
 use Rattle.std.proofs.Common.{subst}
 use Rattle.cl_eval.specs.Statements.{Member}
 use Rattle.cl_record.specs.Labels.{LabelAt}
 use Rattle.cl_display.specs.Drawings.{PartAt, start}
+use Rattle.cl_display.specs.Siblings.{Siblings, is_taken, note}
+use Rattle.cl_display.specs.Updates.{KeyAt, enter_update, key_weight}
 use Rattle.cl_display.specs.Presentations.{enter_presentation, label_weight, leave_after, present_text, write_inside, write_value}
 
 -- ---- answers
@@ -144,6 +130,12 @@ module _ (most : ℕ) where
   keeps-entered w d s =
       keeps-item (nat_le (s.weight + label_weight d) w) 10 (label_weight d) (start (record s { weight = s.weight + label_weight d })) s refl
 
+  pub keeps-enter_update : (w : ℕ) (key : KeyAt) (s : DrawingAt) → Keeps most (enter_update w key s) (enter_update most key s)
+  keeps-enter_update w key s =
+      keeps-choice (is_taken key.site key.id s.siblings) (Err 8) (Err 8) _ _ (keeps-same (Err 8))
+      (keeps-item (nat_le (s.weight + key_weight key) w) 10 (key_weight key)
+      (record s { weight = s.weight + key_weight key; siblings = note key.site key.id s.siblings }) s refl)
+
   pub keeps-present_text : (w : ℕ) (label : LabelAt) (s : DrawingAt) (x : Data) → Keeps most (present_text w label s x) (present_text most label s x)
   keeps-present_text w label s x =
       keeps-left label s.part (write_inside w x (enter_presentation w label.object s)) (write_inside most x (enter_presentation most label.object s))
@@ -155,3 +147,13 @@ entered-risen s weight false = tt
 
 pub rises-entered : (w : ℕ) (d : Data) (s : DrawingAt) → Rises s (enter_presentation w d s)
 rises-entered w d s = entered-risen s (label_weight d) (nat_le (s.weight + label_weight d) w)
+
+updated-risen : (s : DrawingAt) (weight : ℕ) (siblings : Siblings) (taken fits : Bool)
+    → Rises s (if taken then Err 8 else (if fits then Ok (record s { weight = s.weight + weight; siblings = siblings }) else Err 10))
+updated-risen s weight siblings true fits = tt
+updated-risen s weight siblings false true = omega arith
+updated-risen s weight siblings false false = tt
+
+pub rises-enter_update : (w : ℕ) (key : KeyAt) (s : DrawingAt) → Rises s (enter_update w key s)
+rises-enter_update w key s =
+    updated-risen s (key_weight key) (note key.site key.id s.siblings) (is_taken key.site key.id s.siblings) (nat_le (s.weight + key_weight key) w)

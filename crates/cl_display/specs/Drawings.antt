@@ -9,6 +9,7 @@ use Rattle.cl_medium.specs.Ambients.{AmbientAt, after_newline, ambient_start}
 use Rattle.cl_medium.specs.Drawing.{text_leaf}
 use Rattle.cl_medium.specs.Items.{Item, columns_of, item_bounds, move_item}
 use Rattle.cl_record.specs.Marks.{Mark, draw, history_marks}
+use Rattle.cl_display.specs.Siblings.{Siblings}
 use Rattle.cl_display.specs.declared.drawings.Drawing.{Drawing}
 use Rattle.cl_display.specs.declared.parts.Part.{Part}
 
@@ -22,10 +23,12 @@ pub record PartAt : Type 0 where
   pub origin_used : Bool
   pub marks : List (Mark Item)
 
--- what goes through the bodies: the cursor, margin, origin and ink, and the weight of all marks; and what the present body drew
+-- what goes through the bodies: the cursor, margin, origin and ink, the weight of all marks, and the updates so far at this level; and
+-- what the present body drew
 pub record DrawingAt : Type 0 where
   pub ambient : AmbientAt
   pub weight : ℕ
+  pub siblings : Siblings
   pub part : PartAt
 
 -- what is seen of a part of the program
@@ -40,7 +43,7 @@ part_of p = record {
 
 -- what is seen of a drawing of the program
 abbrev pub drawing_of : Drawing → DrawingAt
-drawing_of d = record { ambient = d.ambient; weight = d.weight; part = part_of d.part }
+drawing_of d = record { ambient = d.ambient; weight = d.weight; siblings = d.siblings; part = part_of d.part }
 
 -- ---- parts
 
@@ -78,7 +81,7 @@ join outer s = record s { part = join_parts outer s.part }
 
 -- nothing drawn, at the start of a pane
 abbrev pub blank_drawing : DrawingAt
-blank_drawing = record { ambient = ambient_start; weight = 0; part = start_part ambient_start }
+blank_drawing = record { ambient = ambient_start; weight = 0; siblings = []; part = start_part ambient_start }
 
 -- ---- limits
 

@@ -1,8 +1,10 @@
+pub mod Siblings
+pub mod Walks
 pub mod Drawings
 pub mod Figures
 pub mod Settings
+pub mod Updates
 pub mod Sums
-pub mod Walks
 pub mod Presentations
 pub mod Outcomes
 pub mod Fresh

@@ -5,7 +5,7 @@ use Rattle.cl_eval.specs.Slots.{Env}
 use Rattle.cl_eval.specs.Statements.{Member}
 use Rattle.cl_eval.specs.TypeMeanings.{Presents}
 use Rattle.cl_display.specs.declared.places.Place.{Place}
-use Rattle.cl_display.specs.Fresh.{Allowance, Draws, Scene, draws}
+use Rattle.cl_display.specs.Fresh.{Allowance, Bodies, Draws, Scene, bodies_on, draws}
 use Rattle.cl_display.specs.Presentations.{Texts, texts_on}
 
 -- the budget and the weight there
@@ -24,6 +24,9 @@ module _ {T : Type 0} (holds : T → Member) (presents : T → Presents) where
   -- where as many levels are left as there
   abbrev pub texts_at : Place T → Texts
   texts_at place = texts_on (presents place.types.now) place.here.context.now.slots.now place.here.context.now.budget place.here.left
+
+  abbrev pub bodies_at : Place T → Bodies
+  bodies_at place = bodies_on place.here.left (scene_at place)
 
   abbrev pub draws_at : Place T → Draws
   draws_at place = draws place.here.left (allowance_at place) (scene_at place)

@@ -4,11 +4,13 @@ use Rattle.cl_medium.specs.Items.{Item, item_bounds}
 use Rattle.cl_medium.specs.declared.shapes.LeafShape.{LeafShape}
 use Rattle.cl_medium.specs.declared.shapes.LeafShape.TheVariants.{Text}
 use Rattle.cl_eval.specs.Statements.{Member}
-use Rattle.cl_value.specs.Data.{Data, items_of, size_of, size_of_items}
+use Rattle.cl_value.specs.Data.{size_of}
 use Rattle.cl_record.specs.Marks.{Mark, close, draw, open_presentation, open_update}
+use Rattle.cl_record.specs.Ranges.{HoldsCorners}
 use Rattle.cl_record.specs.Replays.{items_drawn}
 use Rattle.cl_region.specs.declared.rects.Rect.{Rect}
 use Rattle.cl_display.specs.Drawings.{DrawingAt, lower_end}
+use Rattle.cl_display.specs.Updates.{cache_weight}
 use Rattle.cl_display.specs.declared.drawings.TheConstants.{MAX_WEIGHT}
 
 -- a text weighs its bytes and 1, another item 1
@@ -19,11 +21,6 @@ shape_weight shape = 1
 -- what an item weighs
 abbrev pub item_weight : Item → ℕ
 item_weight leaf = shape_weight leaf.shape
-
--- what the values of a cache weigh; none where there is no cache
-abbrev pub cache_weight : Option (List Data) → ℕ
-cache_weight None = 0
-cache_weight (Some ds) = size_of_items (items_of ds) + 1
 
 -- what marks weigh together: each item; the opening of a presentation 1 and the size of its object; that of an update 1 and the sizes
 -- of its id and of its cache, as one list; a closing nothing
@@ -62,7 +59,10 @@ pub record Holds (outer inner : Rect) : Type 0 where
   pub right : inner.x2 ≤ℤ outer.x2
   pub bottom : inner.y2 ≤ℤ outer.y2
 
--- the corners of each item lie within those of a rectangle
-abbrev pub HoldsAll : Rect → List Item → Type 0
+-- the corners of each item, and of the extent of each update, lie within those of a rectangle
+abbrev pub HoldsAll : Rect → List (Mark Item) → Type 0
 HoldsAll outer [] = Unit {0}
-HoldsAll outer (leaf ∷ items) = Holds outer (item_bounds leaf) × HoldsAll outer items
+HoldsAll outer (draw leaf ∷ marks) = HoldsCorners outer (item_bounds leaf) × HoldsAll outer marks
+HoldsAll outer (open_presentation label ∷ marks) = HoldsAll outer marks
+HoldsAll outer (open_update head ∷ marks) = HoldsCorners outer head.measures.extent × HoldsAll outer marks
+HoldsAll outer (close ∷ marks) = HoldsAll outer marks

@@ -6,6 +6,7 @@ ghost use Rattle.cl_display.specs.Drawings.{add_item, blank_drawing, cursor_to, 
 ghost use Rattle.cl_display.specs.Presentations.{write_value};
 
 use crate::parts::Part;
+use crate::siblings::Siblings;
 use cl_eval::Stop;
 use cl_medium::{Ambient, AnyLeaf, Drawn, draw_text, newline};
 use cl_value::{Text, Value};
@@ -14,12 +15,13 @@ use std::alloc::Global;
 /// No history weighs more.
 pub const MAX_WEIGHT: u64 = 1_000_000;
 
-/// A display so far: the state that is drawn from, the weight of what was drawn, and what the present
-/// body drew.
+/// A display so far: the state that is drawn from, the weight of what was drawn, the updates so far at this level, and what the
+/// present body drew.
 #[derive(Drop)]
 pub struct Drawing {
     pub ambient: Ambient,
     pub weight: u64,
+    pub siblings: Siblings,
     pub part: Part,
 }
 
@@ -32,6 +34,7 @@ impl Drawing {
         Drawing {
             ambient,
             weight: 0,
+            siblings: Siblings::new(alloc),
             part: Part::start(alloc, &ambient),
         }
     }

@@ -1,7 +1,7 @@
 //! What the definitions of this crate say. The contracts are the laws.
-ghost use Rattle.std.specs.Prelude.{◌≡◌, ◌+◌, ◌≤◌, ◌↔◌, ℕ, ℤ, pos, List, [], ◌∷◌, Err};
+ghost use Rattle.std.specs.Prelude.{◌≡◌, ◌+◌, ◌≤◌, ◌↔◌, ◌&&◌, ◌||◌, false, ℕ, ℤ, pos, List, [], ◌∷◌, Err};
 ghost use Rattle.cl_value.specs.Data as value;
-ghost use Rattle.cl_value.specs.Data.{Data};
+ghost use Rattle.cl_value.specs.Data.{Data, order_of};
 ghost use Rattle.cl_syntax.specs.ExprTree.{ExprTree, ExprTrees};
 ghost use Rattle.cl_syntax.specs.ShapeTree as shape;
 ghost use Rattle.cl_syntax.specs.ShapeTree.{ShapeTree, ShapeTrees};
@@ -17,11 +17,14 @@ ghost use Rattle.cl_record.specs.Replays.{items_drawn};
 ghost use Rattle.cl_display.specs.Drawings.{DrawingAt, cursor_box};
 ghost use Rattle.cl_display.specs.Figures.{IsFigure, draw_figure, draw_shape};
 ghost use Rattle.cl_display.specs.Settings.{enter_room};
-ghost use Rattle.cl_display.specs.Fresh.{Allowance, Draws, Scene, draws, in_order, shape_parts};
+ghost use Rattle.cl_display.specs.Fresh.{Allowance, Bodies, Draws, Scene, draws, in_order, shape_parts};
 ghost use Rattle.cl_display.specs.Presentations.{Texts};
 ghost use Rattle.cl_display.specs.Script.{fresh};
+ghost use Rattle.std.specs.Ordering.{is_eq};
+ghost use Rattle.cl_syntax.specs.declared.sites.Site.{Site};
+ghost use Rattle.cl_display.specs.Siblings.{Siblings, is_taken, note, same_site};
 ghost use Rattle.cl_display.specs.Sums.{AddsUp, AreMembers, Holds, HoldsAll, lowest_of};
-ghost use Rattle.cl_display.specs.Uses.{EndsWith, HasUsedMargin, IsPlain, NoneUses, UsesMargin, UsesNeither, UsesOrigin};
+ghost use Rattle.cl_display.specs.Uses.{EndsWith, HasUsedMargin, IsPlain, NoBodyUses, NoneUses, UsesMargin, UsesNeither, UsesOrigin};
 
 /// Forms that end without a trap under some limits, end so under all limits that their cost, their reach and the weight at their
 /// end do not pass, with the same drawing, cost and reach, where the texts of values do so. So does a display.
@@ -57,10 +60,11 @@ pub fn rooms_end_below_their_items()
         → end.part.lowest ≡ lowest_of (items_drawn end.part.marks) }
 {}
 
-/// The extent of a display that ends without a trap holds the corners of each of its items, and the place of the cursor.
+/// The extent of a display that ends without a trap holds the corners of each of its items and of the extent of each of its updates, and
+/// the place of the cursor.
 pub fn extents_hold_what_is_drawn()
     ensures { (limits : Limits) (scene : Scene) (forms : List ShapeTree) (env : Env) (s : DrawingAt) (cost reach : ℕ)
-        → (fresh limits scene forms env).outcome ≡ Gives s cost reach → HoldsAll s.part.extent (items_drawn s.part.marks) × Holds s.part.extent (cursor_box s.ambient) }
+        → (fresh limits scene forms env).outcome ≡ Gives s cost reach → HoldsAll s.part.extent s.part.marks × Holds s.part.extent (cursor_box s.ambient) }
 {}
 
 /// A figure of parts of the right kinds is drawn as an item in the area of its place and its sizes, from the origin, where these
@@ -88,19 +92,26 @@ pub fn figures_refuse_other_values()
 /// and a room use the margin, and a figure that draws something uses the origin. A room does not use the origin around it, whatever
 /// its body draws, and a form that indents does so by the forms inside alone. All other forms use neither, but by the forms inside.
 pub fn margin_and_origin_are_used_by_few_forms()
-    ensures newline { (scene : Scene) (allowed : Allowance) (value : Go) (text : Texts) (go : Draws) (level : ℕ) (env : Env) (s : DrawingAt) (cost deepest : ℕ)
-        → EndsWith (UsesMargin s) (shape_parts scene allowed value text go level env shape.Newline s cost deepest).outcome }
-    ensures room { (scene : Scene) (allowed : Allowance) (value : Go) (text : Texts) (go : Draws) (level : ℕ) (env : Env) (body : ShapeTrees) (s : DrawingAt) (cost deepest : ℕ)
-        → EndsWith (UsesMargin s) (shape_parts scene allowed value text go level env (shape.Room body) s cost deepest).outcome }
-    ensures indent { (left : ℕ) (allowed : Allowance) (scene : Scene) (value : Go) (text : Texts) (level : ℕ) (env : Env)
+    ensures newline { (scene : Scene) (allowed : Allowance) (value : Go) (text : Texts) (bodies : Bodies) (go : Draws) (level : ℕ) (env : Env) (s : DrawingAt) (cost deepest : ℕ)
+        → EndsWith (UsesMargin s) (shape_parts scene allowed value text bodies go level env shape.Newline s cost deepest).outcome }
+    ensures room { (scene : Scene) (allowed : Allowance) (value : Go) (text : Texts) (bodies : Bodies) (go : Draws) (level : ℕ) (env : Env) (body : ShapeTrees) (s : DrawingAt) (cost deepest : ℕ)
+        → EndsWith (UsesMargin s) (shape_parts scene allowed value text bodies go level env (shape.Room body) s cost deepest).outcome }
+    ensures indent { (left : ℕ) (allowed : Allowance) (scene : Scene) (value : Go) (text : Texts) (bodies : Bodies) (level : ℕ) (env : Env)
         (t : ExprTree) (body : ShapeTrees) (s : DrawingAt) (cost deepest : ℕ)
-        → EndsWith HasUsedMargin (shape_parts scene allowed value text (draws left allowed scene) level env (shape.Indent t body) s cost deepest).outcome }
-    ensures indent_alone { (scene : Scene) (allowed : Allowance) (value : Go) (text : Texts) (go : Draws) (level : ℕ) (env : Env)
+        → EndsWith HasUsedMargin (shape_parts scene allowed value text bodies (draws left allowed scene) level env (shape.Indent t body) s cost deepest).outcome }
+    ensures indent_alone { (scene : Scene) (allowed : Allowance) (value : Go) (text : Texts) (bodies : Bodies) (go : Draws) (level : ℕ) (env : Env)
         (t : ExprTree) (body : ShapeTrees) (s : DrawingAt) (cost deepest : ℕ)
-        → NoneUses go → EndsWith (UsesMargin s) (shape_parts scene allowed value text go level env (shape.Indent t body) s cost deepest).outcome }
-    ensures figure { (scene : Scene) (allowed : Allowance) (value : Go) (text : Texts) (go : Draws) (level : ℕ) (env : Env)
+        → NoneUses go → EndsWith (UsesMargin s) (shape_parts scene allowed value text bodies go level env (shape.Indent t body) s cost deepest).outcome }
+    ensures figure { (scene : Scene) (allowed : Allowance) (value : Go) (text : Texts) (bodies : Bodies) (go : Draws) (level : ℕ) (env : Env)
         (figure : Figure) (ts : ExprTrees) (s : DrawingAt) (cost deepest : ℕ)
-        → EndsWith (UsesOrigin s) (shape_parts scene allowed value text go level env (shape.Draw figure ts) s cost deepest).outcome }
-    ensures others { (scene : Scene) (allowed : Allowance) (value : Go) (text : Texts) (go : Draws) (level : ℕ) (env : Env) (f : ShapeTree) (s : DrawingAt) (cost deepest : ℕ)
-        → IsPlain f → NoneUses go → EndsWith (UsesNeither s) (shape_parts scene allowed value text go level env f s cost deepest).outcome }
+        → EndsWith (UsesOrigin s) (shape_parts scene allowed value text bodies go level env (shape.Draw figure ts) s cost deepest).outcome }
+    ensures others { (scene : Scene) (allowed : Allowance) (value : Go) (text : Texts) (bodies : Bodies) (go : Draws) (level : ℕ) (env : Env) (f : ShapeTree) (s : DrawingAt) (cost deepest : ℕ)
+        → IsPlain f → NoneUses go → NoBodyUses bodies → EndsWith (UsesNeither s) (shape_parts scene allowed value text bodies go level env f s cost deepest).outcome }
+{}
+
+/// The ids that are taken at a level are those of the updates that were noted there: no other, and none is forgotten.
+pub fn ids_are_taken_once_noted()
+    ensures none { (site : Site) (id : Data) → is_taken site id [] ≡ false }
+    ensures noted { (site other : Site) (id d : Data) (siblings : Siblings)
+        → is_taken other d (note site id siblings) ≡ ((same_site other site && is_eq (order_of d id)) || is_taken other d siblings) }
 {}

@@ -12,12 +12,15 @@ mod parts;
 mod places;
 mod presentations;
 mod settings;
+mod siblings;
+mod updates;
 
 pub use displays::{Shown, display};
 pub use drawings::MAX_WEIGHT;
 pub use histories::History;
 pub use laws::{
     displays_add_up, extents_hold_what_is_drawn, figures_have_the_area_of_their_parts,
-    figures_refuse_other_values, limits_can_be_wider, margin_and_origin_are_used_by_few_forms,
-    rooms_end_below_their_items, what_is_presented_is_a_member,
+    figures_refuse_other_values, ids_are_taken_once_noted, limits_can_be_wider,
+    margin_and_origin_are_used_by_few_forms, rooms_end_below_their_items,
+    what_is_presented_is_a_member,
 };

@@ -14,11 +14,17 @@ use Rattle.cl_display.specs.Drawings.{drawing_of}
 use Rattle.cl_display.specs.Fresh.{presents_body}
 use Rattle.cl_display.specs.Settings.{indent, leave_room, restore_ink, restore_margin, set_ink}
 use Rattle.cl_display.specs.declared.parts.Part.{Part}
-use Rattle.cl_display.specs.Place.{allowance_at, draws_at, scene_at, texts_at}
+use Rattle.cl_display.specs.Place.{allowance_at, bodies_at, draws_at, scene_at, texts_at}
 use Rattle.cl_display.proofs.FormLemmas.{draws-entered, grows-at, stop-call, stop-choice, stop-dolist, stop-draws_in, stop-draws_to}
 use Rattle.cl_display.proofs.FormLemmas.{grows-presents_body, grows-texts_at, stop-as_presentation, stop-figure, stop-present}
 use Rattle.cl_display.proofs.PresentationLemmas.{ends-figure, member-checked, stop-member, stop-opened}
 use Rattle.cl_display.proofs.FormLemmas.{stop-for_each, stop-in_order, stop-indent, stop-ink, stop-set, stop-when}
+use Rattle.std.proofs.Common.{arith, rules, Fits, w64}
+use Rattle.cl_display.specs.Fresh.{Allowance}
+use Rattle.cl_display.specs.Updates.{enter_body}
+use Rattle.cl_display.proofs.BodyLemmas.{body-around, body-kept, body-reach, body-weight}
+use Rattle.cl_eval.proofs.CostLemmas.{grows-means}
+use Rattle.cl_display.proofs.UpdateLemmas.{stop-id}
 use Rattle.cl_display.proofs.forms.+draw.Goals as goal
 
 pub draw-returns-clause-meaning : goal.draw-returns-clause-meaning
@@ -73,7 +79,7 @@ draw_parts-returns-in_err-evaluate_test-in-If-clause-meaning g t c =
     let stop = rw c.deref-in-If.ensures at c.in_err-evaluate_test-in-If.ensures.meaning in
     rw (p.1, p.2, whole)
     (stop-choice (scene_at g.T.Types.holds g.T.Types.presents c.args.place.now) (allowance_at c.args.place.now) (meaning_at c.args.place.now.here)
-    (texts_at g.T.Types.holds g.T.Types.presents c.args.place.now) (draws_at g.T.Types.holds g.T.Types.presents c.args.place.now) (grows-at g.T.Types.holds g.T.Types.presents c.args.place.now)
+    (texts_at g.T.Types.holds g.T.Types.presents c.args.place.now) (bodies_at g.T.Types.holds g.T.Types.presents c.args.place.now) (draws_at g.T.Types.holds g.T.Types.presents c.args.place.now) (grows-at g.T.Types.holds g.T.Types.presents c.args.place.now)
     c.args.place.now.here.level (variables_of c.args.place.now.here.scope.now) c.in-If.choice.value.test c.in-If.choice.value.then
     c.in-If.choice.value.other
     (drawing_of c.args.drawing.now) (drawing_of c.args.drawing.now)
@@ -87,7 +93,7 @@ draw_parts-returns-in_err-evaluate_test-in-When-clause-meaning g t c =
     sym c.form.view_is ∙ ap shape_tree_of c.in-When.is in
     rw (p.1, p.2, whole)
     (stop-when (scene_at g.T.Types.holds g.T.Types.presents c.args.place.now) (allowance_at c.args.place.now) (meaning_at c.args.place.now.here)
-    (texts_at g.T.Types.holds g.T.Types.presents c.args.place.now) (draws_at g.T.Types.holds g.T.Types.presents c.args.place.now) (grows-at g.T.Types.holds g.T.Types.presents c.args.place.now)
+    (texts_at g.T.Types.holds g.T.Types.presents c.args.place.now) (bodies_at g.T.Types.holds g.T.Types.presents c.args.place.now) (draws_at g.T.Types.holds g.T.Types.presents c.args.place.now) (grows-at g.T.Types.holds g.T.Types.presents c.args.place.now)
     c.args.place.now.here.level (variables_of c.args.place.now.here.scope.now) c.in-When.test (shape_trees_of c.in-When.body)
     (drawing_of c.args.drawing.now)
     (drawing_of c.args.drawing.now)
@@ -101,7 +107,7 @@ draw_parts-returns-in_err-list-in-Dolist-clause-meaning g t c =
     sym c.form.view_is ∙ ap shape_tree_of c.in-Dolist.is in
     rw (p.1, p.2, whole)
     (stop-dolist (scene_at g.T.Types.holds g.T.Types.presents c.args.place.now) (allowance_at c.args.place.now) (meaning_at c.args.place.now.here)
-    (texts_at g.T.Types.holds g.T.Types.presents c.args.place.now) (draws_at g.T.Types.holds g.T.Types.presents c.args.place.now) (grows-at g.T.Types.holds g.T.Types.presents c.args.place.now)
+    (texts_at g.T.Types.holds g.T.Types.presents c.args.place.now) (bodies_at g.T.Types.holds g.T.Types.presents c.args.place.now) (draws_at g.T.Types.holds g.T.Types.presents c.args.place.now) (grows-at g.T.Types.holds g.T.Types.presents c.args.place.now)
     c.args.place.now.here.level (variables_of c.args.place.now.here.scope.now) c.in-Dolist.name c.in-Dolist.list
     (shape_trees_of c.in-Dolist.body)
     (drawing_of c.args.drawing.now) (drawing_of c.args.drawing.now)
@@ -115,7 +121,7 @@ draw_parts-returns-in_err-values-in-Call-clause-meaning g t c =
     sym c.form.view_is ∙ ap shape_tree_of c.in-Call.is in
     rw (p.1, p.2, whole)
     (stop-call (scene_at g.T.Types.holds g.T.Types.presents c.args.place.now) (allowance_at c.args.place.now) (meaning_at c.args.place.now.here)
-    (texts_at g.T.Types.holds g.T.Types.presents c.args.place.now) (draws_at g.T.Types.holds g.T.Types.presents c.args.place.now) (grows-at g.T.Types.holds g.T.Types.presents c.args.place.now)
+    (texts_at g.T.Types.holds g.T.Types.presents c.args.place.now) (bodies_at g.T.Types.holds g.T.Types.presents c.args.place.now) (draws_at g.T.Types.holds g.T.Types.presents c.args.place.now) (grows-at g.T.Types.holds g.T.Types.presents c.args.place.now)
     c.args.place.now.here.level (variables_of c.args.place.now.here.scope.now) c.in-Call.name (expr_trees_of c.in-Call.parts.items)
     (drawing_of c.args.drawing.now) (drawing_of c.args.drawing.now)
     c.in_err-values-in-Call.field-0.0 c.evaluate_each-in-Call.new.meter c.args.meter.now.cost c.args.meter.now.deepest (rw
@@ -128,7 +134,7 @@ draw_parts-returns-in_err-values-in-Draw-clause-meaning g t c =
     sym c.form.view_is ∙ ap shape_tree_of c.in-Draw.is in
     rw (p.1, p.2, whole)
     (stop-figure (scene_at g.T.Types.holds g.T.Types.presents c.args.place.now) (allowance_at c.args.place.now) (meaning_at c.args.place.now.here)
-    (texts_at g.T.Types.holds g.T.Types.presents c.args.place.now) (draws_at g.T.Types.holds g.T.Types.presents c.args.place.now) c.args.place.now.here.level
+    (texts_at g.T.Types.holds g.T.Types.presents c.args.place.now) (bodies_at g.T.Types.holds g.T.Types.presents c.args.place.now) (draws_at g.T.Types.holds g.T.Types.presents c.args.place.now) c.args.place.now.here.level
     (variables_of c.args.place.now.here.scope.now) c.in-Draw.figure (expr_trees_of c.in-Draw.parts.items) (drawing_of c.args.drawing.now)
     (drawing_of c.args.drawing.now)
     c.in_err-values-in-Draw.field-0.0 c.evaluate_each.new.meter c.args.meter.now.cost c.args.meter.now.deepest (rw c.deref.ensures.value at
@@ -141,7 +147,7 @@ draw_parts-returns-in_err-number-in-Indent-clause-meaning g t c =
     sym c.form.view_is ∙ ap shape_tree_of c.in-Indent.is in
     rw (p.1, p.2, whole)
     (stop-indent (scene_at g.T.Types.holds g.T.Types.presents c.args.place.now) (allowance_at c.args.place.now) (meaning_at c.args.place.now.here)
-    (texts_at g.T.Types.holds g.T.Types.presents c.args.place.now) (draws_at g.T.Types.holds g.T.Types.presents c.args.place.now) (grows-at g.T.Types.holds g.T.Types.presents c.args.place.now)
+    (texts_at g.T.Types.holds g.T.Types.presents c.args.place.now) (bodies_at g.T.Types.holds g.T.Types.presents c.args.place.now) (draws_at g.T.Types.holds g.T.Types.presents c.args.place.now) (grows-at g.T.Types.holds g.T.Types.presents c.args.place.now)
     c.args.place.now.here.level (variables_of c.args.place.now.here.scope.now) c.in-Indent.number (shape_trees_of c.in-Indent.body)
     (drawing_of c.args.drawing.now) (drawing_of c.args.drawing.now)
     c.in_err-number-in-Indent.field-0.0 c.evaluate-in-Indent.new.meter c.args.meter.now.cost c.args.meter.now.deepest
@@ -154,7 +160,7 @@ draw_parts-returns-in_err-number-in-Ink-clause-meaning g t c =
     sym c.form.view_is ∙ ap shape_tree_of c.in-Ink.is in
     rw (p.1, p.2, whole)
     (stop-ink (scene_at g.T.Types.holds g.T.Types.presents c.args.place.now) (allowance_at c.args.place.now) (meaning_at c.args.place.now.here)
-    (texts_at g.T.Types.holds g.T.Types.presents c.args.place.now) (draws_at g.T.Types.holds g.T.Types.presents c.args.place.now) (grows-at g.T.Types.holds g.T.Types.presents c.args.place.now)
+    (texts_at g.T.Types.holds g.T.Types.presents c.args.place.now) (bodies_at g.T.Types.holds g.T.Types.presents c.args.place.now) (draws_at g.T.Types.holds g.T.Types.presents c.args.place.now) (grows-at g.T.Types.holds g.T.Types.presents c.args.place.now)
     c.args.place.now.here.level (variables_of c.args.place.now.here.scope.now) c.in-Ink.number (shape_trees_of c.in-Ink.body)
     (drawing_of c.args.drawing.now)
     (drawing_of c.args.drawing.now)
@@ -216,7 +222,7 @@ draw_parts-returns-in_err-object-in-Present-clause-meaning g t c =
     sym c.form.view_is ∙ ap shape_tree_of c.in-Present.is in
     rw (p.1, p.2, whole)
     (stop-present (scene_at g.T.Types.holds g.T.Types.presents c.args.place.now) (allowance_at c.args.place.now) (meaning_at c.args.place.now.here)
-    (texts_at g.T.Types.holds g.T.Types.presents c.args.place.now) (grows-texts_at g.T.Types.holds g.T.Types.presents c.args.place.now)
+    (texts_at g.T.Types.holds g.T.Types.presents c.args.place.now) (bodies_at g.T.Types.holds g.T.Types.presents c.args.place.now) (grows-texts_at g.T.Types.holds g.T.Types.presents c.args.place.now)
     (draws_at g.T.Types.holds g.T.Types.presents c.args.place.now) c.args.place.now.here.level (variables_of c.args.place.now.here.scope.now)
     c.in-Present.object c.in-Present.spec.value (drawing_of c.args.drawing.now) (drawing_of c.args.drawing.now)
     c.in_err-object-in-Present.field-0.0 c.evaluate-in-Present.new.meter c.args.meter.now.cost c.args.meter.now.deepest
@@ -230,7 +236,7 @@ draw_parts-returns-in_err-object-in-AsPresentation-clause-meaning g t c =
     sym c.form.view_is ∙ ap shape_tree_of c.in-AsPresentation.is in
     rw (p.1, p.2, whole)
     (stop-as_presentation (scene_at g.T.Types.holds g.T.Types.presents c.args.place.now) (allowance_at c.args.place.now)
-    (meaning_at c.args.place.now.here) (texts_at g.T.Types.holds g.T.Types.presents c.args.place.now)
+    (meaning_at c.args.place.now.here) (texts_at g.T.Types.holds g.T.Types.presents c.args.place.now) (bodies_at g.T.Types.holds g.T.Types.presents c.args.place.now)
     (draws_at g.T.Types.holds g.T.Types.presents c.args.place.now) (grows-at g.T.Types.holds g.T.Types.presents c.args.place.now)
     c.args.place.now.here.level (variables_of c.args.place.now.here.scope.now) c.in-AsPresentation.presentation
     (shape_trees_of c.in-AsPresentation.body) (drawing_of c.args.drawing.now) (drawing_of c.args.drawing.now)
@@ -243,7 +249,7 @@ draw_parts-returns-in_ok-values-in-Draw-clause-meaning g t c =
     sym c.form.view_is ∙ ap shape_tree_of c.in-Draw.is in
     rw whole
     (ends-figure (scene_at g.T.Types.holds g.T.Types.presents c.args.place.now) (allowance_at c.args.place.now)
-    (meaning_at c.args.place.now.here) (texts_at g.T.Types.holds g.T.Types.presents c.args.place.now)
+    (meaning_at c.args.place.now.here) (texts_at g.T.Types.holds g.T.Types.presents c.args.place.now) (bodies_at g.T.Types.holds g.T.Types.presents c.args.place.now)
     (draws_at g.T.Types.holds g.T.Types.presents c.args.place.now) c.args.place.now.here.level (variables_of c.args.place.now.here.scope.now)
     c.in-Draw.figure (expr_trees_of c.in-Draw.parts.items) (drawing_of c.args.drawing.now) (drawing_of c.figure.new.self)
     (map data_of c.in_ok-values-in-Draw.values.items) c.figure.result c.evaluate_each.new.meter c.args.meter.now.cost c.args.meter.now.deepest
@@ -277,3 +283,57 @@ draw_presented-returns-in_err-outer-clause-meaning g t c =
     (member-checked (holds (data_of c.args.object) c.args.presentation.now.spec) c.in_ok-check_member.field-0
     (rw (c.deref.ensures, c.spec.ensures) at c.in_ok-check_member.ensures))
     c.in_err-outer.ensures.inside)
+
+-- no more than what is left of the budget is spent in a body
+pub draw_keyed-overflow_add-meter : goal.draw_keyed-overflow_add-meter
+draw_keyed-overflow_add-meter g t c =
+    let allowed : Allowance = record { budget = c.saturating_sub.result; weight = c.saturating_sub-2.result } in
+    let types = c.args.place.now.types.now in
+    let drawn = rw (c.enter_body-inner.ensures, c.new-own.ensures.cost, c.new-own.ensures.deepest) at c.draw_all-drawn.ensures.meaning in
+    let paid = body-kept (g.T.Types.app types) (scene_at g.T.Types.holds g.T.Types.presents c.args.place.now) (g.met.T.Types.are_texts types)
+    c.args.place.now.here.left allowed (variables_of c.args.place.now.here.scope.now) (shape_trees_of c.args.body.now)
+    (enter_body (drawing_of c.enter_update.new.self)) (drawing_of c.draw_all-drawn.new.drawing) c.draw_all-drawn.result c.draw_all-drawn.new.meter drawn in
+    let budget : Fits w64 c.args.place.now.here.context.now.budget = search rules in
+    let cost : Fits w64 c.args.meter.now.cost = search rules in
+    omega (arith, paid, c.saturating_sub.ensures, budget, cost)
+
+-- no deeper than the levels that are left
+pub draw_keyed-overflow_add-place : goal.draw_keyed-overflow_add-place
+draw_keyed-overflow_add-place g t c =
+    let allowed : Allowance = record { budget = c.saturating_sub.result; weight = c.saturating_sub-2.result } in
+    let types = c.args.place.now.types.now in
+    let drawn = rw (c.enter_body-inner.ensures, c.new-own.ensures.cost, c.new-own.ensures.deepest) at c.in_ok-drawn.ensures.meaning in
+    let below = body-reach (g.T.Types.app types) (scene_at g.T.Types.holds g.T.Types.presents c.args.place.now) (g.met.T.Types.are_texts types)
+    c.args.place.now.here.left allowed (variables_of c.args.place.now.here.scope.now) (shape_trees_of c.args.body.now)
+    (enter_body (drawing_of c.enter_update.new.self)) (drawing_of c.draw_all-drawn.new.drawing) c.draw_all-drawn.new.meter.cost
+    c.draw_all-drawn.new.meter.deepest drawn in
+    omega (arith, below, c.requires)
+
+pub draw_keyed-leave_update-requires-clause-around : goal.draw_keyed-leave_update-requires-clause-around
+draw_keyed-leave_update-requires-clause-around g t c =
+    let allowed : Allowance = record { budget = c.saturating_sub.result; weight = c.saturating_sub-2.result } in
+    let drawn = rw (c.enter_body-inner.ensures, c.new-own.ensures.cost, c.new-own.ensures.deepest) at c.in_ok-drawn.ensures.meaning in
+    body-around (scene_at g.T.Types.holds g.T.Types.presents c.args.place.now) c.args.place.now.here.left allowed
+    (variables_of c.args.place.now.here.scope.now) (shape_trees_of c.args.body.now) (drawing_of c.enter_update.new.self)
+    (drawing_of c.draw_all-drawn.new.drawing) c.draw_all-drawn.new.meter.cost c.draw_all-drawn.new.meter.deepest drawn
+
+pub draw_keyed-leave_update-requires-clause-light : goal.draw_keyed-leave_update-requires-clause-light
+draw_keyed-leave_update-requires-clause-light g t c =
+    let allowed : Allowance = record { budget = c.saturating_sub.result; weight = c.saturating_sub-2.result } in
+    let drawn = rw (c.enter_body-inner.ensures, c.new-own.ensures.cost, c.new-own.ensures.deepest) at c.in_ok-drawn.ensures.meaning in
+    let light = body-weight (scene_at g.T.Types.holds g.T.Types.presents c.args.place.now) c.args.place.now.here.left allowed
+    (variables_of c.args.place.now.here.scope.now) (shape_trees_of c.args.body.now) (drawing_of c.enter_update.new.self)
+    (drawing_of c.draw_all-drawn.new.drawing) c.draw_all-drawn.new.meter.cost c.draw_all-drawn.new.meter.deepest drawn in
+    let most : Fits w64 c.args.place.now.max_weight = search rules in
+    let weight : Fits w64 c.enter_update.new.self.weight = search rules in
+    omega (arith, light, c.saturating_sub-2.ensures, most, weight)
+
+pub draw_update-returns-in_err-id-clause-meaning : goal.draw_update-returns-in_err-id-clause-meaning
+draw_update-returns-in_err-id-clause-meaning g t c =
+    let p = err_from_is_err_and c.from_residual.result c.from_residual.ensures.1 in
+    let here = c.args.place.now.here in
+    rw (p.1, p.2)
+    (stop-id (allowance_at c.args.place.now) (meaning_at here)
+    (grows-means here.left here.context.now.budget here.context.now.app.now here.context.now.slots.now) (bodies_at g.T.Types.holds g.T.Types.presents c.args.place.now) here.level
+    (variables_of here.scope.now) c.args.update.now (shape_trees_of c.args.body.now) (drawing_of c.args.drawing.now) (drawing_of c.args.drawing.now)
+    c.in_err-id.field-0.0 c.evaluate_id.new.meter c.args.meter.now.cost c.args.meter.now.deepest c.in_err-id.ensures.meaning)

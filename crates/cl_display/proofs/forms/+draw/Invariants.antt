@@ -33,6 +33,12 @@ decreases-draw_in_room g l = l.place.now.here.left * 2 ^ 66 + 3
 abbrev pub decreases-draw_presented : goal.decreases-draw_presented
 decreases-draw_presented g l = l.place.now.here.left * 2 ^ 66 + 3
 
+abbrev pub decreases-draw_update : goal.decreases-draw_update
+decreases-draw_update g l = l.place.now.here.left * 2 ^ 66 + 4
+
+abbrev pub decreases-draw_keyed : goal.decreases-draw_keyed
+decreases-draw_keyed g l = l.place.now.here.left * 2 ^ 66 + 3
+
 abbrev pub decreases-call : goal.decreases-call
 decreases-call g l = l.place.now.here.left * 2 ^ 66 + 3
 
