@@ -28,6 +28,7 @@ use Rattle.cl_bodies.specs.declared.display_forms.Opening.{Opening}
 use Rattle.cl_bodies.specs.declared.display_forms.Opening.TheVariants as opening
 use Rattle.cl_bodies.specs.Bodies.{Language, parse_form, parse_body}
 use Rattle.cl_bodies.specs.Presentations.{parse_present, parse_presented}
+use Rattle.cl_bodies.specs.Updates.{parse_update_list}
 
 -- ---- forms of expressions alone
 
@@ -79,12 +80,18 @@ abbrev pub parse_presentation : Signatures → Context → ℕ → List Sub → 
 parse_presentation w c at [] env = refuse 6 at
 parse_presentation w c at (a ∷ subs) env = parse_presented w at (parts_of a.shape) env >>= λ p. give (Before (opening.Presentation p) 1 c)
 
+-- `(updating-output (:unique-id E :cache-value (list PATH ...)) FORM ...)`
+abbrev pub parse_update : Signatures → Context → ℕ → List Sub → Names → Load (Own ShapeTree Opening Context)
+parse_update w c at [] env = refuse 6 at
+parse_update w c at (a ∷ subs) env = parse_update_list w at a.shape env >>= λ u. give (Before (opening.Update u) 1 c)
+
 -- the third is `(with-room-for-graphics FORM ...)`; the body stands in what the form stands in
 abbrev pub parse_setting : Signatures → Context → Setting → ℕ → List Sub → Names → Load (Own ShapeTree Opening Context)
 parse_setting w c setting.Indent at subs env = parse_indent c at subs env
 parse_setting w c setting.Ink at subs env = parse_ink c at subs env
 parse_setting w c setting.Room at subs env = give (Before opening.Room 0 c)
 parse_setting w c setting.Presentation at subs env = parse_presentation w c at subs env
+parse_setting w c setting.Update at subs env = parse_update w c at subs env
 
 -- ---- by the head
 
@@ -102,6 +109,7 @@ closed (opening.Indent t) fs = shape.Indent t (shape_trees_of fs)
 closed (opening.Ink t) fs = shape.Ink t (shape_trees_of fs)
 closed opening.Room fs = shape.Room (shape_trees_of fs)
 closed (opening.Presentation p) fs = shape.AsPresentation p (shape_trees_of fs)
+closed (opening.Update u) fs = shape.Update u (shape_trees_of fs)
 
 -- the language of display forms
 abbrev pub display_forms : Language ShapeTree Opening Context

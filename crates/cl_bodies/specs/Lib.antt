@@ -4,4 +4,7 @@ pub mod TypeArguments
 pub mod Specifiers
 pub mod TypeViews
 pub mod Presentations
+pub mod Paths
+pub mod Updates
+pub mod UpdateViews
 pub mod DisplayForms

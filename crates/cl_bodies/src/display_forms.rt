@@ -5,16 +5,17 @@ ghost use Rattle.cl_forms.specs.DatumView.{datum_of};
 ghost use Rattle.cl_expressions.specs.Load.{Gives, Notes, itself};
 ghost use Rattle.cl_expressions.specs.Scopes.{variables_of};
 ghost use Rattle.cl_expressions.specs.Expressions.{subs};
-ghost use Rattle.cl_bodies.specs.DisplayForms.{parse_shape, parse_shapes, parse_own, parse_setting, parse_indent, parse_ink, parse_presentation, closed};
+ghost use Rattle.cl_bodies.specs.DisplayForms.{parse_shape, parse_shapes, parse_own, parse_setting, parse_indent, parse_ink, parse_presentation, parse_update, closed};
 
 use crate::bodies::{parse_body, parse_form};
 use crate::languages::Language;
 use crate::own::Own;
 use crate::plain_forms::{parse_call, parse_draw, parse_writing};
 use crate::presentations::parse_presented;
+use crate::updates::parse_update_list;
 use cl_expressions::{Notes, Reader, parse_expression};
 use cl_forms::{Datum, FormRefusal};
-use cl_syntax::{Binding, Expr, Presentation, Shape, Shapes};
+use cl_syntax::{Binding, Expr, Presentation, Shape, Shapes, Update};
 use cl_value::Text;
 use cl_words::{Head, Planned, Setting};
 use std::alloc::{AllocError, Global};
@@ -38,6 +39,8 @@ pub enum Opening {
     Room,
     /// `(with-output-as-presentation (E SPECIFIER :single-box BOOL)`
     Presentation(Presentation),
+    /// `(updating-output (:unique-id E :cache-value (list PATH ...))`
+    Update(Update),
 }
 
 /// The display form that a datum is. Where a name in it is not declared, the first such is noted.
@@ -171,6 +174,7 @@ fn parse_setting(
         Setting::Ink => parse_ink(reader, context, at, parts, notes),
         Setting::Room => Ok(Own::Before(Opening::Room, 0, context)),
         Setting::Presentation => parse_presentation(reader, context, at, parts, notes),
+        Setting::Update => parse_update(reader, context, at, parts, notes),
     }
 }
 
@@ -232,6 +236,26 @@ fn parse_presentation(
     Ok(Own::Before(Opening::Presentation(presentation), 1, context))
 }
 
+/// `(updating-output (:unique-id E :cache-value (list PATH ...)) FORM ...)`
+fn parse_update(
+    reader: &Reader,
+    context: Context,
+    at: u32,
+    parts: &[Datum],
+    notes: &mut Notes,
+) -> Result<Own<Shape, Opening, Context>, FormRefusal>
+    ensures { Gives itself result notes.new
+        (parse_update reader.now.signatures.now context at
+        (subs reader.now.signatures.now (datums_of (map datum_of parts.now)))
+        (variables_of reader.now.scope.now) notes.old) }
+{
+    let Some((keys, _)) = parts.split_first() else {
+        return Err(FormRefusal::Refused(6, at));
+    };
+    let update = parse_update_list(reader, at, keys, notes)?;
+    Ok(Own::Before(Opening::Update(update), 1, context))
+}
+
 fn closed(opening: Opening, body: Shapes) -> Shape
     ensures { result ≡ closed opening body }
 {
@@ -240,5 +264,6 @@ fn closed(opening: Opening, body: Shapes) -> Shape
         Opening::Ink(number) => Shape::ink(number, body),
         Opening::Room => Shape::room(body),
         Opening::Presentation(presentation) => Shape::as_presentation(presentation, body),
+        Opening::Update(update) => Shape::update(update, body),
     }
 }

@@ -5,6 +5,7 @@ mod bodies;
 mod display_forms;
 mod languages;
 mod own;
+mod paths;
 mod plain_forms;
 mod presentations;
 mod specifiers;
@@ -12,6 +13,7 @@ mod statements;
 mod type_arguments;
 mod type_options;
 mod type_rows;
+mod updates;
 
 pub use display_forms::{parse_shape, parse_shapes};
 pub use specifiers::parse_type;

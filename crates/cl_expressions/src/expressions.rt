@@ -51,7 +51,8 @@ fn parse_word(reader: &Reader, word: &Text, at: u32, notes: &mut Notes) -> Resul
     }
 }
 
-fn parse_variable(
+/// A word that is a name is a variable, which is noted where none of this name is seen.
+pub fn parse_variable(
     reader: &Reader,
     word: &Text,
     at: u32,
@@ -187,7 +188,7 @@ fn parse_if(
 
 /// `(slot NAME)`
 #[tactic(auto, using(crate::proofs::ExpressionCounts::slot_counts))]
-fn parse_slot(
+pub fn parse_slot(
     reader: &Reader,
     at: u32,
     parts: &[Datum],

@@ -130,7 +130,8 @@ pub fn parse_with(
     }
 }
 
-fn get_of(alloc: Global, field: Text, from: Expr) -> Result<Expr, AllocError>
+/// The field of this name in a record.
+pub fn get_of(alloc: Global, field: Text, from: Expr) -> Result<Expr, AllocError>
     ensures { IfOk result
         (λ e. e ≡ Operation (operator.Record (Get field)) (expr_trees_of (from ∷ []))) }
 {

@@ -8,8 +8,9 @@ use Rattle.cl_words.specs.Signatures.{record_in, slot_in}
 use Rattle.cl_words.specs.declared.signatures.Signatures.{Signatures}
 use Rattle.cl_expressions.specs.Scopes.{Names, among}
 use Rattle.cl_grammar.specs.Lies.{Lies}
-use Rattle.cl_grammar.specs.Sights.{Seen, expression, slot_name, record_name, Sight, Misshapen, UnknownHead, Sees, form_seen}
-use Rattle.cl_grammar.specs.Blames.{Blames, BlamesAny, is_atom, a_stray_quote, no_atom, a_misshapen_form, an_unknown_head, in_a_part, in_the_first, in_a_later}
+use Rattle.cl_grammar.specs.Sights.{Seen, expression, slot_name, record_name, refused, Sight, Misshapen, UnknownHead, Sees, form_seen}
+use Rattle.cl_grammar.specs.Blames.{Blames, BlamesAny, is_atom, a_stray_quote, no_atom, a_misshapen_form, an_unknown_head, in_a_part, in_the_first, by_itself}
+use Rattle.cl_grammar.specs.Blames.{in_a_later}
 use Rattle.cl_grammar.specs.Unnamed.{Unnamed, UnnamedAny}
 use Rattle.cl_grammar.specs.Unnamed as unnamed
 use Rattle.cl_grammar.proofs.Lying.{LieSeen, LieSight, list_lies, form_lies, seen_rises, datum_rises}
@@ -54,11 +55,14 @@ module _ {w : Signatures} where
     pub blames_any_within : {ps : List Seen} {n o : ℕ} → BlamesAny w ps n o → (from to : ℕ) → LieSeen from ps to → Within from o to
     blames_any_within (in_the_first {env} {d} {ps} {number = n} {offset = o} b) from to h =
         let place : Within from o h.0 = blames_within b from h.0 h.1 in (place.0, omega (arith, place.1, seen_rises ps h.0 to h.2))
+    blames_any_within (by_itself {ps} {number = n} {offset = o}) from to h = (h.0, omega (arith, seen_rises ps (o + 1) to h.1))
     blames_any_within (in_a_later {p = expression env d} {ps} {number = n} {offset = o} b) from to h =
         let place : Within h.0 o to = blames_any_within b h.0 to h.2 in (omega (arith, place.0, datum_rises d from h.0 h.1), place.1)
     blames_any_within (in_a_later {p = slot_name x at} {ps} {number = n} {offset = o} b) from to h =
         let place : Within (at + 1) o to = blames_any_within b (at + 1) to h.1 in (omega (arith, place.0, h.0), place.1)
     blames_any_within (in_a_later {p = record_name x at} {ps} {number = n} {offset = o} b) from to h =
+        let place : Within (at + 1) o to = blames_any_within b (at + 1) to h.1 in (omega (arith, place.0, h.0), place.1)
+    blames_any_within (in_a_later {p = refused m at} {ps} {number = n} {offset = o} b) from to h =
         let place : Within (at + 1) o to = blames_any_within b (at + 1) to h.1 in (omega (arith, place.0, h.0), place.1)
 
   mutual
@@ -79,6 +83,8 @@ module _ {w : Signatures} where
         let place : Within (at + 1) o to = unnamed_any_within b (at + 1) to h.1 in (omega (arith, place.0, h.0), place.1)
     unnamed_any_within (unnamed.in_a_later {p = record_name x at} {ps} {offset = o} b) from to h =
         let place : Within (at + 1) o to = unnamed_any_within b (at + 1) to h.1 in (omega (arith, place.0, h.0), place.1)
+    unnamed_any_within (unnamed.in_a_later {p = refused m at} {ps} {offset = o} b) from to h =
+        let place : Within (at + 1) o to = unnamed_any_within b (at + 1) to h.1 in (omega (arith, place.0, h.0), place.1)
 
   -- ---- parts of a list of parts
 
@@ -91,6 +97,7 @@ module _ {w : Signatures} where
   pub blames_left : (ps qs : List Seen) (n o : ℕ) → BlamesAny w ps n o → BlamesAny w (ps ++ qs) n o
   blames_left [] qs n o b = elim b [ ]
   blames_left (p ∷ ps) qs n o (in_the_first b) = in_the_first b
+  blames_left (p ∷ ps) qs n o by_itself = by_itself
   blames_left (p ∷ ps) qs n o (in_a_later b) = in_a_later (blames_left ps qs n o b)
 
   pub blames_right : (ps qs : List Seen) (n o : ℕ) → BlamesAny w qs n o → BlamesAny w (ps ++ qs) n o
@@ -104,6 +111,7 @@ module _ {w : Signatures} where
   pub blames_split : (ps qs : List Seen) (n o : ℕ) → BlamesAny w (ps ++ qs) n o → BlamesAny w ps n o ⊎ BlamesAny w qs n o
   blames_split [] qs n o b = inr b
   blames_split (p ∷ ps) qs n o (in_the_first b) = inl (in_the_first b)
+  blames_split (p ∷ ps) qs n o by_itself = inl by_itself
   blames_split (p ∷ ps) qs n o (in_a_later b) = later_blames (blames_split ps qs n o b)
 
   pub unnamed_left : (ps qs : List Seen) (o : ℕ) → UnnamedAny w ps o → UnnamedAny w (ps ++ qs) o
@@ -152,6 +160,19 @@ module _ {w : Signatures} where
   pub record_blames : {x : List ℕ} {at n o : ℕ} → BlamesAny w (record_name x at ∷ []) n o → ⊥
   record_blames (in_a_later b) = none_blamed b
 
+  pub itself_blamed : {k at n o : ℕ} → BlamesAny w (refused k at ∷ []) n o → (n ≡ k) × (o ≡ at)
+  itself_blamed by_itself = (refl, refl)
+  itself_blamed (in_a_later b) = absurd (none_blamed b)
+
+  itself_either : {ps : List Seen} {k at n o : ℕ} → BlamesAny w (refused k at ∷ ps) n o → ((n ≡ k) × (o ≡ at)) ⊎ BlamesAny w ps n o
+  itself_either by_itself = inl (refl, refl)
+  itself_either (in_a_later b) = inr b
+
+  -- what is blamed at the same offset is the part itself, since the others stand behind it
+  itself_number : {ps : List Seen} (n m o to : ℕ) → (BlamesAny w ps m o → Within (o + 1) o to) → ((m ≡ n) × (o ≡ o)) ⊎ BlamesAny w ps m o → n ≡ m
+  itself_number n m o to f (inl e) = sym e.0
+  itself_number n m o to f (inr b) = let right : Within (o + 1) o to = f b in absurd (omega (arith, right.0))
+
   pub word_blamed : {env : Names} {x : List ℕ} {at n o : ℕ} → Blames w env (word x at) n o → (is_atom x ≡ false) × (n ≡ 6) × (o ≡ at)
   word_blamed (no_atom e) = (e, refl, refl)
 
@@ -193,3 +214,8 @@ module _ {w : Signatures} where
     any_one_number (in_a_later {p = expression env d} a) m from to h (in_a_later b) = any_one_number a m h.0 to h.2 b
     any_one_number (in_a_later {p = slot_name x at} a) m from to h (in_a_later b) = any_one_number a m (at + 1) to h.1 b
     any_one_number (in_a_later {p = record_name x at} a) m from to h (in_a_later b) = any_one_number a m (at + 1) to h.1 b
+    any_one_number (by_itself {ps} {number = n} {offset = o}) m from to h b =
+        itself_number n m o to (λ c. blames_any_within c (o + 1) to h.1) (itself_either b)
+    any_one_number (in_a_later {p = refused k at} {ps} {number = n} {offset = o} a) m from to h by_itself =
+        let right : Within (at + 1) at to = blames_any_within a (at + 1) to h.1 in absurd (omega (arith, right.0))
+    any_one_number (in_a_later {p = refused k at} a) m from to h (in_a_later b) = any_one_number a m (at + 1) to h.1 b

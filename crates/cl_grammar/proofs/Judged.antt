@@ -52,6 +52,18 @@ module _ (w : Signatures) where
         noted_one (Unnamed w env (word x at)) u.unknown at (unnamed.a_variable g e) (λ o b. (word_unnamed b).2),
       )
 
+  -- a name is no constant
+  last_holds : (a b c n : Bool) → n ≡ true → (a || (b || (c || n))) ≡ true
+  last_holds true b c n e = refl
+  last_holds false true c n e = refl
+  last_holds false false true n e = refl
+  last_holds false false false n e = e
+
+  pub name_row : (env : Names) (x : List ℕ) (at : ℕ) → is_name x ≡ true
+      → Judges w (expression env (word x at) ∷ []) Any (noted (among x env) at >>= λ u. give (expr.Variable x))
+  name_row env x at e =
+      known_row env x at (among x env) refl (last_holds (bytes_eq x (codes "true")) (bytes_eq x (codes "false")) (bytes_eq x (codes "null")) (is_name x) e) e
+
   refused_row : (env : Names) (x : List ℕ) (at : ℕ) → is_atom x ≡ false → Judges {A = ExprTree} w (expression env (word x at) ∷ []) Any (refuse 6 at)
   refused_row env x at e =
       alone w env (word x at) Any (refuse 6 at) λ from to lie u. (no_atom e, λ n o b. at_least at o (word_blamed b).2)

@@ -8,14 +8,14 @@ use Rattle.cl_words.specs.declared.signatures.Signatures.{Signatures}
 use Rattle.cl_expressions.specs.Load.{Load, Notes, Fault, after, ◌>>=◌, give, refuse, noted, first_of}
 use Rattle.cl_expressions.specs.Scopes.{Names}
 use Rattle.cl_grammar.specs.Lies.{Lies}
-use Rattle.cl_grammar.specs.Sights.{Seen, expression, slot_name, record_name, Sight, Misshapen, UnknownHead, Sees, form_seen}
-use Rattle.cl_grammar.specs.Blames.{Blames, BlamesAny, a_misshapen_form, an_unknown_head, in_a_part, in_the_first}
+use Rattle.cl_grammar.specs.Sights.{Seen, expression, slot_name, record_name, refused, Sight, Misshapen, UnknownHead, Sees, form_seen}
+use Rattle.cl_grammar.specs.Blames.{Blames, BlamesAny, a_misshapen_form, an_unknown_head, in_a_part, in_the_first, by_itself}
 use Rattle.cl_grammar.specs.Unnamed.{Unnamed, UnnamedAny, IsNoted}
 use Rattle.cl_grammar.specs.Unnamed as unnamed
 use Rattle.cl_grammar.proofs.Lying.{LieSeen, LieSight, LieApart, seen_split, list_lies, form_lies}
 use Rattle.cl_grammar.proofs.Bounds.{before_within, blames_any_within, unnamed_any_within, none_blamed, none_unnamed, blames_left, blames_right}
 use Rattle.cl_grammar.proofs.Bounds.{blames_split, unnamed_left, unnamed_right, unnamed_split, only_blamed, only_unnamed, slot_unnamed}
-use Rattle.cl_grammar.proofs.Bounds.{record_unnamed, slot_blames, record_blames, SightBlames, SightUnnamed, form_blamed, form_unnamed}
+use Rattle.cl_grammar.proofs.Bounds.{record_unnamed, slot_blames, record_blames, itself_blamed, SightBlames, SightUnnamed, form_blamed, form_unnamed}
 use Rattle.cl_grammar.proofs.Spelled.{false_true}
 
 -- no value asks for more
@@ -168,6 +168,16 @@ module _ (w : Signatures) (x : List ℕ) (at : ℕ) where
       noted_one (UnnamedAny w (record_name x at ∷ [])) u.unknown at (unnamed.a_record e) (λ o b. (record_unnamed b).1),
     );
   }
+
+-- ---- what is refused by itself
+
+pub refused_judged : {A : Type 0} {w : Signatures} (n at : ℕ) {Q : A → Type 0} {m : Load A} → ((u : Notes) → m u ≡ Err (n, at))
+    → Judges w (refused n at ∷ []) Q m
+refused_judged n at {Q} h = record {
+  judged = λ from to lie u.
+      subst (Verdict (BlamesAny _ (refused n at ∷ [])) (UnnamedAny _ (refused n at ∷ [])) Q u) (sym (h u))
+      (by_itself, λ k o b. omega (arith, (itself_blamed b).1));
+}
 
 -- ---- one datum
 

@@ -11,9 +11,9 @@ use Rattle.cl_expressions.specs.Scopes.{Names, among}
 use Rattle.cl_expressions.specs.Expressions.{is_binding_list}
 use Rattle.cl_grammar.specs.Heads.{Counted, operators, fixed_heads}
 use Rattle.cl_grammar.specs.Lies.{Lies, LieAll}
-use Rattle.cl_grammar.specs.Sights.{Seen, expression, slot_name, record_name, Sight, Misshapen, UnknownHead, Sees, all_seen, counted_seen, slot_seen}
-use Rattle.cl_grammar.specs.Sights.{if_seen, names_behind, value_seen, values_seen, let_seen, fields_seen, make_seen, get_seen, with_seen, map_seen}
-use Rattle.cl_grammar.specs.Sights.{filter_seen, fold_seen, call_seen, rows, operator_seen, row_seen, form_seen}
+use Rattle.cl_grammar.specs.Sights.{Seen, expression, slot_name, record_name, refused, Sight, Misshapen, UnknownHead, Sees, all_seen, counted_seen}
+use Rattle.cl_grammar.specs.Sights.{slot_seen, if_seen, names_behind, value_seen, values_seen, let_seen, fields_seen, make_seen, get_seen, with_seen}
+use Rattle.cl_grammar.specs.Sights.{map_seen, filter_seen, fold_seen, call_seen, rows, operator_seen, row_seen, form_seen}
 use Rattle.cl_grammar.proofs.Spelled.{row_found}
 
 -- data lie one behind another, as those of a list do
@@ -27,6 +27,7 @@ LieSeen from [] to = from ≤ to
 LieSeen from (expression env d ∷ ps) to = (next : ℕ) × Lies from d next × LieSeen next ps to
 LieSeen from (slot_name x at ∷ ps) to = (from ≤ at) × LieSeen (at + 1) ps to
 LieSeen from (record_name x at ∷ ps) to = (from ≤ at) × LieSeen (at + 1) ps to
+LieSeen from (refused n at ∷ ps) to = (from ≤ at) × LieSeen (at + 1) ps to
 
 abbrev pub LieSight : ℕ → Sight → ℕ → Type 0
 LieSight from Misshapen to = Unit {0}
@@ -65,24 +66,28 @@ seen_rises [] from to h = h
 seen_rises (expression env d ∷ ps) from to h = omega (arith, datum_rises d from h.0 h.1, seen_rises ps h.0 to h.2)
 seen_rises (slot_name x at ∷ ps) from to h = omega (arith, h.0, seen_rises ps (at + 1) to h.1)
 seen_rises (record_name x at ∷ ps) from to h = omega (arith, h.0, seen_rises ps (at + 1) to h.1)
+seen_rises (refused n at ∷ ps) from to h = omega (arith, h.0, seen_rises ps (at + 1) to h.1)
 
 pub seen_earlier : (ps : List Seen) (before from to : ℕ) → before ≤ from → LieSeen from ps to → LieSeen before ps to
 seen_earlier [] before from to e h = omega (arith, e, h)
 seen_earlier (expression env d ∷ ps) before from to e h = (h.0, datum_earlier d before from h.0 e h.1, h.2)
 seen_earlier (slot_name x at ∷ ps) before from to e h = (omega (arith, e, h.0), h.1)
 seen_earlier (record_name x at ∷ ps) before from to e h = (omega (arith, e, h.0), h.1)
+seen_earlier (refused n at ∷ ps) before from to e h = (omega (arith, e, h.0), h.1)
 
-seen_later : (ps : List Seen) (from to behind : ℕ) → to ≤ behind → LieSeen from ps to → LieSeen from ps behind
+pub seen_later : (ps : List Seen) (from to behind : ℕ) → to ≤ behind → LieSeen from ps to → LieSeen from ps behind
 seen_later [] from to behind e h = omega (arith, e, h)
 seen_later (expression env d ∷ ps) from to behind e h = (h.0, h.1, seen_later ps h.0 to behind e h.2)
 seen_later (slot_name x at ∷ ps) from to behind e h = (h.0, seen_later ps (at + 1) to behind e h.1)
 seen_later (record_name x at ∷ ps) from to behind e h = (h.0, seen_later ps (at + 1) to behind e h.1)
+seen_later (refused n at ∷ ps) from to behind e h = (h.0, seen_later ps (at + 1) to behind e h.1)
 
-seen_joined : (ps qs : List Seen) (from middle to : ℕ) → LieSeen from ps middle → LieSeen middle qs to → LieSeen from (ps ++ qs) to
+pub seen_joined : (ps qs : List Seen) (from middle to : ℕ) → LieSeen from ps middle → LieSeen middle qs to → LieSeen from (ps ++ qs) to
 seen_joined [] qs from middle to h k = seen_earlier qs from middle to h k
 seen_joined (expression env d ∷ ps) qs from middle to h k = (h.0, h.1, seen_joined ps qs h.0 middle to h.2 k)
 seen_joined (slot_name x at ∷ ps) qs from middle to h k = (h.0, seen_joined ps qs (at + 1) middle to h.1 k)
 seen_joined (record_name x at ∷ ps) qs from middle to h k = (h.0, seen_joined ps qs (at + 1) middle to h.1 k)
+seen_joined (refused n at ∷ ps) qs from middle to h k = (h.0, seen_joined ps qs (at + 1) middle to h.1 k)
 
 abbrev pub LieApart : ℕ → List Seen → List Seen → ℕ → Type 0
 LieApart from ps qs to = (middle : ℕ) × LieSeen from ps middle × LieSeen middle qs to
@@ -94,6 +99,8 @@ seen_split (expression env d ∷ ps) qs from to h =
 seen_split (slot_name x at ∷ ps) qs from to h =
     let rest : LieApart (at + 1) ps qs to = seen_split ps qs (at + 1) to h.1 in (rest.0, (h.0, rest.1), rest.2)
 seen_split (record_name x at ∷ ps) qs from to h =
+    let rest : LieApart (at + 1) ps qs to = seen_split ps qs (at + 1) to h.1 in (rest.0, (h.0, rest.1), rest.2)
+seen_split (refused n at ∷ ps) qs from to h =
     let rest : LieApart (at + 1) ps qs to = seen_split ps qs (at + 1) to h.1 in (rest.0, (h.0, rest.1), rest.2)
 
 -- a name is passed over

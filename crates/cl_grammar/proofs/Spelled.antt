@@ -221,7 +221,8 @@ module _ (w : Signatures) (x : List ℕ) where
   setting_word =
       word_is _ x (codes "indenting-output") (λ e. stands e (λ k env ds. refl) tt) (word_is _ x (codes "with-ink") (λ e. stands e (λ k env ds. refl) tt)
       (word_is _ x (codes "with-room-for-graphics") (λ e. stands e (λ k env ds. refl) tt)
-      (word_is _ x (codes "with-output-as-presentation") (λ e. stands e (λ k env ds. refl) tt) nothing)))
+      (word_is _ x (codes "with-output-as-presentation") (λ e. stands e (λ k env ds. refl) tt)
+      (word_is _ x (codes "updating-output") (λ e. stands e (λ k env ds. refl) tt) nothing))))
 
   writing_word : Finds (λ v. Stands w x (head.Writing v)) (writing_named x)
   writing_word =
@@ -234,9 +235,7 @@ module _ (w : Signatures) (x : List ℕ) where
       (word_is _ x (codes "enable") (λ e. stands e (λ k env ds. refl) tt) (word_is _ x (codes "disable") (λ e. stands e (λ k env ds. refl) tt) nothing)))
 
   planned_display_word : Finds (λ p. Stands w x (head.Planned p)) (planned_display x)
-  planned_display_word =
-      word_is _ x (codes "updating-output") (λ e. stands e (λ k env ds. refl) tt)
-      (word_is _ x (codes "formatting-table") (λ e. stands e (λ k env ds. refl) tt) nothing)
+  planned_display_word = word_is _ x (codes "formatting-table") (λ e. stands e (λ k env ds. refl) tt) nothing
 
   planned_other_word : Finds (λ p. Stands w x (head.Planned p)) (planned_other x)
   planned_other_word =

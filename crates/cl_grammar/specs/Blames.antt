@@ -5,7 +5,7 @@ use Rattle.cl_forms.specs.Datum.{Datum, Datums, word, stray, list, in_order}
 use Rattle.cl_forms.specs.Words.{is_name}
 use Rattle.cl_words.specs.declared.signatures.Signatures.{Signatures}
 use Rattle.cl_expressions.specs.Scopes.{Names}
-use Rattle.cl_grammar.specs.Sights.{Seen, expression, Misshapen, UnknownHead, Sees, form_seen}
+use Rattle.cl_grammar.specs.Sights.{Seen, expression, refused, Misshapen, UnknownHead, Sees, form_seen}
 
 -- a symbol that is an expression of itself
 abbrev pub is_atom : List ℕ → Bool
@@ -26,6 +26,7 @@ mutual
   pub data BlamesAny (w : Signatures) : List Seen → ℕ → ℕ → Type 0 where
     in_the_first : {env : Names} {d : Datum} {ps : List Seen} {number offset : ℕ} → Blames w env d number offset
         → BlamesAny w (expression env d ∷ ps) number offset
+    by_itself : {ps : List Seen} {number offset : ℕ} → BlamesAny w (refused number offset ∷ ps) number offset
     in_a_later : {p : Seen} {ps : List Seen} {number offset : ℕ} → BlamesAny w ps number offset → BlamesAny w (p ∷ ps) number offset
 
 -- this form is blamed, and none of a smaller offset

@@ -9,7 +9,7 @@ use Rattle.cl_expressions.specs.Scopes.{Names, among}
 use Rattle.cl_expressions.specs.Expressions.{is_binding_list}
 use Rattle.cl_grammar.specs.Heads.{Counted, operators, fixed_heads}
 
--- a part of a form that is looked at
+-- a part of a form that is looked at; a form of this language has none that is refused by itself, but others may
 pub data Seen : Type 0 where
   -- an expression, with the variables that it sees
   expression : Names → Datum → Seen
@@ -17,6 +17,8 @@ pub data Seen : Type 0 where
   slot_name : List ℕ → ℕ → Seen
   -- the name of a record, with its offset
   record_name : List ℕ → ℕ → Seen
+  -- what is refused by itself, with the number of the refusal and its offset
+  refused : ℕ → ℕ → Seen
 
 -- what a form sees
 pub data Sight : Type 0 where
