@@ -7,3 +7,5 @@ pub mod WalkLemmas
 pub mod StepLemmas
 pub mod ReadLemmas
 pub mod CoverLemmas
+pub mod ListedLemmas
+pub mod UpdateLemmas
