@@ -9,7 +9,7 @@ ghost use Rattle.cl_bodies.specs.Presentations.{parse_boxed, parse_object, parse
 
 use crate::specifiers::parse_type;
 use cl_expressions::{Notes, Reader, parse_expression};
-use cl_forms::{Datum, Key, FormRefusal, keyed_pairs, symbol_of, values_of};
+use cl_forms::{Datum, FormRefusal, Key, keyed_pairs, symbol_of, values_of};
 use cl_syntax::{Presentation, Shape};
 use cl_table::Names;
 use std::alloc::{AllocError, Global};

@@ -25,7 +25,7 @@ Keeps budget depth r = (c d : ℕ) → c ≤ budget → d ≤ depth → Kept bud
 pub keeps-give : {A : Type 0} (budget depth : ℕ) (x : A) → Keeps budget depth (give x)
 keeps-give budget depth x c d h k = (h, k)
 
-keeps-trap : (A : Type 0) (budget depth kind : ℕ) → Keeps {A = A} budget depth (trap kind)
+pub keeps-trap : (A : Type 0) (budget depth kind : ℕ) → Keeps {A = A} budget depth (trap kind)
 keeps-trap A budget depth kind c d h k = (h, k)
 
 pub keeps-lift : {A : Type 0} (budget depth : ℕ) (r : Result A ℕ) → Keeps budget depth (lift r)
@@ -49,15 +49,15 @@ keeps-choice budget depth false r s g h = h
 abbrev pub GoKeeps : ℕ → ℕ → ℕ → Go → Type 0
 GoKeeps budget depth level go = (env : Env) (t : ExprTree) → Keeps budget depth (go level env t)
 
-keeps-tested : (budget depth : ℕ) (go : Go) → (level : ℕ) → GoKeeps budget depth level go → (env : Env) (t : ExprTree) → Keeps budget depth (truth_of go level env t)
+pub keeps-tested : (budget depth : ℕ) (go : Go) → (level : ℕ) → GoKeeps budget depth level go → (env : Env) (t : ExprTree) → Keeps budget depth (truth_of go level env t)
 keeps-tested budget depth go level g env t =
     keeps-then budget depth (go level env t) (λ d. lift (truth d)) (g env t) (λ d. keeps-lift budget depth (truth d))
 
-keeps-listed : (budget depth : ℕ) (go : Go) → (level : ℕ) → GoKeeps budget depth level go → (env : Env) (t : ExprTree) → Keeps budget depth (parts_of_list go level env t)
+pub keeps-listed : (budget depth : ℕ) (go : Go) → (level : ℕ) → GoKeeps budget depth level go → (env : Env) (t : ExprTree) → Keeps budget depth (parts_of_list go level env t)
 keeps-listed budget depth go level g env t =
     keeps-then budget depth (go level env t) (λ d. lift (elements d)) (g env t) (λ d. keeps-lift budget depth (elements d))
 
-keeps-each : (budget depth : ℕ) (go : Go) → (level : ℕ) → GoKeeps budget depth level go → (env : Env) (ts : ExprTrees) (ds : List Data) → Keeps budget depth
+pub keeps-each : (budget depth : ℕ) (go : Go) → (level : ℕ) → GoKeeps budget depth level go → (env : Env) (ts : ExprTrees) (ds : List Data) → Keeps budget depth
     (each go level env ts ds)
 keeps-each budget depth go level g env none ds =
     keeps-give budget depth ds
@@ -78,7 +78,7 @@ keeps-some budget depth go level g env (part t ts) =
     keeps-then budget depth (truth_of go level env t) (λ b. if b then give (bool true) else some go level env ts) (keeps-tested budget depth go level g env t)
     (λ b. keeps-choice budget depth b (give (bool true)) (some go level env ts) (keeps-give budget depth (bool true)) (keeps-some budget depth go level g env ts))
 
-keeps-bound : (budget depth : ℕ) (go : Go) → (level : ℕ) → GoKeeps budget depth level go → (bs : Bindings) (env : Env) → Keeps budget depth (bind_each go level bs env)
+pub keeps-bound : (budget depth : ℕ) (go : Go) → (level : ℕ) → GoKeeps budget depth level go → (bs : Bindings) (env : Env) → Keeps budget depth (bind_each go level bs env)
 keeps-bound budget depth go level g unbound env =
     keeps-give budget depth env
 keeps-bound budget depth go level g (binding x t bs) env =
@@ -197,7 +197,7 @@ entered-by true e budget depth level c d h paid room k = (h, k)
 entered-by false true budget depth level c d h paid room k = (h, k)
 entered-by false false budget depth level c d h paid room k = (paid refl, omega (arith, room, k))
 
-keeps-entering : (left budget depth level : ℕ) → level + 1 ≤ depth → Keeps budget depth (entering left budget level)
+pub keeps-entering : (left budget depth level : ℕ) → level + 1 ≤ depth → Keeps budget depth (entering left budget level)
 keeps-entering left budget depth level room c d h k =
     entered-by (nat_le budget c) (left == 0) budget depth level c d h (λ e. grind (arith, nat_tests, e)) room k
 

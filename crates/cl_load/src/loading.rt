@@ -13,7 +13,7 @@ use crate::settling::settle;
 use cl_cover::first_uncovered_update;
 use cl_declare::{Declarations, parse_declarations};
 use cl_expressions::{Notes, Reader, Scope};
-use cl_forms::{Datum, Forms, FormRefusal, all_forms, data_in, outers_of};
+use cl_forms::{Datum, FormRefusal, Forms, all_forms, data_in, outers_of};
 use cl_ptext::Hosts;
 use cl_sexp::{ReadRefusal, read_forms};
 use cl_words::signatures_of;

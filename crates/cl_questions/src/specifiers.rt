@@ -1,6 +1,6 @@
 //! Specifiers as texts have them.
 use crate::values::constant_named;
-use cl_forms::{Datum, Key, Keyed, FormRefusal, keyed_pairs, symbol_text, values_of};
+use cl_forms::{Datum, FormRefusal, Key, Keyed, keyed_pairs, symbol_text, values_of};
 use cl_syntax::{StandardType, TypeArg, TypeArgs, TypeOptions, TypeSpec, standard_named};
 use cl_table::Names;
 use cl_value::{Text, Value};
