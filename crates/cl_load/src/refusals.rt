@@ -2,10 +2,11 @@
 use cl_forms::FormRefusal;
 use cl_syntax::Path;
 use std::alloc::AllocError;
+use std::fmt;
 use thiserror::Error;
 
 /// Why a text does not load.
-#[derive(Debug, Drop, Error)]
+#[derive(Drop, Error)]
 pub enum LoadRefusal {
     /// The number of the refusal, and its offset in bytes.
     #[error("refused {0} at {1}")]
@@ -16,6 +17,16 @@ pub enum LoadRefusal {
     Uncovered(u32, Path),
     #[error("out of memory")]
     Memory,
+}
+
+impl fmt::Debug for LoadRefusal {
+    fn fmt(&self, f: &mut fmt::Formatter<'_>) -> fmt::Result {
+        match self {
+            LoadRefusal::Refused(number, at) => write!(f, "Refused({number}, {at})"),
+            LoadRefusal::Uncovered(at, _) => write!(f, "Uncovered({at}, ..)"),
+            LoadRefusal::Memory => f.write_str("Memory"),
+        }
+    }
 }
 
 impl From<FormRefusal> for LoadRefusal {
