@@ -1,5 +1,5 @@
 -- The updates with a cache, and the first of them whose listed paths do not cover what its body reads.
-use Rattle.std.specs.Prelude.{◌≡◌, ℕ, true, All, List, [], ◌∷◌, ◌++◌, Option, Some, None}
+use Rattle.std.specs.Prelude.{◌≡◌, ℕ, true, false, All, List, [], ◌∷◌, ◌++◌, Option, Some, None}
 use Rattle.cl_syntax.specs.ExprTree.{ExprTrees}
 use Rattle.cl_syntax.specs.ShapeTree as shape
 use Rattle.cl_syntax.specs.ShapeTree.{ShapeTree, ShapeTrees, shape_trees_of}
@@ -60,6 +60,18 @@ IsCovered app u = (p : Path) → AreRead app p u.body → has_prefix u.listed p 
 -- each update with a cache is covered
 abbrev pub AreCovered : App → Type 0
 AreCovered app = All (IsCovered app) (updates_of app.displays)
+
+-- one of these updates is not covered, those before it are, and this is its form with a path that its body reads and does not begin with a
+-- listed one
+pub record IsFirstUncovered (app : App) (us : List CachedUpdate) (found : Uncovered) : Type 0 where
+  pub earlier : List CachedUpdate
+  pub update : CachedUpdate
+  pub later : List CachedUpdate
+  pub among : us ≡ earlier ++ update ∷ later
+  pub covered : All (IsCovered app) earlier
+  pub form : found.form ≡ update.form
+  pub read : AreRead app found.path update.body
+  pub unlisted : has_prefix update.listed found.path ≡ false
 
 -- ---- the first that is not
 

@@ -53,11 +53,12 @@ fn path_taken(
         (expr.Operation (operator.Record (record_operator.Get field.now)) (expr_trees_of parts.now))) }
 {
     match parts {
+        [] => Ok(None),
         [part] => {
             let along = names_behind(alloc, field, along)?;
             path_along(alloc, part, &along)
         }
-        _ => Ok(None),
+        [_, _, ..] => Ok(None),
     }
 }
 
