@@ -99,8 +99,8 @@ fn add_update(
         ++ (steps_id sight.old update.now.id ++ (steps_cache sight.old update.now.cache ++ steps_forms sight.old (shape_trees_of body.now)))) }
     ensures sight { OnOk result (sight.new ≡ sight.old) }
 {
-    add_id(alloc, update.id(), sight, out)?;
-    add_cache(alloc, update.cache(), sight, out)?;
+    add_id(alloc, update, sight, out)?;
+    add_cache(alloc, update, sight, out)?;
     add_forms(alloc, body, sight, out)
 }
 
