@@ -9,3 +9,4 @@ pub mod ReadLemmas
 pub mod CoverLemmas
 pub mod ListedLemmas
 pub mod UpdateLemmas
+pub mod UpdateTurns

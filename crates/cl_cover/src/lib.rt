@@ -18,9 +18,7 @@ mod updates;
 mod walk;
 
 pub use coverage::{expression_reads, first_uncovered, reads};
-pub use laws::{
-    covered_paths_are_begun, first_uncovered_update_is_told, lists_have_what_is_read,
-};
+pub use laws::{covered_paths_are_begun, first_uncovered_update_is_told, lists_have_what_is_read};
 pub use listed::listed_paths;
 pub use spelling::path_text;
 pub use steps::Step;

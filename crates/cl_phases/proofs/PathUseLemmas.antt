@@ -57,10 +57,16 @@ from_functions (suc n) app p f r = in_function (FunctionsWithin n app.functions 
 
 pub slot_is_path : (app : App) (t : ExprTree) → ReadsSlot app.functions t ↔ ((p : Path) × (IsSlot p.root × IsRead app p t))
 slot_is_path app t = (
-  λ r. (r.path, (r.slot, record {
-    calls = r.calls;
-    reads = through_calls (FunctionsWithin r.calls app.functions r.path) (Within r.calls app r.path) r.path (from_functions r.calls app r.path) [] t r.reads;
-  })),
+  λ r. (
+    r.path,
+    (
+      r.slot,
+      record {
+        calls = r.calls;
+        reads = through_calls (FunctionsWithin r.calls app.functions r.path) (Within r.calls app r.path) r.path (from_functions r.calls app r.path) [] t r.reads;
+      },
+    ),
+  ),
   λ r. record {
     path = r.0;
     slot = r.1.0;
