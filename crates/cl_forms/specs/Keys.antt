@@ -6,7 +6,7 @@ use denote.Enum.Bare.{sameb}
 use Rattle.cl_forms.specs.Datum.{Datum, offset, parts_of}
 use Rattle.cl_forms.specs.Naming.{symbol_of}
 use Rattle.cl_forms.specs.declared.keys.Key.{Key}
-use Rattle.cl_forms.specs.declared.keys.Key.TheVariants.{Size, Slots, Panes, CommandTable, Name, Keystroke, InheritFrom, Satisfies, Description, Separator, SingleBox, Default, Prompt, Gesture, Priority, Documentation, Tester}
+use Rattle.cl_forms.specs.declared.keys.Key.TheVariants.{Size, Slots, Panes, CommandTable, Name, Keystroke, InheritFrom, Satisfies, Description, Separator, SingleBox, Default, Prompt, Gesture, Priority, Documentation, Tester, UniqueId, CacheValue}
 use Rattle.cl_forms.specs.contracts.keys.Key.{the_type}
 
 -- a key with its offset and what stands behind it
@@ -44,12 +44,18 @@ translator_key word =
     else (if bytes_eq word (codes ":documentation") then Some Documentation
     else (if bytes_eq word (codes ":tester") then Some Tester else None)))
 
+-- the keys of updates alone
+abbrev pub update_key : List ℕ → Option Key
+update_key word =
+    if bytes_eq word (codes ":unique-id") then Some UniqueId
+    else (if bytes_eq word (codes ":cache-value") then Some CacheValue else None)
+
 abbrev pub key_or : Option Key → Option Key → Option Key
 key_or (Some key) other = Some key
 key_or None other = other
 
 abbrev pub key_named : List ℕ → Option Key
-key_named word = key_or (section_key word) (key_or (value_key word) (translator_key word))
+key_named word = key_or (section_key word) (key_or (value_key word) (key_or (translator_key word) (update_key word)))
 
 abbrev pub same_key : Key → Key → Bool
 same_key a b = sameb the_type a b

@@ -3,13 +3,13 @@ ghost use Rattle.std.specs.Prelude.{◌≡◌, ◌++◌, ◌∷◌, [], IfOk, ma
 ghost use Rattle.std.specs.List.{list_any};
 ghost use Rattle.cl_forms.specs.DatumView.{datum_of};
 ghost use Rattle.cl_forms.specs.KeyedView.{keyed_of};
-ghost use Rattle.cl_forms.specs.Keys.{key_named, section_key, value_key, translator_key, same_key, is_among, key_in, has_key, is_key, values_behind, section_values, section_of, section_in, pair_in, keyed_sections, keyed_pairs, values_of};
+ghost use Rattle.cl_forms.specs.Keys.{key_named, section_key, value_key, translator_key, update_key, same_key, is_among, key_in, has_key, is_key, values_behind, section_values, section_of, section_in, pair_in, keyed_sections, keyed_pairs, values_of};
 
 use crate::datum::Datum;
 use crate::naming::symbol_of;
 use std::alloc::{AllocError, Global};
 
-/// The keys of declarations, of arguments, of types, of presentations and of translators.
+/// The keys of declarations, of arguments, of types, of presentations, of translators and of updates.
 #[derive(Clone, Copy, PartialEq, Eq)]
 pub enum Key {
     Size,
@@ -29,6 +29,8 @@ pub enum Key {
     Priority,
     Documentation,
     Tester,
+    UniqueId,
+    CacheValue,
 }
 
 /// A key with what stands behind it.
@@ -50,7 +52,10 @@ pub fn key_named(word: &[u8]) -> Option<Key>
     if let Some(key) = value_key(word) {
         return Some(key);
     }
-    translator_key(word)
+    if let Some(key) = translator_key(word) {
+        return Some(key);
+    }
+    update_key(word)
 }
 
 /// The key that a word is, if it begins a section of a frame.
@@ -109,6 +114,19 @@ fn translator_key(word: &[u8]) -> Option<Key>
         Some(Key::Documentation)
     } else if word == b":tester".as_slice() {
         Some(Key::Tester)
+    } else {
+        None
+    }
+}
+
+/// The key that a word is, if an update alone may have it.
+fn update_key(word: &[u8]) -> Option<Key>
+    ensures { result ≡ update_key word.now }
+{
+    if word == b":unique-id".as_slice() {
+        Some(Key::UniqueId)
+    } else if word == b":cache-value".as_slice() {
+        Some(Key::CacheValue)
     } else {
         None
     }

@@ -163,7 +163,8 @@ setting_named word =
     if bytes_eq word (codes "indenting-output") then Some setting.Indent
     else (if bytes_eq word (codes "with-ink") then Some setting.Ink
     else (if bytes_eq word (codes "with-room-for-graphics") then Some setting.Room
-    else (if bytes_eq word (codes "with-output-as-presentation") then Some setting.Presentation else None)))
+    else (if bytes_eq word (codes "with-output-as-presentation") then Some setting.Presentation
+    else (if bytes_eq word (codes "updating-output") then Some setting.Update else None))))
 
 -- the display forms that write
 abbrev pub writing_named : List ℕ → Option Writing
@@ -183,8 +184,7 @@ change_named word =
 -- what is not built yet
 abbrev pub planned_display : List ℕ → Option Planned
 planned_display word =
-    if bytes_eq word (codes "updating-output") then Some planned.Display
-    else (if bytes_eq word (codes "formatting-table") then Some planned.Display else None)
+    if bytes_eq word (codes "formatting-table") then Some planned.Display else None
 
 abbrev pub planned_other : List ℕ → Option Planned
 planned_other word =

@@ -38,6 +38,8 @@ pub enum Setting {
     Room,
     /// `(with-output-as-presentation (E SPEC :single-box BOOL) FORM ...)`
     Presentation,
+    /// `(updating-output (:unique-id E :cache-value (list PATH ...)) FORM ...)`
+    Update,
 }
 
 /// The heads of the display forms that write.
@@ -187,6 +189,8 @@ fn setting_named(word: &[u8]) -> Option<Setting>
         Some(Setting::Room)
     } else if word == b"with-output-as-presentation".as_slice() {
         Some(Setting::Presentation)
+    } else if word == b"updating-output".as_slice() {
+        Some(Setting::Update)
     } else {
         None
     }
@@ -225,9 +229,7 @@ fn change_named(word: &[u8]) -> Option<Change>
 fn planned_display(word: &[u8]) -> Option<Planned>
     ensures { result ≡ planned_display word.now }
 {
-    if word == b"updating-output".as_slice() {
-        Some(Planned::Display)
-    } else if word == b"formatting-table".as_slice() {
+    if word == b"formatting-table".as_slice() {
         Some(Planned::Display)
     } else {
         None
