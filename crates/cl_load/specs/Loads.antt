@@ -26,10 +26,10 @@ Concludes (Err (Refused number at)) bounds size ds = Outcome bounds size ds (Err
 Concludes (Err Memory) bounds size ds = Unit {0}
 
 -- what a text declares with its types, or the refusal; want of memory answers nothing
-abbrev pub Opens : Bounds → List ℕ → Result Opened FormRefusal → Type 0
-Opens bounds bytes (Ok opened) = HasOutcome bounds bytes (Ok opened.app) × (opened.lattice ≡ types_in bounds opened.app)
-Opens bounds bytes (Err (Refused number at)) = HasOutcome bounds bytes (Err (number, at))
-Opens bounds bytes (Err Memory) = Unit {0}
+abbrev pub Declares : Bounds → List ℕ → Result Opened FormRefusal → Type 0
+Declares bounds bytes (Ok opened) = HasOutcome bounds bytes (Ok opened.app) × (opened.lattice ≡ types_in bounds opened.app)
+Declares bounds bytes (Err (Refused number at)) = HasOutcome bounds bytes (Err (number, at))
+Declares bounds bytes (Err Memory) = Unit {0}
 
 -- the application with its types, or why there is none; want of memory answers nothing
 abbrev pub Loads : Bounds → List ℕ → Result Loaded LoadRefusal → Type 0

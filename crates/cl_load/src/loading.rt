@@ -2,7 +2,7 @@
 ghost use Rattle.std.specs.Prelude.{map};
 ghost use Rattle.cl_forms.specs.DatumView.{datum_of};
 ghost use Rattle.cl_expressions.specs.Load.{Gives, itself};
-ghost use Rattle.cl_load.specs.Loads.{Concludes, Loads, Opens, Reads};
+ghost use Rattle.cl_load.specs.Loads.{Concludes, Declares, Loads, Reads};
 ghost use Rattle.cl_load.specs.Outcome.{parse};
 
 use crate::application::{Loaded, Opened};
@@ -30,7 +30,7 @@ const LONGEST: usize = 1_048_576;
 pub fn load<H: Hosts>(alloc: Global, text: &[u8], hosts: &H) -> Result<Loaded, LoadRefusal>
     ensures { Loads (H.bounds hosts.now) text.now result }
 {
-    let opened = open(alloc, text, hosts)?;
+    let opened = declared_in(alloc, text, hosts)?;
     match first_uncovered_update(alloc, &opened.app)? {
         Some(update) => Err(LoadRefusal::Uncovered(update.form, update.path)),
         None => Ok(Loaded {
@@ -42,8 +42,8 @@ pub fn load<H: Hosts>(alloc: Global, text: &[u8], hosts: &H) -> Result<Loaded, L
 }
 
 /// What a text declares, or the first of its refusals but 11.
-fn open<H: Hosts>(alloc: Global, text: &[u8], hosts: &H) -> Result<Opened, FormRefusal>
-    ensures { Opens (H.bounds hosts.now) text.now result }
+fn declared_in<H: Hosts>(alloc: Global, text: &[u8], hosts: &H) -> Result<Opened, FormRefusal>
+    ensures { Declares (H.bounds hosts.now) text.now result }
 {
     let forms = read(alloc, text)?;
     let data = data_in(alloc, forms.as_slice())?;

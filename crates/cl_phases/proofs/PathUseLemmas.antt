@@ -1,7 +1,6 @@
 -- In an application, an expression reads a slot exactly where it reads a path that begins with one: it calls nothing but functions.
-use Rattle.std.proofs.Common.{ℕ, zero, suc, ◌⊎◌, inl, inr, ⊎_elim, List, [], Option, Some, None}
+use Rattle.std.proofs.Common.{ℕ, zero, suc, inl, inr, ⊎_elim, List, [], Option, Some, None}
 use Rattle.std.specs.Prelude.{◌↔◌}
-use Rattle.cl_table.specs.Names.{named}
 use Rattle.cl_syntax.specs.ExprTree as expr
 use Rattle.cl_syntax.specs.ExprTree.{ExprTree, ExprTrees, Bindings, none, part, unbound, binding}
 use Rattle.cl_syntax.specs.Paths.{Along}

@@ -15,7 +15,6 @@ pub fn tables_keep_their_names()
 {}
 
 /// In an application, an expression reads a slot exactly where it reads a path that begins with a slot.
-#[tactic(auto, using(crate::proofs::PathUseLemmas::slot_is_path))]
 pub fn slots_are_read_by_paths()
     ensures { (app : App) (t : ExprTree) → ReadsSlot app.functions t ↔ ((p : Path) × (IsSlot p.root × IsRead app p t)) }
 {}
