@@ -7,3 +7,6 @@ pub mod WalkLemmas
 pub mod StepLemmas
 pub mod ReadLemmas
 pub mod CoverLemmas
+pub mod ListedLemmas
+pub mod UpdateLemmas
+pub mod UpdateTurns

@@ -1,5 +1,5 @@
 -- The steps of a text say the same as what it reads, by what is read where it calls.
-use Rattle.std.proofs.Common.{◌≡◌, ◌++◌, ℕ, Bool, true, false, if◌then◌else◌, inl, inr, List, [], ◌∷◌, refl, sym, ap, subst, ◌∙◌}
+use Rattle.std.proofs.Common.{◌≡◌, ◌++◌, ℕ, Bool, true, false, if◌then◌else◌, inl, inr, List, [], ◌∷◌, Option, Some, None, refl, sym, ap, subst, ◌∙◌}
 use Rattle.std.specs.Prelude.{◌⊎◌}
 use Rattle.cl_syntax.specs.ExprTree as expr
 use Rattle.cl_syntax.specs.ExprTree.{ExprTree, ExprTrees, Bindings, none, part, unbound, binding}
@@ -9,9 +9,9 @@ use Rattle.cl_syntax.specs.TypeSpecTree as type_spec
 use Rattle.cl_syntax.specs.TypeSpecTree.{TypeSpecTree, specifier, TypeArgTree, Constant, Any, Param, Spec, Names, TypeArgTrees, argument}
 use Rattle.cl_eval.specs.Slots.{is_name}
 use Rattle.cl_syntax.specs.Paths.{Along}
-use Rattle.cl_eval.specs.ReadPaths.{Apart, ApartAll, IsSlot, Reads, ReadsAmong, ReadsArg, ReadsArgs, ReadsBound, ReadsForm, ReadsForms, ReadsSpec, taken}
+use Rattle.cl_eval.specs.ReadPaths.{Apart, ApartAll, IsSlot, Reads, ReadsAmong, ReadsArg, ReadsArgs, ReadsBound, ReadsCache, ReadsForm, ReadsForms, ReadsId, ReadsSpec, taken}
 use Rattle.cl_cover.specs.Sights.{behind, behind_all, is_hidden, is_name_among}
-use Rattle.cl_cover.specs.Steps.{steps, steps_among, steps_arg, steps_args, steps_bound, steps_form, steps_forms, steps_spec}
+use Rattle.cl_cover.specs.Steps.{steps, steps_among, steps_arg, steps_args, steps_bound, steps_cache, steps_form, steps_forms, steps_id, steps_spec}
 use Rattle.cl_syntax.specs.declared.callees.Callee.{Callee}
 use Rattle.cl_syntax.specs.declared.callees.Callee.TheVariants as callee
 use Rattle.cl_syntax.specs.declared.paths.Path.{Path}
@@ -173,6 +173,14 @@ module _ (calls : Callee → Type 0) (p : Path) where
     stands_arg (Spec s) r = stands_spec s r
     stands_arg (Names xs) r = absurd r
 
+  stands_id : (sight : Sight) (o : Option ExprTree) → Visible sight p.root → ReadsId calls p o → AnySource (steps_id sight o)
+  stands_id sight None v r = absurd r
+  stands_id sight (Some t) v r = stands sight [] t v r
+
+  stands_cache : (sight : Sight) (o : Option ExprTrees) → Visible sight p.root → ReadsCache calls p o → AnySource (steps_cache sight o)
+  stands_cache sight None v r = absurd r
+  stands_cache sight (Some ts) v r = stands_among sight [] ts v r
+
   mutual
     pub stands_form : (sight : Sight) (f : ShapeTree) → Visible sight p.root → ReadsForm calls p f → AnySource (steps_form sight f)
     stands_form sight (shape.WriteText t) v r = stands sight [] t v r
@@ -186,6 +194,9 @@ module _ (calls : Callee → Type 0) (p : Path) where
     stands_form sight (shape.Present t spec) v r = gives (steps sight [] t) (steps_spec spec) (λ k. stands sight [] t v k) (λ k. stands_spec spec k) r
     stands_form sight (shape.AsPresentation q fs) v r =
         gives (steps sight [] q.object) (steps_forms sight fs) (λ k. stands sight [] q.object v k) (λ k. stands_forms sight fs v k) r
+    stands_form sight (shape.Update u fs) v r =
+        gives (steps_id sight u.id) (steps_cache sight u.cache ++ steps_forms sight fs) (λ k. stands_id sight u.id v k)
+        (λ k. gives (steps_cache sight u.cache) (steps_forms sight fs) (λ l. stands_cache sight u.cache v l) (λ l. stands_forms sight fs v l) k) r
     stands_form sight (shape.If t f g) v r =
         gives (steps sight [] t) (steps_form sight f ++ steps_form sight g) (λ k. stands sight [] t v k)
         (λ k. gives (steps_form sight f) (steps_form sight g) (λ l. stands_form sight f v l) (λ l. stands_form sight g v l) k) r
@@ -302,6 +313,14 @@ module _ (calls : Callee → Type 0) (p : Path) where
       of_arg sight (Spec s) h = of_spec sight s h
       of_arg sight (Names xs) h = absurd h
 
+    of_id : (sight : Sight) (o : Option ExprTree) → AnySource (steps_id sight o) → Read sight (ReadsId calls p o)
+    of_id sight None h = absurd h
+    of_id sight (Some t) h = of_term sight [] t h
+
+    of_cache : (sight : Sight) (o : Option ExprTrees) → AnySource (steps_cache sight o) → Read sight (ReadsCache calls p o)
+    of_cache sight None h = absurd h
+    of_cache sight (Some ts) h = of_among sight [] ts h
+
     mutual
       pub of_form : (sight : Sight) (f : ShapeTree) → AnySource (steps_form sight f) → Read sight (ReadsForm calls p f)
       of_form sight (shape.WriteText t) h = of_term sight [] t h
@@ -313,6 +332,9 @@ module _ (calls : Callee → Type 0) (p : Path) where
       of_form sight (shape.Present t spec) h = both sight (steps sight [] t) (steps_spec spec) (λ k. of_term sight [] t k) (λ k. of_spec sight spec k) h
       of_form sight (shape.AsPresentation q fs) h =
           both sight (steps sight [] q.object) (steps_forms sight fs) (λ k. of_term sight [] q.object k) (λ k. of_forms sight fs k) h
+      of_form sight (shape.Update u fs) h =
+          both sight (steps_id sight u.id) (steps_cache sight u.cache ++ steps_forms sight fs) (λ k. of_id sight u.id k)
+          (λ k. both sight (steps_cache sight u.cache) (steps_forms sight fs) (λ l. of_cache sight u.cache l) (λ l. of_forms sight fs l) k) h
       of_form sight (shape.If t f g) h =
           both sight (steps sight [] t) (steps_form sight f ++ steps_form sight g) (λ k. of_term sight [] t k)
           (λ k. both sight (steps_form sight f) (steps_form sight g) (λ l. of_form sight f l) (λ l. of_form sight g l) k) h

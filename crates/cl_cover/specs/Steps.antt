@@ -66,6 +66,16 @@ abbrev mutual
   steps_arg (Spec s) = steps_spec s
   steps_arg (Names xs) = []
 
+-- the steps of the expression of an id, if it is there
+abbrev pub steps_id : Sight → Option ExprTree → List Step
+steps_id sight None = []
+steps_id sight (Some t) = steps sight [] t
+
+-- those of the paths of a cache, if it is there
+abbrev pub steps_cache : Sight → Option ExprTrees → List Step
+steps_cache sight None = []
+steps_cache sight (Some ts) = steps_among sight [] ts
+
 -- the steps of a display form
 abbrev mutual
   pub steps_form : Sight → ShapeTree → List Step
@@ -77,6 +87,7 @@ abbrev mutual
   steps_form sight (shape.Room fs) = steps_forms sight fs
   steps_form sight (shape.Present t spec) = steps sight [] t ++ steps_spec spec
   steps_form sight (shape.AsPresentation q fs) = steps sight [] q.object ++ steps_forms sight fs
+  steps_form sight (shape.Update u fs) = steps_id sight u.id ++ (steps_cache sight u.cache ++ steps_forms sight fs)
   steps_form sight (shape.If t f g) = steps sight [] t ++ (steps_form sight f ++ steps_form sight g)
   steps_form sight (shape.When t fs) = steps sight [] t ++ steps_forms sight fs
   steps_form sight (shape.Let bs fs) = steps_bound sight bs ++ steps_forms (behind_all bs sight) fs

@@ -13,7 +13,9 @@ ghost use Rattle.cl_cover.specs.declared.steps.Step.TheVariants as step;
 use crate::paths::names_behind;
 use crate::sights::Sight;
 use crate::steps::Step;
-use cl_syntax::{Binding, Callee, Expr, ExprKind, Operator, Path, RecordOperator, Root, copy_names};
+use cl_syntax::{
+    Binding, Callee, Expr, ExprKind, Operator, Path, RecordOperator, Root, copy_names,
+};
 use cl_table::Names;
 use cl_value::Text;
 use std::alloc::{AllocError, Global};

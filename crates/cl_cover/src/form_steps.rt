@@ -2,13 +2,14 @@
 ghost use Rattle.std.specs.Prelude.{◌≡◌, [], ◌++◌, OnOk};
 ghost use Rattle.cl_syntax.specs.ShapeTree.{shape_trees_of};
 ghost use Rattle.cl_cover.specs.Sights.{behind};
-ghost use Rattle.cl_cover.specs.Steps.{steps, steps_form, steps_forms};
+ghost use Rattle.cl_cover.specs.Steps.{steps, steps_cache, steps_form, steps_forms, steps_id};
 
 use crate::expression_steps::{add_among, add_bound, add_steps};
 use crate::sights::Sight;
 use crate::spec_steps::add_spec;
 use crate::steps::Step;
-use cl_syntax::{Callee, Expr, Shape, ShapeKind};
+use crate::update_steps::{add_cache, add_id};
+use cl_syntax::{Callee, Expr, Shape, ShapeKind, Update};
 use cl_table::Names;
 use cl_value::Text;
 use std::alloc::{AllocError, Global};
@@ -39,6 +40,9 @@ fn add_form(
         }
         ShapeKind::AsPresentation(presentation, body) => {
             add_with(alloc, presentation.object(), body.as_slice(), sight, out)
+        }
+        ShapeKind::Update(update, body) => {
+            add_update(alloc, update, body.as_slice(), sight, out)
         }
         ShapeKind::If(choice) => {
             add_steps(alloc, &choice.test, &whole, sight, out)?;
@@ -79,6 +83,24 @@ fn add_with(
 {
     let whole = Names::new(alloc);
     add_steps(alloc, part, &whole, sight, out)?;
+    add_forms(alloc, body, sight, out)
+}
+
+/// Adds the steps of an update's id and of the paths of its cache, and of the forms behind them.
+#[cycle(add_form)]
+fn add_update(
+    alloc: Global,
+    update: &Update,
+    body: &[Shape],
+    sight: &mut Sight,
+    out: &mut Vec<Step>,
+) -> Result<(), AllocError>
+    ensures steps { OnOk result (out.new.items ≡ out.old.items
+        ++ (steps_id sight.old update.now.id ++ (steps_cache sight.old update.now.cache ++ steps_forms sight.old (shape_trees_of body.now)))) }
+    ensures sight { OnOk result (sight.new ≡ sight.old) }
+{
+    add_id(alloc, update, sight, out)?;
+    add_cache(alloc, update, sight, out)?;
     add_forms(alloc, body, sight, out)
 }
 

@@ -1,16 +1,15 @@
 //! What the definitions of this crate say. The contracts are the laws.
-ghost use Rattle.std.specs.Prelude.{◌≡◌, ◌≤◌, ◌+◌, ◌↔◌, ℕ, List, All, Contains, None, Some, true, false};
-ghost use Rattle.cl_value.specs.Data.{Data};
+ghost use Rattle.std.specs.Prelude.{◌≡◌, ◌↔◌, List, All, Contains, None, Some, true, false};
 ghost use Rattle.cl_syntax.specs.ExprTree.{ExprTree};
 ghost use Rattle.cl_syntax.specs.ShapeTree.{ShapeTrees};
 ghost use Rattle.cl_application.specs.declared.applications.App.{App};
-ghost use Rattle.cl_eval.specs.Meaning.{means};
-ghost use Rattle.cl_eval.specs.Outcome.{Gives};
 ghost use Rattle.cl_eval.specs.Slots.{Env, Slots};
 ghost use Rattle.cl_syntax.specs.Paths.{first_uncovered, has_prefix};
 ghost use Rattle.cl_eval.specs.PathValues.{value_at};
 ghost use Rattle.cl_eval.specs.ReadPaths.{AreRead, IsRead};
+ghost use Rattle.cl_cover.specs.Updates.{AreCovered, IsFirstUncovered, uncovered_of, updates_of};
 ghost use Rattle.cl_cover.specs.Walk.{expression_reads, reads_of};
+ghost use Rattle.cl_cover.specs.declared.updates.Uncovered.{Uncovered};
 ghost use Rattle.cl_syntax.specs.declared.paths.Path.{Path};
 
 /// A path is in the list of what an expression, or display forms, read exactly where they read it.
@@ -30,4 +29,13 @@ pub fn covered_paths_are_begun()
     ensures values { (app : App) (listed : List Path) (fs : ShapeTrees) (slots : Slots) (env : Env) (other_slots : Slots) (other_env : Env)
         → first_uncovered listed (reads_of app fs) ≡ None → All (λ q. value_at app q slots env ≡ value_at app q other_slots other_env) listed
         → (p : Path) → AreRead app p fs → value_at app p slots env ≡ value_at app p other_slots other_env }
+{}
+
+/// No update is uncovered exactly where each update with a cache is covered: each path that its body reads is one of the listed, or one of
+/// these is a beginning of it. An update that is found is the first that is not covered, with a path that its body reads and that does not
+/// begin with a listed one.
+#[tactic(auto, using(crate::proofs::UpdateLemmas::none_is_covered, crate::proofs::UpdateLemmas::some_is_first))]
+pub fn first_uncovered_update_is_told()
+    ensures none { (app : App) → (uncovered_of app ≡ None) ↔ AreCovered app }
+    ensures some { (app : App) (found : Uncovered) → uncovered_of app ≡ Some found → IsFirstUncovered app (updates_of app.displays) found }
 {}

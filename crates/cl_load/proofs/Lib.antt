@@ -8,3 +8,4 @@ pub mod RingLemmas
 pub mod DefaultLemmas
 pub mod FramingLemmas
 pub mod OneOutcome
+pub mod LoadLemmas

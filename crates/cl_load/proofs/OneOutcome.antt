@@ -12,11 +12,14 @@ use Rattle.cl_forms.proofs.OneTree.{one_forest}
 use Rattle.cl_expressions.specs.Load.{Fault, Notes, nothing_noted}
 use Rattle.cl_declare.specs.declared.declarations.Declarations.{Declarations}
 use Rattle.cl_declare.specs.declared.frames.FrameForm.{FrameForm}
-use Rattle.cl_eval.specs.Uses.{Functions}
-use Rattle.cl_load.specs.Application.{AreForms, IsUnreadable, ComesTo, HasOutcome, data_of}
+use Rattle.cl_phases.specs.SlotReads.{Functions}
+use Rattle.cl_cover.specs.Updates.{uncovered_of}
+use Rattle.cl_cover.specs.declared.updates.Uncovered.{Uncovered}
+use Rattle.cl_load.specs.Application.{AreForms, IsUnreadable, ComesTo, HasOutcome, LoadsAs, data_of}
 use Rattle.cl_load.specs.Outcome.{Comes, IsVerdict, Outcome, Settled, parse}
 use Rattle.cl_lattice.specs.Firsts.{offset_of}
 use Rattle.cl_phases.specs.Earlier.{earlier}
+use Rattle.cl_load.specs.Reason.{Reason, refused, uncovered}
 use Rattle.cl_load.specs.Readings.{CommandReads, Finds, FindsReading, IsFirstReading, NoneReads, TypeReads, command_offset}
 use Rattle.cl_load.specs.Refusals.{app_in, faults, first_fault, form_faults, frame_faults, numbered, type_faults}
 use Rattle.cl_load.specs.Types.{Bounds}
@@ -144,13 +147,56 @@ unread_once bytes m j n k (inl x) (inr y) = absurd (omega (arith, x.long, y.shor
 unread_once bytes m j n k (inr x) (inl y) = absurd (omega (arith, y.long, x.short))
 unread_once bytes m j n k (inr x) (inr y) = same_fault (tokens_of bytes) (m, j) (n, k) x.fault y.fault
 
-pub one_outcome : (bounds : Bounds) (bytes : List ℕ) (a b : Result App (ℕ × ℕ)) → HasOutcome bounds bytes a → HasOutcome bounds bytes b → a ≡ b
-one_outcome bounds bytes (Ok a) (Ok b) x y = come_once bounds bytes (Ok a) (Ok b) x y
-one_outcome bounds bytes (Ok a) (Err (n, k)) x (inl y) = absurd (readable bounds bytes n k (Ok a) y x)
-one_outcome bounds bytes (Ok a) (Err (n, k)) x (inr y) = come_once bounds bytes (Ok a) (Err (n, k)) x y
-one_outcome bounds bytes (Err (m, j)) (Ok b) (inl x) y = absurd (readable bounds bytes m j (Ok b) x y)
-one_outcome bounds bytes (Err (m, j)) (Ok b) (inr x) y = come_once bounds bytes (Err (m, j)) (Ok b) x y
-one_outcome bounds bytes (Err (m, j)) (Err (n, k)) (inl x) (inl y) = ap (λ fault. Err fault) (unread_once bytes m j n k x y)
-one_outcome bounds bytes (Err (m, j)) (Err (n, k)) (inl x) (inr y) = absurd (readable bounds bytes m j (Err (n, k)) x y)
-one_outcome bounds bytes (Err (m, j)) (Err (n, k)) (inr x) (inl y) = absurd (readable bounds bytes n k (Err (m, j)) y x)
-one_outcome bounds bytes (Err (m, j)) (Err (n, k)) (inr x) (inr y) = come_once bounds bytes (Err (m, j)) (Err (n, k)) x y
+declared_once : (bounds : Bounds) (bytes : List ℕ) (a b : Result App (ℕ × ℕ)) → HasOutcome bounds bytes a → HasOutcome bounds bytes b → a ≡ b
+declared_once bounds bytes (Ok a) (Ok b) x y = come_once bounds bytes (Ok a) (Ok b) x y
+declared_once bounds bytes (Ok a) (Err (n, k)) x (inl y) = absurd (readable bounds bytes n k (Ok a) y x)
+declared_once bounds bytes (Ok a) (Err (n, k)) x (inr y) = come_once bounds bytes (Ok a) (Err (n, k)) x y
+declared_once bounds bytes (Err (m, j)) (Ok b) (inl x) y = absurd (readable bounds bytes m j (Ok b) x y)
+declared_once bounds bytes (Err (m, j)) (Ok b) (inr x) y = come_once bounds bytes (Err (m, j)) (Ok b) x y
+declared_once bounds bytes (Err (m, j)) (Err (n, k)) (inl x) (inl y) = ap (λ fault. Err fault) (unread_once bytes m j n k x y)
+declared_once bounds bytes (Err (m, j)) (Err (n, k)) (inl x) (inr y) = absurd (readable bounds bytes m j (Err (n, k)) x y)
+declared_once bounds bytes (Err (m, j)) (Err (n, k)) (inr x) (inl y) = absurd (readable bounds bytes n k (Err (m, j)) y x)
+declared_once bounds bytes (Err (m, j)) (Err (n, k)) (inr x) (inr y) = come_once bounds bytes (Err (m, j)) (Err (n, k)) x y
+
+-- ---- what a text loads as
+
+ok_same : (a b : App) → ◌≡◌ {A = Result App Fault} (Ok a) (Ok b) → a ≡ b
+ok_same a b e = cc
+
+err_same : (f g : Fault) → ◌≡◌ {A = Result App Fault} (Err f) (Err g) → f ≡ g
+err_same f g e = cc
+
+ok_err : (a : App) (f : Fault) → ◌≡◌ {A = Result App Fault} (Ok a) (Err f) → ⊥
+ok_err a f e = cc
+
+none_some : (o : Option Uncovered) (u : Uncovered) → o ≡ None → o ≡ Some u → ⊥
+none_some o u p q = cc
+
+some_same : (o : Option Uncovered) (u v : Uncovered) → o ≡ Some u → o ≡ Some v → u ≡ v
+some_same o u v p q = cc
+
+-- one application is declared
+one_declared : (bounds : Bounds) (bytes : List ℕ) (a b : App) → HasOutcome bounds bytes (Ok a) → HasOutcome bounds bytes (Ok b) → a ≡ b
+one_declared bounds bytes a b x y = ok_same a b (declared_once bounds bytes (Ok a) (Ok b) x y)
+
+not_both : (bounds : Bounds) (bytes : List ℕ) (app : App) (n k : ℕ) → HasOutcome bounds bytes (Ok app) → HasOutcome bounds bytes (Err (n, k)) → ⊥
+not_both bounds bytes app n k x y = ok_err app (n, k) (declared_once bounds bytes (Ok app) (Err (n, k)) x y)
+
+moved : (a b : App) (o : Option Uncovered) → a ≡ b → uncovered_of a ≡ o → uncovered_of b ≡ o
+moved a b o e h = subst (λ (c : App). uncovered_of c ≡ o) e h
+
+pub one_outcome : (bounds : Bounds) (bytes : List ℕ) (a b : Result App Reason) → LoadsAs bounds bytes a → LoadsAs bounds bytes b → a ≡ b
+one_outcome bounds bytes (Ok a) (Ok b) x y = ap (λ (c : App). Ok c) (one_declared bounds bytes a b x.0 y.0)
+one_outcome bounds bytes (Ok a) (Err (refused n k)) x y = absurd (not_both bounds bytes a n k x.0 y)
+one_outcome bounds bytes (Ok a) (Err (uncovered u)) x y =
+    absurd (none_some (uncovered_of y.0) u (moved a y.0 None (one_declared bounds bytes a y.0 x.0 y.1.0) x.1) y.1.1)
+one_outcome bounds bytes (Err (refused m j)) (Ok b) x y = absurd (not_both bounds bytes b m j y.0 x)
+one_outcome bounds bytes (Err (refused m j)) (Err (refused n k)) x y =
+    ap (λ (f : Fault). Err (refused f.0 f.1)) (err_same (m, j) (n, k) (declared_once bounds bytes (Err (m, j)) (Err (n, k)) x y))
+one_outcome bounds bytes (Err (refused m j)) (Err (uncovered v)) x y = absurd (not_both bounds bytes y.0 m j y.1.0 x)
+one_outcome bounds bytes (Err (uncovered u)) (Ok b) x y =
+    absurd (none_some (uncovered_of b) u y.1 (moved x.0 b (Some u) (one_declared bounds bytes x.0 b x.1.0 y.0) x.1.1))
+one_outcome bounds bytes (Err (uncovered u)) (Err (refused n k)) x y = absurd (not_both bounds bytes x.0 n k x.1.0 y)
+one_outcome bounds bytes (Err (uncovered u)) (Err (uncovered v)) x y =
+    ap (λ (w : Uncovered). Err (uncovered w))
+    (some_same (uncovered_of y.0) u v (moved x.0 y.0 (Some u) (one_declared bounds bytes x.0 y.0 x.1.0 y.1.0) x.1.1) y.1.1)

@@ -6,9 +6,8 @@ use Rattle.cl_declare.specs.declared.frames.FrameForm.{FrameForm}
 use Rattle.cl_syntax.specs.declared.type_decls.TypeDecl.{TypeDecl}
 use Rattle.cl_application.specs.declared.declarations.CommandDecl.{CommandDecl}
 use Rattle.cl_table.specs.Names.{declared_at}
-use Rattle.cl_eval.specs.Uses.{Functions}
 use Rattle.cl_lattice.specs.Firsts.{IsFirst, offset_of}
-use Rattle.cl_phases.specs.SlotReads.{AnyReads, DefaultsRead}
+use Rattle.cl_phases.specs.SlotReads.{AnyReads, DefaultsRead, Functions}
 use Rattle.cl_load.specs.Readings.{CommandReads, IsFirstReading, NoneReads, PredicateReads, TypeReads, command_offset}
 
 -- what the frames from a place on say of all frames

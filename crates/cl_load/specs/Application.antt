@@ -1,5 +1,5 @@
 -- What a text is on the host types that are handed in: an application, or its first refusal.
-use Rattle.std.specs.Prelude.{◌≡◌, ◌≤◌, ◌<◌, ◌⊎◌, ℕ, List, length, Result, Ok, Err}
+use Rattle.std.specs.Prelude.{◌≡◌, ◌≤◌, ◌<◌, ◌⊎◌, ℕ, List, length, Option, Some, None, Result, Ok, Err}
 use Rattle.cl_sexp.specs.declared.Token.{Token}
 use Rattle.cl_sexp.specs.Tokens.{tokens_of}
 use Rattle.cl_application.specs.declared.applications.App.{App}
@@ -9,7 +9,9 @@ use Rattle.cl_forms.specs.Tree.{Tree, trees_of, spelled_all}
 use Rattle.cl_forms.specs.Spelled.{lexemes}
 use Rattle.cl_forms.specs.declared.grouping.Waiting.TheVariants.{Nothing}
 use Rattle.cl_lattice.specs.World.{World}
+use Rattle.cl_cover.specs.Updates.{uncovered_of}
 use Rattle.cl_load.specs.Outcome.{Outcome}
+use Rattle.cl_load.specs.Reason.{Reason, refused, uncovered}
 use Rattle.cl_load.specs.Types.{Bounds, types_in}
 
 -- the forms of a text: the text has tokens, and these spell the forms
@@ -42,17 +44,28 @@ pub record ComesTo (bounds : Bounds) (bytes : List ℕ) (o : Result App (ℕ × 
 abbrev pub IsUnreadable : List ℕ → (number at : ℕ) → Type 0
 IsUnreadable bytes number at = IsTooLong bytes number at ⊎ IsUnread bytes number at
 
--- an application of a text is what its data come to
+-- an application that a text declares, or the first of its refusals but 11
 abbrev pub HasOutcome : Bounds → List ℕ → Result App (ℕ × ℕ) → Type 0
 HasOutcome bounds bytes (Ok app) = ComesTo bounds bytes (Ok app)
 HasOutcome bounds bytes (Err (number, at)) = IsUnreadable bytes number at ⊎ ComesTo bounds bytes (Err (number, at))
 
+-- a text loads as an application whose updates are covered, or it has a first reason why it does not: an update that is not covered is looked
+-- for last, where nothing else is wrong
+abbrev pub LoadsAs : Bounds → List ℕ → Result App Reason → Type 0
+LoadsAs bounds bytes (Ok app) = HasOutcome bounds bytes (Ok app) × (uncovered_of app ≡ None)
+LoadsAs bounds bytes (Err (refused number at)) = HasOutcome bounds bytes (Err (number, at))
+LoadsAs bounds bytes (Err (uncovered u)) = (app : App) × (HasOutcome bounds bytes (Ok app) × (uncovered_of app ≡ Some u))
+
 abbrev pub IsApplication : Bounds → List ℕ → App → Type 0
-IsApplication bounds bytes app = HasOutcome bounds bytes (Ok app)
+IsApplication bounds bytes app = LoadsAs bounds bytes (Ok app)
+
+-- the first reason why a text does not load
+abbrev pub IsReason : Bounds → List ℕ → Reason → Type 0
+IsReason bounds bytes reason = LoadsAs bounds bytes (Err reason)
 
 -- the first refusal of a text, and its offset
 abbrev pub IsRefusal : Bounds → List ℕ → (number at : ℕ) → Type 0
-IsRefusal bounds bytes number at = HasOutcome bounds bytes (Err (number, at))
+IsRefusal bounds bytes number at = IsReason bounds bytes (refused number at)
 
 -- an application of some text with its types: it cannot be that on no host types a text declares it, and these are its types
 abbrev pub IsOfText : App → World → Type 0

@@ -5,6 +5,7 @@ pub mod Apart
 pub mod Readings
 pub mod Refusals
 pub mod Outcome
+pub mod Reason
 pub mod Application
 pub mod Answers
 pub mod Settling

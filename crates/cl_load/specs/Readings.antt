@@ -4,10 +4,9 @@ use Rattle.cl_syntax.specs.declared.type_decls.TypeDecl.{TypeDecl}
 use Rattle.cl_application.specs.declared.declarations.CommandDecl.{CommandDecl}
 use Rattle.cl_declare.specs.declared.declarations.Declarations.{Declarations}
 use Rattle.cl_declare.specs.declared.frames.FrameForm.{FrameForm}
-use Rattle.cl_eval.specs.Uses.{Functions}
 use Rattle.cl_lattice.specs.Firsts.{IsFirst, offset_of}
 use Rattle.cl_phases.specs.Earlier.{earlier}
-use Rattle.cl_phases.specs.SlotReads.{AnyReads, DefaultsRead, FunctionReads}
+use Rattle.cl_phases.specs.SlotReads.{AnyReads, DefaultsRead, FunctionReads, Functions}
 
 -- ---- frames
 

@@ -9,11 +9,12 @@ mod loading;
 mod opening;
 mod placing;
 mod readings;
+mod refusals;
 mod rings;
 mod settling;
 mod types;
 
 pub use application::Loaded;
-pub use cl_forms::FormRefusal;
 pub use laws::one_outcome;
 pub use loading::load;
+pub use refusals::LoadRefusal;

@@ -2,13 +2,15 @@
 ghost use Rattle.std.specs.Prelude.{map};
 ghost use Rattle.cl_forms.specs.DatumView.{datum_of};
 ghost use Rattle.cl_expressions.specs.Load.{Gives, itself};
-ghost use Rattle.cl_load.specs.Loads.{Concludes, Loads, Reads};
+ghost use Rattle.cl_load.specs.Loads.{Concludes, Declares, Loads, Reads};
 ghost use Rattle.cl_load.specs.Outcome.{parse};
 
 use crate::application::{Loaded, Opened};
 use crate::faults::pass_forms;
+use crate::refusals::LoadRefusal;
 use crate::rings::build;
 use crate::settling::settle;
+use cl_cover::first_uncovered_update;
 use cl_declare::{Declarations, parse_declarations};
 use cl_expressions::{Notes, Reader, Scope};
 use cl_forms::{Datum, FormRefusal, Forms, all_forms, data_in, outers_of};
@@ -23,18 +25,29 @@ const LONGEST: usize = 1_048_576;
 /// The application that a text of our own application language declares on these host types, with its
 /// types and its opening slots, or the first of its refusals: 13 for the whole text, the first of 1 to 4,
 /// the first of 0, 5 and 6, 13, 7, 8, 9, 6 for an argument that comes to stand where it is not taken, 13 for
-/// expanded types, 10, 14, 15, 16 and 12, in this order.
-pub fn load<H: Hosts>(alloc: Global, text: &[u8], hosts: &H) -> Result<Loaded, FormRefusal>
+/// expanded types, 10, 14, 15, 16, 12 and 11, in this order: 11 is told where nothing else is wrong, with the first path that an update
+/// reads and that its cache does not cover.
+pub fn load<H: Hosts>(alloc: Global, text: &[u8], hosts: &H) -> Result<Loaded, LoadRefusal>
     ensures { Loads (H.bounds hosts.now) text.now result }
+{
+    let opened = declared_in(alloc, text, hosts)?;
+    match first_uncovered_update(alloc, &opened.app)? {
+        Some(update) => Err(LoadRefusal::Uncovered(update.form, update.path)),
+        None => Ok(Loaded {
+            app: opened.app,
+            lattice: opened.lattice,
+            slots: opened.slots,
+        }),
+    }
+}
+
+/// What a text declares, or the first of its refusals but 11.
+fn declared_in<H: Hosts>(alloc: Global, text: &[u8], hosts: &H) -> Result<Opened, FormRefusal>
+    ensures { Declares (H.bounds hosts.now) text.now result }
 {
     let forms = read(alloc, text)?;
     let data = data_in(alloc, forms.as_slice())?;
-    let opened = conclude(alloc, text.len() as u32, data.as_slice(), hosts)?;
-    Ok(Loaded {
-        app: opened.app,
-        lattice: opened.lattice,
-        slots: opened.slots,
-    })
+    conclude(alloc, text.len() as u32, data.as_slice(), hosts)
 }
 
 /// The forms of a text.

@@ -1,6 +1,7 @@
 pub mod Parts
 pub mod Entries
 pub mod UseLemmas
+pub mod PathUseLemmas
 pub mod SearchLemmas
 pub mod OneHasLemmas
 pub mod EarlierLemmas

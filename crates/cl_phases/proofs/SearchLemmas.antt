@@ -11,7 +11,7 @@ use Rattle.cl_syntax.specs.ExprTree.{ExprTree}
 use Rattle.cl_table.specs.Names.{named, declared_in}
 use Rattle.cl_application.specs.declared.declarations.FunctionDecl.{FunctionDecl}
 use Rattle.cl_phases.specs.declared.slot_reads.Reached.{Reached}
-use Rattle.cl_eval.specs.Uses.{Functions, ReadsSlot}
+use Rattle.cl_phases.specs.SlotReads.{Functions, ReadsSlot}
 use Rattle.cl_phases.specs.SlotSearch.{Found, names_slot, calls, with_call, with_calls, body_of, body_named, body_at, has, IsClosed, IsLookedInto, AreClear}
 use Rattle.cl_phases.proofs.Entries.{same_name, has_more, has_last, missing, missing_less}
 use Rattle.cl_phases.proofs.UseLemmas.{Reaches, itself, calling, ReachesSlot, read_is_reached, reached_is_read}

@@ -5,7 +5,7 @@ use Rattle.cl_table.specs.Names.{named, declared_at, with_first}
 use Rattle.cl_syntax.specs.ExprTree as expr
 use Rattle.cl_syntax.specs.ExprTree.{ExprTree, ExprTrees, Bindings, none, part, unbound, binding}
 use Rattle.cl_application.specs.declared.declarations.FunctionDecl.{FunctionDecl}
-use Rattle.cl_eval.specs.Uses.{Functions}
+use Rattle.cl_phases.specs.SlotReads.{Functions}
 use Rattle.cl_phases.specs.declared.slot_reads.Reached.{Reached}
 
 -- a slot stands in an expression

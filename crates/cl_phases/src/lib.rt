@@ -10,7 +10,7 @@ mod repeats;
 mod slot_reads;
 mod twice;
 
-pub use laws::tables_keep_their_names;
+pub use laws::{slots_are_read_by_paths, tables_keep_their_names};
 pub use limits::first_past;
 pub use offsets::earlier;
 pub use slot_reads::SlotSearch;

@@ -2,8 +2,7 @@
 ghost use Rattle.std.specs.Prelude.{◌≡◌, ◌↔◌, ◌++◌, IfOk, IsTrue, OnOk, option_map};
 ghost use Rattle.cl_syntax.specs.ExprTree.{expr_trees_of};
 ghost use Rattle.cl_syntax.specs.Expr.{bindings_of};
-ghost use Rattle.cl_eval.specs.Uses.{ReadsSlot};
-ghost use Rattle.cl_phases.specs.SlotReads.{DefaultReads, DefaultsRead, FunctionReads, Tells};
+ghost use Rattle.cl_phases.specs.SlotReads.{DefaultReads, DefaultsRead, FunctionReads, ReadsSlot, Tells};
 ghost use Rattle.cl_phases.specs.SlotSearch.{AreClear, StaysClear, body_at, calls, calls_among, calls_bound, names_slot, names_slot_among, names_slot_bound, with_call, with_calls};
 
 use cl_application::{ArgumentDecl, ArgumentDecls, CommandDecl, Functions, SlotDecls};
@@ -40,7 +39,7 @@ pub struct SlotSearch<'a> {
 impl<'a> Model for SlotSearch<'a> {
     ghost use Rattle.std.specs.Coded.{codes};
     ghost use Rattle.cl_syntax.specs.contracts.expressions.Expr as expr;
-    ghost use Rattle.cl_eval.specs.Uses.{Functions};
+    ghost use Rattle.cl_phases.specs.SlotReads.{Functions};
 
     ghost Value = { Functions };
 

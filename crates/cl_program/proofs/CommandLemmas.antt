@@ -1,6 +1,6 @@
 -- A run of words, by the run of the text that they name.
 use Rattle.std.proofs.Common.{refl, ◌≡◌, ◌≢◌, ◌≤◌, ℕ, List, sym, ◌∙◌, ap, Option, Some, None, Bool, true, inl, inr, subst, arith}
-use Rattle.std.specs.Prelude.{option_map}
+use Rattle.std.specs.Prelude.{Err, option_map}
 use Rattle.cl_application.specs.declared.applications.App.{App}
 use Rattle.cl_eval.specs.declared.metering.Limits.{Limits}
 use Rattle.cl_frame.specs.Ground.{Ground, ground}
@@ -8,14 +8,18 @@ use Rattle.cl_frame.specs.Sending.{Wire, wire_of}
 use Rattle.cl_invocation.specs.Words.{Invocation, run, check, invocation_of}
 use Rattle.cl_lattice.specs.World.{World}
 use Rattle.cl_load.specs.Application.{IsApplication}
-use Rattle.cl_load.specs.Types.{types_in}
+use Rattle.cl_load.specs.Loads.{Loads}
+use Rattle.cl_load.specs.Reason.{refused, uncovered}
+use Rattle.cl_load.specs.Types.{Bounds, types_in}
+use Rattle.cl_load.specs.declared.refusals.LoadRefusal.{LoadRefusal}
+use Rattle.cl_load.specs.declared.refusals.LoadRefusal.TheVariants as refusal
 use Rattle.cl_outside.specs.Causes.{Rose}
 use Rattle.cl_outside.specs.Place.{IsTold}
 use Rattle.cl_ptext.specs.Subtyping.{hierarchy_in}
 use Rattle.cl_program.specs.Command.{IsCheck, IsRun, Names, application_of}
-use Rattle.cl_program.specs.Commands.{Checked, KeepsFiles, RanOn, RanText}
+use Rattle.cl_program.specs.Commands.{Checked, KeepsFiles, RanOn, RanText, RefusesText, SaysLine, Stands, Tells}
 use Rattle.cl_program.specs.Hosts.{HostMeanings, meanings_in, reads_in}
-use Rattle.cl_program.specs.Run.{Opens, Ran, RanLoaded, RanOutServing, ground_in, limits_of}
+use Rattle.cl_program.specs.Run.{Opens, Ran, RanLoaded, RanOutServing, SaysCut, SaysWhole, ground_in, limits_of}
 use Rattle.cl_program.specs.Surroundings.{IsMade, Placed, Streams, UsesDevice, no_device}
 use Rattle.cl_program.specs.Texts.{IsTextOf}
 use Rattle.cl_program.specs.declared.running.How.{How}
@@ -43,16 +47,14 @@ module _ (hosts : HostMeanings) (words : List (List ℕ)) (name : List ℕ) (wir
   Ran-text old mid new s t text how.UsageCut of sink making r = absurd r
   Ran-text old mid new s t text how.AppFault of sink making r = absurd r
   Ran-text old mid new s t text how.Refused of sink making r = record {
-    number = r.0;
-    at = r.1;
-    refused = record { name = name; command = named words (run name wire budget) name run_is refl; text = text; of_file = of; refusal = r.2 };
-    said = r.3;
+    reason = r.0;
+    refused = record { name = name; command = named words (run name wire budget) name run_is refl; text = text; of_file = of; refusal = r.1 };
+    said = r.2;
   }
   Ran-text old mid new s t text how.RefusalCut of sink making r = record {
-    number = r.0;
-    at = r.1;
-    refused = record { name = name; command = named words (run name wire budget) name run_is refl; text = text; of_file = of; refusal = r.2 };
-    said = r.3;
+    reason = r.0;
+    refused = record { name = name; command = named words (run name wire budget) name run_is refl; text = text; of_file = of; refusal = r.1 };
+    said = r.2;
   }
   Ran-text old mid new s t text how.Loads of sink making r = absurd r
   Ran-text old mid new s t text how.LoadsCut of sink making r = absurd r
@@ -84,16 +86,14 @@ Ran-check hosts words name old new s t text how.Usage is of r = absurd r
 Ran-check hosts words name old new s t text how.UsageCut is of r = absurd r
 Ran-check hosts words name old new s t text how.AppFault is of r = absurd r
 Ran-check hosts words name old new s t text how.Refused is of r = record {
-  number = r.0;
-  at = r.1;
-  refused = record { name = name; command = named words (check name) name is refl; text = text; of_file = of; refusal = r.2 };
-  said = r.3;
+  reason = r.0;
+  refused = record { name = name; command = named words (check name) name is refl; text = text; of_file = of; refusal = r.1 };
+  said = r.2;
 }
 Ran-check hosts words name old new s t text how.RefusalCut is of r = record {
-  number = r.0;
-  at = r.1;
-  refused = record { name = name; command = named words (check name) name is refl; text = text; of_file = of; refusal = r.2 };
-  said = r.3;
+  reason = r.0;
+  refused = record { name = name; command = named words (check name) name is refl; text = text; of_file = of; refusal = r.1 };
+  said = r.2;
 }
 Ran-check hosts words name old new s t text how.Loads is of r = (record { name = name; command = is; text = text; of_file = of; app = r.0; declared = r.1 }, r.2)
 Ran-check hosts words name old new s t text how.LoadsCut is of r = (record { name = name; command = is; text = text; of_file = of; app = r.0; declared = r.1 }, r.2)
@@ -115,6 +115,46 @@ Ran-application hosts text wire limits app types p q s t how.WireFault is same r
 Ran-application hosts text wire limits app types p q s t how.Memory is same (inl r) = inl r
 Ran-application hosts text wire limits app types p q s t how.Memory is same (inr r) = inr (app, is, rw same at r)
 Ran-application hosts text wire limits app types p q s t (how.Ended e) is same r = (app, is, rw same at r)
+
+-- ---- a text that does not load
+
+-- the line of its refusal was said so
+refuses : (bounds : Bounds) (text : List ℕ) (r : LoadRefusal) (said : List ℕ → Type 0) → Stands bounds text r → SaysLine r said → RefusesText bounds text said
+refuses bounds text (refusal.Refused number at) said is line = (refused number at, is, line)
+refuses bounds text (refusal.Uncovered form path) said is line = (uncovered (record { form = form; path = path }), is, line)
+refuses bounds text refusal.Memory said is line = absurd line
+
+stands : (bounds : Bounds) (text : List ℕ) (r : LoadRefusal) → Loads bounds text (Err r) → Stands bounds text r
+stands bounds text (refusal.Refused number at) h = h
+stands bounds text (refusal.Uncovered form path) h = h
+stands bounds text refusal.Memory h = tt
+
+-- a run of it
+pub Ran-refused : (hosts : HostMeanings) (text : List ℕ) (wire : Option (List ℕ)) (limits : Limits) (r : LoadRefusal) (p q : Placed) (s t : Streams) (h : How)
+    → Loads hosts.bounds text (Err r) → Tells r s t h → RanText hosts text wire limits p q s t h
+Ran-refused hosts text wire limits r p q s t how.Usage is told = absurd told
+Ran-refused hosts text wire limits r p q s t how.UsageCut is told = absurd told
+Ran-refused hosts text wire limits r p q s t how.AppFault is told = absurd told
+Ran-refused hosts text wire limits r p q s t how.Refused is told = refuses hosts.bounds text r (SaysWhole s t) (stands hosts.bounds text r is) told
+Ran-refused hosts text wire limits r p q s t how.RefusalCut is told = refuses hosts.bounds text r (SaysCut s t) (stands hosts.bounds text r is) told
+Ran-refused hosts text wire limits r p q s t how.Loads is told = absurd told
+Ran-refused hosts text wire limits r p q s t how.LoadsCut is told = absurd told
+Ran-refused hosts text wire limits r p q s t how.WireFault is told = absurd told
+Ran-refused hosts text wire limits r p q s t how.Memory is told = inl told
+Ran-refused hosts text wire limits r p q s t (how.Ended e) is told = absurd told
+
+-- a check of it
+pub Checked-refused : (bounds : Bounds) (text : List ℕ) (r : LoadRefusal) (s t : Streams) (h : How) → Stands bounds text r → Tells r s t h → Checked bounds text s t h
+Checked-refused bounds text r s t how.Usage is told = absurd told
+Checked-refused bounds text r s t how.UsageCut is told = absurd told
+Checked-refused bounds text r s t how.AppFault is told = absurd told
+Checked-refused bounds text r s t how.Refused is told = refuses bounds text r (SaysWhole s t) is told
+Checked-refused bounds text r s t how.RefusalCut is told = refuses bounds text r (SaysCut s t) is told
+Checked-refused bounds text r s t how.Loads is told = absurd told
+Checked-refused bounds text r s t how.LoadsCut is told = absurd told
+Checked-refused bounds text r s t how.WireFault is told = absurd told
+Checked-refused bounds text r s t how.Memory is told = told
+Checked-refused bounds text r s t (how.Ended e) is told = absurd told
 
 -- ---- an application that was loaded
 

@@ -7,7 +7,8 @@ use Rattle.cl_frame.specs.Ground.{Ground}
 use Rattle.cl_gesture.specs.Lines.{ended, pieces, held_from}
 use Rattle.cl_gesture.proofs.Cutting.{pieces-further}
 use Rattle.cl_invocation.specs.Words.{Invocation, run, check, invocation_of}
-use Rattle.cl_load.specs.Application.{IsApplication, IsRefusal}
+use Rattle.cl_load.specs.Application.{IsApplication, IsReason}
+use Rattle.cl_load.specs.Reason.{Reason}
 use Rattle.cl_load.specs.Types.{Bounds}
 use Rattle.cl_load.proofs.OneOutcome.{one_outcome}
 use Rattle.cl_outside.specs.Causes.{Rose}
@@ -57,27 +58,27 @@ fault_named words old new name r is =
 
 -- ---- the text
 
-apart : (app : App) (refusal : ℕ × ℕ) (a b : Result App (ℕ × ℕ)) → a ≡ Ok app → b ≡ Err refusal → a ≡ b → ⊥
-apart app refusal a b x y same = cc
+apart : (app : App) (reason : Reason) (a b : Result App Reason) → a ≡ Ok app → b ≡ Err reason → a ≡ b → ⊥
+apart app reason a b x y same = cc
 
 -- a text that has a refusal declares no application
-not_both : (bounds : Bounds) (text : List ℕ) (app : App) (number at : ℕ) → IsApplication bounds text app → IsRefusal bounds text number at → ⊥
-not_both bounds text app number at is refusal =
-    apart app (number, at) (Ok app) (Err (number, at)) refl refl (one_outcome bounds text (Ok app) (Err (number, at)) is refusal)
+not_both : (bounds : Bounds) (text : List ℕ) (app : App) (reason : Reason) → IsApplication bounds text app → IsReason bounds text reason → ⊥
+not_both bounds text app reason is refusal =
+    apart app reason (Ok app) (Err reason) refl refl (one_outcome bounds text (Ok app) (Err reason) is refusal)
 
-none_declared : (bounds : Bounds) (file : Option (Option (List ℕ))) (text : List ℕ) (number at : ℕ) → IsTextOf file text → IsRefusal bounds text number at
+none_declared : (bounds : Bounds) (file : Option (Option (List ℕ))) (text : List ℕ) (reason : Reason) → IsTextOf file text → IsReason bounds text reason
     → DeclaresApplication bounds file → ⊥
-none_declared bounds None text number at of refusal d = d
-none_declared bounds (Some None) text number at of refusal d = d
-none_declared bounds (Some (Some bytes)) text number at of refusal d =
-    let P : List ℕ → Type 0 = λ xs. IsApplication bounds xs d.0 in not_both bounds text d.0 number at (subst P (sym of) d.1) refusal
+none_declared bounds None text reason of refusal d = d
+none_declared bounds (Some None) text reason of refusal d = d
+none_declared bounds (Some (Some bytes)) text reason of refusal d =
+    let P : List ℕ → Type 0 = λ xs. IsApplication bounds xs d.0 in not_both bounds text d.0 reason (subst P (sym of) d.1) refusal
 
-some_declared : (bounds : Bounds) (file : Option (Option (List ℕ))) (text : List ℕ) (app : App) (number at : ℕ) → IsTextOf file text → IsApplication bounds text app
-    → HasRefusal bounds file number at → ⊥
-some_declared bounds None text app number at of is d = d
-some_declared bounds (Some None) text app number at of is d = d
-some_declared bounds (Some (Some bytes)) text app number at of is d =
-    let P : List ℕ → Type 0 = λ xs. IsApplication bounds xs app in not_both bounds (first_bytes bytes) app number at (subst P of is) d
+some_declared : (bounds : Bounds) (file : Option (Option (List ℕ))) (text : List ℕ) (app : App) (reason : Reason) → IsTextOf file text → IsApplication bounds text app
+    → HasRefusal bounds file reason → ⊥
+some_declared bounds None text app reason of is d = d
+some_declared bounds (Some None) text app reason of is d = d
+some_declared bounds (Some (Some bytes)) text app reason of is d =
+    let P : List ℕ → Type 0 = λ xs. IsApplication bounds xs app in not_both bounds (first_bytes bytes) app reason (subst P of is) d
 
 -- a text that is refused declares no application
 pub refused_declares : (bounds : Bounds) (words : List (List ℕ)) (place : Placed) (old new : Streams) (name : List ℕ)
@@ -86,23 +87,23 @@ refused_declares bounds words place old new name said is d =
     let r = said.refused in
     let same : name ≡ r.name = one_name words name r.name is r.command in
     let P : List ℕ → Type 0 = λ n. DeclaresApplication bounds (place.file n) in
-    none_declared bounds (place.file r.name) r.text said.number said.at r.of_file r.refusal (subst P same d)
+    none_declared bounds (place.file r.name) r.text said.reason r.of_file r.refusal (subst P same d)
 
 -- a text that was opened is not refused
-pub opened_declares : (hosts : HostMeanings) (words : List (List ℕ)) (place : Placed) (wire : Option (List ℕ)) (g : Ground) (name : List ℕ) (number at : ℕ)
-    → Opens hosts words place wire g → Names words name → HasRefusal hosts.bounds (place.file name) number at → ⊥
-opened_declares hosts words place wire g name number at o is d =
+pub opened_declares : (hosts : HostMeanings) (words : List (List ℕ)) (place : Placed) (wire : Option (List ℕ)) (g : Ground) (name : List ℕ) (reason : Reason)
+    → Opens hosts words place wire g → Names words name → HasRefusal hosts.bounds (place.file name) reason → ⊥
+opened_declares hosts words place wire g name reason o is d =
     let same : name ≡ o.name = one_name words name o.name is (run_named words o.name wire o.budget o.command) in
-    let P : List ℕ → Type 0 = λ n. HasRefusal hosts.bounds (place.file n) number at in
-    some_declared hosts.bounds (place.file o.name) o.text g.app number at o.of_file o.declared (subst P same d)
+    let P : List ℕ → Type 0 = λ n. HasRefusal hosts.bounds (place.file n) reason in
+    some_declared hosts.bounds (place.file o.name) o.text g.app reason o.of_file o.declared (subst P same d)
 
 -- nor is one that was loaded
-pub loaded_declares : (bounds : Bounds) (words : List (List ℕ)) (place : Placed) (name : List ℕ) (number at : ℕ)
-    → IsLoaded bounds words place → Names words name → HasRefusal bounds (place.file name) number at → ⊥
-loaded_declares bounds words place name number at o is d =
+pub loaded_declares : (bounds : Bounds) (words : List (List ℕ)) (place : Placed) (name : List ℕ) (reason : Reason)
+    → IsLoaded bounds words place → Names words name → HasRefusal bounds (place.file name) reason → ⊥
+loaded_declares bounds words place name reason o is d =
     let same : name ≡ o.name = one_name words name o.name is (check_named words o.name o.command) in
-    let P : List ℕ → Type 0 = λ n. HasRefusal bounds (place.file n) number at in
-    some_declared bounds (place.file o.name) o.text o.app number at o.of_file o.declared (subst P same d)
+    let P : List ℕ → Type 0 = λ n. HasRefusal bounds (place.file n) reason in
+    some_declared bounds (place.file o.name) o.text o.app reason o.of_file o.declared (subst P same d)
 
 -- an application that is checked is not opened
 pub opened_checked : (hosts : HostMeanings) (words : List (List ℕ)) (place : Placed) (wire : Option (List ℕ)) (g : Ground) (name : List ℕ) → Opens hosts words place wire g → IsCheck words name → ⊥

@@ -1,7 +1,10 @@
 -- The words of the command line, and the lines that are said of a command.
 use Rattle.std.specs.Prelude.{◌≡◌, ℕ, List, [], ◌∷◌, ◌++◌, codes, Option, None, Some, option_map}
 use Rattle.std.specs.Fmt.{decimal}
+use Rattle.cl_cover.specs.PathText.{path_text}
+use Rattle.cl_cover.specs.declared.updates.Uncovered.{Uncovered}
 use Rattle.cl_invocation.specs.Words.{Invocation, run, check, invocation_of}
+use Rattle.cl_load.specs.Reason.{Reason, refused, uncovered}
 
 -- the words run this application, with this wire and this budget where they give one
 abbrev pub IsRun : (words : List (List ℕ)) → (name : List ℕ) → (wire : Option (List ℕ)) → (budget : Option ℕ) → Type 0
@@ -31,3 +34,12 @@ loads_line = codes "loads" ++ 10 ∷ []
 
 abbrev pub refusal_line : ℕ → ℕ → List ℕ
 refusal_line number offset = codes "refused " ++ decimal number ++ codes " at " ++ decimal offset ++ 10 ∷ []
+
+-- the line of a path as text that an update at this offset reads and does not cover
+abbrev pub uncovered_line : ℕ → List ℕ → List ℕ
+uncovered_line offset path = codes "refused 11 at " ++ decimal offset ++ codes " path " ++ path ++ 10 ∷ []
+
+-- the line of why a text does not load
+abbrev pub reason_line : Reason → List ℕ
+reason_line (refused number at) = refusal_line number at
+reason_line (uncovered u) = uncovered_line u.form (path_text u.path)

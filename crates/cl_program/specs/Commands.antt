@@ -4,14 +4,16 @@ use Rattle.cl_application.specs.declared.applications.App.{App}
 use Rattle.cl_eval.specs.declared.metering.Limits.{Limits}
 use Rattle.cl_frame.specs.Ground.{Ground}
 use Rattle.cl_frame.specs.Sending.{Wire}
-use Rattle.cl_forms.specs.declared.refusals.FormRefusal.{FormRefusal}
-use Rattle.cl_forms.specs.declared.refusals.FormRefusal.TheVariants as refusal
-use Rattle.cl_load.specs.Application.{IsApplication, IsRefusal}
+use Rattle.cl_cover.specs.PathText.{path_text}
+use Rattle.cl_load.specs.Application.{IsApplication, IsReason}
+use Rattle.cl_load.specs.Reason.{Reason, refused, uncovered}
 use Rattle.cl_load.specs.Types.{Bounds}
+use Rattle.cl_load.specs.declared.refusals.LoadRefusal.{LoadRefusal}
+use Rattle.cl_load.specs.declared.refusals.LoadRefusal.TheVariants as refusal
 use Rattle.cl_outside.specs.Causes.{Rose}
 use Rattle.cl_invocation.specs.Words.{Invocation, run, check}
 use Rattle.cl_session.specs.declared.serving.End.{End}
-use Rattle.cl_program.specs.Command.{loads_line, refusal_line}
+use Rattle.cl_program.specs.Command.{loads_line, reason_line, refusal_line, uncovered_line}
 use Rattle.cl_program.specs.Hosts.{HostMeanings}
 use Rattle.cl_program.specs.Run.{EndsAs, RanOut, SaysCut, SaysWhole, ground_in}
 use Rattle.cl_program.specs.Surroundings.{Placed, Streams, UsesDevice}
@@ -63,9 +65,9 @@ RanOn wire g place_old place_new old new (how.Ended end) = Went wire g place_old
 
 -- ---- a text that was read, with these host types
 
--- this number and this offset are those of its refusal, and its line was said so
+-- it does not load for this reason, whose line was said so
 abbrev pub RefusesText : Bounds → (text : List ℕ) → (said : List ℕ → Type 0) → Type 0
-RefusesText bounds text said = (number : ℕ) × (at : ℕ) × IsRefusal bounds text number at × said (refusal_line number at)
+RefusesText bounds text said = (reason : Reason) × IsReason bounds text reason × said (reason_line reason)
 
 -- it declares an application, of which this holds on its ground
 abbrev pub OfApplication : HostMeanings → (text : List ℕ) → (limits : Limits) → (Ground → Type 0) → Type 0
@@ -84,11 +86,37 @@ RanText hosts text wire limits place_old place_new old new how.WireFault = OfApp
 RanText hosts text wire limits place_old place_new old new how.Memory = (new ≡ old) ⊎ OfApplication hosts text limits (λ g. RanOut g old new)
 RanText hosts text wire limits place_old place_new old new (how.Ended end) = OfApplication hosts text limits (λ g. Went wire g place_old place_new old new end)
 
--- a text that declares an application, or has a refusal; nothing is said where memory was wanting
-abbrev pub Judges : Bounds → (text : List ℕ) → Option FormRefusal → Type 0
+-- a refusal of a text; want of memory is none
+abbrev pub Stands : Bounds → (text : List ℕ) → LoadRefusal → Type 0
+Stands bounds text (refusal.Refused number at) = IsReason bounds text (refused number at)
+Stands bounds text (refusal.Uncovered form path) = IsReason bounds text (uncovered (record { form = form; path = path }))
+Stands bounds text refusal.Memory = Unit {0}
+
+-- a text that loads, or does not for a reason; nothing is said where memory was wanting
+abbrev pub Judges : Bounds → (text : List ℕ) → Option LoadRefusal → Type 0
 Judges bounds text None = (app : App) × IsApplication bounds text app
-Judges bounds text (Some (refusal.Refused number at)) = IsRefusal bounds text number at
-Judges bounds text (Some refusal.Memory) = Unit {0}
+Judges bounds text (Some r) = Stands bounds text r
+
+-- ---- the line of a refusal
+
+-- it was said so; want of memory has none
+abbrev pub SaysLine : LoadRefusal → (said : List ℕ → Type 0) → Type 0
+SaysLine (refusal.Refused number at) said = said (refusal_line number at)
+SaysLine (refusal.Uncovered form path) said = said (uncovered_line form (path_text path))
+SaysLine refusal.Memory said = ⊥
+
+-- it was written, or the output failed, or memory was wanting before it
+abbrev pub Tells : LoadRefusal → (old new : Streams) → How → Type 0
+Tells r old new how.Usage = ⊥
+Tells r old new how.UsageCut = ⊥
+Tells r old new how.AppFault = ⊥
+Tells r old new how.Refused = SaysLine r (SaysWhole old new)
+Tells r old new how.RefusalCut = SaysLine r (SaysCut old new)
+Tells r old new how.Loads = ⊥
+Tells r old new how.LoadsCut = ⊥
+Tells r old new how.WireFault = ⊥
+Tells r old new how.Memory = new ≡ old
+Tells r old new (how.Ended end) = ⊥
 
 -- a check of a text
 abbrev pub Checked : Bounds → (text : List ℕ) → (old new : Streams) → How → Type 0

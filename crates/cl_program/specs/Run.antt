@@ -9,8 +9,9 @@ use Rattle.cl_frame.specs.Ground.{Ground, ground}
 use Rattle.cl_frame.specs.Sending.{SendsOn, ShowsPanes, Wire, frame_ops}
 use Rattle.cl_gesture.specs.Lines.{Piece, pieces, ended, held_from}
 use Rattle.cl_gesture.specs.Next.{most_lines}
-use Rattle.cl_load.specs.Application.{IsApplication, IsRefusal}
+use Rattle.cl_load.specs.Application.{IsApplication, IsReason}
 use Rattle.cl_load.specs.Opening.{opening_slots}
+use Rattle.cl_load.specs.Reason.{Reason}
 use Rattle.cl_load.specs.Types.{Bounds, types_in}
 use Rattle.cl_outside.specs.Writing.{Says}
 use Rattle.cl_session.specs.Session.{Fits, cost_of_panes, world_of}
@@ -19,7 +20,7 @@ use Rattle.cl_session.specs.World.{World, opening}
 use Rattle.cl_session.specs.declared.serving.End.{End}
 use Rattle.cl_session.specs.declared.serving.End.TheVariants as end
 use Rattle.cl_ptext.specs.Subtyping.{hierarchy_in}
-use Rattle.cl_program.specs.Command.{IsCheck, IsNoCommand, IsRun, Names, loads_line, refusal_line, usage_line}
+use Rattle.cl_program.specs.Command.{IsCheck, IsNoCommand, IsRun, Names, loads_line, reason_line, usage_line}
 use Rattle.cl_program.specs.Hosts.{HostMeanings, meanings_in, reads_in}
 use Rattle.cl_program.specs.Surroundings.{Placed, Streams, UsesDevice}
 use Rattle.cl_program.specs.Texts.{IsTextOf}
@@ -80,13 +81,13 @@ pub record Opens (hosts : HostMeanings) (words : List (List ℕ)) (place : Place
   pub declared : IsApplication hosts.bounds text g.app
   pub stands : g ≡ ground_in hosts g.app (limits_of budget)
 
--- the words name a file, and its text has this refusal at this offset
-pub record IsRefused (bounds : Bounds) (words : List (List ℕ)) (place : Placed) (number at : ℕ) : Type 0 where
+-- the words name a file, and its text does not load for this reason
+pub record IsRefused (bounds : Bounds) (words : List (List ℕ)) (place : Placed) (reason : Reason) : Type 0 where
   pub name : List ℕ
   pub command : Names words name
   pub text : List ℕ
   pub of_file : IsTextOf (place.file name) text
-  pub refusal : IsRefusal bounds text number at
+  pub refusal : IsReason bounds text reason
 
 -- the words check a file, and its text declares an application
 pub record IsLoaded (bounds : Bounds) (words : List (List ℕ)) (place : Placed) : Type 0 where
@@ -209,17 +210,15 @@ SaysCut old new line = IsUnread old new × Says false old.taken new.taken line o
 
 -- the text that the words name is refused, and the line of its refusal was written whole
 pub record Refuses (bounds : Bounds) (words : List (List ℕ)) (place : Placed) (old new : Streams) : Type 0 where
-  pub number : ℕ
-  pub at : ℕ
-  pub refused : IsRefused bounds words place number at
-  pub said : SaysWhole old new (refusal_line number at)
+  pub reason : Reason
+  pub refused : IsRefused bounds words place reason
+  pub said : SaysWhole old new (reason_line reason)
 
 -- the text that the words name is refused, and the output failed in the line of its refusal
 pub record RefusesCut (bounds : Bounds) (words : List (List ℕ)) (place : Placed) (old new : Streams) : Type 0 where
-  pub number : ℕ
-  pub at : ℕ
-  pub refused : IsRefused bounds words place number at
-  pub said : SaysCut old new (refusal_line number at)
+  pub reason : Reason
+  pub refused : IsRefused bounds words place reason
+  pub said : SaysCut old new (reason_line reason)
 
 -- the wire that the words name could not be made: the application loads, and nothing was read or written
 pub record MakesNoWire (hosts : HostMeanings) (words : List (List ℕ)) (old_place new_place : Placed) (old new : Streams) : Type 0 where

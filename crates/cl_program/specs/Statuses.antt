@@ -3,7 +3,8 @@ use Rattle.std.specs.Prelude.{◌≡◌, ◌<◌, ◌≤◌, ℕ, List, length, 
 use Rattle.cl_application.specs.declared.applications.App.{App}
 use Rattle.cl_gesture.specs.Lines.{pieces}
 use Rattle.cl_gesture.specs.Next.{most_lines}
-use Rattle.cl_load.specs.Application.{IsApplication, IsRefusal}
+use Rattle.cl_load.specs.Application.{IsApplication, IsReason}
+use Rattle.cl_load.specs.Reason.{Reason}
 use Rattle.cl_load.specs.Types.{Bounds}
 use Rattle.cl_session.specs.declared.serving.End.TheVariants as end
 use Rattle.cl_program.specs.Texts.{first_bytes}
@@ -41,11 +42,11 @@ DeclaresApplication bounds None = ⊥
 DeclaresApplication bounds (Some None) = ⊥
 DeclaresApplication bounds (Some (Some bytes)) = (app : App) × IsApplication bounds (first_bytes bytes) app
 
--- a file that is told, whose text has this refusal at this offset on host types of these bounds
-abbrev pub HasRefusal : Bounds → Option (Option (List ℕ)) → (number at : ℕ) → Type 0
-HasRefusal bounds None number at = ⊥
-HasRefusal bounds (Some None) number at = ⊥
-HasRefusal bounds (Some (Some bytes)) number at = IsRefusal bounds (first_bytes bytes) number at
+-- a file that is told, whose text does not load for this reason on host types of these bounds
+abbrev pub HasRefusal : Bounds → Option (Option (List ℕ)) → Reason → Type 0
+HasRefusal bounds None reason = ⊥
+HasRefusal bounds (Some None) reason = ⊥
+HasRefusal bounds (Some (Some bytes)) reason = IsReason bounds (first_bytes bytes) reason
 
 -- gestures that are told, of at most a million lines
 abbrev pub HasFewLines : Option (List ℕ) → Type 0

@@ -5,7 +5,7 @@ ghost use Rattle.cl_frame.specs.Ground.{ground, ground_of, meanings_of};
 ghost use Rattle.cl_frame.specs.Sending.{wire_of};
 ghost use Rattle.cl_invocation.specs.Words.{invocation_of};
 ghost use Rattle.cl_load.specs.Opening.{opening_slots};
-ghost use Rattle.cl_program.specs.Commands.{Checked, Judges, KeepsFiles, KeptBy, RanOn, RanText};
+ghost use Rattle.cl_program.specs.Commands.{Checked, Judges, KeepsFiles, KeptBy, RanOn, RanText, Tells};
 ghost use Rattle.cl_program.specs.Hosts.{hosts_of, meanings_in, reads_in};
 ghost use Rattle.cl_program.specs.Run.{Ran, RanLoaded};
 ghost use Rattle.cl_program.specs.Surroundings.{placed, streams};
@@ -13,11 +13,12 @@ ghost use Rattle.cl_ptext.specs.Subtyping.{hierarchy_in};
 ghost use Rattle.cl_tables.specs.Rings.{HasNoRing};
 
 use crate::running::{How, limits_of, run_program};
-use crate::saying::{say_loads, say_refusal, say_usage};
+use crate::saying::{say_loads, say_refusal, say_uncovered, say_usage};
 use crate::texts::{TextRead, read_text};
+use cl_cover::path_text;
 use cl_eval::{Limits, Program, Slots, Types};
 use cl_invocation::{Invocation, read_words};
-use cl_load::{FormRefusal, Loaded, load};
+use cl_load::{LoadRefusal, Loaded, load};
 use cl_outside::{Ledger, NullDevice, Opened, Place, PlaceSink, Sink, Source, Steps};
 use cl_ptext::{Hosts, TypeBook};
 use cl_raster::WireDevice;
@@ -134,13 +135,7 @@ fn run_text<H: Hosts, P: Place, G: Source, O: Sink, L: Ledger>(
 {
     match load(setting.alloc, text, hosts) {
         Ok(loaded) => run_application(loaded, hosts, setting, place, gestures, out, steps),
-        Err(FormRefusal::Refused(number, offset)) => {
-            if say_refusal(out, number, offset) {
-                return How::Refused;
-            }
-            How::RefusalCut
-        }
-        Err(FormRefusal::Memory) => How::Memory,
+        Err(refusal) => tell_refusal(setting.alloc, &refusal, out),
     }
 }
 
@@ -335,22 +330,44 @@ fn check_text<H: Hosts, O: Sink>(alloc: Global, text: &[u8], hosts: &H, out: &mu
             }
             How::LoadsCut
         }
-        Some(FormRefusal::Refused(number, offset)) => {
-            if !say_refusal(out, number, offset) {
-                return How::RefusalCut;
-            }
-            How::Refused
-        }
-        Some(FormRefusal::Memory) => How::Memory,
+        Some(refusal) => tell_refusal(alloc, &refusal, out),
     }
 }
 
 // Why a text does not load, where it does not.
-fn refusal_of<H: Hosts>(alloc: Global, text: &[u8], hosts: &H) -> Option<FormRefusal>
+fn refusal_of<H: Hosts>(alloc: Global, text: &[u8], hosts: &H) -> Option<LoadRefusal>
     ensures { Judges (H.bounds hosts.now) text.now result }
 {
     match load(alloc, text, hosts) {
         Ok(_) => return None,
         Err(refusal) => return Some(refusal),
+    }
+}
+
+// Says why a text does not load.
+fn tell_refusal<O: Sink>(alloc: Global, refusal: &LoadRefusal, out: &mut O) -> How
+    ensures tells { (left : Option (List ℕ)) (faults spent : ℕ) → Tells refusal.now
+        (streams left faults (O.taken out.old) (O.faults out.old) spent)
+        (streams left faults (O.taken out.new) (O.faults out.new) spent) result }
+    ensures lent { O.lent out.new ≡ O.lent out.old }
+    ensures later { O.faults out.old ≤ O.faults out.new }
+{
+    match refusal {
+        LoadRefusal::Refused(number, offset) => {
+            if say_refusal(out, *number, *offset) {
+                return How::Refused;
+            }
+            How::RefusalCut
+        }
+        LoadRefusal::Uncovered(offset, path) => {
+            let Ok(text) = path_text(alloc, path) else {
+                return How::Memory;
+            };
+            if say_uncovered(out, *offset, text.as_slice()) {
+                return How::Refused;
+            }
+            How::RefusalCut
+        }
+        LoadRefusal::Memory => How::Memory,
     }
 }

@@ -2,6 +2,7 @@
 ghost use Rattle.std.specs.Prelude.{◌≡◌, ◌≤◌, ◌⊎◌, ℕ, List, Option, map};
 ghost use Rattle.cl_frame.specs.Sending.{wire_of};
 ghost use Rattle.cl_invocation.specs.Words.{invocation_of};
+ghost use Rattle.cl_load.specs.Reason.{Reason};
 ghost use Rattle.cl_outside.specs.Causes.{Rose};
 ghost use Rattle.cl_program.specs.Command.{IsCheck, IsNoCommand, IsRun, Names};
 ghost use Rattle.cl_program.specs.Commands.{KeptBy};
@@ -56,9 +57,9 @@ pub fn clim_main<H: Hosts, P: Place, G: Source, O: Sink, L: Ledger>(
     // When they are due.
     ensures usage_due { IsNoCommand (map (λ w. w.now) words.now)
         → (result.0 ≡ 2) ⊎ (result.0 ≡ 5) ⊎ (result.0 ≡ 7) }
-    ensures refusal_due { (name : List ℕ) (number at : ℕ) → Names (map (λ w. w.now) words.now) name
+    ensures refusal_due { (name : List ℕ) (reason : Reason) → Names (map (λ w. w.now) words.now) name
         → (Rose (P.app_faults place.old name) (P.app_faults place.new name) → ⊥)
-        → HasRefusal (H.bounds hosts.now) (P.file place.old name) number at
+        → HasRefusal (H.bounds hosts.now) (P.file place.old name) reason
         → (result.0 ≡ 1) ⊎ (result.0 ≡ 5) ⊎ (result.0 ≡ 7) }
     ensures check_due { (name : List ℕ) → IsCheck (map (λ w. w.now) words.now) name
         → (Rose (P.app_faults place.old name) (P.app_faults place.new name) → ⊥)

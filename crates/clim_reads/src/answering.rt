@@ -1,13 +1,13 @@
 //! Answers the questions on an application.
 use crate::faults::Fault;
-use crate::paths::{paths_in, put_path};
+use crate::paths::paths_in;
 use crate::questions::{Question, Sheet};
 use cl_application::App;
-use cl_cover::{Path, expression_reads, first_uncovered, reads};
+use cl_cover::{expression_reads, first_uncovered, path_text, reads};
 use cl_host::{month_number, shipped_types, weekday_number};
 use cl_load::load;
 use cl_ptext::HostTypes;
-use cl_syntax::Shape;
+use cl_syntax::{Path, Shape};
 use std::alloc::{AllocError, Global};
 
 /// The answers to the questions of a sheet, a line each.
@@ -39,15 +39,15 @@ fn answer(
     match *question {
         Question::Display(name) => {
             let paths = reads(alloc, app, body_of(app, name)?)?;
-            put_paths(paths.as_slice(), answers)?;
+            put_paths(alloc, paths.as_slice(), answers)?;
         }
         Question::Uncovered(name, listed) => {
             let path = uncovered(alloc, app, name, listed)?;
-            put_uncovered(path, answers)?;
+            put_uncovered(alloc, path, answers)?;
         }
         Question::Function(name) => {
             let paths = function_reads(alloc, app, name)?;
-            put_paths(paths.as_slice(), answers)?;
+            put_paths(alloc, paths.as_slice(), answers)?;
         }
     }
     Ok(())
@@ -76,21 +76,30 @@ fn function_reads(alloc: Global, app: &App, name: &str) -> Result<Vec<Path>, Fau
 }
 
 // The paths with one space between them.
-fn put_paths(paths: &[Path], answers: &mut Vec<u8>) -> Result<(), AllocError> {
+fn put_paths(alloc: Global, paths: &[Path], answers: &mut Vec<u8>) -> Result<(), AllocError> {
     let [first, more @ ..] = paths else {
         return answers.extend_from_slice(b"nothing");
     };
-    put_path(first, answers)?;
+    put_path(alloc, first, answers)?;
     for path in more {
         answers.push(b' ')?;
-        put_path(path, answers)?;
+        put_path(alloc, path, answers)?;
     }
     Ok(())
 }
 
-fn put_uncovered(path: Option<Path>, answers: &mut Vec<u8>) -> Result<(), AllocError> {
+fn put_uncovered(
+    alloc: Global,
+    path: Option<Path>,
+    answers: &mut Vec<u8>,
+) -> Result<(), AllocError> {
     match path {
-        Some(path) => put_path(&path, answers),
+        Some(path) => put_path(alloc, &path, answers),
         None => answers.extend_from_slice(b"covered"),
     }
+}
+
+fn put_path(alloc: Global, path: &Path, answers: &mut Vec<u8>) -> Result<(), AllocError> {
+    let text = path_text(alloc, path)?;
+    answers.extend_from_slice(text.as_slice())
 }

@@ -1,5 +1,5 @@
 //! Why questions cannot be answered.
-use cl_load::FormRefusal;
+use cl_load::LoadRefusal;
 use std::alloc::{AllocError, AllocFailed};
 
 /// Why questions cannot be answered.
@@ -14,11 +14,12 @@ pub enum Fault {
     Memory,
 }
 
-impl From<FormRefusal> for Fault {
-    fn from(refusal: FormRefusal) -> Fault {
+impl From<LoadRefusal> for Fault {
+    fn from(refusal: LoadRefusal) -> Fault {
         match refusal {
-            FormRefusal::Refused(..) => Fault::Refused,
-            FormRefusal::Memory => Fault::Memory,
+            LoadRefusal::Refused(..) => Fault::Refused,
+            LoadRefusal::Uncovered(..) => Fault::Refused,
+            LoadRefusal::Memory => Fault::Memory,
         }
     }
 }

@@ -1,11 +1,11 @@
 //! Paths as texts have them: `x`, `(slot a)` and `(get PATH f)`.
 use crate::faults::Fault;
-use cl_cover::{Path, Root};
 use cl_forms::{Datum, FormRefusal, name_in, symbol_of};
 use cl_questions::data_in_text;
+use cl_syntax::{Path, Root};
 use cl_table::Names;
 use cl_value::Text;
-use std::alloc::{AllocError, Global};
+use std::alloc::Global;
 
 /// The paths of a text, with `|` between them.
 pub fn paths_in(alloc: Global, text: &str) -> Result<Vec<Path>, Fault> {
@@ -69,31 +69,5 @@ fn name_of(datum: &Datum) -> Result<Text, Fault> {
     match name_in(datum) {
         Some(name) => Ok(name.copy()?),
         None => Err(Fault::Wrong),
-    }
-}
-
-/// Puts the text of a path behind bytes.
-pub fn put_path(path: &Path, bytes: &mut Vec<u8>) -> Result<(), AllocError> {
-    for _ in path.fields.as_slice() {
-        bytes.extend_from_slice(b"(get ")?;
-    }
-    put_root(&path.root, bytes)?;
-    for field in path.fields.as_slice() {
-        bytes.push(b' ')?;
-        bytes.extend_from_slice(field.as_slice())?;
-        bytes.push(b')')?;
-    }
-    Ok(())
-}
-
-fn put_root(root: &Root, bytes: &mut Vec<u8>) -> Result<(), AllocError> {
-    match root {
-        Root::Variable(name) => bytes.extend_from_slice(name.as_slice()),
-        Root::Slot(name) => {
-            bytes.extend_from_slice(b"(slot ")?;
-            bytes.extend_from_slice(name.as_slice())?;
-            bytes.push(b')')?;
-            Ok(())
-        }
     }
 }

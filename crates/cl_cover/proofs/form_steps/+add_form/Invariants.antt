@@ -9,6 +9,9 @@ decreases-add_form l = 3 * nodes l.form.now
 abbrev pub decreases-add_with : goal.decreases-add_with
 decreases-add_with l = 3 * nodes_all (shape_trees_of l.body.now) + 2
 
+abbrev pub decreases-add_update : goal.decreases-add_update
+decreases-add_update l = 3 * nodes_all (shape_trees_of l.body.now) + 2
+
 abbrev pub decreases-add_each : goal.decreases-add_each
 decreases-add_each l = 3 * nodes_all (shape_trees_of l.body.now) + 2
 

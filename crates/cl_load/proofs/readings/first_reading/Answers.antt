@@ -1,10 +1,10 @@
 use Rattle.std.proofs.Common.{◌≡◌, ap, subst, ◌∙◌}
 use Rattle.std.specs.Prelude.{List}
 use Rattle.cl_declare.specs.declared.frames.FrameForm.{FrameForm}
-use Rattle.cl_eval.specs.Uses.{Functions}
 use Rattle.cl_lattice.specs.Firsts.{IsFirst, offset_of}
 use Rattle.cl_load.specs.Readings.{CommandReads, Finds, TypeReads, command_offset}
 use Rattle.cl_phases.specs.Earlier.{earlier}
+use Rattle.cl_phases.specs.SlotReads.{Functions}
 use Rattle.cl_load.proofs.readings.first_reading.Goals as goal
 
 pub returns : goal.returns

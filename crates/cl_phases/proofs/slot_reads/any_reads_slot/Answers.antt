@@ -1,4 +1,4 @@
-use Rattle.cl_eval.specs.Uses.{ReadsSlot}
+use Rattle.cl_phases.specs.SlotReads.{ReadsSlot}
 use Rattle.cl_phases.proofs.OneHasLemmas.{here, next, not_both}
 use Rattle.cl_phases.proofs.slot_reads.any_reads_slot.Goals as goal
 

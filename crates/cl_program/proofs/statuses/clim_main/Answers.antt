@@ -4,7 +4,7 @@ use Rattle.cl_program.proofs.StatusLemmas.{check_named, end_reached, fault_named
 use Rattle.cl_program.proofs.statuses.clim_main.Goals as goal
 
 pub returns-in-Usage-clause-refusal_due : goal.returns-in-Usage-clause-refusal_due
-returns-in-Usage-clause-refusal_due g c = λ name number at run place_fault declares.
+returns-in-Usage-clause-refusal_due g c = λ name reason run place_fault declares.
     absurd (none_named (map (λ (w : Bor (List ℕ)). w.now) c.args.words.now) name c.in-Usage.ensures.ran.0 run)
 
 pub returns-in-Usage-clause-check_due : goal.returns-in-Usage-clause-check_due
@@ -32,7 +32,7 @@ returns-in-AppFault-clause-usage_due g c = λ none.
     absurd (none_named (map (λ (w : Bor (List ℕ)). w.now) c.args.words.now) _ none c.in-AppFault.ensures.ran.0.command)
 
 pub returns-in-AppFault-clause-refusal_due : goal.returns-in-AppFault-clause-refusal_due
-returns-in-AppFault-clause-refusal_due g c = λ name number at run place_fault declares.
+returns-in-AppFault-clause-refusal_due g c = λ name reason run place_fault declares.
     absurd (place_fault (fault_named (map (λ (w : Bor (List ℕ)). w.now) c.args.words.now) _ _ name c.in-AppFault.ensures.ran.0 run))
 
 pub returns-in-AppFault-clause-check_due : goal.returns-in-AppFault-clause-check_due
@@ -68,8 +68,8 @@ returns-in-Loads-clause-usage_due g c = λ none.
     absurd (none_named (map (λ (w : Bor (List ℕ)). w.now) c.args.words.now) _ none (check_named (map (λ (w : Bor (List ℕ)). w.now) c.args.words.now) _ c.in-Loads.ensures.ran.0.command))
 
 pub returns-in-Loads-clause-refusal_due : goal.returns-in-Loads-clause-refusal_due
-returns-in-Loads-clause-refusal_due g c = λ name number at run place_fault declares.
-    absurd (loaded_declares _ (map (λ (w : Bor (List ℕ)). w.now) c.args.words.now) _ name number at c.in-Loads.ensures.ran.0 run declares)
+returns-in-Loads-clause-refusal_due g c = λ name reason run place_fault declares.
+    absurd (loaded_declares _ (map (λ (w : Bor (List ℕ)). w.now) c.args.words.now) _ name reason c.in-Loads.ensures.ran.0 run declares)
 
 pub returns-in-Loads-clause-limit_due : goal.returns-in-Loads-clause-limit_due
 returns-in-Loads-clause-limit_due g c = λ name wire budget run place_fault making_fault gesture_fault output_fault declares many.
@@ -88,8 +88,8 @@ returns-in-WireFault-clause-usage_due g c = λ none.
     absurd (none_named (map (λ (w : Bor (List ℕ)). w.now) c.args.words.now) _ none (run_named (map (λ (w : Bor (List ℕ)). w.now) c.args.words.now) _ _ _ c.in-WireFault.ensures.ran.opened.command))
 
 pub returns-in-WireFault-clause-refusal_due : goal.returns-in-WireFault-clause-refusal_due
-returns-in-WireFault-clause-refusal_due g c = λ name number at run place_fault declares.
-    absurd (opened_declares _ (map (λ (w : Bor (List ℕ)). w.now) c.args.words.now) _ _ _ name number at c.in-WireFault.ensures.ran.opened run declares)
+returns-in-WireFault-clause-refusal_due g c = λ name reason run place_fault declares.
+    absurd (opened_declares _ (map (λ (w : Bor (List ℕ)). w.now) c.args.words.now) _ _ _ name reason c.in-WireFault.ensures.ran.opened run declares)
 
 pub returns-in-WireFault-clause-check_due : goal.returns-in-WireFault-clause-check_due
 returns-in-WireFault-clause-check_due g c = λ name run place_fault declares.
@@ -100,16 +100,16 @@ returns-in-Ended-Done-clause-usage_due g c = λ none.
     absurd (none_named (map (λ (w : Bor (List ℕ)). w.now) c.args.words.now) _ none (run_named (map (λ (w : Bor (List ℕ)). w.now) c.args.words.now) _ _ _ c.in-Ended-Done.ensures.ran.opened.command))
 
 pub returns-in-Ended-Done-clause-refusal_due : goal.returns-in-Ended-Done-clause-refusal_due
-returns-in-Ended-Done-clause-refusal_due g c = λ name number at run place_fault declares.
-    absurd (opened_declares _ (map (λ (w : Bor (List ℕ)). w.now) c.args.words.now) _ _ _ name number at c.in-Ended-Done.ensures.ran.opened run declares)
+returns-in-Ended-Done-clause-refusal_due g c = λ name reason run place_fault declares.
+    absurd (opened_declares _ (map (λ (w : Bor (List ℕ)). w.now) c.args.words.now) _ _ _ name reason c.in-Ended-Done.ensures.ran.opened run declares)
 
 pub returns-in-Ended-ReadFault-clause-usage_due : goal.returns-in-Ended-ReadFault-clause-usage_due
 returns-in-Ended-ReadFault-clause-usage_due g c = λ none.
     absurd (none_named (map (λ (w : Bor (List ℕ)). w.now) c.args.words.now) _ none (run_named (map (λ (w : Bor (List ℕ)). w.now) c.args.words.now) _ _ _ c.in-Ended-ReadFault.ensures.ran.opened.command))
 
 pub returns-in-Ended-ReadFault-clause-refusal_due : goal.returns-in-Ended-ReadFault-clause-refusal_due
-returns-in-Ended-ReadFault-clause-refusal_due g c = λ name number at run place_fault declares.
-    absurd (opened_declares _ (map (λ (w : Bor (List ℕ)). w.now) c.args.words.now) _ _ _ name number at c.in-Ended-ReadFault.ensures.ran.opened run declares)
+returns-in-Ended-ReadFault-clause-refusal_due g c = λ name reason run place_fault declares.
+    absurd (opened_declares _ (map (λ (w : Bor (List ℕ)). w.now) c.args.words.now) _ _ _ name reason c.in-Ended-ReadFault.ensures.ran.opened run declares)
 
 pub returns-in-Ended-ReadFault-clause-check_due : goal.returns-in-Ended-ReadFault-clause-check_due
 returns-in-Ended-ReadFault-clause-check_due g c = λ name run place_fault declares.
@@ -120,8 +120,8 @@ returns-in-Ended-TooMany-clause-usage_due g c = λ none.
     absurd (none_named (map (λ (w : Bor (List ℕ)). w.now) c.args.words.now) _ none (run_named (map (λ (w : Bor (List ℕ)). w.now) c.args.words.now) _ _ _ c.in-Ended-TooMany.ensures.ran.opened.command))
 
 pub returns-in-Ended-TooMany-clause-refusal_due : goal.returns-in-Ended-TooMany-clause-refusal_due
-returns-in-Ended-TooMany-clause-refusal_due g c = λ name number at run place_fault declares.
-    absurd (opened_declares _ (map (λ (w : Bor (List ℕ)). w.now) c.args.words.now) _ _ _ name number at c.in-Ended-TooMany.ensures.ran.opened run declares)
+returns-in-Ended-TooMany-clause-refusal_due g c = λ name reason run place_fault declares.
+    absurd (opened_declares _ (map (λ (w : Bor (List ℕ)). w.now) c.args.words.now) _ _ _ name reason c.in-Ended-TooMany.ensures.ran.opened run declares)
 
 pub returns-in-Ended-TooMany-clause-check_due : goal.returns-in-Ended-TooMany-clause-check_due
 returns-in-Ended-TooMany-clause-check_due g c = λ name run place_fault declares.
