@@ -1,0 +1,9 @@
+//! One part for each crate that is called.
+mod medium;
+mod outside;
+mod raster;
+mod records;
+mod redisplay;
+mod region;
+mod sexp;
+mod value;
