@@ -9,7 +9,7 @@ ghost use Rattle.cl_declare.specs.CommandTables.{note_named_table, note_tables, 
 
 use crate::names::{is_name_list, names_in};
 use cl_expressions::{Notes, Reader};
-use cl_forms::{Datum, Key, FormRefusal, keyed_pairs, name_in, values_of};
+use cl_forms::{Datum, FormRefusal, Key, keyed_pairs, name_in, values_of};
 use cl_table::Names;
 use cl_tables::TableDecl;
 use cl_value::Text;

@@ -13,7 +13,7 @@ use crate::frames::{FRAME_KEYS, FrameForm, frame_shape};
 use cl_application::{SlotDecl, SlotDecls};
 use cl_bodies::parse_type;
 use cl_expressions::{Notes, Reader, Scope, parse_expression};
-use cl_forms::{Datum, Key, Keyed, FormRefusal, keyed_sections, name_in, symbol_text};
+use cl_forms::{Datum, FormRefusal, Key, Keyed, keyed_sections, name_in, symbol_text};
 use cl_table::Names;
 use std::alloc::AllocError;
 
@@ -98,6 +98,8 @@ fn parse_section(
         Key::Priority => Ok(()),
         Key::Documentation => Ok(()),
         Key::Tester => Ok(()),
+        Key::UniqueId => Ok(()),
+        Key::CacheValue => Ok(()),
     }
 }
 

@@ -18,7 +18,7 @@ use crate::translator_shapes::{
 use cl_application::TranslatorDecl;
 use cl_bodies::parse_type;
 use cl_expressions::{Notes, Reader, Scope, parse_expression};
-use cl_forms::{Datum, Key, Keyed, FormRefusal, keyed_pairs, name_in};
+use cl_forms::{Datum, FormRefusal, Key, Keyed, keyed_pairs, name_in};
 use cl_syntax::{Expr, TypeSpec};
 use cl_table::Names;
 use cl_value::Text;
@@ -161,6 +161,8 @@ fn parse_translator_key(
         Key::Gesture => Ok(()),
         Key::Priority => Ok(()),
         Key::Documentation => Ok(()),
+        Key::UniqueId => Ok(()),
+        Key::CacheValue => Ok(()),
     }
 }
 

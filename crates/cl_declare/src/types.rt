@@ -13,7 +13,7 @@ use crate::type_shapes::{TYPE_KEYS, type_shape};
 use cl_application::HostDecl;
 use cl_bodies::parse_type;
 use cl_expressions::{Notes, Reader};
-use cl_forms::{Datum, Key, Keyed, FormRefusal, keyed_pairs, name_in, symbol_text};
+use cl_forms::{Datum, FormRefusal, Key, Keyed, keyed_pairs, name_in, symbol_text};
 use cl_syntax::{TypeDecl, TypeSpec};
 use cl_table::Names;
 use cl_value::Text;
@@ -113,6 +113,8 @@ fn parse_type_key(
         Key::Priority => Ok(()),
         Key::Documentation => Ok(()),
         Key::Tester => Ok(()),
+        Key::UniqueId => Ok(()),
+        Key::CacheValue => Ok(()),
     }
 }
 
