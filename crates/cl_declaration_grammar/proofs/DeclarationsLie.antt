@@ -101,6 +101,8 @@ module _ (w : Signatures) where
   section_lies key.Priority at ds from to h = omega (arith, h.0.0, h.0.1)
   section_lies key.Documentation at ds from to h = omega (arith, h.0.0, h.0.1)
   section_lies key.Tester at ds from to h = omega (arith, h.0.0, h.0.1)
+  section_lies key.UniqueId at ds from to h = omega (arith, h.0.0, h.0.1)
+  section_lies key.CacheValue at ds from to h = omega (arith, h.0.0, h.0.1)
 
   pub frame_sections_lie : (ks : List Keyed) (from to : ℕ) → LieKeys from ks to → LieParts from (sections_seen w ks) to
   frame_sections_lie [] from to h = h

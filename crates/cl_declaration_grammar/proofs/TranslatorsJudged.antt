@@ -62,6 +62,8 @@ module _ (w : Signatures) where
     key_judged key.Gesture at ds t = ended w
     key_judged key.Priority at ds t = ended w
     key_judged key.Documentation at ds t = ended w
+    key_judged key.UniqueId at ds t = ended w
+    key_judged key.CacheValue at ds t = ended w
 
     keys_judged : (ks : List Keyed) (t : Tester) → Judges w (translator_keys_seen xs ks) Any (parse_translator_keys w xs ks t)
     keys_judged [] t = ended w

@@ -57,6 +57,8 @@ module _ (xs : Names) where
   key_lies key.Gesture at ds from to h = omega (arith, h.0.0, h.0.1)
   key_lies key.Priority at ds from to h = omega (arith, h.0.0, h.0.1)
   key_lies key.Documentation at ds from to h = omega (arith, h.0.0, h.0.1)
+  key_lies key.UniqueId at ds from to h = omega (arith, h.0.0, h.0.1)
+  key_lies key.CacheValue at ds from to h = omega (arith, h.0.0, h.0.1)
 
   keys_lie : (ks : List Keyed) (from to : ℕ) → LieKeys from ks to → LieParts from (translator_keys_seen xs ks) to
   keys_lie [] from to h = h

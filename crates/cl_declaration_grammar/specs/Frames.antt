@@ -54,6 +54,8 @@ section_seen w k = elim k.key [
   | key.Priority ↦ []
   | key.Documentation ↦ []
   | key.Tester ↦ []
+  | key.UniqueId ↦ []
+  | key.CacheValue ↦ []
 ]
 
 abbrev pub sections_seen : Signatures → List Keyed → List Part

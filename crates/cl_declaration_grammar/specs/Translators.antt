@@ -51,6 +51,8 @@ translator_key_seen xs k = elim k.key [
   | key.Gesture ↦ []
   | key.Priority ↦ []
   | key.Documentation ↦ []
+  | key.UniqueId ↦ []
+  | key.CacheValue ↦ []
 ]
 
 abbrev pub translator_keys_seen : Names → List Keyed → List Part

@@ -45,6 +45,8 @@ type_key_seen w ps k = elim k.key [
   | key.Priority ↦ []
   | key.Documentation ↦ []
   | key.Tester ↦ []
+  | key.UniqueId ↦ []
+  | key.CacheValue ↦ []
 ]
 
 abbrev pub type_keys_seen : Signatures → Names → List Keyed → List Part

@@ -62,6 +62,8 @@ parse_section w k slots = elim k.key [
   | key.Priority ↦ give slots
   | key.Documentation ↦ give slots
   | key.Tester ↦ give slots
+  | key.UniqueId ↦ give slots
+  | key.CacheValue ↦ give slots
 ]
 
 abbrev pub parse_sections : Signatures → List Keyed → SlotTable → Load SlotTable

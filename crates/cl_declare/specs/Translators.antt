@@ -61,6 +61,8 @@ parse_translator_key w xs k t = elim k.key [
   | key.Gesture ↦ give t
   | key.Priority ↦ give t
   | key.Documentation ↦ give t
+  | key.UniqueId ↦ give t
+  | key.CacheValue ↦ give t
 ]
 
 -- the tester, if there is one

@@ -54,6 +54,8 @@ parse_type_key w ps k i = elim k.key [
   | key.Priority ↦ give i
   | key.Documentation ↦ give i
   | key.Tester ↦ give i
+  | key.UniqueId ↦ give i
+  | key.CacheValue ↦ give i
 ]
 
 abbrev pub parse_type_keys : Signatures → Names → List Keyed → Inherited → Load Inherited

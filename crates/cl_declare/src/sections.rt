@@ -98,6 +98,8 @@ fn parse_section(
         Key::Priority => Ok(()),
         Key::Documentation => Ok(()),
         Key::Tester => Ok(()),
+        Key::UniqueId => Ok(()),
+        Key::CacheValue => Ok(()),
     }
 }
 

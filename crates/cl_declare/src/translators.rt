@@ -161,6 +161,8 @@ fn parse_translator_key(
         Key::Gesture => Ok(()),
         Key::Priority => Ok(()),
         Key::Documentation => Ok(()),
+        Key::UniqueId => Ok(()),
+        Key::CacheValue => Ok(()),
     }
 }
 

@@ -113,6 +113,8 @@ fn parse_type_key(
         Key::Priority => Ok(()),
         Key::Documentation => Ok(()),
         Key::Tester => Ok(()),
+        Key::UniqueId => Ok(()),
+        Key::CacheValue => Ok(()),
     }
 }
 

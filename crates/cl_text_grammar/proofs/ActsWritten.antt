@@ -132,16 +132,16 @@ dolist_writes : (b : Binding) (ss : List ActTree) (a : Datum) (ds : List Datum) 
     → WritesActForm (act.Dolist b.name b.value (act_trees_of ss)) (word (codes "dolist") h ∷ a ∷ ds)
 dolist_writes b ss a ds h (a_binding i j) k = a_dolist i j k
 
-rules : (w : Signatures) → Rules statements w WritesAct WritesActForm Body
+rules : (w : Signatures) → Rules statements w WritesAct (λ at. WritesActForm) Body
 rules w = record {
   a_form = λ s ds at i. a_form i;
   no_more = no_more;
   one_more = λ s ss d ds i j. one_more i j;
-  an_if = λ t r s a b c h i j k. an_if i j k;
-  a_when = λ t ss a ds h i j. a_when i j;
-  a_let = λ bs ss es ds at h i j. a_let i j;
-  a_dolist = dolist_writes;
-  a_progn = λ ss ds h i. a_progn i;
+  an_if = λ at t r s a b c h i j k. an_if i j k;
+  a_when = λ at t ss a ds h i j. a_when i j;
+  a_let = λ at bs ss es ds list_at h i j. a_let i j;
+  a_dolist = λ at. dolist_writes;
+  a_progn = λ at ss ds h i. a_progn i;
   an_own = λ c. own_ends w;
   a_call = λ x h at ps env n k. refuses;
 }
@@ -149,10 +149,10 @@ rules w = record {
 module _ (w : Signatures) (names : CallsNames w) where
   pub act_written : (d : Datum) (env : Names) (u v : Notes) (s : ActTree) → parse_act w d env u ≡ Ok (s, v) → WritesAct s d
   act_written d env u v s e =
-      IfOk-at_ok (λ x. WritesAct x.0 d) e ((form_ends statements w names WritesAct WritesActForm Body (rules w) tt d env).ends u)
+      IfOk-at_ok (λ x. WritesAct x.0 d) e ((form_ends statements w names WritesAct (λ at. WritesActForm) Body (rules w) tt d env).ends u)
 
   pub acts_end : (ds : Datums) (env : Names) → Ends (λ ss. WritesActs (act_trees_of ss) (in_order ds)) (parse_acts w ds env)
-  acts_end ds env = body_ends statements w names WritesAct WritesActForm Body (rules w) tt ds env
+  acts_end ds env = body_ends statements w names WritesAct (λ at. WritesActForm) Body (rules w) tt ds env
 
   pub acts_written : (ds : Datums) (env : Names) (u v : Notes) (ss : List ActTree) → parse_acts w ds env u ≡ Ok (ss, v)
       → WritesActs (act_trees_of ss) (in_order ds)

@@ -31,8 +31,8 @@ use Rattle.cl_words.specs.declared.signatures.Signatures.{Signatures}
 use Rattle.cl_expressions.specs.Scopes.{Names}
 use Rattle.cl_grammar.proofs.Spelled.{missed, not_fixed, Finds, nothing, word_is, of_some, first, last_found}
 use Rattle.cl_text_grammar.specs.FormSights.{Row, UnknownHead, if_seen, when_seen, let_seen, dolist_seen, progn_seen, planned_seen, write_seen}
-use Rattle.cl_text_grammar.specs.FormSights.{newline_seen, drawn_seen, indent_seen, ink_seen, room_seen, present_seen, presentation_seen, call_seen}
-use Rattle.cl_text_grammar.specs.FormSights.{shape_rows, shape_row_seen, setf_seen, reply_seen, switch_seen, act_rows, act_row_seen}
+use Rattle.cl_text_grammar.specs.FormSights.{newline_seen, drawn_seen, indent_seen, ink_seen, room_seen, present_seen, presentation_seen, update_seen}
+use Rattle.cl_text_grammar.specs.FormSights.{call_seen, shape_rows, shape_row_seen, setf_seen, reply_seen, switch_seen, act_rows, act_row_seen}
 
 abbrev pub control_seen : Control → Row
 control_seen control.When = when_seen
@@ -44,6 +44,7 @@ setting_seen w setting.Indent = indent_seen
 setting_seen w setting.Ink = ink_seen
 setting_seen w setting.Room = room_seen
 setting_seen w setting.Presentation = presentation_seen w
+setting_seen w setting.Update = update_seen
 
 abbrev pub writing_seen : Signatures → Writing → Row
 writing_seen w writing.WriteText = write_seen
@@ -187,7 +188,8 @@ module _ (w : Signatures) (x : List ℕ) where
       word_is setting.Indent x (codes "indenting-output") (λ e. stands (head.Setting setting.Indent) e (λ h env ds. refl) (λ h env ds. refl)) (
       word_is setting.Ink x (codes "with-ink") (λ e. stands (head.Setting setting.Ink) e (λ h env ds. refl) (λ h env ds. refl)) (
       word_is setting.Room x (codes "with-room-for-graphics") (λ e. stands (head.Setting setting.Room) e (λ h env ds. refl) (λ h env ds. refl)) (
-      word_is setting.Presentation x (codes "with-output-as-presentation") (λ e. stands (head.Setting setting.Presentation) e (λ h env ds. refl) (λ h env ds. refl)) nothing)))
+      word_is setting.Presentation x (codes "with-output-as-presentation") (λ e. stands (head.Setting setting.Presentation) e (λ h env ds. refl) (λ h env ds. refl)) (
+      word_is setting.Update x (codes "updating-output") (λ e. stands (head.Setting setting.Update) e (λ h env ds. refl) (λ h env ds. refl)) nothing))))
 
   writings : Finds (λ a. Stands w x (head.Writing a)) (writing_named x)
   writings =
@@ -204,8 +206,7 @@ module _ (w : Signatures) (x : List ℕ) where
 
   planned_displays : Finds (λ a. Stands w x (head.Planned a)) (planned_display x)
   planned_displays =
-      word_is planned.Display x (codes "updating-output") (λ e. stands (head.Planned planned.Display) e (λ h env ds. refl) (λ h env ds. refl)) (
-      word_is planned.Display x (codes "formatting-table") (λ e. stands (head.Planned planned.Display) e (λ h env ds. refl) (λ h env ds. refl)) nothing)
+      word_is planned.Display x (codes "formatting-table") (λ e. stands (head.Planned planned.Display) e (λ h env ds. refl) (λ h env ds. refl)) nothing
 
   planned_others : Finds (λ a. Stands w x (head.Planned a)) (planned_other x)
   planned_others =

@@ -30,6 +30,7 @@ setting_word setting.Indent = codes "indenting-output"
 setting_word setting.Ink = codes "with-ink"
 setting_word setting.Room = codes "with-room-for-graphics"
 setting_word setting.Presentation = codes "with-output-as-presentation"
+setting_word setting.Update = codes "updating-output"
 
 abbrev pub writing_word : Writing → List ℕ
 writing_word writing.WriteText = codes "write-text"
@@ -88,7 +89,8 @@ module _ (x : List ℕ) where
   settings =
       word_is setting.Indent x (codes "indenting-output") (λ e. e) (word_is setting.Ink x (codes "with-ink") (λ e. e)
       (word_is setting.Room x (codes "with-room-for-graphics") (λ e. e)
-      (word_is setting.Presentation x (codes "with-output-as-presentation") (λ e. e) nothing)))
+      (word_is setting.Presentation x (codes "with-output-as-presentation") (λ e. e)
+      (word_is setting.Update x (codes "updating-output") (λ e. e) nothing))))
 
   writings : Finds (λ v. Spells x (head.Writing v)) (writing_named x)
   writings =

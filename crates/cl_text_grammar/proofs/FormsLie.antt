@@ -11,19 +11,22 @@ use Rattle.cl_words.specs.declared.signatures.Signatures.{Signatures}
 use Rattle.cl_expressions.specs.Scopes.{Names, among}
 use Rattle.cl_expressions.specs.Expressions.{is_binding, is_binding_list}
 use Rattle.cl_bodies.specs.Presentations.{single_box_in}
+use Rattle.cl_bodies.specs.Updates.{update_keys_in}
 use Rattle.cl_grammar.specs.Heads.{fixed_heads}
 use Rattle.cl_grammar.specs.Lies.{Lies, LieAll}
 use Rattle.cl_grammar.specs.Sights.{expression, slot_name, all_seen, names_behind, value_seen, names_bound, values_seen}
-use Rattle.cl_grammar.proofs.Lying.{LieList, LieSeen, own_lies, datum_rises, datum_earlier, seen_rises, seen_earlier, all_lie, value_lies, bound_lies}
+use Rattle.cl_grammar.proofs.Lying.{LieList, LieSeen, list_lies, own_lies, datum_rises, datum_earlier, seen_rises, seen_earlier, all_lie, value_lies, bound_lies}
 use Rattle.cl_grammar.proofs.Spelled.{row_found}
 use Rattle.cl_text_grammar.specs.Types.{type_seen}
+use Rattle.cl_text_grammar.specs.UpdateSights.{keys_seen}
 use Rattle.cl_text_grammar.specs.FormSights.{FormSeen, expressions, specifier, command_name, form, FormSight, Misshapen, UnknownHead, PlannedHead, Sees, Row, forms_seen}
 use Rattle.cl_text_grammar.specs.FormSights.{if_seen, when_seen, let_seen, dolist_seen, progn_seen, planned_seen, write_seen, newline_seen}
-use Rattle.cl_text_grammar.specs.FormSights.{drawn_seen, indent_seen, ink_seen, room_seen, present_seen, presented_seen, presentation_seen, call_seen}
-use Rattle.cl_text_grammar.specs.FormSights.{shape_rows, shape_row_seen, place_seen, setf_seen, reply_seen, switch_seen, act_rows, act_row_seen}
+use Rattle.cl_text_grammar.specs.FormSights.{drawn_seen, indent_seen, ink_seen, room_seen, present_seen, presented_seen, presentation_seen, updated_seen, update_seen}
+use Rattle.cl_text_grammar.specs.FormSights.{call_seen, shape_rows, shape_row_seen, place_seen, setf_seen, reply_seen, switch_seen, act_rows, act_row_seen}
 use Rattle.cl_text_grammar.specs.FormSights.{headed_seen, shape_seen, act_seen}
 use Rattle.cl_text_grammar.proofs.TypePartsLie.{LieType, type_rises, type_earlier, type_later}
 use Rattle.cl_text_grammar.proofs.TypesLie.{type_lies, all_rise}
+use Rattle.cl_text_grammar.proofs.UpdatesLie.{keys_lie}
 
 -- what is seen lies one behind another
 abbrev pub LieForms : ℕ → List FormSeen → ℕ → Type 0
@@ -174,6 +177,25 @@ module _ (w : Signatures) where
   presentation_lies k env [] from to l h = tt
   presentation_lies k env (a ∷ ds) from to l h = presented_lies a ds env k from h.0 to l h.1 h.2
 
+updated_lies : (a : Datum) (ds : List Datum) (env : Names) (k from next to : ℕ) → k < from → Lies from a next → LieList next ds to
+    → LieFormSight k (updated_seen env a ds) to
+updated_lies (list keys at) ds env k from next to l h i =
+    when_lies (is_some (update_keys_in (in_order keys))) (expressions (keys_seen env (in_order keys)) ∷ forms_seen env ds) k to (
+      next,
+      seen_earlier (keys_seen env (in_order keys)) k (at + 1) next (omega (arith, l, h.0))
+          (keys_lie env (in_order keys) (at + 1) next (list_lies keys (at + 1) next h.2)),
+      forms_lie env ds next to i,
+    )
+updated_lies (number z at) ds env k from next to l h i = tt
+updated_lies (literal s at) ds env k from next to l h i = tt
+updated_lies (word s at) ds env k from next to l h i = tt
+updated_lies (quoted s at name_at) ds env k from next to l h i = tt
+updated_lies (stray at) ds env k from next to l h i = tt
+
+update_lies : LieRow update_seen
+update_lies k env [] from to l h = tt
+update_lies k env (a ∷ ds) from to l h = updated_lies a ds env k from h.0 to l h.1 h.2
+
 call_lies : (o : Option (Option ℕ)) → LieRow (call_seen o)
 call_lies None k env ds from to l h = head_lies k from to ds l h
 call_lies (Some count) k env ds from to l h = block_lies (fits count (length ds)) k env ds from to l h
@@ -300,7 +322,7 @@ shapes_lie w = headed_lie (λ x. shape_row_seen w (named x (shape_rows w)) x) (�
                           drawn_lies 4,
                           (
                             drawn_lies 5,
-                            (indent_lies, (ink_lies, (room_lies, (present_lies w, (presentation_lies w, (planned_lies, (planned_lies, tt))))))),
+                            (indent_lies, (ink_lies, (room_lies, (present_lies w, (presentation_lies w, (update_lies, (planned_lies, tt))))))),
                           ),
                         ),
                       ),

@@ -300,6 +300,8 @@ module _ (w : Signatures) (names : CallsNames w) where
     key_ends key.Priority i a = absurd (false_true i)
     key_ends key.Documentation i a = absurd (false_true i)
     key_ends key.Tester i a = absurd (false_true i)
+    key_ends key.UniqueId i a = absurd (false_true i)
+    key_ends key.CacheValue i a = absurd (false_true i)
 
   section_ends : (d : Datum) (k : Keyed) (so_far ks : List Keyed) (ds : List Datum) → IsSection frame_keys k d → AllRead ks ds → StandApart so_far (k ∷ ks)
       → AllRead (k ∷ ks) (d ∷ ds)

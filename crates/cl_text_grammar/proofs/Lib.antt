@@ -3,6 +3,9 @@ pub mod Bindings
 pub mod FormParts
 pub mod FormsWritten
 pub mod PresentationsWritten
+pub mod PathsWritten
+pub mod UpdateKeys
+pub mod UpdatesWritten
 pub mod ShapesWritten
 pub mod ActsWritten
 pub mod NamesWritten
@@ -24,12 +27,15 @@ pub mod TypePartsLie
 pub mod TypeJudging
 pub mod TypesJudged
 pub mod TypesLie
+pub mod UpdatesLie
 pub mod FormsLie
 pub mod FormBounds
 pub mod CommandJudging
 pub mod FormJudging
 pub mod BindingsJudged
 pub mod FormsJudged
+pub mod PathsJudged
+pub mod UpdatesJudged
 pub mod ShapesJudged
 pub mod ActsJudged
 pub mod BodiesJudged

@@ -121,11 +121,11 @@ module _ (w : Signatures) (names : CallsNames w) where
   opening_ends at (stray d_at) env = refuses
 
 -- behind the head, with its body, it writes a form
-pub presentation_writes : (w : Signatures) (p : PresentationTree) (fs : ShapeTrees) (d : Datum) (ds : List Datum) (h : ℕ) → WritesOpening w p d
-    → WritesShapes w fs ds → WritesShapeForm w (shape.AsPresentation p fs) (word (codes "with-output-as-presentation") h ∷ d ∷ ds)
-presentation_writes w p fs (list es at) ds h i j = a_presentation i j
-presentation_writes w p fs (number z at) ds h i j = absurd i
-presentation_writes w p fs (literal s at) ds h i j = absurd i
-presentation_writes w p fs (word s at) ds h i j = absurd i
-presentation_writes w p fs (quoted s at name_at) ds h i j = absurd i
-presentation_writes w p fs (stray at) ds h i j = absurd i
+pub presentation_writes : (w : Signatures) (at : ℕ) (p : PresentationTree) (fs : ShapeTrees) (d : Datum) (ds : List Datum) (h : ℕ) → WritesOpening w p d
+    → WritesShapes w fs ds → WritesShapeForm w at (shape.AsPresentation p fs) (word (codes "with-output-as-presentation") h ∷ d ∷ ds)
+presentation_writes w at p fs (list es list_at) ds h i j = a_presentation i j
+presentation_writes w at p fs (number z d_at) ds h i j = absurd i
+presentation_writes w at p fs (literal s d_at) ds h i j = absurd i
+presentation_writes w at p fs (word s d_at) ds h i j = absurd i
+presentation_writes w at p fs (quoted s d_at name_at) ds h i j = absurd i
+presentation_writes w at p fs (stray d_at) ds h i j = absurd i

@@ -1,5 +1,5 @@
 -- What the readings of display forms come to: a lemma for each row that statements do not have.
-use Rattle.std.proofs.Common.{ℕ, Bool, true, false, if◌then◌else◌, List, [], ◌∷◌, length, refl, sym}
+use Rattle.std.proofs.Common.{◌≡◌, ℕ, Bool, true, false, if◌then◌else◌, List, [], ◌∷◌, length, refl, sym}
 use Rattle.std.specs.Prelude.{Option, Some, None, is_some, ◌==◌}
 use Rattle.std.proofs.Math.Path.{subst}
 use Rattle.cl_syntax.specs.ExprTree.{ExprTree, expr_trees_of}
@@ -8,7 +8,8 @@ use Rattle.cl_syntax.specs.ShapeTree as shape
 use Rattle.cl_syntax.specs.TypeSpecTree.{TypeSpecTree}
 use Rattle.cl_syntax.specs.declared.figures.Figure.{Figure}
 use Rattle.cl_table.specs.Names.{named}
-use Rattle.cl_forms.specs.Datum.{Datum, Datums, in_order, parts_of}
+use Rattle.cl_forms.specs.Datum.{Datum, Datums, number, literal, word, quoted, stray, list, in_order, parts_of}
+use Rattle.cl_forms.specs.Keys.{Keyed}
 use Rattle.cl_forms.specs.Naming.{fits}
 use Rattle.cl_words.specs.Heads.{figure_count}
 use Rattle.cl_words.specs.Signatures.{display_in}
@@ -32,16 +33,19 @@ use Rattle.cl_bodies.specs.declared.display_forms.Opening.TheVariants as opening
 use Rattle.cl_bodies.specs.DisplayForms.{parse_call_counted, parse_own, display_forms, parse_shape, parse_shapes}
 use Rattle.cl_bodies.specs.Presentations.{single_box_in, parse_boxed, parse_presented}
 use Rattle.cl_bodies.specs.Specifiers.{parse_type}
+use Rattle.cl_bodies.specs.Updates.{update_keys_in, update_of, parse_update_keyed, parse_update_list}
 use Rattle.cl_grammar.specs.Sights.{expression, all_seen}
 use Rattle.cl_grammar.proofs.Judged.{expression_judged}
 use Rattle.cl_grammar.proofs.Judging.{Any, Judges, then_given}
 use Rattle.cl_grammar.proofs.Rows.{JudgedParts, length_shapes, each_judged}
 use Rattle.cl_grammar.proofs.Written.{shapes}
 use Rattle.cl_text_grammar.specs.Types.{type_seen}
-use Rattle.cl_text_grammar.specs.FormSights.{FormSeen, expressions, specifier, FormSight, Misshapen, Sees, forms_seen, presented_seen, call_seen}
+use Rattle.cl_text_grammar.specs.UpdateSights.{keys_seen}
+use Rattle.cl_text_grammar.specs.FormSights.{FormSeen, expressions, specifier, FormSight, Misshapen, Sees, forms_seen, presented_seen, updated_seen, call_seen}
 use Rattle.cl_text_grammar.specs.FormSights.{shape_rows, shape_row_seen, shape_seen}
 use Rattle.cl_text_grammar.proofs.TypeJudging.{given_so}
 use Rattle.cl_text_grammar.proofs.TypesJudged.{type_judged}
+use Rattle.cl_text_grammar.proofs.UpdatesJudged.{update_keys_judged}
 use Rattle.cl_text_grammar.proofs.FormsLie.{shapes_lie}
 use Rattle.cl_text_grammar.proofs.FormStands.{setting_seen, writing_seen, shape_under, shape_stands, shape_called}
 use Rattle.cl_text_grammar.proofs.FormJudging.{FormJudged, FormJudges, Answers, then_expressions}
@@ -97,6 +101,24 @@ module _ (w : Signatures) where
   presented_row [] at d ds env c = λ u. refl
   presented_row (e ∷ []) at d ds env c = λ u. refl
 
+  keyed_row : (o : Option (List Keyed)) (keys : Datums) (list_at at : ℕ) (ds : List Datum) (env : Names) (c : Context) → update_keys_in (in_order keys) ≡ o
+      → OwnReads env (list keys list_at ∷ ds) at
+      (if is_some o then Sees (expressions (keys_seen env (in_order keys)) ∷ forms_seen env ds) else Misshapen)
+      (parse_update_keyed w at o env >>= λ u. give (Before (opening.Update u) 1 c))
+  keyed_row None keys list_at at ds env c e = λ u. refl
+  keyed_row (Some ks) keys list_at at ds env c e =
+      in_front (then_given (λ u. Before (opening.Update u) 1 c)
+      (then_given {Q = Any} (λ s. update_of at s) (update_keys_judged w env ks (in_order keys) e) λ s i. tt) λ u i. refl)
+
+  updated_row : (d : Datum) (at : ℕ) (ds : List Datum) (env : Names) (c : Context)
+      → OwnReads env (d ∷ ds) at (updated_seen env d ds) (parse_update_list w at d env >>= λ u. give (Before (opening.Update u) 1 c))
+  updated_row (list keys list_at) at ds env c = keyed_row (update_keys_in (in_order keys)) keys list_at at ds env c refl
+  updated_row (number z d_at) at ds env c = λ u. refl
+  updated_row (literal s d_at) at ds env c = λ u. refl
+  updated_row (word s d_at) at ds env c = λ u. refl
+  updated_row (quoted s d_at name_at) at ds env c = λ u. refl
+  updated_row (stray d_at) at ds env c = λ u. refl
+
   setting_row : (s : Setting) (h at : ℕ) (ps : List Sub) (env : Names) (c : Context) → JudgedParts w ps
       → OwnTells env ps at (setting_seen w s h env (shapes ps)) (parse_own w c (head.Setting s) h at ps env)
   setting_row setting.Indent h at [] env c k = λ u. refl
@@ -106,6 +128,8 @@ module _ (w : Signatures) where
   setting_row setting.Room h at ps env c k = at_once {own = Before opening.Room 0 c} refl
   setting_row setting.Presentation h at [] env c k = λ u. refl
   setting_row setting.Presentation h at (a ∷ ps) env c k = presented_row (parts_of a.shape) at a.shape (shapes ps) env c
+  setting_row setting.Update h at [] env c k = λ u. refl
+  setting_row setting.Update h at (a ∷ ps) env c k = updated_row a.shape at (shapes ps) env c
 
   writing_row : (v : Writing) (h at : ℕ) (ps : List Sub) (env : Names) (c : Context) → JudgedParts w ps
       → OwnTells env ps at (writing_seen w v h env (shapes ps)) (parse_own w c (head.Writing v) h at ps env)

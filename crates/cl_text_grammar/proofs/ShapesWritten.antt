@@ -29,7 +29,7 @@ use Rattle.cl_bodies.specs.declared.display_forms.Context.{Context}
 use Rattle.cl_bodies.specs.declared.display_forms.Context.TheVariants as context
 use Rattle.cl_bodies.specs.declared.display_forms.Opening.{Opening}
 use Rattle.cl_bodies.specs.DisplayForms.{parse_draw, parse_write, parse_newline, parse_call_counted, parse_writing, parse_indent, parse_ink}
-use Rattle.cl_bodies.specs.DisplayForms.{parse_presentation, parse_setting, parse_own, display_forms, parse_shape, parse_shapes}
+use Rattle.cl_bodies.specs.DisplayForms.{parse_presentation, parse_update, parse_setting, parse_own, display_forms, parse_shape, parse_shapes}
 use Rattle.cl_bodies.specs.Presentations.{parse_present}
 use Rattle.cl_grammar.specs.Heads.{CallsNames}
 use Rattle.cl_grammar.proofs.Endings.{Ends, gives, refuses, chooses, binds}
@@ -42,6 +42,7 @@ use Rattle.cl_text_grammar.proofs.FormWords.{setting_word, writing_word, Spells}
 use Rattle.cl_text_grammar.proofs.Bindings.{WritesBinding, a_binding}
 use Rattle.cl_text_grammar.proofs.TypesWritten.{type_ends}
 use Rattle.cl_text_grammar.proofs.PresentationsWritten.{opening_ends, presentation_writes}
+use Rattle.cl_text_grammar.proofs.UpdatesWritten.{update_ends, update_writes}
 use Rattle.cl_text_grammar.proofs.FormsWritten.{OwnWrites, Rules, form_ends, body_ends}
 
 counted : (ps : List Sub) → length ps ≡ length (shapes ps)
@@ -57,79 +58,87 @@ module _ (w : Signatures) where
   Body fs ds = WritesShapes w (shape_trees_of fs) ds
 
   -- what is read writes the head with the parts behind it
-  abbrev RowEnds : List ℕ → ℕ → List Sub → ShapeTree → Type 0
-  RowEnds x h ps f = WritesShapeForm w f (word x h ∷ shapes ps)
+  abbrev RowEnds : List ℕ → ℕ → ℕ → List Sub → ShapeTree → Type 0
+  RowEnds x h at ps f = WritesShapeForm w at f (word x h ∷ shapes ps)
 
-  abbrev OwnEnds : List ℕ → ℕ → List Sub → Own ShapeTree Opening Context → Type 0
-  OwnEnds x h ps own = OwnWrites display_forms (WritesShapeForm w) Body (word x h) (shapes ps) own
+  abbrev OwnEnds : List ℕ → ℕ → ℕ → List Sub → Own ShapeTree Opening Context → Type 0
+  OwnEnds x h at ps own = OwnWrites display_forms (WritesShapeForm w at) Body (word x h) (shapes ps) own
 
   draw_ends : (g : Figure) (x : List ℕ) (h at : ℕ) (ps : List Sub) (env : Names) → named x figures ≡ Some (g, figure_count g) → WrittenParts ps
-      → Ends (RowEnds x h ps) (parse_draw g at ps env)
+      → Ends (RowEnds x h at ps) (parse_draw g at ps env)
   draw_ends g x h at ps env e k =
       chooses (figure_count g == length ps)
       (λ f. binds (each_written ps env k) λ ts i.
       gives (a_figure (subst (λ n. named x figures ≡ Some (g, n)) (same_number (figure_count g) (length ps) f ∙ counted ps) e) i)) (λ f. refuses)
 
-  write_ends : (h at : ℕ) (ps : List Sub) (env : Names) → WrittenParts ps → Ends (RowEnds (codes "write-text") h ps) (parse_write at ps env)
+  write_ends : (h at : ℕ) (ps : List Sub) (env : Names) → WrittenParts ps → Ends (RowEnds (codes "write-text") h at ps) (parse_write at ps env)
   write_ends h at (a ∷ []) env k = binds (k.0.expr env) λ t i. gives (a_text i)
   write_ends h at [] env k = refuses
   write_ends h at (a ∷ b ∷ ps) env k = refuses
 
-  newline_ends : (h at : ℕ) (ps : List Sub) → Ends (RowEnds (codes "newline") h ps) (parse_newline at ps)
+  newline_ends : (h at : ℕ) (ps : List Sub) → Ends (RowEnds (codes "newline") h at ps) (parse_newline at ps)
   newline_ends h at [] = gives a_new_line
   newline_ends h at (a ∷ ps) = refuses
 
-  present_ends : (h at : ℕ) (ps : List Sub) (env : Names) → WrittenParts ps → Ends (RowEnds (codes "present") h ps) (parse_present w at ps env)
+  present_ends : (h at : ℕ) (ps : List Sub) (env : Names) → WrittenParts ps → Ends (RowEnds (codes "present") h at ps) (parse_present w at ps env)
   present_ends h at (a ∷ b ∷ []) env k = binds (k.0.expr env) λ t i. binds (type_ends w [] b.shape) λ s j. gives (a_presented i j)
   present_ends h at [] env k = refuses
   present_ends h at (a ∷ []) env k = refuses
   present_ends h at (a ∷ b ∷ c ∷ ps) env k = refuses
 
   writing_ends : (v : Writing) (h at : ℕ) (ps : List Sub) (env : Names) → WrittenParts ps
-      → Ends (RowEnds (writing_word v) h ps) (parse_writing w v at ps env)
+      → Ends (RowEnds (writing_word v) h at ps) (parse_writing w v at ps env)
   writing_ends writing.WriteText h at ps env k = write_ends h at ps env k
   writing_ends writing.Newline h at ps env k = newline_ends h at ps
   writing_ends writing.Present h at ps env k = present_ends h at ps env k
 
   indent_ends : (c : Context) (h at : ℕ) (ps : List Sub) (env : Names) → WrittenParts ps
-      → Ends (OwnEnds (codes "indenting-output") h ps) (parse_indent c at ps env)
+      → Ends (OwnEnds (codes "indenting-output") h at ps) (parse_indent c at ps env)
   indent_ends c h at [] env k = refuses
   indent_ends c h at (a ∷ ps) env k = binds (k.0.expr env) λ t i. gives (λ fs j. an_indented i j)
 
-  ink_ends : (c : Context) (h at : ℕ) (ps : List Sub) (env : Names) → WrittenParts ps → Ends (OwnEnds (codes "with-ink") h ps) (parse_ink c at ps env)
+  ink_ends : (c : Context) (h at : ℕ) (ps : List Sub) (env : Names) → WrittenParts ps → Ends (OwnEnds (codes "with-ink") h at ps) (parse_ink c at ps env)
   ink_ends c h at [] env k = refuses
   ink_ends c h at (a ∷ ps) env k = binds (k.0.expr env) λ t i. gives (λ fs j. an_inked i j)
 
-  spelled_so : (y x : List ℕ) (h : ℕ) (ps : List Sub) (m : Load (Own ShapeTree Opening Context)) → x ≡ y → Ends (OwnEnds y h ps) m
-      → Ends (OwnEnds x h ps) m
-  spelled_so y x h ps m e i = subst (λ z. Ends (OwnEnds z h ps) m) (sym e) i
+  spelled_so : (y x : List ℕ) (h at : ℕ) (ps : List Sub) (m : Load (Own ShapeTree Opening Context)) → x ≡ y → Ends (OwnEnds y h at ps) m
+      → Ends (OwnEnds x h at ps) m
+  spelled_so y x h at ps m e i = subst (λ z. Ends (OwnEnds z h at ps) m) (sym e) i
 
-  dolist_writes : (b : Binding) (fs : List ShapeTree) (a : Datum) (ds : List Datum) (h : ℕ) → WritesBinding b a → Body fs ds
-      → WritesShapeForm w (shape.Dolist b.name b.value (shape_trees_of fs)) (word (codes "dolist") h ∷ a ∷ ds)
-  dolist_writes b fs a ds h (a_binding i j) k = a_dolist i j k
+  dolist_writes : (at : ℕ) (b : Binding) (fs : List ShapeTree) (a : Datum) (ds : List Datum) (h : ℕ) → WritesBinding b a → Body fs ds
+      → WritesShapeForm w at (shape.Dolist b.name b.value (shape_trees_of fs)) (word (codes "dolist") h ∷ a ∷ ds)
+  dolist_writes at b fs a ds h (a_binding i j) k = a_dolist i j k
 
 module _ (w : Signatures) (names : CallsNames w) where
   presentation_ends : (c : Context) (h at : ℕ) (ps : List Sub) (env : Names)
-      → Ends (OwnEnds w (codes "with-output-as-presentation") h ps) (parse_presentation w c at ps env)
+      → Ends (OwnEnds w (codes "with-output-as-presentation") h at ps) (parse_presentation w c at ps env)
   presentation_ends c h at [] env = refuses
   presentation_ends c h at (a ∷ ps) env =
       binds (opening_ends w names at a.shape env) λ p i.
-      gives (λ fs j. presentation_writes w p (shape_trees_of fs) a.shape (shapes ps) h i j)
+      gives (λ fs j. presentation_writes w at p (shape_trees_of fs) a.shape (shapes ps) h i j)
+
+  updating_ends : (c : Context) (h at : ℕ) (ps : List Sub) (env : Names)
+      → Ends (OwnEnds w (codes "updating-output") h at ps) (parse_update w c at ps env)
+  updating_ends c h at [] env = refuses
+  updating_ends c h at (a ∷ ps) env =
+      binds (update_ends w names at a.shape env) λ u i.
+      gives (λ fs j. update_writes w at u (shape_trees_of fs) a.shape (shapes ps) h i j)
 
   setting_ends : (c : Context) (s : Setting) (h at : ℕ) (ps : List Sub) (env : Names) → WrittenParts ps
-      → Ends (OwnEnds w (setting_word s) h ps) (parse_setting w c s at ps env)
+      → Ends (OwnEnds w (setting_word s) h at ps) (parse_setting w c s at ps env)
   setting_ends c setting.Indent h at ps env k = indent_ends w c h at ps env k
   setting_ends c setting.Ink h at ps env k = ink_ends w c h at ps env k
   setting_ends c setting.Room h at ps env k = gives (λ fs j. a_room j)
   setting_ends c setting.Presentation h at ps env k = presentation_ends c h at ps env
+  setting_ends c setting.Update h at ps env k = updating_ends c h at ps env
 
   own_ends : (c : Context) (o : Head) (x : List ℕ) (h at : ℕ) (ps : List Sub) (env : Names) → Spells x o → WrittenParts ps
-      → Ends (OwnEnds w x h ps) (parse_own w c o h at ps env)
+      → Ends (OwnEnds w x h at ps) (parse_own w c o h at ps env)
   own_ends c (head.Figure g) x h at ps env e k = binds (draw_ends w g x h at ps env e k) λ f i. gives i
   own_ends c (head.Setting s) x h at ps env e k =
-      spelled_so w (setting_word s) x h ps (parse_own w c (head.Setting s) h at ps env) e (setting_ends c s h at ps env k)
+      spelled_so w (setting_word s) x h at ps (parse_own w c (head.Setting s) h at ps env) e (setting_ends c s h at ps env k)
   own_ends c (head.Writing v) x h at ps env e k =
-      spelled_so w (writing_word v) x h ps (parse_own w c (head.Writing v) h at ps env) e (binds (writing_ends w v h at ps env k) λ f i. gives i)
+      spelled_so w (writing_word v) x h at ps (parse_own w c (head.Writing v) h at ps env) e (binds (writing_ends w v h at ps env k) λ f i. gives i)
   own_ends c (head.Planned planned.Display) x h at ps env e k = refuses
   own_ends c (head.Planned planned.Statement) x h at ps env e k = refuses
   own_ends c (head.Planned planned.Part) x h at ps env e k = refuses
@@ -142,7 +151,7 @@ module _ (w : Signatures) (names : CallsNames w) where
 
 module _ (w : Signatures) (names : CallsNames w) (displays : CallsDisplays w) where
   call_ends : (o : Option (Option ℕ)) (x : List ℕ) (h at : ℕ) (ps : List Sub) (env : Names) → display_in w x ≡ o → head_named x ≡ None
-      → WrittenParts ps → Ends (RowEnds w x h ps) (parse_call_counted o x h at ps env)
+      → WrittenParts ps → Ends (RowEnds w x h at ps) (parse_call_counted o x h at ps env)
   call_ends None x h at ps env e n k = refuses
   call_ends (Some count) x h at ps env e n k =
       chooses (fits count (length ps))
@@ -153,11 +162,11 @@ module _ (w : Signatures) (names : CallsNames w) (displays : CallsDisplays w) wh
     a_form = λ f ds at i. a_form i;
     no_more = no_more;
     one_more = λ f fs d ds i j. one_more i j;
-    an_if = λ t f g a b c h i j k. an_if i j k;
-    a_when = λ t fs a ds h i j. a_when i j;
-    a_let = λ bs fs es ds at h i j. a_let i j;
+    an_if = λ at t f g a b c h i j k. an_if i j k;
+    a_when = λ at t fs a ds h i j. a_when i j;
+    a_let = λ at bs fs es ds list_at h i j. a_let i j;
     a_dolist = dolist_writes w;
-    a_progn = λ fs ds h i. a_progn i;
+    a_progn = λ at fs ds h i. a_progn i;
     an_own = own_ends w names;
     a_call = λ x h at ps env n k. call_ends (display_in w x) x h at ps env refl n k;
   }

@@ -2,18 +2,20 @@
 use Rattle.std.specs.Prelude.{ℕ, ◌==◌, is_some, if◌then◌else◌, List, [], ◌∷◌, length, Option, Some, None, codes}
 use Rattle.std.specs.Str.{bytes_eq}
 use Rattle.cl_table.specs.Names.{named}
-use Rattle.cl_forms.specs.Datum.{Datum, number, literal, word, quoted, stray, list, parts_of, offset}
+use Rattle.cl_forms.specs.Datum.{Datum, number, literal, word, quoted, stray, list, in_order, parts_of, offset}
 use Rattle.cl_forms.specs.Naming.{name_in, symbol_of, fits}
 use Rattle.cl_words.specs.Signatures.{display_in}
 use Rattle.cl_words.specs.declared.signatures.Signatures.{Signatures}
 use Rattle.cl_expressions.specs.Scopes.{Names, among}
 use Rattle.cl_expressions.specs.Expressions.{is_binding, is_binding_list}
 use Rattle.cl_bodies.specs.Presentations.{single_box_in}
+use Rattle.cl_bodies.specs.Updates.{update_keys_in}
 use Rattle.cl_grammar.specs.Heads.{fixed_heads}
 use Rattle.cl_grammar.specs.Sights.{Seen, expression, slot_name, all_seen, names_behind, value_seen, names_bound, values_seen}
 use Rattle.cl_text_grammar.specs.Types.{TypePart, type_seen}
+use Rattle.cl_text_grammar.specs.UpdateSights.{keys_seen}
 
--- what is looked at: expressions and names in them, what is looked at of a type, the name of a command with its offset, or a form of the same
+-- what is looked at: expressions, paths and names in them, what is looked at of a type, the name of a command with its offset, or a form of the same
 -- language, with the variables that it sees
 pub data FormSeen : Type 0 where
   expressions : List Seen → FormSeen
@@ -119,6 +121,21 @@ abbrev pub presentation_seen : Signatures → Row
 presentation_seen w h env [] = Misshapen
 presentation_seen w h env (a ∷ ds) = presented_seen w env (parts_of a) ds
 
+-- `(:unique-id E :cache-value (list PATH ...))`, with keys that may stand there, and the forms of a body
+abbrev pub updated_seen : Names → Datum → List Datum → FormSight
+updated_seen env (list keys at) ds =
+    if is_some (update_keys_in (in_order keys)) then Sees (expressions (keys_seen env (in_order keys)) ∷ forms_seen env ds) else Misshapen
+updated_seen env (number z at) ds = Misshapen
+updated_seen env (literal s at) ds = Misshapen
+updated_seen env (word s at) ds = Misshapen
+updated_seen env (quoted s at name_at) ds = Misshapen
+updated_seen env (stray at) ds = Misshapen
+
+-- `(updating-output (:unique-id E :cache-value (list PATH ...)) FORM ...)`
+abbrev pub update_seen : Row
+update_seen h env [] = Misshapen
+update_seen h env (a ∷ ds) = updated_seen env a ds
+
 -- `(DISPLAY E ...)`: as many parts as the display has parameters
 abbrev pub call_seen : Option (Option ℕ) → Row
 call_seen None h env ds = UnknownHead h
@@ -144,7 +161,7 @@ shape_rows w =
     ∷ (codes "with-room-for-graphics", room_seen)
     ∷ (codes "present", present_seen w)
     ∷ (codes "with-output-as-presentation", presentation_seen w)
-    ∷ (codes "updating-output", planned_seen)
+    ∷ (codes "updating-output", update_seen)
     ∷ (codes "formatting-table", planned_seen)
     ∷ []
 

@@ -1,7 +1,9 @@
 pub mod Displays
+pub mod WritesUpdates
 pub mod WritesShapes
 pub mod WritesActs
 pub mod Types
+pub mod UpdateSights
 pub mod FormSights
 pub mod FormBlames
 pub mod FormUnnamed
