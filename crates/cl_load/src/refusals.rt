@@ -20,7 +20,7 @@ pub enum LoadRefusal {
 }
 
 impl fmt::Debug for LoadRefusal {
-    fn fmt(&self, f: &mut fmt::Formatter<'_>) -> fmt::Result {
+    fn fmt<W: fmt::Write>(&self, f: &mut fmt::Formatter<W>) -> fmt::Result {
         match self {
             LoadRefusal::Refused(number, at) => write!(f, "Refused({number}, {at})"),
             LoadRefusal::Uncovered(at, _) => write!(f, "Uncovered({at}, ..)"),

@@ -124,7 +124,7 @@ refuses bounds text (refusal.Refused number at) said is line = (refused number a
 refuses bounds text (refusal.Uncovered form path) said is line = (uncovered (record { form = form; path = path }), is, line)
 refuses bounds text refusal.Memory said is line = absurd line
 
-stands : (bounds : Bounds) (text : List ℕ) (r : LoadRefusal) → Loads bounds text (Err r) → Stands bounds text r
+pub stands : (bounds : Bounds) (text : List ℕ) (r : LoadRefusal) → Loads bounds text (Err r) → Stands bounds text r
 stands bounds text (refusal.Refused number at) h = h
 stands bounds text (refusal.Uncovered form path) h = h
 stands bounds text refusal.Memory h = tt

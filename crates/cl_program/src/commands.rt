@@ -335,6 +335,7 @@ fn check_text<H: Hosts, O: Sink>(alloc: Global, text: &[u8], hosts: &H, out: &mu
 }
 
 // Why a text does not load, where it does not.
+#[tactic(auto, using(crate::proofs::CommandLemmas::stands))]
 fn refusal_of<H: Hosts>(alloc: Global, text: &[u8], hosts: &H) -> Option<LoadRefusal>
     ensures { Judges (H.bounds hosts.now) text.now result }
 {
