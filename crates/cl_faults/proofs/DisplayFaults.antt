@@ -22,12 +22,13 @@ use Rattle.cl_words.specs.declared.signatures.Signatures.{Signatures}
 use Rattle.cl_bodies.specs.declared.display_forms.Context.{Context}
 use Rattle.cl_bodies.specs.declared.display_forms.Context.TheVariants as context
 use Rattle.cl_bodies.specs.DisplayForms.{parse_draw, parse_write, parse_newline, parse_call_counted, parse_call, parse_writing, parse_indent, parse_ink}
-use Rattle.cl_bodies.specs.DisplayForms.{parse_presentation, parse_setting, parse_own, display_forms, parse_shapes}
+use Rattle.cl_bodies.specs.DisplayForms.{parse_presentation, parse_update, parse_setting, parse_own, display_forms, parse_shapes}
 use Rattle.cl_bodies.specs.Presentations.{parse_present, single_box_in, parse_boxed, parse_presented}
 use Rattle.cl_faults.proofs.FaultLemmas.{FaultsAt, gives, refuses, binds, chooses}
 use Rattle.cl_faults.proofs.ExpressionFaults.{Covers, CoversAll, CoversParts, each_faults, expr_faults}
 use Rattle.cl_faults.proofs.DataFaults.{CoversEach, covers_parts}
 use Rattle.cl_faults.proofs.TypeFaults.{type_faults}
+use Rattle.cl_faults.proofs.UpdateFaults.{update_list_faults}
 use Rattle.cl_faults.proofs.BodyFaults.{OwnFaults, body_faults}
 
 abbrev presentation_of : ExprTree → TypeSpecTree → Bool → PresentationTree
@@ -89,12 +90,18 @@ module _ {P : ℕ → Type 0} where
   presentation_faults w c at (a ∷ ps) env h k =
       binds (presented_faults w at (parts_of a.shape) env h (covers_parts a.shape k.0.shape)) λ p. gives
 
+  update_faults : (w : Signatures) (c : Context) (at : ℕ) (ps : List Sub) (env : Names) → P at → CoversParts P ps
+      → FaultsAt P (parse_update w c at ps env)
+  update_faults w c at [] env h k = refuses h
+  update_faults w c at (a ∷ ps) env h k = binds (update_list_faults w at a.shape env h k.0.shape) λ u. gives
+
   setting_faults : (w : Signatures) (c : Context) (s : Setting) (at : ℕ) (ps : List Sub) (env : Names) → P at → CoversParts P ps
       → FaultsAt P (parse_setting w c s at ps env)
   setting_faults w c setting.Indent at ps env h k = indent_faults c at ps env h k
   setting_faults w c setting.Ink at ps env h k = ink_faults c at ps env h k
   setting_faults w c setting.Room at ps env h k = gives
   setting_faults w c setting.Presentation at ps env h k = presentation_faults w c at ps env h k
+  setting_faults w c setting.Update at ps env h k = update_faults w c at ps env h k
 
   own_faults : (w : Signatures) (c : Context) (h : Head) (head_at at : ℕ) (ps : List Sub) (env : Names) → P head_at → P at → CoversParts P ps
       → FaultsAt P (parse_own w c h head_at at ps env)

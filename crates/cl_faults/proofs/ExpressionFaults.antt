@@ -52,7 +52,7 @@ module _ {P : ℕ → Type 0} where
   each_faults [] env h = gives
   each_faults (p ∷ ps) env h = binds (h.0.expr env) λ t. binds (each_faults ps env h.1) λ ts. gives
 
-  name_faults : (x : List ℕ) (at : ℕ) (env : Names) → P at → FaultsAt P (parse_variable x at env)
+  pub name_faults : (x : List ℕ) (at : ℕ) (env : Names) → P at → FaultsAt P (parse_variable x at env)
   name_faults x at env h = chooses (is_name x) (notes_then (among x env) at (expr.Variable x)) (refuses h)
 
   word_faults : (x : List ℕ) (at : ℕ) (env : Names) → P at → FaultsAt P (parse_word x at env)
@@ -63,7 +63,7 @@ module _ {P : ℕ → Type 0} where
   slot_part_faults : (w : Signatures) (at : ℕ) (d : Datum) → P at → FaultsAt P (parse_slot_name w at d)
   slot_part_faults w at d h = binds (asks_name at d h) λ x. notes_then (slot_in w x) (offset d) (expr.Slot x)
 
-  slot_faults : (w : Signatures) (at : ℕ) (ps : List Sub) → P at → FaultsAt P (parse_slot w at ps)
+  pub slot_faults : (w : Signatures) (at : ℕ) (ps : List Sub) → P at → FaultsAt P (parse_slot w at ps)
   slot_faults w at (a ∷ []) h = slot_part_faults w at a.shape h
   slot_faults w at ps h = refuses h
 
@@ -80,7 +80,7 @@ module _ {P : ℕ → Type 0} where
   make_faults w at (n ∷ ps) env h k =
       binds (asks_name at n.shape h) λ x. make_counted_faults (record_in w x) x (offset n.shape) at ps env h k.1
 
-  get_faults : (at : ℕ) (ps : List Sub) (env : Names) → P at → CoversParts P ps → FaultsAt P (parse_get at ps env)
+  pub get_faults : (at : ℕ) (ps : List Sub) (env : Names) → P at → CoversParts P ps → FaultsAt P (parse_get at ps env)
   get_faults at (e ∷ f ∷ []) env h k = binds (asks_name at f.shape h) λ x. binds (k.0.expr env) λ t. gives
   get_faults at ps env h k = refuses h
 

@@ -6,6 +6,7 @@ pub mod DisplayFaults
 pub mod StatementFaults
 pub mod TypeFaults
 pub mod KeyFaults
+pub mod UpdateFaults
 pub mod CommandFaults
 pub mod TranslatorFaults
 pub mod FrameFaults

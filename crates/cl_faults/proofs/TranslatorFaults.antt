@@ -58,6 +58,8 @@ module _ {P : ℕ → Type 0} where
   key_faults w xs key.Gesture at ds t c = gives
   key_faults w xs key.Priority at ds t c = gives
   key_faults w xs key.Documentation at ds t c = gives
+  key_faults w xs key.UniqueId at ds t c = gives
+  key_faults w xs key.CacheValue at ds t c = gives
 
   keys_faults : (w : Signatures) (xs : Names) (ks : List Keyed) (t : Tester) → CoversKeys P ks → FaultsAt P (parse_translator_keys w xs ks t)
   keys_faults w xs [] t c = gives

@@ -61,6 +61,8 @@ module _ {P : ℕ → Type 0} where
   type_key_faults w ps key.Priority at ds i c = gives
   type_key_faults w ps key.Documentation at ds i c = gives
   type_key_faults w ps key.Tester at ds i c = gives
+  type_key_faults w ps key.UniqueId at ds i c = gives
+  type_key_faults w ps key.CacheValue at ds i c = gives
 
   type_keys_faults : (w : Signatures) (ps : Names) (ks : List Keyed) (i : Inherited) → CoversKeys P ks → FaultsAt P (parse_type_keys w ps ks i)
   type_keys_faults w ps [] i c = gives
