@@ -2,11 +2,8 @@
 mod display;
 mod evaluation;
 mod execution;
-mod forms;
 mod frames;
-mod gesture;
 mod phases;
-mod playing;
 mod reading;
 mod saying;
 mod showing;
