@@ -145,4 +145,4 @@ module _ (bytes : List ℕ) (forms : List Tree) (r : AreForms bytes forms) where
 
 pub loaded_declared : (bounds : Bounds) (bytes : List ℕ) (app : App) → IsApplication bounds bytes app → IsDeclared bytes
 loaded_declared bounds bytes app h =
-    read_declared bytes h.forms h.read (outcome_read bounds (length bytes) (data_of h.forms) app (parse (data_of h.forms) nothing_noted) refl h.comes)
+    read_declared bytes h.0.forms h.0.read (outcome_read bounds (length bytes) (data_of h.0.forms) app (parse (data_of h.0.forms) nothing_noted) refl h.0.comes)
