@@ -47,7 +47,8 @@ fn declared_in<H: Hosts>(alloc: Global, text: &[u8], hosts: &H) -> Result<Opened
 {
     let forms = read(alloc, text)?;
     let data = data_in(alloc, forms.as_slice())?;
-    conclude(alloc, text.len() as u32, data.as_slice(), hosts)
+    let opened = conclude(alloc, text.len() as u32, data.as_slice(), hosts)?;
+    Ok(opened)
 }
 
 /// The forms of a text.

@@ -21,11 +21,11 @@ pub enum LoadRefusal {
 
 impl fmt::Debug for LoadRefusal {
     fn fmt<W: fmt::Write>(&self, f: &mut fmt::Formatter<W>) -> fmt::Result {
-        match self {
-            LoadRefusal::Refused(number, at) => write!(f, "Refused({number}, {at})"),
-            LoadRefusal::Uncovered(at, _) => write!(f, "Uncovered({at}, ..)"),
-            LoadRefusal::Memory => f.write_str("Memory"),
-        }
+        f.write_str(match self {
+            LoadRefusal::Refused(..) => "Refused",
+            LoadRefusal::Uncovered(..) => "Uncovered",
+            LoadRefusal::Memory => "Memory",
+        })
     }
 }
 
