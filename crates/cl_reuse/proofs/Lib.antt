@@ -1,2 +1,9 @@
 pub mod ValueLemmas
 pub mod DrawLemmas
+pub mod MotionLemmas
+pub mod StepLemmas
+pub mod SettingLemmas
+pub mod Carrying
+pub mod UpdateMoves
+pub mod FormMoves
+pub mod BodyMoves

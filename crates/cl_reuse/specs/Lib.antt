@@ -1,1 +1,3 @@
 pub mod ReadValues
+pub mod Motions
+pub mod Bodies

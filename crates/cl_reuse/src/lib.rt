@@ -3,4 +3,4 @@
 
 mod laws;
 
-pub use laws::read_values_alone_matter_to_displays;
+pub use laws::{a_body_moved_is_the_body_drawn_anew, read_values_alone_matter_to_displays};
