@@ -29,7 +29,7 @@ there : (x y : ℤ) → x +ℤ (y -ℤ x) ≡ y
 there x y = omega (arith, ints)
 
 -- the second is the first, moved so far
-moved-between : (a b : AmbientAt) → b.ink ≡ a.ink → move_ambient (motion_between a b) a ≡ b
+pub moved-between : (a b : AmbientAt) → b.ink ≡ a.ink → move_ambient (motion_between a b) a ≡ b
 moved-between a b e =
     let xs = there a.x b.x in
     let ys = there a.y b.y in

@@ -7,3 +7,14 @@ pub mod Carrying
 pub mod UpdateMoves
 pub mod FormMoves
 pub mod BodyMoves
+pub mod SitedLemmas
+pub mod KeepLemmas
+pub mod FaithLemmas
+pub mod CacheLemmas
+pub mod DisplayNames
+pub mod PayLemmas
+pub mod PayForms
+pub mod PayRows
+pub mod FaithForms
+pub mod FaithRows
+pub mod DisplayPays

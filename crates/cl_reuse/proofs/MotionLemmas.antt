@@ -11,7 +11,7 @@ use Rattle.cl_region.specs.declared.rects.TheConstants.{MAX_COORDINATE}
 use Rattle.cl_region.proofs.Corners.{both}
 use Rattle.cl_medium.specs.Ambients.{AmbientAt}
 use Rattle.cl_medium.specs.Items.{Item, item_bounds, move_item}
-use Rattle.cl_record.specs.Heads.{HeadAt, Point, move_head, move_margin, move_origin}
+use Rattle.cl_record.specs.Heads.{HeadAt, Point, move_head, move_margin, move_measures, move_origin}
 use Rattle.cl_record.specs.Labels.{LabelAt}
 use Rattle.cl_record.specs.Marks.{close, draw, open_presentation, open_update}
 use Rattle.cl_record.proofs.Boxes.{box-move}
@@ -19,7 +19,7 @@ use Rattle.cl_record.proofs.Moves.{all_moved-append}
 use Rattle.cl_display.specs.Drawings.{DrawingAt, PartAt, cursor_box, cursor_to, is_in_range, is_near, join_parts, lower_end, with_cursor, with_item}
 use Rattle.cl_display.specs.Presentations.{presented_part}
 use Rattle.cl_display.specs.Sums.{Holds}
-use Rattle.cl_display.specs.Updates.{KeyAt, head_at, leave_update, updated_part}
+use Rattle.cl_display.specs.Updates.{KeyAt, head_at, leave_update, measures_at, updated_part}
 use Rattle.cl_display.proofs.CornerLemmas.{IsUpright}
 use Rattle.cl_reuse.specs.Motions.{FitsThere, Motion, move_ambient, move_drawing, move_end, move_part}
 
@@ -170,6 +170,16 @@ head-move m key a end cost reach e f =
     let margins = margin-part m end.part.margin_used a.margin e in
     let origins = origin-part m end.part.origin_used a.origin_x a.origin_y f in
     λ i. record h { measures = record h.measures { margin = margins i; origin = origins i } }
+
+-- the measures of a body that was drawn elsewhere
+pub measures-move : (m : Motion) (a : AmbientAt) (end : DrawingAt) (cost reach : ℕ) → (end.part.margin_used ≡ true → m.margin ≡ m.by.dx)
+    → (end.part.origin_used ≡ true → m.origin ≡ m.by)
+    → measures_at (move_ambient m a) (move_drawing m end) cost reach ≡ move_measures m.by (measures_at a end cost reach)
+measures-move m a end cost reach e f =
+    let moved = move_measures m.by (measures_at a end cost reach) in
+    let margins = margin-part m end.part.margin_used a.margin e in
+    let origins = origin-part m end.part.origin_used a.origin_x a.origin_y f in
+    λ i. record moved { margin = margins i; origin = origins i }
 
 pub leave_update-move : (m : Motion) (head head' : HeadAt) (inner : PartAt) (s : DrawingAt) → head' ≡ move_head m.by head
     → leave_update head' (move_part m.by inner) (move_drawing m s) ≡ move_drawing m (leave_update head inner s)
