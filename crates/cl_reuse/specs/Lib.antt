@@ -1,0 +1,7 @@
+pub mod ReadValues
+pub mod Motions
+pub mod Bodies
+pub mod Sited
+pub mod Recorded
+pub mod Keeping
+pub mod Kept

@@ -1,0 +1,98 @@
+//! What the definitions of this crate say. The contracts are the laws.
+ghost use Rattle.std.specs.Prelude.{◌≡◌, ◌+◌, ◌-◌, ◌≤◌, IfSome, List, [], true, ℕ};
+ghost use Rattle.cl_syntax.specs.ShapeTree.{ShapeTree, ShapeTrees, shape_trees_of};
+ghost use Rattle.cl_application.specs.declared.applications.App.{App};
+ghost use Rattle.cl_eval.specs.Slots.{Env, Slots};
+ghost use Rattle.cl_cover.specs.Updates.{AreCovered};
+ghost use Rattle.cl_eval.specs.declared.metering.Limits.{Limits};
+ghost use Rattle.cl_eval.specs.Outcome.{Gives, cost_of};
+ghost use Rattle.cl_eval.specs.TypeMeanings.{AreTexts, TypeMeanings};
+ghost use Rattle.cl_medium.specs.Ambients.{AmbientAt};
+ghost use Rattle.cl_medium.specs.Items.{Item, move_item};
+ghost use Rattle.cl_region.specs.declared.rects.Shift.{Shift};
+ghost use Rattle.cl_record.specs.Heads.{HeadAt};
+ghost use Rattle.cl_record.specs.Marks.{Mark};
+ghost use Rattle.cl_record.specs.Trees.{Tree, move_tree};
+ghost use Rattle.cl_display.specs.Drawings.{DrawingAt};
+ghost use Rattle.cl_display.specs.Fresh.{Allowance, Scene, bodies_on, closes, draws, draws_body, in_order};
+ghost use Rattle.cl_display.specs.Outcomes.{DrawOutcome};
+ghost use Rattle.cl_display.specs.Script.{fresh};
+ghost use Rattle.cl_display.specs.Updates.{KeyAt, opening_at};
+ghost use Rattle.cl_display.specs.Walks.{OpeningAt};
+ghost use Rattle.cl_reuse.specs.Bodies.{body_from, motion_between};
+ghost use Rattle.cl_reuse.specs.Keeping.{EndsAs, may_keep, shift_at};
+ghost use Rattle.cl_reuse.specs.Kept.{costs, kept};
+ghost use Rattle.cl_reuse.specs.Motions.{FitsThere, Motion, move_drawing};
+ghost use Rattle.cl_reuse.specs.ReadValues.{AgreeOnForms, SeesReads, scene_on};
+ghost use Rattle.cl_reuse.specs.Recorded.{HasFaithfulHistory, IsFaithful, IsFaithfulHistory, IsRecorded};
+ghost use Rattle.cl_reuse.specs.Sited.{AreApart, AreOwn, HoldCache, IsUpdateOf, Sited};
+
+/// What display forms draw depends on the values at the paths that they read alone: where each has the same value in both, or none, they come
+/// from one drawing to the same end or trap, cost and reach, and they open the same updates on the way.
+pub fn read_values_alone_matter_to_displays()
+    ensures { (depth : ℕ) (allowed : Allowance) (level : ℕ) (app : App) (types : TypeMeanings) (forms : ShapeTrees)
+        (slots : Slots) (env : Env) (other_slots : Slots) (other_env : Env)
+        → SeesReads app types.presents → AgreeOnForms app forms slots env other_slots other_env → (s : DrawingAt) (cost deepest : ℕ)
+        → in_order (draws depth allowed (scene_on app slots types)) level env forms s cost deepest
+        ≡ in_order (draws depth allowed (scene_on app other_slots types)) level other_env forms s cost deepest }
+{}
+
+/// Forms that end without a trap from some drawing, end from that drawing moved, with the end moved, the same cost and the same reach,
+/// where the end fits there: its cost, reach and weight are allowed, its extent, moved, is in the range, and a margin and an origin that
+/// were used are moved as the cursor is. So does a body from elsewhere in the same ink, where the paths that it reads have the same
+/// values. Only the end of the first is asked for all this, and a margin and an origin that were not used may stand anywhere.
+pub fn a_body_moved_is_the_body_drawn_anew()
+    ensures forms { (m : Motion) (left more : ℕ) (allowed wider : Allowance) (scene : Scene) → AreTexts scene.app scene.types.presents
+        → (level : ℕ) (env : Env) (forms : ShapeTrees) (s end : DrawingAt) (cost deepest c d : ℕ)
+        → (in_order (draws left allowed scene) level env forms s cost deepest).outcome ≡ Gives end c d
+        → c ≤ wider.budget → d ≤ level + more → FitsThere m wider.weight end
+        → (in_order (draws more wider scene) level env forms (move_drawing m s) cost deepest).outcome ≡ Gives (move_drawing m end) c d }
+    ensures bodies { (depth more : ℕ) (allowed wider : Allowance) (app : App) (types : TypeMeanings) (body : ShapeTrees)
+        (slots : Slots) (env : Env) (other_slots : Slots) (other_env : Env) (a b : AmbientAt)
+        → AreTexts app types.presents → SeesReads app types.presents
+        → AgreeOnForms app body slots env other_slots other_env → b.ink ≡ a.ink → (end : DrawingAt) (cost reach : ℕ)
+        → (body_from depth allowed (scene_on app slots types) env body a).outcome ≡ Gives end cost reach
+        → cost ≤ wider.budget → reach ≤ more → FitsThere (motion_between a b) wider.weight end
+        → (body_from more wider (scene_on app other_slots types) other_env body b).outcome
+        ≡ Gives (move_drawing (motion_between a b) end) cost reach }
+{}
+
+/// A history without records is faithful, and what is faithful stays so where it is moved: nothing is asked of the place of a branch.
+pub fn moved_records_stay_faithful()
+    ensures none { (app : App) (types : TypeMeanings) → IsFaithfulHistory app types [] }
+    ensures moved { (app : App) (types : TypeMeanings) (v : Shift) (t : Tree Item)
+        → IsFaithful app types t → IsFaithful app types (move_tree move_item v t) }
+{}
+
+/// Where an old update of faithful records may be kept at an opening of its site, the body that would be drawn there ends as the update says
+/// of itself, moved from the old start to the new one, and draws the old marks, moved. So its records may stand for the body, unlooked at.
+/// The second clause says that it is this body that an update draws which is opened.
+pub fn a_kept_update_ends_as_recorded()
+    ensures body { (app : App) (types : TypeMeanings)
+        → AreTexts app types.presents → SeesReads app types.presents → AreCovered app → AreApart app
+        → (h : HeadAt) (inside : List (Mark Item)) (o : OpeningAt) → IfSome h.cache (IsRecorded app types h inside) → may_keep h o ≡ true
+        → (u : Sited) → IsUpdateOf app u → u.site ≡ h.site → (slots : Slots) (env : Env) → IfSome o.cache (HoldCache app slots env u.cache)
+        → EndsAs h inside (shift_at h o) o.ambient
+        (body_from o.depth (record { budget = o.budget; weight = o.weight }) (scene_on app slots types) env u.body o.ambient).outcome }
+    ensures opened { (allowed : Allowance) (depth level : ℕ) (scene : Scene) (env : Env) (body : ShapeTrees) (key : KeyAt) (s : DrawingAt) (cost deepest : ℕ)
+        (o : OpeningAt) → o ≡ opening_at key s (allowed.budget - cost) (allowed.weight - s.weight) depth
+        → draws_body allowed (bodies_on depth scene) level env body key s cost deepest
+        ≡ closes key level s o (body_from o.depth (record { budget = o.budget; weight = o.weight }) scene env body o.ambient) cost deepest }
+{}
+
+/// The history of a display is faithful: its marks are those of records each of which is recorded as its body was drawn.
+pub fn displays_are_faithful()
+    ensures { (limits : Limits) (app : App) (types : TypeMeanings) (slots : Slots) (forms : List ShapeTree) (env : Env) → AreOwn app (shape_trees_of forms)
+        → (s : DrawingAt) (cost reach : ℕ) → (fresh limits (scene_on app slots types) forms env).outcome ≡ Gives s cost reach
+        → HasFaithfulHistory app types s.part.marks }
+{}
+
+/// Over no old records nothing is kept. Over faithful ones the costs of what is kept do not pass the cost of the display, up to its trap where
+/// it traps: so the work that is left is the cost less these.
+pub fn what_is_kept_costs_no_more_than_the_display()
+    ensures none { (o : DrawOutcome) → kept [] o ≡ [] }
+    ensures pays { (limits : Limits) (app : App) (types : TypeMeanings) (slots : Slots) (forms : List ShapeTree) (env : Env)
+        → AreTexts app types.presents → SeesReads app types.presents → AreCovered app → AreApart app → AreOwn app (shape_trees_of forms)
+        → (old : List (Tree Item)) → IsFaithfulHistory app types old
+        → costs (kept old (fresh limits (scene_on app slots types) forms env)) ≤ cost_of (fresh limits (scene_on app slots types) forms env).outcome }
+{}

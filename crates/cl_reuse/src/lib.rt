@@ -1,0 +1,10 @@
+//! Why the records of an update may be kept: the laws of reuse.
+#![tactic(auto)]
+
+mod laws;
+
+pub use laws::{
+    a_body_moved_is_the_body_drawn_anew, a_kept_update_ends_as_recorded, displays_are_faithful,
+    moved_records_stay_faithful, read_values_alone_matter_to_displays,
+    what_is_kept_costs_no_more_than_the_display,
+};
