@@ -20,3 +20,8 @@ invariant_of-result-clause-of_text g c =
 pub invariant_of-result-clause-covered : goal.invariant_of-result-clause-covered
 invariant_of-result-clause-covered g c =
     (none_is_covered c.in_ok-opened.opened.app).0 (sym c.in_ok-update.ensures ∙ c.in-None.is)
+
+pub returns-in_err-update : goal.returns-in_err-update
+returns-in_err-update g c =
+    let memory = err_from_is_err_and c.from_residual-in_err-update.result c.from_residual-in_err-update.ensures.1 in
+    rw (memory.1, memory.2) tt
