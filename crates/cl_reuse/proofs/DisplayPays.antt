@@ -30,11 +30,13 @@ pub display-pays : (limits : Limits) (app : App) (types : TypeMeanings) (slots :
     → costs (kept old (fresh limits (scene_on app slots types) forms env)) ≤ cost_of (fresh limits (scene_on app slots types) forms env).outcome
 unfolding fresh
 display-pays limits app types slots forms env texts sees covered apart own old f =
-    let pays = pays-forms app slots types texts sees covered apart limits.depth (whole_allowance limits) 0 env (shape_trees_of forms) own blank_drawing still (trees_of old)
+    let pays = pays-forms app slots types texts sees covered apart limits.depth (whole_allowance limits) 0 env
+    (shape_trees_of forms) own blank_drawing still (trees_of old)
     f.all 0 0 in
     omega (arith, pays)
 
-pub display-faithful : (limits : Limits) (app : App) (types : TypeMeanings) (slots : Slots) (forms : List ShapeTree) (env : Env) → AreOwn app (shape_trees_of forms)
+pub display-faithful : (limits : Limits) (app : App) (types : TypeMeanings) (slots : Slots) (forms : List ShapeTree) (env : Env)
+    → AreOwn app (shape_trees_of forms)
     → (s : DrawingAt) (cost reach : ℕ) → (fresh limits (scene_on app slots types) forms env).outcome ≡ Gives s cost reach
     → HasFaithfulHistory app types s.part.marks
 unfolding fresh

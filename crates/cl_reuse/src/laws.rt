@@ -1,5 +1,5 @@
 //! What the definitions of this crate say. The contracts are the laws.
-ghost use Rattle.std.specs.Prelude.{◌≡◌, ◌+◌, ◌-◌, ◌≤◌, IfSome, List, [], true, ℕ};
+ghost use Rattle.std.specs.Prelude.{◌≡◌, ◌+◌, ◌-◌, ◌≤◌, IfSome, List, [], max, true, ℕ};
 ghost use Rattle.cl_syntax.specs.ShapeTree.{ShapeTree, ShapeTrees, shape_trees_of};
 ghost use Rattle.cl_application.specs.declared.applications.App.{App};
 ghost use Rattle.cl_eval.specs.Slots.{Env, Slots};
@@ -17,10 +17,10 @@ ghost use Rattle.cl_display.specs.Drawings.{DrawingAt};
 ghost use Rattle.cl_display.specs.Fresh.{Allowance, Scene, bodies_on, closes, draws, draws_body, in_order};
 ghost use Rattle.cl_display.specs.Outcomes.{DrawOutcome};
 ghost use Rattle.cl_display.specs.Script.{fresh};
-ghost use Rattle.cl_display.specs.Updates.{KeyAt, opening_at};
+ghost use Rattle.cl_display.specs.Updates.{KeyAt, leave_update, opening_at};
 ghost use Rattle.cl_display.specs.Walks.{OpeningAt};
 ghost use Rattle.cl_reuse.specs.Bodies.{body_from, motion_between};
-ghost use Rattle.cl_reuse.specs.Keeping.{EndsAs, may_keep, shift_at};
+ghost use Rattle.cl_reuse.specs.Keeping.{EndsAs, kept_head, kept_part, may_keep, shift_at};
 ghost use Rattle.cl_reuse.specs.Kept.{costs, kept};
 ghost use Rattle.cl_reuse.specs.Motions.{FitsThere, Motion, move_drawing};
 ghost use Rattle.cl_reuse.specs.ReadValues.{AgreeOnForms, SeesReads, scene_on};
@@ -66,7 +66,8 @@ pub fn moved_records_stay_faithful()
 
 /// Where an old update of faithful records may be kept at an opening of its site, the body that would be drawn there ends as the update says
 /// of itself, moved from the old start to the new one, and draws the old marks, moved. So its records may stand for the body, unlooked at.
-/// The second clause says that it is this body that an update draws which is opened.
+/// The second clause says that it is this body that an update draws which is opened, and the third what the display then goes on from: it is
+/// given by the old head, the old marks and the opening.
 pub fn a_kept_update_ends_as_recorded()
     ensures body { (app : App) (types : TypeMeanings)
         → AreTexts app types.presents → SeesReads app types.presents → AreCovered app → AreApart app
@@ -78,6 +79,10 @@ pub fn a_kept_update_ends_as_recorded()
         (o : OpeningAt) → o ≡ opening_at key s (allowed.budget - cost) (allowed.weight - s.weight) depth
         → draws_body allowed (bodies_on depth scene) level env body key s cost deepest
         ≡ closes key level s o (body_from o.depth (record { budget = o.budget; weight = o.weight }) scene env body o.ambient) cost deepest }
+    ensures joined { (h : HeadAt) (inside : List (Mark Item)) (v : Shift) (key : KeyAt) (level : ℕ) (s : DrawingAt) (o : OpeningAt) (b : DrawOutcome)
+        (cost deepest : ℕ) → EndsAs h inside v s.ambient b.outcome
+        → (closes key level s o b cost deepest).outcome
+        ≡ Gives (leave_update (kept_head v key h) (kept_part v h inside) s) (cost + h.measures.cost) (max deepest (level + h.measures.reach)) }
 {}
 
 /// The history of a display is faithful: its marks are those of records each of which is recorded as its body was drawn.
