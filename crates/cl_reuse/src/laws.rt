@@ -1,5 +1,5 @@
 //! What the definitions of this crate say. The contracts are the laws.
-ghost use Rattle.std.specs.Prelude.{◌≡◌, ◌+◌, ◌-◌, ◌≤◌, IfSome, List, [], max, true, ℕ};
+ghost use Rattle.std.specs.Prelude.{◌≡◌, ◌+◌, ◌-◌, ◌≤◌, IfSome, List, [], length, max, true, ℕ};
 ghost use Rattle.cl_syntax.specs.ShapeTree.{ShapeTree, ShapeTrees, shape_trees_of};
 ghost use Rattle.cl_application.specs.declared.applications.App.{App};
 ghost use Rattle.cl_eval.specs.Slots.{Env, Slots};
@@ -21,7 +21,7 @@ ghost use Rattle.cl_display.specs.Updates.{KeyAt, leave_update, opening_at};
 ghost use Rattle.cl_display.specs.Walks.{OpeningAt};
 ghost use Rattle.cl_reuse.specs.Bodies.{body_from, motion_between};
 ghost use Rattle.cl_reuse.specs.Keeping.{EndsAs, kept_head, kept_part, may_keep, shift_at};
-ghost use Rattle.cl_reuse.specs.Kept.{costs, kept};
+ghost use Rattle.cl_reuse.specs.Kept.{KeptAt, costs, count_moved, count_still, kept, work};
 ghost use Rattle.cl_reuse.specs.Motions.{FitsThere, Motion, move_drawing};
 ghost use Rattle.cl_reuse.specs.ReadValues.{AgreeOnForms, SeesReads, scene_on};
 ghost use Rattle.cl_reuse.specs.Recorded.{HasFaithfulHistory, IsFaithful, IsFaithfulHistory, IsRecorded};
@@ -93,11 +93,16 @@ pub fn displays_are_faithful()
 {}
 
 /// Over no old records nothing is kept. Over faithful ones the costs of what is kept do not pass the cost of the display, up to its trap where
-/// it traps: so the work that is left is the cost less these.
+/// it traps: its work and these are together its cost. What is kept stands where it stood or is moved.
 pub fn what_is_kept_costs_no_more_than_the_display()
     ensures none { (o : DrawOutcome) → kept [] o ≡ [] }
     ensures pays { (limits : Limits) (app : App) (types : TypeMeanings) (slots : Slots) (forms : List ShapeTree) (env : Env)
         → AreTexts app types.presents → SeesReads app types.presents → AreCovered app → AreApart app → AreOwn app (shape_trees_of forms)
         → (old : List (Tree Item)) → IsFaithfulHistory app types old
         → costs (kept old (fresh limits (scene_on app slots types) forms env)) ≤ cost_of (fresh limits (scene_on app slots types) forms env).outcome }
+    ensures work { (limits : Limits) (app : App) (types : TypeMeanings) (slots : Slots) (forms : List ShapeTree) (env : Env)
+        → AreTexts app types.presents → SeesReads app types.presents → AreCovered app → AreApart app → AreOwn app (shape_trees_of forms)
+        → (old : List (Tree Item)) → IsFaithfulHistory app types old → (o : DrawOutcome) → o ≡ fresh limits (scene_on app slots types) forms env
+        → work old o + costs (kept old o) ≡ cost_of o.outcome }
+    ensures counts { (ks : List KeptAt) → count_still ks + count_moved ks ≡ length ks }
 {}
