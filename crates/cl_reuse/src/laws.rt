@@ -1,7 +1,9 @@
 //! What the definitions of this crate say. The contracts are the laws.
 ghost use Rattle.std.specs.Prelude.{◌≡◌, ◌+◌, ◌-◌, ◌≤◌, IfSome, List, [], length, max, true, ℕ};
 ghost use Rattle.cl_syntax.specs.ShapeTree.{ShapeTree, ShapeTrees, shape_trees_of};
+ghost use Rattle.cl_application.specs.App.{forms_of};
 ghost use Rattle.cl_application.specs.declared.applications.App.{App};
+ghost use Rattle.cl_application.specs.declared.declarations.PaneDecl.{PaneDecl};
 ghost use Rattle.cl_eval.specs.Slots.{Env, Slots};
 ghost use Rattle.cl_cover.specs.Updates.{AreCovered};
 ghost use Rattle.cl_eval.specs.declared.metering.Limits.{Limits};
@@ -85,11 +87,13 @@ pub fn a_kept_update_ends_as_recorded()
         ≡ Gives (leave_update (kept_head v key h) (kept_part v h inside) s) (cost + h.measures.cost) (max deepest (level + h.measures.reach)) }
 {}
 
-/// The history of a display is faithful: its marks are those of records each of which is recorded as its body was drawn.
+/// The history of a display is faithful: its marks are those of records each of which is recorded as its body was drawn. The updates of the
+/// forms of a pane stand in a display of the application, as this asks.
 pub fn displays_are_faithful()
-    ensures { (limits : Limits) (app : App) (types : TypeMeanings) (slots : Slots) (forms : List ShapeTree) (env : Env) → AreOwn app (shape_trees_of forms)
+    ensures drawn { (limits : Limits) (app : App) (types : TypeMeanings) (slots : Slots) (forms : List ShapeTree) (env : Env) → AreOwn app (shape_trees_of forms)
         → (s : DrawingAt) (cost reach : ℕ) → (fresh limits (scene_on app slots types) forms env).outcome ≡ Gives s cost reach
         → HasFaithfulHistory app types s.part.marks }
+    ensures panes { (app : App) (pane : PaneDecl) → AreOwn app (shape_trees_of (forms_of pane app)) }
 {}
 
 /// Over no old records nothing is kept. Over faithful ones the costs of what is kept do not pass the cost of the display, up to its trap where
