@@ -71,7 +71,8 @@ module _ (app : App) (slots : Slots) (env : Env) where
       → means left budget app slots level env t c k ≡ Gives d n l → value_at app p slots env ≡ dig app along (Some d)
   path-is zero budget level along t p e c k d n l g = absurd (never (entering 0 budget level c k) d n l g)
   path-is (suc left) budget level along (expr.Variable x) p e c k d n l g =
-      let came = behind-entering (entering (suc left) budget level c k) (parts app slots (means left budget app slots) (level + 1) env (expr.Variable x)) d n l g in
+      let came = behind-entering (entering (suc left) budget level c k) (parts app slots (means left budget app slots) (level + 1) env
+      (expr.Variable x)) d n l g in
       let value = there-is (value_named x env) came.cost came.deepest d n l came.is in
       subst (λ (q : Path). value_at app q slots env ≡ dig app along (Some d)) (some-is (record { root = root.Variable x; fields = along }) p e)
       (ap (λ (o : Option Data). dig app along o) value)

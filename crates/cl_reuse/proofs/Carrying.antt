@@ -160,7 +160,8 @@ module _ (m : Motion) (budget depth most : ℕ) where
 
   pub carry-within : (inner : Motion) (s : DrawingAt) (r r' : Result DrawingAt ℕ) (rest rest' : DrawingAt → Draw) (leave leave' : DrawingAt → DrawingAt)
       → EntersTo m inner most s r r' leave leave' → ((u : DrawingAt) → Carry inner budget depth most u (rest u) (rest' (move_drawing inner u)))
-      → Carry m budget depth most s (lift r >-> λ y. rest y >>= λ x. opens_none (give (leave x))) (lift r' >-> λ y. rest' y >>= λ x. opens_none (give (leave' x)))
+      → Carry m budget depth most s (lift r >-> λ y. rest y >>= λ x. opens_none (give (leave x)))
+      (lift r' >-> λ y. rest' y >>= λ x. opens_none (give (leave' x)))
   carry-within inner s (Ok u) r' rest rest' leave leave' h g c d t n l p =
       carries-left inner s u r' (rest u) rest' leave leave' h.0 h.1 (g u) c d (rest u c d).outcome refl t n l p
   carry-within inner s (Err k) r' rest rest' leave leave' h g c d t n l p = absurd (no_value k c d t n l p)

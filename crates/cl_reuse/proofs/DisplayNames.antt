@@ -1,13 +1,14 @@
 -- The display of a name is one of the application's.
-use Rattle.std.proofs.Common.{◌≡◌, sym, subst, ℕ, ◌==◌, Bool, true, false, inl, inr, List, [], ◌∷◌, Option, Some}
+use Rattle.std.proofs.Common.{◌≡◌, refl, sym, subst, ℕ, ◌==◌, Bool, true, false, inl, inr, List, [], ◌∷◌, Option, Some, None}
 use Rattle.std.specs.Prelude.{cond}
 use Rattle.std.specs.Cmp.Lexicographic.{pointwise}
 use Rattle.cl_syntax.specs.ShapeTree.{shape_trees_of}
 use Rattle.cl_table.specs.Names.{named}
-use Rattle.cl_application.specs.App.{display_named}
+use Rattle.cl_application.specs.App.{body_of, display_named, forms_of}
 use Rattle.cl_application.specs.declared.applications.App.{App}
 use Rattle.cl_application.specs.declared.declarations.DisplayDecl.{DisplayDecl}
-use Rattle.cl_reuse.specs.Sited.{HaveIt, InDisplays, IsUpdateOf, Sited}
+use Rattle.cl_application.specs.declared.declarations.PaneDecl.{PaneDecl}
+use Rattle.cl_reuse.specs.Sited.{AreOwn, HaveIt, InDisplays, IsUpdateOf, Sited}
 
 declared-first : (d : List ℕ × DisplayDecl) (ds : List (List ℕ × DisplayDecl)) (found : Option DisplayDecl) (f : DisplayDecl) (b : Bool)
     → cond b (Some d.1) found ≡ Some f → (u : Sited) → HaveIt u (shape_trees_of f.body) → (found ≡ Some f → InDisplays u ds) → InDisplays u (d ∷ ds)
@@ -24,3 +25,11 @@ declared-in x (d ∷ ds) f e u h = declared-first d ds (named x ds) f (pointwise
 pub display-declared : (app : App) (x : List ℕ) (f : DisplayDecl) → display_named x app ≡ Some f → (u : Sited) → HaveIt u (shape_trees_of f.body)
     → IsUpdateOf app u
 display-declared app x f e u h = declared-in x app.displays f e u h
+
+forms-own : (app : App) (x : List ℕ) (f : Option DisplayDecl) → display_named x app ≡ f → AreOwn app (shape_trees_of (body_of f))
+forms-own app x None e u h = absurd h
+forms-own app x (Some f) e u h = display-declared app x f e u h
+
+-- the updates of the forms of a pane
+pub pane-own : (app : App) (pane : PaneDecl) → AreOwn app (shape_trees_of (forms_of pane app))
+pane-own app pane = forms-own app pane.display (display_named pane.display app) refl

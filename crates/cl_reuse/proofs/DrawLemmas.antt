@@ -1,5 +1,6 @@
 -- Display forms draw the same where the paths that they read have the same values.
-use Rattle.std.proofs.Common.{◌≡◌, ℕ, zero, suc, ◌+◌, ◌-◌, ◌==◌, false, if◌then◌else◌, inl, inr, List, [], ◌∷◌, length, Option, Some, None, Result, refl, sym, ◌∙◌}
+use Rattle.std.proofs.Common.{◌≡◌, ℕ, zero, suc, ◌+◌, ◌-◌, ◌==◌, false, if◌then◌else◌, inl, inr, List, [], ◌∷◌, length, Option, Some, None, Result}
+use Rattle.std.proofs.Common.{refl, sym, ◌∙◌}
 use Rattle.cl_value.specs.Data.{Data}
 use Rattle.cl_syntax.specs.ExprTree.{Bindings, ExprTree, unbound, binding}
 use Rattle.cl_syntax.specs.ShapeTree as shape
@@ -99,7 +100,8 @@ module _ (app : App) (slots other : Slots) where
         (behind app slots other (λ p n. ApartAll bs p.root × ReadsForms (Within n app p) p body) x d e e' (λ p n h. b p n ((h.0, h.1.0), h.1.1))) s i)
         ∙ sym (draws-binding value' go' level x t bs body e' s)
 
-    module _ (left : ℕ) (inner inner' : Allowance → Draws) (b : (allowed : Allowance) → SameDraws (inner allowed) (inner' allowed) 0) (allowed : Allowance) where
+    module _ (left : ℕ) (inner inner' : Allowance → Draws) (b : (allowed : Allowance) → SameDraws (inner allowed) (inner' allowed) 0)
+        (allowed : Allowance) where
       same-keyed : (e e' : Env) (body : ShapeTrees) → On app slots other (λ p n. ReadsForms (Within n app p) p body) e e' → (s : DrawingAt) (key : KeyAt)
           → draws_keyed allowed (bodies_by left inner) level e body s key ≡ draws_keyed allowed (bodies_by left inner') level e' body s key
       same-keyed e e' body a s key = λ i. lift (enter_update allowed.weight key s) >-> λ t cost deepest.
@@ -107,14 +109,16 @@ module _ (app : App) (slots other : Slots) where
           (same-bodies left inner inner' b (left_over allowed cost t.weight) e e' body a (enter_body t) i) cost deepest
 
       same-update : (e e' : Env) (u : UpdateTree) (body : ShapeTrees) → On app slots other (λ p n. ReadsForm (Within n app p) p (shape.Update u body)) e e'
-          → (s : DrawingAt) → draws_update allowed value (bodies_by left inner) level e u body s ≡ draws_update allowed value' (bodies_by left inner') level e' u body s
+          → (s : DrawingAt) → draws_update allowed value (bodies_by left inner) level e u body s ≡ draws_update allowed value'
+          (bodies_by left inner') level e' u body s
       same-update e e' u body a s = λ i. same-id app slots other value value' level v e e' s.siblings u.site u.id (λ p n h. a p n (inl h)) i
           >-> λ id. same-cache app slots other value value' level v e e' u.cache (λ p n h. a p n (inr (inl h))) i
           >-> λ cache. same-keyed e e' body (λ p n h. a p n (inr (inr h))) s (key_at u id cache) i
 
       -- one row after another
       same-rows : (types : TypeMeanings) (text text' : Texts)
-          → ((spec : TypeSpecTree) (e e' : Env) → On app slots other (λ p n. ReadsSpec (Within n app p) spec) e e' → (d : Data) → text level spec d ≡ text' level spec d)
+          → ((spec : TypeSpecTree) (e e' : Env) → On app slots other (λ p n. ReadsSpec (Within n app p) spec) e e' → (d : Data)
+          → text level spec d ≡ text' level spec d)
           → (e e' : Env) (f : ShapeTree) → On app slots other (λ p n. ReadsForm (Within n app p) p f) e e' → (s : DrawingAt)
           → shape_parts (scene_on app slots types) allowed value text (bodies_by left inner) go level e f s
           ≡ shape_parts (scene_on app other types) allowed value' text' (bodies_by left inner') go' level e' f s

@@ -1,5 +1,6 @@
 -- What a display draws are faithful records.
-use Rattle.std.proofs.Common.{◌≡◌, ◌∙◌, ap, sym, subst, refl, ℕ, ◌+◌, pos, ◌+ℤ◌, ◌||◌, Bool, true, false, if◌then◌else◌, nat_le, List, [], ◌∷◌, ◌++◌, append_assoc, append-nil, length, Option, Some, None, Result, Ok, Err, arith}
+use Rattle.std.proofs.Common.{◌≡◌, ◌∙◌, ap, sym, subst, refl, ℕ, ◌+◌, pos, ◌+ℤ◌, ◌||◌, Bool, true, false, if◌then◌else◌, nat_le, List, [], ◌∷◌, ◌++◌}
+use Rattle.std.proofs.Common.{append_assoc, append-nil, length, Option, Some, None, Result, Ok, Err, arith}
 use Rattle.std.specs.Prelude.{IfSome, int_le, int_lt, negsuc}
 use Rattle.std.proofs.lemmas.Int.{ints}
 use Rattle.cl_value.specs.Data.{Data, int, text}
@@ -54,7 +55,8 @@ update-marks head ts ms e =
     ∙ sym (append-nil (marks_of move_item (update head still (trees_of ts))))
 
 module _ (app : App) (types : TypeMeanings) where
-  row-faithful : (ts us : List (Tree Item)) → AreFaithful app types (trees_of ts) → AreFaithful app types (trees_of us) → AreFaithful app types (trees_of (ts ++ us))
+  row-faithful : (ts us : List (Tree Item)) → AreFaithful app types (trees_of ts) → AreFaithful app types (trees_of us)
+      → AreFaithful app types (trees_of (ts ++ us))
   row-faithful [] us f g = g
   row-faithful (t ∷ ts) us f g = (f.0, row-faithful ts us f.1 g)
 
@@ -84,7 +86,8 @@ module _ (app : App) (types : TypeMeanings) where
   pub draws-joined : (outer inner : List (Mark Item)) → Draws [] inner → Draws outer (outer ++ inner)
   draws-joined outer inner p = record { own = p.own; behind = ap (λ (ms : List (Mark Item)). outer ++ ms) p.behind; faithful = p.faithful }
 
-  pub draws-presented : (label : LabelAt) (outer inner : List (Mark Item)) → Draws [] inner → Draws outer (outer ++ (open_presentation label ∷ (inner ++ close ∷ [])))
+  pub draws-presented : (label : LabelAt) (outer inner : List (Mark Item)) → Draws [] inner
+      → Draws outer (outer ++ (open_presentation label ∷ (inner ++ close ∷ [])))
   draws-presented label outer inner p = record {
     own = presentation label still (trees_of p.own) ∷ [];
     behind = ap (λ (ms : List (Mark Item)). outer ++ ms) (presentation-marks label p.own inner p.behind);
@@ -158,7 +161,8 @@ module _ (app : App) (types : TypeMeanings) where
   left-draws label s u (Err k) e p = tt
 
   text-in-draws : (most : ℕ) (label : LabelAt) (s : DrawingAt) (x : Data) (b : Bool)
-      → StepDraws s (leave_after label s.part (write_inside most x (if b then Ok (start (record s { weight = s.weight + label_weight label.object })) else Err 10)))
+      → StepDraws s (leave_after label s.part (write_inside most x (if b then Ok
+      (start (record s { weight = s.weight + label_weight label.object })) else Err 10)))
   text-in-draws most label s x true =
       let u = start (record s { weight = s.weight + label_weight label.object }) in
       left-draws label s u (write_value most u x) refl (value-draws most u x)

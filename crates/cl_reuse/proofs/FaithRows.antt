@@ -1,5 +1,6 @@
 -- The rows of display forms draw faithful records.
-use Rattle.std.proofs.Common.{◌≡◌, ap, sym, subst, refl, ℕ, zero, suc, ◌+◌, ◌==◌, Bool, true, false, if◌then◌else◌, nat_le, inl, inr, List, [], ◌∷◌, length, Option, Some, None, Result, Ok, Err}
+use Rattle.std.proofs.Common.{◌≡◌, ap, sym, subst, refl, ℕ, zero, suc, ◌+◌, ◌==◌, Bool, true, false, if◌then◌else◌, nat_le, inl, inr, List, [], ◌∷◌}
+use Rattle.std.proofs.Common.{length, Option, Some, None, Result, Ok, Err}
 use Rattle.std.specs.Prelude.{IfSome}
 use Rattle.cl_value.specs.Data.{Data}
 use Rattle.cl_syntax.specs.ExprTree.{ExprTrees}
@@ -19,7 +20,8 @@ use Rattle.cl_record.specs.Marks.{Mark}
 use Rattle.cl_record.specs.Labels.{LabelAt}
 use Rattle.cl_display.specs.Drawings.{DrawingAt, PartAt, newline, start}
 use Rattle.cl_display.specs.Figures.{draw_figure, figure_parts}
-use Rattle.cl_display.specs.Fresh.{Allowance, Draws as Meaning, bodies_on, call_display, draws, draws_body, draws_cached, draws_keyed, draws_to, draws_update, for_each}
+use Rattle.cl_display.specs.Fresh.{Allowance, Draws as Meaning, bodies_on, call_display, draws, draws_body, draws_cached, draws_keyed, draws_to}
+use Rattle.cl_display.specs.Fresh.{draws_update, for_each}
 use Rattle.cl_display.specs.Fresh.{for_members, in_order, left_over, presents_body, presents_text, shape_parts, within}
 use Rattle.cl_display.specs.Outcomes.{Draw, opens_none, run_of, ◌>->◌, ◌>>=◌}
 use Rattle.cl_display.specs.Presentations.{Texts, label_of, label_weight, leave_presentation, present_text, texts_on, write_value}
@@ -30,7 +32,8 @@ use Rattle.cl_reuse.specs.Recorded.{IsRecorded}
 use Rattle.cl_reuse.specs.Sited.{HoldCache}
 use Rattle.cl_reuse.proofs.CacheLemmas.{cache-holds}
 use Rattle.cl_reuse.proofs.DisplayNames.{display-declared}
-use Rattle.cl_reuse.proofs.FaithForms.{Draws, StepDraws, draws-joined, draws-none, draws-presented, draws-then, draws-updated, figure-draws, indent-draws, ink-draws}
+use Rattle.cl_reuse.proofs.FaithForms.{Draws, StepDraws, draws-joined, draws-none, draws-presented, draws-then, draws-updated, figure-draws}
+use Rattle.cl_reuse.proofs.FaithForms.{indent-draws, ink-draws}
 use Rattle.cl_reuse.proofs.FaithForms.{newline-draws, opening-draws, present_text-draws, value-draws}
 use Rattle.cl_reuse.proofs.PayRows.{AllOwn, Own, no-cache-comes}
 
@@ -103,14 +106,16 @@ module _ (app : App) (types : TypeMeanings) where
       (draws-updated app types (head_at key s.ambient u i r) s.part.marks u.part.marks body.0 body.1)
   updated-run key level s (Traps k i r) c d t n l p h = absurd (no_value k (c + i) d t n l p)
 
-  recorded : (slots : Slots) (env : Env) (u : UpdateTree) (body : ShapeTrees) → Own app slots types (shape.Update u body) → (id : Data) (cache : Option (List Data))
+  recorded : (slots : Slots) (env : Env) (u : UpdateTree) (body : ShapeTrees) → Own app slots types (shape.Update u body)
+      → (id : Data) (cache : Option (List Data))
       → ((ws : ExprTrees) → u.cache ≡ Some ws → IfSome cache (HoldCache app slots env ws)) → (u.cache ≡ None → cache ≡ None)
       → (left : ℕ) (allowed : Allowance) (s end : DrawingAt) (i r : ℕ)
       → ((bodies_on left (scene_on app slots types)).draw allowed env body (enter_body s)).outcome ≡ Gives end i r
       → IfSome cache (IsRecorded app types (head_at (key_at u id cache) s.ambient end i r) end.part.marks)
   recorded slots env u body of id cache holds without left allowed s end i r p = by-cache u.cache refl cache holds without
     where
-      by-cache : (ts : Option ExprTrees) → u.cache ≡ ts → (vs : Option (List Data)) → ((ws : ExprTrees) → u.cache ≡ Some ws → IfSome vs (HoldCache app slots env ws))
+      by-cache : (ts : Option ExprTrees) → u.cache ≡ ts → (vs : Option (List Data))
+          → ((ws : ExprTrees) → u.cache ≡ Some ws → IfSome vs (HoldCache app slots env ws))
           → (u.cache ≡ None → vs ≡ None) → IfSome vs (IsRecorded app types (head_at (key_at u id cache) s.ambient end i r) end.part.marks)
       by-cache ts e None h w = tt
       by-cache (Some ws) e (Some vs) h w = record {
@@ -144,7 +149,8 @@ module _ (app : App) (types : TypeMeanings) where
           → RunDraws s (for_each go level env x body ds s)
       each-run env x body of [] s = give-run s
       each-run env x body of (d ∷ ds) s =
-          then-run s (in_order go level ((x, d) ∷ env) body s) (for_each go level env x body ds) (order-run ((x, d) ∷ env) body of s) (each-run env x body of ds)
+          then-run s (in_order go level ((x, d) ∷ env) body s) (for_each go level env x body ds) (order-run ((x, d) ∷ env) body of s)
+          (each-run env x body of ds)
 
       to-run : (env : Env) (body : ShapeTrees) → AllOwn app slots types body → (s u : DrawingAt) (leave : DrawingAt → DrawingAt)
           → ((t : DrawingAt) → Draws app types u.part.marks t.part.marks → Draws app types s.part.marks (leave t).part.marks)
@@ -167,13 +173,15 @@ module _ (app : App) (types : TypeMeanings) where
           (λ x q. draws-presented app types label s.part.marks x.part.marks q) c d t n l p
       presented-run env body of s weight label false c d t n l p = absurd (no_value 10 c d t n l p)
 
-      called-run : (x : List ℕ) (f : Option DisplayDecl) → display_named x app ≡ f → (ds : List Data) (s : DrawingAt) → RunDraws s (call_display go level f ds s)
+      called-run : (x : List ℕ) (f : Option DisplayDecl) → display_named x app ≡ f → (ds : List Data) (s : DrawingAt)
+          → RunDraws s (call_display go level f ds s)
       called-run x None e ds s = trap-run s 1
       called-run x (Some f) e ds s =
           choice-run s (length ds == length f.parameters) (in_order go level (bind_parameters f.parameters ds) (shape_trees_of f.body) s) (opens_none (trap 1))
           (order-run (bind_parameters f.parameters ds) (shape_trees_of f.body) (λ w h. display-declared app x f e w h) s) (trap-run s 1)
 
-    module _ (left : ℕ) (below : (allowed : Allowance) (level : ℕ) → AllDraw level (draws left allowed (scene_on app slots types))) (allowed : Allowance) (level : ℕ) where
+    module _ (left : ℕ) (below : (allowed : Allowance) (level : ℕ) → AllDraw level (draws left allowed (scene_on app slots types)))
+        (allowed : Allowance) (level : ℕ) where
       -- the meanings there
       abbrev value : Go
       value = means left allowed.budget app slots
@@ -187,11 +195,13 @@ module _ (app : App) (types : TypeMeanings) where
       g : AllDraw level go
       g = below allowed level
 
-      keyed-run : (env : Env) (u : UpdateTree) (body : ShapeTrees) → Own app slots types (shape.Update u body) → (s : DrawingAt) (id : Data) (cache : Option (List Data))
+      keyed-run : (env : Env) (u : UpdateTree) (body : ShapeTrees) → Own app slots types (shape.Update u body)
+          → (s : DrawingAt) (id : Data) (cache : Option (List Data))
           → ((ws : ExprTrees) → u.cache ≡ Some ws → IfSome cache (HoldCache app slots env ws)) → (u.cache ≡ None → cache ≡ None)
           → RunDraws s (draws_keyed allowed (bodies_on left (scene_on app slots types)) level env body s (key_at u id cache))
       keyed-run env u body of s id cache holds without =
-          set-run s (enter_update allowed.weight (key_at u id cache) s) (draws_body allowed (bodies_on left (scene_on app slots types)) level env body (key_at u id cache))
+          set-run s (enter_update allowed.weight (key_at u id cache) s) (draws_body allowed (bodies_on left (scene_on app slots types)) level env body
+          (key_at u id cache))
           (opening-draws app types allowed.weight (key_at u id cache) s)
           (λ t c d y n l p. updated-run (key_at u id cache) level t
           ((bodies_on left (scene_on app slots types)).draw (left_over allowed c t.weight) env body (enter_body t)).outcome c d y n l p
@@ -201,7 +211,8 @@ module _ (app : App) (types : TypeMeanings) where
             recorded slots env u body of id cache holds without left (left_over allowed c t.weight) t end i r q,
           )))
         where
-          set-run : (a : DrawingAt) (r : Result DrawingAt ℕ) (f : DrawingAt → Draw) → StepDraws app types a r → ((b : DrawingAt) → RunDraws b (f b)) → RunDraws a (lift r >-> f)
+          set-run : (a : DrawingAt) (r : Result DrawingAt ℕ) (f : DrawingAt → Draw) → StepDraws app types a r → ((b : DrawingAt) → RunDraws b (f b))
+              → RunDraws a (lift r >-> f)
           set-run a (Ok b) f h k c d t n l p = draws-then app types a.part.marks b.part.marks t.part.marks h (k b c d t n l p)
           set-run a (Err e) f h k c d t n l p = absurd (no_value e c d t n l p)
 
@@ -241,7 +252,8 @@ module _ (app : App) (types : TypeMeanings) where
       rows-run env (shape.AsPresentation p body) of s =
           value-run s (value level env p.object) (λ d. for_members types.holds p.spec d (presents_body allowed.weight go level env p body s d))
           (λ d. choice-run s (types.holds d p.spec) (presents_body allowed.weight go level env p body s d) (opens_none (trap 1))
-          (presented-run go level g env body of s (s.weight + label_weight d) (label_of p.spec p.single_box d) (nat_le (s.weight + label_weight d) allowed.weight))
+          (presented-run go level g env body of s (s.weight + label_weight d) (label_of p.spec p.single_box d)
+          (nat_le (s.weight + label_weight d) allowed.weight))
           (trap-run s 1))
       rows-run env (shape.Update u body) of s = update-run env u body of s
       rows-run env (shape.If t e f) of s =

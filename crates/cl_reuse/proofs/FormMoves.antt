@@ -17,7 +17,8 @@ use Rattle.cl_eval.proofs.LimitLemmas.{GoGoes, entered-above, goes-bound, goes-e
 use Rattle.cl_eval.proofs.LimitLemmas.{goes-tested, never, no_value}
 use Rattle.cl_display.specs.Drawings.{DrawingAt, newline}
 use Rattle.cl_display.specs.Figures.{draw_figure, figure_parts}
-use Rattle.cl_display.specs.Fresh.{Allowance, Bodies, Draws, Scene, bodies_by, call_display, draws, draws_to, for_each, for_members, in_order, presents_body, presents_text, shape_parts, within}
+use Rattle.cl_display.specs.Fresh.{Allowance, Bodies, Draws, Scene, bodies_by, call_display, draws, draws_to, for_each, for_members, in_order}
+use Rattle.cl_display.specs.Fresh.{presents_body, presents_text, shape_parts, within}
 use Rattle.cl_display.specs.Outcomes.{Draw, opens_none, run_of}
 use Rattle.cl_display.specs.Presentations.{Texts, enter_presentation, label_of, leave_presentation, present_text, texts_on, write_value}
 use Rattle.cl_display.specs.Settings.{enter_room, indent, leave_room, restore_ink, restore_margin, set_ink}
@@ -33,7 +34,8 @@ module _ (budget depth most level : ℕ) (value value' : Go) (go go' : Draws) (g
       → Carry m budget depth most s (in_order go level env fs s) (in_order go' level env fs (move_drawing m s))
   carry-in_order m env none s = carry-give m budget depth most s
   carry-in_order m env (form f fs) s =
-      carry-then m budget depth most s (go level env f s) (go' level env f (move_drawing m s)) (in_order go level env fs) (in_order go' level env fs) (g m env f s)
+      carry-then m budget depth most s (go level env f s) (go' level env f (move_drawing m s)) (in_order go level env fs) (in_order go' level env fs)
+      (g m env f s)
       (carry-in_order m env fs)
 
   carry-for_each : (m : Motion) (env : Env) (x : List ℕ) (body : ShapeTrees) (ds : List Data) (s : DrawingAt)
@@ -64,8 +66,10 @@ module _ (budget depth most level : ℕ) (value value' : Go) (go go' : Draws) (g
       (in_order go' level (bind_parameters f.parameters ds) (shape_trees_of f.body) (move_drawing m s)) (opens_none (trap 1)) (opens_none (trap 1))
       (carry-in_order m (bind_parameters f.parameters ds) (shape_trees_of f.body) s) (carry-trap m budget depth most s 1)
 
-  module _ (scene : Scene) (allowed allowed' : Allowance) (paid : allowed'.budget ≡ budget) (w : allowed'.weight ≡ most) (v : GoGoes budget depth level value value')
-      (text text' : Texts) (h : TextsGo budget depth level text text') (bodies bodies' : Bodies) (b : BodiesCarry bodies bodies') (deep : depth ≡ level + bodies'.depth)
+  module _ (scene : Scene) (allowed allowed' : Allowance) (paid : allowed'.budget ≡ budget) (w : allowed'.weight ≡ most)
+      (v : GoGoes budget depth level value value')
+      (text text' : Texts) (h : TextsGo budget depth level text text') (bodies bodies' : Bodies) (b : BodiesCarry bodies bodies')
+      (deep : depth ≡ level + bodies'.depth)
       (m : Motion) where
     carry-presents_text : (env : Env) (t : ExprTree) (spec : TypeSpecTree) (s : DrawingAt) (d : Data)
         → Carry m budget depth most s (for_members scene.types.holds spec d (presents_text allowed.weight text level spec s d))
@@ -98,7 +102,8 @@ module _ (budget depth most level : ℕ) (value value' : Go) (go go' : Draws) (g
     carry-rows env (shape.WriteText t) s =
         carry-value m budget depth most s (value level env t) (value' level env t) (λ d. opens_none (lift (write_value allowed.weight s d)))
         (λ d. opens_none (lift (write_value allowed'.weight (move_drawing m s) d))) (v env t)
-        (λ d. rw w (carry-lift m budget depth most s (write_value allowed.weight s d) (write_value most (move_drawing m s) d) (steps-write_value m most allowed.weight s d)))
+        (λ d. rw w (carry-lift m budget depth most s (write_value allowed.weight s d) (write_value most (move_drawing m s) d)
+        (steps-write_value m most allowed.weight s d)))
     carry-rows env shape.Newline s = carry-lift m budget depth most s (newline s) (newline (move_drawing m s)) (steps-newline m most s)
     carry-rows env (shape.Draw figure ts) s =
         carry-value m budget depth most s (each value level env ts []) (each value' level env ts [])
@@ -130,8 +135,10 @@ module _ (budget depth most level : ℕ) (value value' : Go) (go go' : Draws) (g
     carry-rows env (shape.Update u body) s =
         carry-draws_update m budget depth most allowed allowed' paid w level value value' v bodies bodies' b deep env u body s
     carry-rows env (shape.If t e f) s =
-        carry-value m budget depth most s (truth_of value level env t) (truth_of value' level env t) (λ holds. if holds then go level env e s else go level env f s)
-        (λ holds. if holds then go' level env e (move_drawing m s) else go' level env f (move_drawing m s)) (goes-tested budget depth value value' level v env t)
+        carry-value m budget depth most s (truth_of value level env t) (truth_of value' level env t)
+        (λ holds. if holds then go level env e s else go level env f s)
+        (λ holds. if holds then go' level env e (move_drawing m s) else go' level env f (move_drawing m s))
+        (goes-tested budget depth value value' level v env t)
         (λ holds. carry-choice m budget depth most s holds (go level env e s) (go' level env e (move_drawing m s)) (go level env f s)
         (go' level env f (move_drawing m s)) (g m env e s) (g m env f s))
     carry-rows env (shape.When t body) s =
@@ -143,10 +150,12 @@ module _ (budget depth most level : ℕ) (value value' : Go) (go go' : Draws) (g
         (opens_none (give (move_drawing m s))) (carry-in_order m env body s) (carry-give m budget depth most s))
     carry-rows env (shape.Let bs body) s =
         carry-value m budget depth most s (bind_each value level bs env) (bind_each value' level bs env) (λ inner. in_order go level inner body s)
-        (λ inner. in_order go' level inner body (move_drawing m s)) (goes-bound budget depth value value' level v bs env) (λ inner. carry-in_order m inner body s)
+        (λ inner. in_order go' level inner body (move_drawing m s)) (goes-bound budget depth value value' level v bs env)
+        (λ inner. carry-in_order m inner body s)
     carry-rows env (shape.Dolist x t body) s =
         carry-value m budget depth most s (parts_of_list value level env t) (parts_of_list value' level env t) (λ ds. for_each go level env x body ds s)
-        (λ ds. for_each go' level env x body ds (move_drawing m s)) (goes-listed budget depth value value' level v env t) (λ ds. carry-for_each m env x body ds s)
+        (λ ds. for_each go' level env x body ds (move_drawing m s)) (goes-listed budget depth value value' level v env t)
+        (λ ds. carry-for_each m env x body ds s)
     carry-rows env (shape.Progn body) s = carry-in_order m env body s
     carry-rows env (shape.Call f ts) s =
         carry-value m budget depth most s (each value level env ts []) (each value' level env ts [])
@@ -175,7 +184,8 @@ carry-bodies : (left left' : ℕ) (go go' : Allowance → Draws)
     → ((allowed allowed' : Allowance) → AllCarry allowed'.budget (0 + left') allowed'.weight 0 (go allowed) (go' allowed'))
     → BodiesCarry (bodies_by left go) (bodies_by left' go')
 carry-bodies left left' go go' g m allowed allowed' env body s u n r p =
-    let carried = carry-in_order allowed'.budget (0 + left') allowed'.weight 0 no_value_of no_value_of (go allowed) (go' allowed') (g allowed allowed') m env body s
+    let carried = carry-in_order allowed'.budget (0 + left') allowed'.weight 0 no_value_of no_value_of (go allowed) (go' allowed')
+    (g allowed allowed') m env body s
     0 0 u n r p in
     record { grows = carried.grows; same = λ cheap shallow fits. carried.same cheap (omega (arith, shallow)) fits }
   where
@@ -196,7 +206,8 @@ module _ (scene : Scene) (texts : AreTexts scene.app scene.types.presents) where
       (level + 1 + left) c d
       (entering (suc left) allowed.budget level c d) (entered-above (nat_le allowed.budget c) (suc left == 0) level c d)
       (shape_parts scene allowed value text bodies go (level + 1) env f (move_drawing m s))
-      (carry-rows allowed.budget (level + 1 + left) allowed.weight (level + 1) value value go go (carry-draws left left allowed allowed (level + 1)) scene allowed allowed
+      (carry-rows allowed.budget (level + 1 + left) allowed.weight (level + 1) value value go go
+      (carry-draws left left allowed allowed (level + 1)) scene allowed allowed
       refl refl (goes-means left allowed.budget left allowed.budget scene.app scene.slots (level + 1)) text text
       (goes-texts scene.app scene.types.presents texts scene.slots allowed.budget allowed.budget left left (level + 1)) bodies bodies
       (carry-bodies left left (λ inner. draws left inner scene) (λ inner. draws left inner scene) (λ inner inner'. carry-draws left left inner inner' 0)) refl
@@ -220,13 +231,16 @@ module _ (scene : Scene) (texts : AreTexts scene.app scene.types.presents) where
       (carry-draws left left' allowed allowed' (level + 1)) scene allowed allowed' refl refl
       (goes-means left allowed.budget left' allowed'.budget scene.app scene.slots (level + 1)) text text'
       (goes-texts scene.app scene.types.presents texts scene.slots allowed.budget allowed'.budget left left' (level + 1)) bodies bodies'
-      (carry-bodies left left' (λ inner. draws left inner scene) (λ inner. draws left' inner scene) (λ inner inner'. carry-draws left left' inner inner' 0)) refl
+      (carry-bodies left left' (λ inner. draws left inner scene) (λ inner. draws left' inner scene)
+      (λ inner inner'. carry-draws left left' inner inner' 0)) refl
       m env f s)) c d t n l p
 
   -- forms in order
-  pub carry-forms : (m : Motion) (left more : ℕ) (allowed wider : Allowance) (level : ℕ) (env : Env) (forms : ShapeTrees) (s end : DrawingAt) (cost deepest c d : ℕ)
+  pub carry-forms : (m : Motion) (left more : ℕ) (allowed wider : Allowance) (level : ℕ) (env : Env) (forms : ShapeTrees) (s end : DrawingAt)
+      (cost deepest c d : ℕ)
       → (in_order (draws left allowed scene) level env forms s cost deepest).outcome ≡ Gives end c d
       → Carries m wider.budget (level + more) wider.weight (in_order (draws more wider scene) level env forms (move_drawing m s)) s cost deepest end c d
   carry-forms m left more allowed wider level env forms s end cost deepest c d p =
-      carry-in_order wider.budget (level + more) wider.weight level (means left allowed.budget scene.app scene.slots) (means more wider.budget scene.app scene.slots)
+      carry-in_order wider.budget (level + more) wider.weight level (means left allowed.budget scene.app scene.slots)
+      (means more wider.budget scene.app scene.slots)
       (draws left allowed scene) (draws more wider scene) (carry-draws left more allowed wider level) m env forms s cost deepest end c d p

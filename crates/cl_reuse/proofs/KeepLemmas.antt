@@ -1,6 +1,7 @@
 -- An old update that was recorded, and may be kept at an opening, is what its body comes to there, moved.
-use Rattle.std.proofs.Common.{◌≡◌, ◌∙◌, ap, sym, subst, refl, ℕ, ◌-◌, ◌≤◌, ◌==◌, nat_le, ℤ, ◌+ℤ◌, ◌-ℤ◌, Bool, true, false, if◌then◌else◌, List, Option, Some, None, arith}
-use Rattle.std.specs.Prelude.{◌&&◌, IfSome, int_le, is_some, neg_ℤ}
+use Rattle.std.proofs.Common.{◌≡◌, ◌∙◌, ap, sym, subst, refl, ℕ, ◌+◌, ◌-◌, ◌≤◌, ◌==◌, nat_le, ℤ, ◌+ℤ◌, ◌-ℤ◌, Bool, true, false, if◌then◌else◌, List}
+use Rattle.std.proofs.Common.{Option, Some, None, arith}
+use Rattle.std.specs.Prelude.{◌&&◌, IfSome, int_le, is_some, neg_ℤ, max}
 use Rattle.std.proofs.lemmas.Bool.Decides.{nat_tests}
 use Rattle.std.proofs.lemmas.Int.{ints}
 use Rattle.cl_value.specs.Data.{Data}
@@ -12,7 +13,7 @@ use Rattle.cl_region.proofs.Corners.{and_left, and_right}
 use Rattle.cl_application.specs.declared.applications.App.{App}
 use Rattle.cl_syntax.specs.ShapeTree.{ShapeTrees}
 use Rattle.cl_cover.specs.Updates.{AreCovered}
-use Rattle.cl_eval.specs.Outcome.{Gives}
+use Rattle.cl_eval.specs.Outcome.{Gives, Outcome}
 use Rattle.cl_eval.specs.Slots.{Env, Slots}
 use Rattle.cl_eval.specs.TypeMeanings.{AreTexts, TypeMeanings}
 use Rattle.cl_medium.specs.Ambients.{AmbientAt}
@@ -22,12 +23,14 @@ use Rattle.cl_record.specs.Marks.{Mark, move_marks}
 use Rattle.cl_record.specs.Replays.{items_drawn}
 use Rattle.cl_display.specs.Drawings.{DrawingAt, is_in_range, is_near}
 use Rattle.cl_display.specs.Fresh.{Allowance, Scene, bodies_on, closes, draws_body}
+use Rattle.cl_display.specs.Outcomes.{DrawOutcome}
 use Rattle.cl_display.specs.Sums.{lowest_of}
-use Rattle.cl_display.specs.Updates.{KeyAt, measures_at, opening_at}
+use Rattle.cl_display.specs.Updates.{KeyAt, ended, leave_update, measures_at, opening_at}
 use Rattle.cl_display.specs.Walks.{OpeningAt}
 use Rattle.cl_display.proofs.DisplayLemmas.{adds-body}
 use Rattle.cl_reuse.specs.Bodies.{body_from, body_start, motion_between}
-use Rattle.cl_reuse.specs.Keeping.{EndsAs, kept_part, limits_fit, margin_fits, may_keep, measures_fit, origin_fits, same_cache, same_number, shift_at, shift_to}
+use Rattle.cl_reuse.specs.Keeping.{EndsAs, kept_head, kept_part, limits_fit, margin_fits, may_keep, measures_fit, origin_fits, same_cache}
+use Rattle.cl_reuse.specs.Keeping.{same_number, shift_at, shift_to}
 use Rattle.cl_reuse.specs.Motions.{FitsThere, Motion, move_drawing}
 use Rattle.cl_reuse.specs.ReadValues.{SeesReads, scene_on}
 use Rattle.cl_reuse.specs.Recorded.{IsRecorded}
@@ -184,7 +187,8 @@ module _ (app : App) (types : TypeMeanings) (texts : AreTexts app types.presents
         let same : r.update ≡ u = apart.same r.update u r.declared declared (r.site ∙ sym site) in
         let old : HoldCache app r.slots r.env u.cache values = subst (λ (w : Sited). HoldCache app r.slots r.env w.cache values) same r.cached in
         let drawn : (body_from r.depth r.allowed (scene_on app r.slots types) r.env u.body r.start).outcome ≡ Gives r.end h.measures.cost h.measures.reach =
-        subst (λ (w : Sited). (body_from r.depth r.allowed (scene_on app r.slots types) r.env w.body r.start).outcome ≡ Gives r.end h.measures.cost h.measures.reach)
+        subst (λ (w : Sited). (body_from r.depth r.allowed (scene_on app r.slots types) r.env w.body r.start).outcome
+        ≡ Gives r.end h.measures.cost h.measures.reach)
         same r.drawn in
         bodies-move r.depth o.depth r.allowed (record { budget = o.budget; weight = o.weight }) app types u.body r.slots r.env slots env r.start o.ambient texts sees
         (bodies-agree app r.slots r.env slots env covered u declared values old cached) ink-is r.end h.measures.cost h.measures.reach drawn facts.cost facts.reach
@@ -201,7 +205,8 @@ module _ (app : App) (types : TypeMeanings) (texts : AreTexts app types.presents
         → (move_drawing far r.end).part ≡ kept_part (shift_at h o) h inside
     part-there lowest =
         let extents = sym (λ i. move_rect (shift-is i) (extent-is i)) in
-        let marks : move_marks move_item far.by r.end.part.marks ≡ move_marks move_item (shift_at h o) inside = sym (λ i. move_marks move_item (shift-is i) (r.marks i)) in
+        let marks : move_marks move_item far.by r.end.part.marks ≡ move_marks move_item (shift_at h o) inside = sym
+        (λ i. move_marks move_item (shift-is i) (r.marks i)) in
         let ends = lowest ∙ ap (λ (ms : List (Mark Item)). lowest_of (items_drawn ms)) marks in
         let margins = sym (ap (λ (m : MeasuresAt). is_some m.margin) r.measured ∙ some-used r.end.part.margin_used r.start.margin) in
         let origins = sym (ap (λ (m : MeasuresAt). is_some m.origin) r.measured
@@ -214,11 +219,13 @@ module _ (app : App) (types : TypeMeanings) (texts : AreTexts app types.presents
         let is = there-is cached in
         let added = adds-body o.depth (record { budget = o.budget; weight = o.weight }) (scene_on app slots types) 0 env u.body (body_start o.ambient)
         (move_drawing far r.end) 0 0 h.measures.cost h.measures.reach is in
-        let lowest : (move_drawing far r.end).part.lowest ≡ lowest_of (items_drawn (move_drawing far r.end).part.marks) = rw added.part.behind added.part.lowest in
+        let lowest : (move_drawing far r.end).part.lowest ≡ lowest_of (items_drawn
+        (move_drawing far r.end).part.marks) = rw added.part.behind added.part.lowest in
         record { end = move_drawing far r.end; is = is; measures = measures-there; part = part-there lowest }
 
   -- the values of both caches are the same
-  by-cache : (old new : Option (List Data)) → IfSome old (IsRecorded app types h inside) → same_cache old new ≡ true → measures_fit (shift_at h o) h.measures o ≡ true
+  by-cache : (old new : Option (List Data)) → IfSome old (IsRecorded app types h inside) → same_cache old new ≡ true
+      → measures_fit (shift_at h o) h.measures o ≡ true
       → IfSome new (HoldCache app slots env u.cache) → EndsAs h inside (shift_at h o) o.ambient
       (body_from o.depth (record { budget = o.budget; weight = o.weight }) (scene_on app slots types) env u.body o.ambient).outcome
   by-cache (Some ds) (Some es) r same fits cached =
@@ -250,3 +257,13 @@ body-opened allowed depth level scene env body key s cost deepest o e =
     let opened = opening_at key s (allowed.budget - cost) (allowed.weight - s.weight) depth in
     sym (ap (λ (p : OpeningAt). closes key level s p
     (body_from p.depth (record { budget = p.budget; weight = p.weight }) scene env body p.ambient) cost deepest) e)
+
+-- what is gone on from behind it
+pub kept-joined : (h : HeadAt) (inside : List (Mark Item)) (v : Shift) (key : KeyAt) (level : ℕ) (s : DrawingAt) (o : OpeningAt) (b : DrawOutcome)
+    (cost deepest : ℕ) → EndsAs h inside v s.ambient b.outcome
+    → (closes key level s o b cost deepest).outcome
+    ≡ Gives (leave_update (kept_head v key h) (kept_part v h inside) s) (cost + h.measures.cost) (max deepest (level + h.measures.reach))
+kept-joined h inside v key level s o b cost deepest e =
+    ap (λ (x : Outcome DrawingAt). ended key level s x cost deepest) e.is
+    ∙ (λ i. Gives (leave_update (record { site = key.site; id = key.id; cache = key.cache; measures = e.measures i }) (e.part i) s)
+    (cost + h.measures.cost) (max deepest (level + h.measures.reach)))

@@ -184,7 +184,8 @@ measures-move m a end cost reach e f =
 pub leave_update-move : (m : Motion) (head head' : HeadAt) (inner : PartAt) (s : DrawingAt) → head' ≡ move_head m.by head
     → leave_update head' (move_part m.by inner) (move_drawing m s) ≡ move_drawing m (leave_update head inner s)
 leave_update-move m head head' inner s e =
-    let parts : join_parts (move_part m.by s.part) (updated_part (move_head m.by head) (move_part m.by inner)) ≡ move_part m.by (join_parts s.part (updated_part head inner)) =
+    let parts : join_parts (move_part m.by s.part) (updated_part (move_head m.by head) (move_part m.by inner)) ≡ move_part m.by
+    (join_parts s.part (updated_part head inner)) =
     ap (λ (p : PartAt). join_parts (move_part m.by s.part) p) (updated-move m.by head (move_head m.by head) inner refl)
     ∙ join-move m.by s.part (updated_part head inner) in
     let moved = move_drawing m (leave_update head inner s) in

@@ -1,5 +1,6 @@
 -- What is kept of faithful records costs no more than what is drawn: over all display forms.
-use Rattle.std.proofs.Common.{◌≡◌, ◌∙◌, ap, sym, subst, refl, ℕ, ◌+◌, ◌-◌, ◌≤◌, ◌==◌, Bool, true, false, if◌then◌else◌, inl, List, [], ◌∷◌, ◌++◌, append-nil, Option, Some, None, arith}
+use Rattle.std.proofs.Common.{◌≡◌, ◌∙◌, ap, sym, subst, refl, ℕ, ◌+◌, ◌-◌, ◌≤◌, ◌==◌, Bool, true, false, if◌then◌else◌, inl, List, [], ◌∷◌, ◌++◌}
+use Rattle.std.proofs.Common.{append-nil, Option, Some, None, arith}
 use Rattle.std.specs.Prelude.{IfSome}
 use Rattle.std.specs.Ordering.{is_eq}
 use Rattle.std.proofs.lemmas.Bool.Decides.{nat_tests}
@@ -54,7 +55,8 @@ record FoundAs (app : App) (types : TypeMeanings) (site : Site) (old : OldUpdate
   same : site ≡ old.head.site
 
 module _ (app : App) (types : TypeMeanings) (site : Site) (id : Data) where
-  either-found : (a b : Option OldUpdate) → IfSome a (FoundAs app types site) → IfSome b (FoundAs app types site) → IfSome (or_then a b) (FoundAs app types site)
+  either-found : (a b : Option OldUpdate) → IfSome a (FoundAs app types site) → IfSome b (FoundAs app types site)
+      → IfSome (or_then a b) (FoundAs app types site)
   either-found None b h k = k
   either-found (Some u) b h k = h
 
@@ -116,7 +118,8 @@ module _ (app : App) (slots : Slots) (types : TypeMeanings) where
 
   pays-body : (allowed : Allowance) (left level : ℕ) (env : Env) (body : ShapeTrees) (key : KeyAt) → Keeps env body key
       → ((inner : Allowance) (s : DrawingAt) → BodyPays ((bodies_on left scene).draw inner env body s))
-      → (s : DrawingAt) (at : Shift) (old : Trees Item) → AreFaithful app types old → Pays at old (draws_body allowed (bodies_on left scene) level env body key s)
+      → (s : DrawingAt) (at : Shift) (old : Trees Item) → AreFaithful app types old
+      → Pays at old (draws_body allowed (bodies_on left scene) level env body key s)
   pays-body allowed left level env body key keeps pays s at old f c d =
       let o = opening_at key s (allowed.budget - c) (allowed.weight - s.weight) left in
       let b = (bodies_on left scene).draw (left_over allowed c s.weight) env body (enter_body s) in
@@ -127,7 +130,8 @@ module _ (app : App) (slots : Slots) (types : TypeMeanings) where
 
   pub pays-keyed : (allowed : Allowance) (left level : ℕ) (env : Env) (body : ShapeTrees) (key : KeyAt) → Keeps env body key
       → ((inner : Allowance) (s : DrawingAt) → BodyPays ((bodies_on left scene).draw inner env body s))
-      → (s : DrawingAt) (at : Shift) (old : Trees Item) → AreFaithful app types old → Pays at old (draws_keyed allowed (bodies_on left scene) level env body s key)
+      → (s : DrawingAt) (at : Shift) (old : Trees Item) → AreFaithful app types old
+      → Pays at old (draws_keyed allowed (bodies_on left scene) level env body s key)
   pays-keyed allowed left level env body key keeps pays s at old f =
       pays-value at old (lift (enter_update allowed.weight key s)) (draws_body allowed (bodies_on left scene) level env body key)
       (grows-lift (enter_update allowed.weight key s)) (λ t. pays-body allowed left level env body key keeps pays t at old f)
@@ -140,7 +144,8 @@ module _ (app : App) (slots : Slots) (types : TypeMeanings) where
         let w : Sited = record { site = u.site; cache = ws; body = body } in
         let cached : IfSome o.cache (HoldCache app slots env ws) =
         subst (λ (x : Option (List Data)). IfSome x (HoldCache app slots env ws)) (sym c) (holds ws refl) in
-        let ends = kept-as-recorded app types texts sees covered apart h (marks_of_all move_item ts) o r keep w (of w (inl (refl, (e, refl)))) s slots env cached in
+        let ends = kept-as-recorded app types texts sees covered apart h (marks_of_all move_item ts) o r keep w
+        (of w (inl (refl, (e, refl)))) s slots env cached in
         ap (λ (x : Outcome DrawingAt). cost_of x) ends.is
     keeps-cached u env body of id cache None e holds without h o c s ts r keep =
         let nothing : o.cache ≡ None = c ∙ without refl in

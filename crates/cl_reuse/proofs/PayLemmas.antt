@@ -1,5 +1,6 @@
 -- What is kept costs no more than what is drawn: sums over walks.
-use Rattle.std.proofs.Common.{◌≡◌, ◌∙◌, ap, subst, sym, refl, ℕ, ◌+◌, ◌≤◌, Bool, true, false, if◌then◌else◌, List, [], ◌∷◌, ◌++◌, append_assoc, Result, Ok, Err, arith}
+use Rattle.std.proofs.Common.{◌≡◌, ◌∙◌, ap, subst, sym, refl, ℕ, ◌+◌, ◌≤◌, Bool, true, false, if◌then◌else◌, List, [], ◌∷◌, ◌++◌, append_assoc}
+use Rattle.std.proofs.Common.{Result, Ok, Err, arith}
 use Rattle.cl_region.specs.declared.rects.Shift.{Shift}
 use Rattle.cl_medium.specs.Items.{Item}
 use Rattle.cl_eval.specs.Outcome.{Gives, Outcome, Run, Traps, after, cost_of, give, lift, trap}
@@ -54,7 +55,8 @@ module _ (at : Shift) (old : Trees Item) where
   pays-choice true m n g h = g
   pays-choice false m n g h = h
 
-  pays-behind : (c : ℕ) (o : DrawOutcome) (f : DrawingAt → Draw) → PaysFor at old c o → ((t : DrawingAt) → Pays at old (f t)) → (p : Outcome DrawingAt) → o.outcome ≡ p
+  pays-behind : (c : ℕ) (o : DrawOutcome) (f : DrawingAt → Draw) → PaysFor at old c o → ((t : DrawingAt) → Pays at old (f t))
+      → (p : Outcome DrawingAt) → o.outcome ≡ p
       → costs (kept_of at old (o.walk then walk_after p f)) + c ≤ cost_of (after p (λ s. run_of (f s)))
   pays-behind c o f g h (Gives t i j) q =
       let first : costs (kept_of at old o.walk) + c ≤ i = subst (λ (x : Outcome DrawingAt). costs (kept_of at old o.walk) + c ≤ cost_of x) q g in
@@ -76,5 +78,6 @@ module _ (at : Shift) (old : Trees Item) where
   pays-value m f g h c d = pays-given m f c d (m c d) refl (g c d) (λ x i j q. h x i j)
 
   -- the same where it counts how the value came
-  pub pays-come : {A : Type 0} (m : Run A) (f : A → Draw) → Grows m → ((x : A) (c d i j : ℕ) → m c d ≡ Gives x i j → PaysFor at old i (f x i j)) → Pays at old (m >-> f)
+  pub pays-come : {A : Type 0} (m : Run A) (f : A → Draw) → Grows m → ((x : A) (c d i j : ℕ) → m c d ≡ Gives x i j → PaysFor at old i (f x i j))
+      → Pays at old (m >-> f)
   pays-come m f g h c d = pays-given m f c d (m c d) refl (g c d) (λ x i j q. h x c d i j q)

@@ -1,5 +1,6 @@
 -- The rows of display forms, and what is kept of faithful records.
-use Rattle.std.proofs.Common.{◌≡◌, refl, sym, ℕ, zero, suc, ◌+◌, ◌-◌, ◌==◌, false, if◌then◌else◌, inl, inr, List, [], ◌∷◌, length, Option, Some, None, Result, arith}
+use Rattle.std.proofs.Common.{◌≡◌, refl, sym, ℕ, zero, suc, ◌+◌, ◌-◌, ◌==◌, false, if◌then◌else◌, inl, inr, List, [], ◌∷◌, length, Option, Some, None}
+use Rattle.std.proofs.Common.{Result, arith}
 use Rattle.std.specs.Prelude.{pos}
 use Rattle.cl_value.specs.Data.{Data, int}
 use Rattle.cl_region.specs.declared.rects.Shift.{Shift}
@@ -18,7 +19,8 @@ use Rattle.cl_eval.specs.Outcome.{Gives, Outcome, Traps, give, lift, trap}
 use Rattle.cl_eval.specs.Slots.{Env, Slots, bind_parameters}
 use Rattle.cl_eval.specs.TypeMeanings.{AreTexts, Presents, TypeMeanings}
 use Rattle.cl_eval.specs.declared.metering.Limits.{Limits}
-use Rattle.cl_eval.proofs.CostLemmas.{GoGrows, Grows, grows-bound, grows-each, grows-entering, grows-give, grows-lift, grows-listed, grows-means, grows-tested, grows-then}
+use Rattle.cl_eval.proofs.CostLemmas.{GoGrows, Grows, grows-bound, grows-each, grows-entering, grows-give, grows-lift, grows-listed, grows-means}
+use Rattle.cl_eval.proofs.CostLemmas.{grows-tested, grows-then}
 use Rattle.cl_medium.specs.Items.{Item}
 use Rattle.cl_record.specs.Trees.{Trees}
 use Rattle.cl_display.specs.Drawings.{DrawingAt, newline}
@@ -42,7 +44,8 @@ grows-counted : {A : Type 0} (level : ℕ) (o : Outcome A) → Grows (counted le
 grows-counted level (Gives x n r) c d = omega arith
 grows-counted level (Traps k n r) c d = omega arith
 
-grows-text : (presents : Presents) (slots : Slots) (budget left level : ℕ) (spec : TypeSpecTree) (e : Data) → Grows (texts_on presents slots budget left level spec e)
+grows-text : (presents : Presents) (slots : Slots) (budget left level : ℕ) (spec : TypeSpecTree) (e : Data)
+    → Grows (texts_on presents slots budget left level spec e)
 grows-text presents slots budget left level spec e c d =
     let limits : Limits = record { budget = budget - c; depth = left } in
     grows-counted level (presents limits slots spec e) c d
@@ -56,7 +59,8 @@ module _ (app : App) (slots : Slots) (types : TypeMeanings) where
   AllOwn fs = (w : Sited) → HaveIt w fs → IsUpdateOf app w
 
   abbrev pub AllPay : ℕ → Draws → Type 0
-  AllPay level go = (env : Env) (f : ShapeTree) → Own f → (s : DrawingAt) (at : Shift) (old : Trees Item) → AreFaithful app types old → Pays at old (go level env f s)
+  AllPay level go = (env : Env) (f : ShapeTree) → Own f → (s : DrawingAt) (at : Shift) (old : Trees Item) → AreFaithful app types old
+      → Pays at old (go level env f s)
 
   module _ (go : Draws) (level : ℕ) (g : AllPay level go) where
     pays-order : (env : Env) (fs : ShapeTrees) → AllOwn fs → (s : DrawingAt) (at : Shift) (old : Trees Item) → AreFaithful app types old
@@ -67,27 +71,33 @@ module _ (app : App) (slots : Slots) (types : TypeMeanings) where
         (λ t. pays-order env fs (λ w h. of w (inr h)) t at old k)
 
     module _ (at : Shift) (old : Trees Item) (k : AreFaithful app types old) where
-      pays-each : (env : Env) (x : List ℕ) (body : ShapeTrees) → AllOwn body → (ds : List Data) (s : DrawingAt) → Pays at old (for_each go level env x body ds s)
+      pays-each : (env : Env) (x : List ℕ) (body : ShapeTrees) → AllOwn body → (ds : List Data) (s : DrawingAt)
+          → Pays at old (for_each go level env x body ds s)
       pays-each env x body of [] s = pays-give at old s
       pays-each env x body of (d ∷ ds) s =
           pays-then at old (in_order go level ((x, d) ∷ env) body s) (for_each go level env x body ds) (pays-order ((x, d) ∷ env) body of s at old k)
           (pays-each env x body of ds)
 
-      pays-to : (env : Env) (body : ShapeTrees) → AllOwn body → (leave : DrawingAt → DrawingAt) (s : DrawingAt) → Pays at old (draws_to go level env body leave s)
+      pays-to : (env : Env) (body : ShapeTrees) → AllOwn body → (leave : DrawingAt → DrawingAt) (s : DrawingAt)
+          → Pays at old (draws_to go level env body leave s)
       pays-to env body of leave s =
-          pays-then at old (in_order go level env body s) (λ end. opens_none (give (leave end))) (pays-order env body of s at old k) (λ t. pays-give at old (leave t))
+          pays-then at old (in_order go level env body s) (λ end. opens_none (give (leave end))) (pays-order env body of s at old k)
+          (λ t. pays-give at old (leave t))
 
       pays-within : (env : Env) (body : ShapeTrees) → AllOwn body → (r : Result DrawingAt ℕ) (leave : DrawingAt → DrawingAt)
           → Pays at old (within go level env body r leave)
       pays-within env body of r leave = pays-value at old (lift r) (draws_to go level env body leave) (grows-lift r) (pays-to env body of leave)
 
-      pays-called : (x : List ℕ) (f : Option DisplayDecl) → display_named x app ≡ f → (ds : List Data) (s : DrawingAt) → Pays at old (call_display go level f ds s)
+      pays-called : (x : List ℕ) (f : Option DisplayDecl) → display_named x app ≡ f → (ds : List Data) (s : DrawingAt)
+          → Pays at old (call_display go level f ds s)
       pays-called x None e ds s = pays-trap at old 1
       pays-called x (Some f) e ds s =
-          pays-choice at old (length ds == length f.parameters) (in_order go level (bind_parameters f.parameters ds) (shape_trees_of f.body) s) (opens_none (trap 1))
+          pays-choice at old (length ds == length f.parameters) (in_order go level (bind_parameters f.parameters ds) (shape_trees_of f.body) s)
+          (opens_none (trap 1))
           (pays-order (bind_parameters f.parameters ds) (shape_trees_of f.body) (λ w h. display-declared app x f e w h) s at old k) (pays-trap at old 1)
 
-  grows-id : (value : Go) → ((level : ℕ) (e : Env) (t : ExprTree) → Grows (value level e t)) → (level : ℕ) (env : Env) (siblings : Siblings) (site : Site) (t : Option ExprTree)
+  grows-id : (value : Go) → ((level : ℕ) (e : Env) (t : ExprTree) → Grows (value level e t))
+      → (level : ℕ) (env : Env) (siblings : Siblings) (site : Site) (t : Option ExprTree)
       → Grows (id_of value level env siblings site t)
   grows-id value v level env siblings site None = grows-give (int (pos (count_at site siblings)))
   grows-id value v level env siblings site (Some t) = v level env t
@@ -145,10 +155,12 @@ module _ (app : App) (slots : Slots) (types : TypeMeanings) where
 
       -- one row after another
       pays-rows : (env : Env) (f : ShapeTree) → Own f → (s : DrawingAt)
-          → Pays at old (shape_parts (scene_on app slots types) allowed (means left allowed.budget app slots) (texts_on types.presents slots allowed.budget left)
+          → Pays at old (shape_parts (scene_on app slots types) allowed (means left allowed.budget app slots)
+          (texts_on types.presents slots allowed.budget left)
           (bodies_on left (scene_on app slots types)) (draws left allowed (scene_on app slots types)) level env f s)
       pays-rows env (shape.WriteText t) of s =
-          pays-value at old (value level env t) (λ d. opens_none (lift (write_value allowed.weight s d))) (v level env t) (λ d. pays-lift at old (write_value allowed.weight s d))
+          pays-value at old (value level env t) (λ d. opens_none (lift (write_value allowed.weight s d))) (v level env t)
+          (λ d. pays-lift at old (write_value allowed.weight s d))
       pays-rows env shape.Newline of s = pays-lift at old (newline s)
       pays-rows env (shape.Draw figure ts) of s =
           pays-value at old (each value level env ts []) (λ ds. opens_none (lift (draw_figure allowed.weight figure ds s))) (grows-each value v level env ts [])
@@ -167,17 +179,21 @@ module _ (app : App) (slots : Slots) (types : TypeMeanings) where
           (grows-text types.presents slots allowed.budget left level spec d) (λ x. pays-lift at old (present_text allowed.weight (label_of spec false d) s x)))
           (pays-trap at old 1))
       pays-rows env (shape.AsPresentation p body) of s =
-          pays-value at old (value level env p.object) (λ d. for_members types.holds p.spec d (presents_body allowed.weight go level env p body s d)) (v level env p.object)
+          pays-value at old (value level env p.object) (λ d. for_members types.holds p.spec d (presents_body allowed.weight go level env p body s d))
+          (v level env p.object)
           (λ d. pays-choice at old (types.holds d p.spec) (presents_body allowed.weight go level env p body s d) (opens_none (trap 1))
           (pays-within go level g at old k env body of (enter_presentation allowed.weight d s) (leave_presentation (label_of p.spec p.single_box d) s.part))
           (pays-trap at old 1))
       pays-rows env (shape.Update u body) of s = pays-update env u body of s
       pays-rows env (shape.If t e f) of s =
           pays-value at old (truth_of value level env t) (λ holds. if holds then go level env e s else go level env f s) (grows-tested value v level env t)
-          (λ holds. pays-choice at old holds (go level env e s) (go level env f s) (g env e (λ w h. of w (inl h)) s at old k) (g env f (λ w h. of w (inr h)) s at old k))
+          (λ holds. pays-choice at old holds (go level env e s) (go level env f s) (g env e (λ w h. of w (inl h)) s at old k)
+          (g env f (λ w h. of w (inr h)) s at old k))
       pays-rows env (shape.When t body) of s =
-          pays-value at old (truth_of value level env t) (λ holds. if holds then in_order go level env body s else opens_none (give s)) (grows-tested value v level env t)
-          (λ holds. pays-choice at old holds (in_order go level env body s) (opens_none (give s)) (pays-order go level g env body of s at old k) (pays-give at old s))
+          pays-value at old (truth_of value level env t) (λ holds. if holds then in_order go level env body s else opens_none (give s))
+          (grows-tested value v level env t)
+          (λ holds. pays-choice at old holds (in_order go level env body s) (opens_none (give s)) (pays-order go level g env body of s at old k)
+          (pays-give at old s))
       pays-rows env (shape.Let bs body) of s =
           pays-value at old (bind_each value level bs env) (λ inner. in_order go level inner body s) (grows-bound value v level bs env)
           (λ inner. pays-order go level g inner body of s at old k)
@@ -200,7 +216,8 @@ module _ (app : App) (slots : Slots) (types : TypeMeanings) where
         (grows-entering (suc left) allowed.budget level)
         (λ _. pays-rows texts sees covered apart left (pays-draws left) allowed (level + 1) at old k env f of s)
 
-    pub pays-forms : (left : ℕ) (allowed : Allowance) (level : ℕ) (env : Env) (forms : ShapeTrees) → AllOwn forms → (s : DrawingAt) (at : Shift) (old : Trees Item)
+    pub pays-forms : (left : ℕ) (allowed : Allowance) (level : ℕ) (env : Env) (forms : ShapeTrees) → AllOwn forms
+        → (s : DrawingAt) (at : Shift) (old : Trees Item)
         → AreFaithful app types old → Pays at old (in_order (draws left allowed (scene_on app slots types)) level env forms s)
     pays-forms left allowed level env forms of s at old k =
         pays-order (draws left allowed (scene_on app slots types)) level (pays-draws left allowed level) env forms of s at old k

@@ -11,8 +11,10 @@ use Rattle.cl_medium.specs.Ambients.{AmbientAt, after_indent}
 use Rattle.cl_record.specs.Labels.{LabelAt}
 use Rattle.cl_record.proofs.Boxes.{box-move}
 use Rattle.cl_display.specs.Drawings.{DrawingAt, PartAt, cursor_box, is_near, join_parts, start}
-use Rattle.cl_display.specs.Presentations.{enter_presentation, label_weight, leave_after, leave_presentation, present_text, presented_part, write_inside, write_value}
-use Rattle.cl_display.specs.Settings.{behind_room, enter_room, indent, leave_room, margin_box, restore_ink, restore_margin, room_part, set_ink, with_ink, with_margin}
+use Rattle.cl_display.specs.Presentations.{enter_presentation, label_weight, leave_after, leave_presentation, present_text, presented_part}
+use Rattle.cl_display.specs.Presentations.{write_inside, write_value}
+use Rattle.cl_display.specs.Settings.{behind_room, enter_room, indent, leave_room, margin_box, restore_ink, restore_margin, room_part, set_ink}
+use Rattle.cl_display.specs.Settings.{with_ink, with_margin}
 use Rattle.cl_display.proofs.CornerLemmas.{box-first, box-second, holds-then}
 use Rattle.cl_reuse.specs.Motions.{Motion, move_ambient, move_drawing, move_end, move_part}
 use Rattle.cl_reuse.proofs.MotionLemmas.{Fits, cursor-move, join-move, lowest-move, max-move, near-test, presented-move, range-within, sides-within, swapped}
@@ -49,7 +51,8 @@ module _ (m : Motion) (most : ℕ) where
       let a = s.ambient in
       let margins = swapped a.margin m.margin n in
       let places : (a.margin +ℤ m.margin) +ℤ n ≡ (a.margin +ℤ n) +ℤ m.by.dx = omega (arith, ints, e) in
-      let boxes : box (move_rect m.by s.part.extent) (margin_box (after_indent (move_ambient m a) n)) ≡ move_rect m.by (box s.part.extent (margin_box (after_indent a n))) =
+      let boxes : box (move_rect m.by s.part.extent) (margin_box (after_indent (move_ambient m a) n)) ≡ move_rect m.by
+      (box s.part.extent (margin_box (after_indent a n))) =
       (λ i. box (move_rect m.by s.part.extent) (record { x1 = places i; y1 = a.y +ℤ m.by.dy; x2 = places i; y2 = a.y +ℤ m.by.dy }))
       ∙ sym (box-move m.by s.part.extent (margin_box (after_indent a n))) in
       λ i. record (move_drawing m s) {
@@ -58,7 +61,8 @@ module _ (m : Motion) (most : ℕ) where
       }
 
   enters-indented : (s : DrawingAt) (n : ℤ) (b : Bool)
-      → EntersTo m m most s (if b then Ok (indented s n) else Err 9) (indent (int n) (move_drawing m s)) (restore_margin s.ambient) (restore_margin (move_ambient m s.ambient))
+      → EntersTo m m most s (if b then Ok (indented s n) else Err 9) (indent (int n) (move_drawing m s)) (restore_margin s.ambient)
+      (restore_margin (move_ambient m s.ambient))
   enters-indented s n true =
       let u = indented s n in
       let a = s.ambient in
@@ -185,7 +189,8 @@ module _ (m : Motion) (most : ℕ) where
           sides-within m.by (box s.part.extent t.part.extent) t.part.extent (box-second s.part.extent t.part.extent) f.range;
     };
     moves = λ t g f.
-        let parts : join_parts (move_part m.by s.part) (presented_part label (move_part m.by t.part)) ≡ move_part m.by (join_parts s.part (presented_part label t.part)) =
+        let parts : join_parts (move_part m.by s.part) (presented_part label (move_part m.by t.part)) ≡ move_part m.by
+        (join_parts s.part (presented_part label t.part)) =
         ap (λ (p : PartAt). join_parts (move_part m.by s.part) p) (presented-move m.by label t.part) ∙ join-move m.by s.part (presented_part label t.part) in
         λ i. record { ambient = move_ambient m t.ambient; weight = t.weight; siblings = t.siblings; part = parts i };
   }
@@ -228,5 +233,6 @@ module _ (m : Motion) (most : ℕ) where
       steps-inside label s x (write_value w u x) (steps-write_value m most w u x)
   steps-text_in w label s x false = tt
 
-  pub steps-present_text : (w : ℕ) (label : LabelAt) (s : DrawingAt) (x : Data) → StepsTo m most s (present_text w label s x) (present_text most label (move_drawing m s) x)
+  pub steps-present_text : (w : ℕ) (label : LabelAt) (s : DrawingAt) (x : Data) → StepsTo m most s (present_text w label s x)
+      (present_text most label (move_drawing m s) x)
   steps-present_text w label s x = steps-text_in w label s x (nat_le (s.weight + label_weight label.object) w)

@@ -100,7 +100,8 @@ module _ (app : App) (s : Slots) (e : Env) (s' : Slots) (e' : Env) where
   abbrev SameAt : Path → Type 0
   SameAt p = value_at app p s e ≡ value_at app p s' e'
 
-  one-same : (o : Option Path) (d : Data) (ps : List Path) → HoldsValue app s e o d → HoldsValue app s' e' o d → All SameAt ps → All SameAt (one_or_none o ++ ps)
+  one-same : (o : Option Path) (d : Data) (ps : List Path) → HoldsValue app s e o d → HoldsValue app s' e' o d → All SameAt ps
+      → All SameAt (one_or_none o ++ ps)
   one-same None d ps h k all = all
   one-same (Some p) d ps h k all = All-cons SameAt p ps (h ∙ sym k) all
 

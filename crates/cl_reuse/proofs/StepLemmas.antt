@@ -15,7 +15,8 @@ use Rattle.cl_medium.specs.declared.areas.Area.{Area}
 use Rattle.cl_medium.specs.declared.shapes.LeafShape.{LeafShape}
 use Rattle.cl_medium.specs.declared.shapes.LeafShape.TheVariants.{Fill, Line, Outline, Point}
 use Rattle.cl_medium.specs.declared.shapes.Direction.TheVariants.{Horizontal, Vertical}
-use Rattle.cl_display.specs.Drawings.{DrawingAt, add_item, after_text, cursor_box, cursor_to, is_in_range, is_near, newline, place_text, then_to, with_item, with_margin_used}
+use Rattle.cl_display.specs.Drawings.{DrawingAt, add_item, after_text, cursor_box, cursor_to, is_in_range, is_near, newline, place_text, then_to}
+use Rattle.cl_display.specs.Drawings.{with_item, with_margin_used}
 use Rattle.cl_display.specs.Figures.{draw_parts, draw_shape, with_origin_used}
 use Rattle.cl_display.specs.Presentations.{write_value}
 use Rattle.cl_display.specs.Sums.{Holds}
@@ -116,11 +117,14 @@ module _ (m : Motion) (most : ℕ) where
         record { weight = omega arith; margin = λ h. refl; origin = λ h. h; extent = box-first s.part.extent (cursor_box behind) },
         λ fits.
             let corners = box-second s.part.extent (cursor_box behind) in
-            let lower = range-within m.by (box s.part.extent (cursor_box behind)) (cursor_box behind) (record { across = omega (arith, ints); down = omega (arith, ints) })
+            let lower = range-within m.by (box s.part.extent (cursor_box behind)) (cursor_box behind)
+            (record { across = omega (arith, ints); down = omega (arith, ints) })
             corners fits.range in
             let down = swapped s.ambient.y m.by.dy (pos 1) in
-            let near : is_near ((s.ambient.y +ℤ m.by.dy) +ℤ pos 1) ≡ true = ap (λ (z : ℤ). is_near z) down ∙ near-test ((s.ambient.y +ℤ pos 1) +ℤ m.by.dy) lower.y1 in
-            rw near (ap (λ (t : DrawingAt). Ok t) (cursor_to-move m behind (after_newline (move_ambient m s.ambient)) used (newline-move s.ambient (fits.margin refl)))),
+            let near : is_near ((s.ambient.y +ℤ m.by.dy) +ℤ pos 1) ≡ true = ap (λ (z : ℤ). is_near z) down ∙ near-test
+            ((s.ambient.y +ℤ pos 1) +ℤ m.by.dy) lower.y1 in
+            rw near (ap (λ (t : DrawingAt). Ok t) (cursor_to-move m behind (after_newline (move_ambient m s.ambient)) used
+            (newline-move s.ambient (fits.margin refl)))),
       )
   steps-down s false = tt
 
@@ -144,11 +148,13 @@ module _ (m : Motion) (most : ℕ) where
   upright-area : (area : Area) → (int_le area.width (pos 0) || int_le area.height (pos 0)) ≡ false → IsUpright (bounds_of area)
   upright-area area e = record { across = grind (arith, ints, e); down = grind (arith, ints, e) }
 
-  steps-drawn : (s : DrawingAt) (x y width height : ℤ) (shape : LeafShape) (negative none b c : Bool) → (int_lt width (pos 0) || int_lt height (pos 0)) ≡ negative
+  steps-drawn : (s : DrawingAt) (x y width height : ℤ) (shape : LeafShape) (negative none b c : Bool)
+      → (int_lt width (pos 0) || int_lt height (pos 0)) ≡ negative
       → (int_le width (pos 0) || int_le height (pos 0)) ≡ none
       → StepsTo s (if negative then Err 9 else (if none then Ok s else (if b then with_origin_used (if c
       then Ok (record s { weight = s.weight + 1; part = with_item (in_area shape (shape_area s.ambient x y width height)) s.part }) else Err 10) else Err 9)))
-      (draw_shape most (in_area shape (shape_area (move_ambient m s.ambient) x y width height)) (shape_area (move_ambient m s.ambient) x y width height) (move_drawing m s))
+      (draw_shape most (in_area shape (shape_area (move_ambient m s.ambient) x y width height))
+      (shape_area (move_ambient m s.ambient) x y width height) (move_drawing m s))
   steps-drawn s x y width height shape true none b c e f = tt
   steps-drawn s x y width height shape false true b c e f = (grows-itself s, λ fits. rw (e, f) refl)
   steps-drawn s x y width height shape false false true true e f =
@@ -169,7 +175,8 @@ module _ (m : Motion) (most : ℕ) where
 
   steps-shape : (w : ℕ) (s : DrawingAt) (x y width height : ℤ) (shape : LeafShape)
       → StepsTo s (draw_shape w (in_area shape (shape_area s.ambient x y width height)) (shape_area s.ambient x y width height) s)
-      (draw_shape most (in_area shape (shape_area (move_ambient m s.ambient) x y width height)) (shape_area (move_ambient m s.ambient) x y width height) (move_drawing m s))
+      (draw_shape most (in_area shape (shape_area (move_ambient m s.ambient) x y width height))
+      (shape_area (move_ambient m s.ambient) x y width height) (move_drawing m s))
   steps-shape w s x y width height shape =
       steps-drawn s x y width height shape (int_lt width (pos 0) || int_lt height (pos 0)) (int_le width (pos 0) || int_le height (pos 0))
       (is_in_range (bounds_of (shape_area s.ambient x y width height))) (nat_le (s.weight + 1) w) refl refl
@@ -178,7 +185,8 @@ module _ (m : Motion) (most : ℕ) where
   steps-draw_parts w None s = tt
   steps-draw_parts w (Some p) s = steps-one p.item p.x p.y
     where
-      steps-one : (i : FigureItem) (x y : ℤ) → StepsTo s (draw_parts w (Some (record { x = x; y = y; item = i })) s) (draw_parts most (Some (record { x = x; y = y; item = i })) (move_drawing m s))
+      steps-one : (i : FigureItem) (x y : ℤ) → StepsTo s (draw_parts w (Some (record { x = x; y = y; item = i })) s)
+          (draw_parts most (Some (record { x = x; y = y; item = i })) (move_drawing m s))
       steps-one (item.Point byte) x y = steps-shape w s x y (pos 1) (pos 1) (Point byte)
       steps-one (item.HorizontalLine length) x y = steps-shape w s x y length (pos 1) (Line Horizontal)
       steps-one (item.VerticalLine length) x y = steps-shape w s x y (pos 1) length (Line Vertical)

@@ -1,5 +1,6 @@
 -- Updates elsewhere: where a body ends, and fits, it ends elsewhere too, and so does the update.
-use Rattle.std.proofs.Common.{◌≡◌, ◌∙◌, ap, sym, subst, ℕ, ◌+◌, ◌-◌, ◌≤◌, Bool, true, false, nat_le, if◌then◌else◌, pos, [], Option, Some, None, Ok, Err, arith, refl}
+use Rattle.std.proofs.Common.{◌≡◌, ◌∙◌, ap, sym, subst, ℕ, ◌+◌, ◌-◌, ◌≤◌, Bool, true, false, nat_le, if◌then◌else◌, pos, [], Option, Some, None, Ok}
+use Rattle.std.proofs.Common.{Err, arith, refl}
 use Rattle.std.specs.Prelude.{max}
 use Rattle.std.proofs.lemmas.Bool.Decides.{nat_tests}
 use Rattle.cl_value.specs.Data.{int}
@@ -50,7 +51,8 @@ grows-left key s u n r = record {
 module _ (m : Motion) (budget depth most : ℕ) where
   steps-opened : (key : KeyAt) (s : DrawingAt) (taken b : Bool) → is_taken key.site key.id s.siblings ≡ taken
       → StepsTo m most s (if taken then Err 8 else (if b
-      then Ok (record s { weight = s.weight + key_weight key; siblings = note key.site key.id s.siblings }) else Err 10)) (enter_update most key (move_drawing m s))
+      then Ok (record s { weight = s.weight + key_weight key; siblings = note key.site key.id s.siblings }) else Err 10))
+      (enter_update most key (move_drawing m s))
   steps-opened key s true b e = tt
   steps-opened key s false true e = (
     record { weight = omega arith; margin = λ h. h; origin = λ h. h; extent = holds-itself s.part.extent },
@@ -94,7 +96,8 @@ module _ (m : Motion) (budget depth most : ℕ) where
               let goes : (bodies'.draw (left_over allowed' c s.weight) env body (enter_body (move_drawing m s))).outcome ≡ Gives (move_drawing m u) i r =
               inner.same (omega (arith, cheap, cost, paid)) (omega (arith, shallow, deepest, deep)) f in
               let heads = head-move m key s.ambient u i r f.margin f.origin in
-              let there : leave_update (head_at key (move_ambient m s.ambient) (move_drawing m u) i r) (move_part m.by u.part) (move_drawing m s) ≡ move_drawing m t =
+              let there : leave_update (head_at key (move_ambient m s.ambient) (move_drawing m u) i r) (move_part m.by u.part) (move_drawing m s)
+              ≡ move_drawing m t =
               leave_update-move m (head_at key s.ambient u i r) (head_at key (move_ambient m s.ambient) (move_drawing m u) i r) u.part s heads
               ∙ ap (λ (x : DrawingAt). move_drawing m x) same in
               rw goes (λ k. Gives (there k) (cost k) (deepest k));
@@ -123,7 +126,8 @@ module _ (m : Motion) (budget depth most : ℕ) where
   pub carry-draws_update : (allowed allowed' : Allowance) → allowed'.budget ≡ budget → allowed'.weight ≡ most → (level : ℕ) (value value' : Go)
       → GoGoes budget depth level value value' → (bodies bodies' : Bodies) → BodiesCarry bodies bodies' → depth ≡ level + bodies'.depth
       → (env : Env) (u : UpdateTree) (body : ShapeTrees) (s : DrawingAt)
-      → Carry m budget depth most s (draws_update allowed value bodies level env u body s) (draws_update allowed' value' bodies' level env u body (move_drawing m s))
+      → Carry m budget depth most s (draws_update allowed value bodies level env u body s)
+      (draws_update allowed' value' bodies' level env u body (move_drawing m s))
   carry-draws_update allowed allowed' paid w level value value' v bodies bodies' b deep env u body s =
       carry-value m budget depth most s (id_of value level env s.siblings u.site u.id) (id_of value' level env s.siblings u.site u.id)
       (draws_cached allowed value bodies level env u body s) (draws_cached allowed' value' bodies' level env u body (move_drawing m s))

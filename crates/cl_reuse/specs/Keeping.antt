@@ -12,7 +12,7 @@ use Rattle.cl_record.specs.Marks.{Mark, move_marks}
 use Rattle.cl_record.specs.Replays.{items_drawn}
 use Rattle.cl_display.specs.Drawings.{DrawingAt, PartAt, is_in_range}
 use Rattle.cl_display.specs.Sums.{lowest_of}
-use Rattle.cl_display.specs.Updates.{measures_at}
+use Rattle.cl_display.specs.Updates.{KeyAt, measures_at}
 use Rattle.cl_display.specs.Walks.{OpeningAt}
 
 -- the same values
@@ -71,6 +71,10 @@ kept_part v h inside = record {
   origin_used = is_some h.measures.origin;
   marks = move_marks move_item v inside;
 }
+
+-- what an update that is kept says of itself: its new site, id and cache, and the old measures, moved
+abbrev pub kept_head : Shift → KeyAt → HeadAt → HeadAt
+kept_head v key h = record { site = key.site; id = key.id; cache = key.cache; measures = move_measures v h.measures }
 
 -- a body that was drawn from there ended as an old update says of itself, moved, with the old marks, moved
 pub record EndsAs (h : HeadAt) (inside : List (Mark Item)) (v : Shift) (start : AmbientAt) (o : Outcome DrawingAt) : Type 0 where

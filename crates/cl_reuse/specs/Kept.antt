@@ -1,6 +1,6 @@
 -- What is kept of old records where a display is drawn anew. The updates that the display opens are walked; what is opened inside one that is
 -- kept is not looked at.
-use Rattle.std.specs.Prelude.{ℕ, ◌+◌, ◌-◌, ◌&&◌, Bool, if◌then◌else◌, List, [], ◌∷◌, ◌++◌, Option, Some, None}
+use Rattle.std.specs.Prelude.{◌≡◌, ℕ, ◌+◌, ◌-◌, ◌&&◌, Bool, if◌then◌else◌, List, [], ◌∷◌, ◌++◌, Option, Some, None}
 use Rattle.std.specs.Ordering.{is_eq}
 use Rattle.cl_value.specs.Data.{Data, order_of}
 use Rattle.cl_region.specs.declared.rects.Shift.{Shift}
@@ -9,7 +9,7 @@ use Rattle.cl_medium.specs.Items.{Item, move_item}
 use Rattle.cl_eval.specs.Outcome.{cost_of}
 use Rattle.cl_record.specs.Counts.{count_of}
 use Rattle.cl_record.specs.Heads.{HeadAt, Point, move_point}
-use Rattle.cl_record.specs.Marks.{marks_of_all}
+use Rattle.cl_record.specs.Marks.{Mark, history_marks, marks_of_all}
 use Rattle.cl_record.specs.Shifts.{join_shifts, still}
 use Rattle.cl_record.specs.Trees.{Tree, Trees, leaf, none, presentation, tree, trees_of, update}
 use Rattle.cl_display.specs.Outcomes.{DrawOutcome}
@@ -107,3 +107,18 @@ count_moved (k ∷ ks) = (if is_still k then 0 else 1) + count_moved ks
 -- the cost of a display over an old history: that of what is drawn anew
 abbrev pub work : List (Tree Item) → DrawOutcome → ℕ
 work old o = cost_of o.outcome - costs (kept old o)
+
+-- the four numbers of a display over an old history: what is kept where it stood, and what is moved; the items that are drawn, and those that are
+-- erased, outside of what is kept
+pub record ReportAt : Type 0 where
+  pub kept : ℕ
+  pub moved : ℕ
+  pub drawn : ℕ
+  pub erased : ℕ
+
+-- these are the numbers of a display that ended with these marks
+pub record IsReport (r : ReportAt) (old : List (Tree Item)) (o : DrawOutcome) (marks : List (Mark Item)) : Type 0 where
+  pub still : r.kept ≡ count_still (kept old o)
+  pub elsewhere : r.moved ≡ count_moved (kept old o)
+  pub new : r.drawn + items_kept (kept old o) ≡ count_of marks
+  pub gone : r.erased + items_kept (kept old o) ≡ count_of (history_marks move_item old)

@@ -1,7 +1,9 @@
 //! What the definitions of this crate say. The contracts are the laws.
-ghost use Rattle.std.specs.Prelude.{◌≡◌, ◌+◌, ◌-◌, ◌≤◌, IfSome, List, [], true, ℕ};
+ghost use Rattle.std.specs.Prelude.{◌≡◌, ◌+◌, ◌-◌, ◌≤◌, IfSome, List, [], length, max, true, ℕ};
 ghost use Rattle.cl_syntax.specs.ShapeTree.{ShapeTree, ShapeTrees, shape_trees_of};
+ghost use Rattle.cl_application.specs.App.{forms_of};
 ghost use Rattle.cl_application.specs.declared.applications.App.{App};
+ghost use Rattle.cl_application.specs.declared.declarations.PaneDecl.{PaneDecl};
 ghost use Rattle.cl_eval.specs.Slots.{Env, Slots};
 ghost use Rattle.cl_cover.specs.Updates.{AreCovered};
 ghost use Rattle.cl_eval.specs.declared.metering.Limits.{Limits};
@@ -17,11 +19,11 @@ ghost use Rattle.cl_display.specs.Drawings.{DrawingAt};
 ghost use Rattle.cl_display.specs.Fresh.{Allowance, Scene, bodies_on, closes, draws, draws_body, in_order};
 ghost use Rattle.cl_display.specs.Outcomes.{DrawOutcome};
 ghost use Rattle.cl_display.specs.Script.{fresh};
-ghost use Rattle.cl_display.specs.Updates.{KeyAt, opening_at};
+ghost use Rattle.cl_display.specs.Updates.{KeyAt, leave_update, opening_at};
 ghost use Rattle.cl_display.specs.Walks.{OpeningAt};
 ghost use Rattle.cl_reuse.specs.Bodies.{body_from, motion_between};
-ghost use Rattle.cl_reuse.specs.Keeping.{EndsAs, may_keep, shift_at};
-ghost use Rattle.cl_reuse.specs.Kept.{costs, kept};
+ghost use Rattle.cl_reuse.specs.Keeping.{EndsAs, kept_head, kept_part, may_keep, shift_at};
+ghost use Rattle.cl_reuse.specs.Kept.{KeptAt, costs, count_moved, count_still, kept, work};
 ghost use Rattle.cl_reuse.specs.Motions.{FitsThere, Motion, move_drawing};
 ghost use Rattle.cl_reuse.specs.ReadValues.{AgreeOnForms, SeesReads, scene_on};
 ghost use Rattle.cl_reuse.specs.Recorded.{HasFaithfulHistory, IsFaithful, IsFaithfulHistory, IsRecorded};
@@ -66,7 +68,8 @@ pub fn moved_records_stay_faithful()
 
 /// Where an old update of faithful records may be kept at an opening of its site, the body that would be drawn there ends as the update says
 /// of itself, moved from the old start to the new one, and draws the old marks, moved. So its records may stand for the body, unlooked at.
-/// The second clause says that it is this body that an update draws which is opened.
+/// The second clause says that it is this body that an update draws which is opened, and the third what the display then goes on from: it is
+/// given by the old head, the old marks and the opening.
 pub fn a_kept_update_ends_as_recorded()
     ensures body { (app : App) (types : TypeMeanings)
         → AreTexts app types.presents → SeesReads app types.presents → AreCovered app → AreApart app
@@ -78,21 +81,32 @@ pub fn a_kept_update_ends_as_recorded()
         (o : OpeningAt) → o ≡ opening_at key s (allowed.budget - cost) (allowed.weight - s.weight) depth
         → draws_body allowed (bodies_on depth scene) level env body key s cost deepest
         ≡ closes key level s o (body_from o.depth (record { budget = o.budget; weight = o.weight }) scene env body o.ambient) cost deepest }
+    ensures joined { (h : HeadAt) (inside : List (Mark Item)) (v : Shift) (key : KeyAt) (level : ℕ) (s : DrawingAt) (o : OpeningAt) (b : DrawOutcome)
+        (cost deepest : ℕ) → EndsAs h inside v s.ambient b.outcome
+        → (closes key level s o b cost deepest).outcome
+        ≡ Gives (leave_update (kept_head v key h) (kept_part v h inside) s) (cost + h.measures.cost) (max deepest (level + h.measures.reach)) }
 {}
 
-/// The history of a display is faithful: its marks are those of records each of which is recorded as its body was drawn.
+/// The history of a display is faithful: its marks are those of records each of which is recorded as its body was drawn. The updates of the
+/// forms of a pane stand in a display of the application, as this asks.
 pub fn displays_are_faithful()
-    ensures { (limits : Limits) (app : App) (types : TypeMeanings) (slots : Slots) (forms : List ShapeTree) (env : Env) → AreOwn app (shape_trees_of forms)
+    ensures drawn { (limits : Limits) (app : App) (types : TypeMeanings) (slots : Slots) (forms : List ShapeTree) (env : Env) → AreOwn app (shape_trees_of forms)
         → (s : DrawingAt) (cost reach : ℕ) → (fresh limits (scene_on app slots types) forms env).outcome ≡ Gives s cost reach
         → HasFaithfulHistory app types s.part.marks }
+    ensures panes { (app : App) (pane : PaneDecl) → AreOwn app (shape_trees_of (forms_of pane app)) }
 {}
 
 /// Over no old records nothing is kept. Over faithful ones the costs of what is kept do not pass the cost of the display, up to its trap where
-/// it traps: so the work that is left is the cost less these.
+/// it traps: its work and these are together its cost. What is kept stands where it stood or is moved.
 pub fn what_is_kept_costs_no_more_than_the_display()
     ensures none { (o : DrawOutcome) → kept [] o ≡ [] }
     ensures pays { (limits : Limits) (app : App) (types : TypeMeanings) (slots : Slots) (forms : List ShapeTree) (env : Env)
         → AreTexts app types.presents → SeesReads app types.presents → AreCovered app → AreApart app → AreOwn app (shape_trees_of forms)
         → (old : List (Tree Item)) → IsFaithfulHistory app types old
         → costs (kept old (fresh limits (scene_on app slots types) forms env)) ≤ cost_of (fresh limits (scene_on app slots types) forms env).outcome }
+    ensures work { (limits : Limits) (app : App) (types : TypeMeanings) (slots : Slots) (forms : List ShapeTree) (env : Env)
+        → AreTexts app types.presents → SeesReads app types.presents → AreCovered app → AreApart app → AreOwn app (shape_trees_of forms)
+        → (old : List (Tree Item)) → IsFaithfulHistory app types old → (o : DrawOutcome) → o ≡ fresh limits (scene_on app slots types) forms env
+        → work old o + costs (kept old o) ≡ cost_of o.outcome }
+    ensures counts { (ks : List KeptAt) → count_still ks + count_moved ks ≡ length ks }
 {}
