@@ -77,8 +77,8 @@ pub fn display<T: Types, L: Ledger>(
     }
 }
 
-// The history of a display that trapped.
-fn trapped(alloc: Global, kind: u8) -> Result<History, AllocError>
+/// The history of a display that trapped: one text in the corner, which tells the kind of the trap.
+pub fn trapped(alloc: Global, kind: u8) -> Result<History, AllocError>
     ensures { IfOk result (λ h. history_marks move_item h ≡ trap_history kind) }
 {
     let message = format!(in alloc; "trap {kind}")?;

@@ -1,5 +1,5 @@
 //! The extent of a drawing, and the lowest end of its items.
-ghost use Rattle.std.specs.Prelude.{◌≡◌, Some, None};
+ghost use Rattle.std.specs.Prelude.{◌≡◌, Some, None, IfSome};
 ghost use Rattle.std.specs.Option.{unwrap_or};
 ghost use Rattle.cl_region.specs.Places.{IsInRange, IsNear, box};
 ghost use Rattle.cl_display.specs.Drawings.{cursor_box, lower_end};
@@ -117,7 +117,15 @@ impl Lowest {
     pub fn join(&mut self, other: &Lowest)
         ensures { self.new ≡ lower_end self.old other.now }
     {
-        let Some(end) = other.end else {
+        self.take_end(other.end);
+    }
+
+    /// Takes in the end of other items, if there are any.
+    pub fn take_end(&mut self, end: Option<i64>)
+        requires { IfSome end IsNear }
+        ensures { self.new ≡ lower_end self.old end }
+    {
+        let Some(end) = end else {
             return;
         };
         self.end = match self.end {
