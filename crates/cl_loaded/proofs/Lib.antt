@@ -1,0 +1,5 @@
+pub mod TextsNamed
+pub mod TextsReached
+pub mod TextsSeen
+pub mod TextsOwned
+pub mod TextsStable
