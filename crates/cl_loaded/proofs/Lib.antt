@@ -1,0 +1,3 @@
+pub mod SitesLemmas
+pub mod SitesForms
+pub mod SitesTexts
