@@ -1,9 +1,6 @@
 -- The updates that a display form opens stand at forms within it, each at its own.
-use Rattle.std.proofs.Common.{◌≡◌, ◌≤◌, ◌<◌, ◌+◌, ℕ, zero, suc, Bool, true, false, drop, length, List, [], ◌∷◌, refl, arith, IfOk}
-use Rattle.std.specs.Prelude.{◌==◌, Result, Ok, Err, Option, Some, None, if◌then◌else◌}
-use Rattle.cl_syntax.specs.Expr.{bindings_of}
-use Rattle.cl_syntax.specs.ExprTree.{ExprTree, expr_trees_of}
-use Rattle.cl_syntax.specs.ShapeTree as shape
+use Rattle.std.proofs.Common.{◌≡◌, ◌≤◌, ◌<◌, ◌+◌, ℕ, zero, suc, drop, length, List, [], ◌∷◌, refl, arith, IfOk}
+use Rattle.std.specs.Prelude.{◌==◌, Result, Ok, Err, Option, Some, None}
 use Rattle.cl_syntax.specs.ShapeTree.{ShapeTree, shape_trees_of}
 use Rattle.cl_syntax.specs.UpdateTree.{UpdateTree}
 use Rattle.cl_syntax.specs.declared.figures.Figure.{Figure}
@@ -16,7 +13,6 @@ use Rattle.cl_words.specs.declared.heads.Control.{Control}
 use Rattle.cl_words.specs.declared.heads.Control.TheVariants as control
 use Rattle.cl_words.specs.declared.heads.Head.{Head}
 use Rattle.cl_words.specs.declared.heads.Head.TheVariants as head
-use Rattle.cl_words.specs.declared.heads.Planned.{Planned}
 use Rattle.cl_words.specs.declared.heads.Planned.TheVariants as planned
 use Rattle.cl_words.specs.declared.heads.Setting.{Setting}
 use Rattle.cl_words.specs.declared.heads.Setting.TheVariants as setting
@@ -29,7 +25,7 @@ use Rattle.cl_expressions.specs.Load.{Load, Notes, Fault}
 use Rattle.cl_expressions.specs.Scopes.{Names}
 use Rattle.cl_bodies.specs.Bodies as row
 use Rattle.cl_bodies.specs.Bodies.{Part, finished, parse_each, parts_in, subs_of}
-use Rattle.cl_bodies.specs.DisplayForms.{closed, display_forms, parse_call, parse_call_counted, parse_draw, parse_newline, parse_own, parse_setting, parse_update, parse_write, parse_writing}
+use Rattle.cl_bodies.specs.DisplayForms.{closed, display_forms, parse_call_counted, parse_draw, parse_newline, parse_own, parse_setting, parse_write, parse_writing}
 use Rattle.cl_bodies.specs.Presentations.{parse_present, parse_presented}
 use Rattle.cl_bodies.specs.Specifiers.{parse_type}
 use Rattle.cl_bodies.specs.Updates.{nothing_said, parse_update_keyed, parse_update_keys, parse_update_list, update_keys_in}
@@ -140,7 +136,8 @@ dolist_stands : (w : Signatures) (c : Context) (at : ℕ) (ps : List (Part Shape
     → Ends (Stands from to) (row.parse_dolist display_forms w c at ps env)
 dolist_stands w c at [] env from to h = refuses
 dolist_stands w c at (a ∷ ps) env from to h =
-    binds (anything (parse_binding w a.sub.shape at env)) λ b x. binds (each_stand c ps (b.name ∷ env) from to (parts_behind a ps from to h)) λ fs i. gives i
+    binds (anything (parse_binding w a.sub.shape at env)) λ b x.
+    binds (each_stand c ps (b.name ∷ env) from to (parts_behind a ps from to h)) λ fs i. gives i
 
 control_stands : (w : Signatures) (c : Context) (k : Control) (at : ℕ) (ps : List (Part ShapeTree Context)) (env : Names) (from to : ℕ)
     → PartsStand from ps to → Ends (Stands from to) (row.parse_control display_forms w c k at ps env)

@@ -1,12 +1,12 @@
 -- The updates of all displays that a text declares stand at forms of the text, each at its own.
-use Rattle.std.proofs.Common.{◌≡◌, ◌∙◌, ◌≤◌, ◌⊎◌, inl, inr, ℕ, Bool, true, false, ◌&&◌, List, [], ◌∷◌, ◌++◌, refl, sym, ap, subst, arith, IfOk}
+use Rattle.std.proofs.Common.{◌≡◌, ◌≤◌, ◌⊎◌, inl, inr, ℕ, Bool, true, false, ◌&&◌, List, [], ◌∷◌, ◌++◌, ap, subst, arith, IfOk}
 use Rattle.std.specs.Prelude.{Result, Ok, Err, Option, Some, None, is_some, if◌then◌else◌}
 use Rattle.cl_syntax.specs.ShapeTree.{shape_trees_of}
 use Rattle.cl_table.specs.Names.{named}
-use Rattle.cl_forms.specs.Datum.{Datum, Datums, number, literal, word, quoted, stray, list, none, item, in_order, datums_of}
+use Rattle.cl_forms.specs.Datum.{Datum, number, literal, word, quoted, stray, list, none, item, in_order, datums_of}
 use Rattle.cl_forms.specs.Naming.{name_in}
 use Rattle.cl_forms.specs.Outer.{kind_named, outer_in, outers_of}
-use Rattle.cl_forms.specs.Tree.{Tree, trees_of}
+use Rattle.cl_forms.specs.Tree.{trees_of}
 use Rattle.cl_forms.specs.declared.outer.DeclarationKind.{DeclarationKind}
 use Rattle.cl_forms.specs.declared.outer.DeclarationKind.TheVariants.{Record, PresentationType, HostType, PresentMethod, AcceptMethod, Function, Display, CommandTable, Command, Translator, CommandTranslator, Frame}
 use Rattle.cl_forms.specs.declared.outer.OuterKind.{OuterKind}
@@ -31,7 +31,7 @@ use Rattle.cl_declare.specs.declared.declarations.Declarations.{Declarations}
 use Rattle.cl_declare.specs.declared.frames.FrameForm.{FrameForm}
 use Rattle.cl_declare.specs.declared.translator_shapes.TranslatorKind.TheVariants as kind
 use Rattle.cl_grammar.specs.Lies.{Lies, LieAll, LieInText}
-use Rattle.cl_grammar.proofs.Endings.{Ends, gives, refuses, chooses, binds, ends_weaker}
+use Rattle.cl_grammar.proofs.Endings.{Ends, gives, refuses, chooses, binds}
 use Rattle.cl_grammar.proofs.Lying.{LieList, datum_earlier, datum_rises, list_lies}
 use Rattle.cl_grammar.proofs.TextLies.{text_lies}
 use Rattle.cl_load.specs.Application.{ComesTo, LoadsAs, data_of}
