@@ -1,6 +1,8 @@
-//! What every loaded application keeps to.
+//! What every loaded application keeps to. The contracts are the laws.
 #![tactic(auto)]
 
+mod sites;
 mod texts;
 
+pub use sites::updates_of_loaded_applications_are_apart;
 pub use texts::loaded_types_see_what_they_read;
