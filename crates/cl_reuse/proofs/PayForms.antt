@@ -42,17 +42,17 @@ use Rattle.cl_reuse.proofs.PayLemmas.{Pays, PaysFor, pays-value}
 
 -- ---- what is found in faithful records
 
-site-same : (a b : Site) → same_site a b ≡ true → a ≡ b
+pub site-same : (a b : Site) → same_site a b ≡ true → a ≡ b
 site-same a b h =
     let forms : a.form ≡ b.form = grind (arith, nat_tests, and_left (a.form == b.form) (a.query == b.query) h) in
     let queries : a.query ≡ b.query = grind (arith, nat_tests, and_right (a.form == b.form) (a.query == b.query) h) in
     λ i. record { form = forms i; query = queries i }
 
 -- an old update of this site that is recorded, and holds faithful records
-record FoundAs (app : App) (types : TypeMeanings) (site : Site) (old : OldUpdate) : Type 0 where
-  recorded : IfSome old.head.cache (IsRecorded app types old.head (marks_of_all move_item old.inside))
-  inside : AreFaithful app types old.inside
-  same : site ≡ old.head.site
+pub record FoundAs (app : App) (types : TypeMeanings) (site : Site) (old : OldUpdate) : Type 0 where
+  pub recorded : IfSome old.head.cache (IsRecorded app types old.head (marks_of_all move_item old.inside))
+  pub inside : AreFaithful app types old.inside
+  pub same : site ≡ old.head.site
 
 module _ (app : App) (types : TypeMeanings) (site : Site) (id : Data) where
   either-found : (a b : Option OldUpdate) → IfSome a (FoundAs app types site) → IfSome b (FoundAs app types site)
@@ -72,7 +72,7 @@ module _ (app : App) (types : TypeMeanings) (site : Site) (id : Data) where
     found-in at (presentation l p ts) f = found-among (join_shifts p at) ts f
     found-in at (update h p ts) f = one-found h p ts (is_that site id h) refl f (join_shifts p at)
 
-    found-among : (at : Shift) (ts : Trees Item) → AreFaithful app types ts → IfSome (found site id at ts) (FoundAs app types site)
+    pub found-among : (at : Shift) (ts : Trees Item) → AreFaithful app types ts → IfSome (found site id at ts) (FoundAs app types site)
     found-among at records.none f = tt
     found-among at (tree t ts) f = either-found (found_in site id at t) (found site id at ts) (found-in at t f.0) (found-among at ts f.1)
 
@@ -82,7 +82,7 @@ ended-cost : (key : KeyAt) (level : ℕ) (s : DrawingAt) (o : Outcome DrawingAt)
 ended-cost key level s (Gives t n r) c d = refl
 ended-cost key level s (Traps k n r) c d = refl
 
-no-cache : (old : Option (List Data)) → same_cache old None ≡ true → ⊥
+pub no-cache : (old : Option (List Data)) → same_cache old None ≡ true → ⊥
 no-cache None h = cc
 no-cache (Some ds) h = cc
 

@@ -12,11 +12,11 @@ use Rattle.cl_display.specs.Outcomes.{Draw, DrawOutcome, opens_none, run_of, wal
 use Rattle.cl_display.specs.Walks.{Walk, done, met, ◌then◌}
 use Rattle.cl_reuse.specs.Kept.{KeptAt, costs, found, kept_at, kept_of}
 
-costs-behind : (ks js : List KeptAt) → costs (ks ++ js) ≡ costs ks + costs js
+pub costs-behind : (ks js : List KeptAt) → costs (ks ++ js) ≡ costs ks + costs js
 costs-behind [] js = omega arith
 costs-behind (k ∷ ks) js = omega (arith, costs-behind ks js)
 
-kept-then : (at : Shift) (old : Trees Item) (w u : Walk) → kept_of at old (w then u) ≡ kept_of at old w ++ kept_of at old u
+pub kept-then : (at : Shift) (old : Trees Item) (w u : Walk) → kept_of at old (w then u) ≡ kept_of at old w ++ kept_of at old u
 kept-then at old done u = refl
 kept-then at old (met o inside rest) u =
     let here = kept_at (found o.site o.id at old) o (λ there olds. kept_of there olds inside) in
