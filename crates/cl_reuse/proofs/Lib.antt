@@ -18,3 +18,5 @@ pub mod PayRows
 pub mod FaithForms
 pub mod FaithRows
 pub mod DisplayPays
+pub mod ToldRecords
+pub mod ToldKept

@@ -13,7 +13,7 @@ ghost use Rattle.cl_medium.specs.Ambients.{AmbientAt};
 ghost use Rattle.cl_medium.specs.Items.{Item, move_item};
 ghost use Rattle.cl_region.specs.declared.rects.Shift.{Shift};
 ghost use Rattle.cl_record.specs.Heads.{HeadAt};
-ghost use Rattle.cl_record.specs.Marks.{Mark};
+ghost use Rattle.cl_record.specs.Marks.{Mark, history_marks};
 ghost use Rattle.cl_record.specs.Trees.{Tree, move_tree};
 ghost use Rattle.cl_display.specs.Drawings.{DrawingAt};
 ghost use Rattle.cl_display.specs.Fresh.{Allowance, Scene, bodies_on, closes, draws, draws_body, in_order};
@@ -27,6 +27,7 @@ ghost use Rattle.cl_reuse.specs.Kept.{KeptAt, costs, count_moved, count_still, k
 ghost use Rattle.cl_reuse.specs.Motions.{FitsThere, Motion, move_drawing};
 ghost use Rattle.cl_reuse.specs.ReadValues.{AgreeOnForms, SeesReads, scene_on};
 ghost use Rattle.cl_reuse.specs.Recorded.{HasFaithfulHistory, IsFaithful, IsFaithfulHistory, IsRecorded};
+ghost use Rattle.cl_reuse.specs.Records.{kept_among};
 ghost use Rattle.cl_reuse.specs.Sited.{AreApart, AreOwn, HoldCache, IsUpdateOf, Sited};
 
 /// What display forms draw depends on the values at the paths that they read alone: where each has the same value in both, or none, they come
@@ -109,4 +110,10 @@ pub fn what_is_kept_costs_no_more_than_the_display()
         → (old : List (Tree Item)) → IsFaithfulHistory app types old → (o : DrawOutcome) → o ≡ fresh limits (scene_on app slots types) forms env
         → work old o + costs (kept old o) ≡ cost_of o.outcome }
     ensures counts { (ks : List KeptAt) → count_still ks + count_moved ks ≡ length ks }
+{}
+
+/// What is kept of an old history is told by its marks: the records that its marks tell, each branch of which stands at no place of its own, are
+/// kept where those of the history are, and as those. So two histories with the same marks keep the same.
+pub fn what_is_kept_is_told_by_the_marks()
+    ensures { (old : List (Tree Item)) (o : DrawOutcome) → kept_among (history_marks move_item old) o ≡ kept old o }
 {}
