@@ -10,6 +10,9 @@ pub mod BodyMoves
 pub mod SitedLemmas
 pub mod KeepLemmas
 pub mod FaithLemmas
+pub mod FlatRows
+pub mod MarkedFaith
+pub mod OnceForms
 pub mod CacheLemmas
 pub mod DisplayNames
 pub mod PayLemmas

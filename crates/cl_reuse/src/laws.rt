@@ -1,5 +1,6 @@
 //! What the definitions of this crate say. The contracts are the laws.
 ghost use Rattle.std.specs.Prelude.{◌≡◌, ◌+◌, ◌-◌, ◌≤◌, IfSome, List, [], length, max, true, ℕ};
+ghost use Rattle.cl_value.specs.Data.{Data};
 ghost use Rattle.cl_syntax.specs.ShapeTree.{ShapeTree, ShapeTrees, shape_trees_of};
 ghost use Rattle.cl_application.specs.App.{forms_of};
 ghost use Rattle.cl_application.specs.declared.applications.App.{App};
@@ -10,11 +11,13 @@ ghost use Rattle.cl_eval.specs.declared.metering.Limits.{Limits};
 ghost use Rattle.cl_eval.specs.Outcome.{Gives, cost_of};
 ghost use Rattle.cl_eval.specs.TypeMeanings.{AreTexts, TypeMeanings};
 ghost use Rattle.cl_medium.specs.Ambients.{AmbientAt};
-ghost use Rattle.cl_medium.specs.Items.{Item, move_item};
+ghost use Rattle.cl_medium.specs.Items.{Item, item_bounds, move_item};
+ghost use Rattle.cl_region.specs.Places.{IsInRange, move_rect};
 ghost use Rattle.cl_region.specs.declared.rects.Shift.{Shift};
-ghost use Rattle.cl_record.specs.Heads.{HeadAt};
-ghost use Rattle.cl_record.specs.Marks.{Mark};
-ghost use Rattle.cl_record.specs.Trees.{Tree, move_tree};
+ghost use Rattle.cl_record.specs.Heads.{HeadAt, move_head};
+ghost use Rattle.cl_record.specs.Marks.{Mark, history_marks, move_marks};
+ghost use Rattle.cl_record.specs.Ranges.{AreSound};
+ghost use Rattle.cl_record.specs.Trees.{Tree, move_tree, trees_of};
 ghost use Rattle.cl_display.specs.Drawings.{DrawingAt};
 ghost use Rattle.cl_display.specs.Fresh.{Allowance, Scene, bodies_on, closes, draws, draws_body, in_order};
 ghost use Rattle.cl_display.specs.Outcomes.{DrawOutcome};
@@ -64,6 +67,18 @@ pub fn moved_records_stay_faithful()
     ensures none { (app : App) (types : TypeMeanings) → IsFaithfulHistory app types [] }
     ensures moved { (app : App) (types : TypeMeanings) (v : Shift) (t : Tree Item)
         → IsFaithful app types t → IsFaithful app types (move_tree move_item v t) }
+{}
+
+/// Whether a history is faithful is told by its marks, where it holds together: a branch stands wherever its records were put together, and what
+/// it holds may be moved the other way. So a history that is read from the marks of a faithful one is faithful. What an update says of itself
+/// and its marks are recorded wherever they are moved within the range of coordinates, since its body may be drawn there.
+pub fn faithfulness_is_told_by_the_marks()
+    ensures histories { (app : App) (types : TypeMeanings) → AreTexts app types.presents → (a b : List (Tree Item))
+        → history_marks move_item a ≡ history_marks move_item b → AreSound item_bounds move_item (trees_of b)
+        → IsFaithfulHistory app types a → IsFaithfulHistory app types b }
+    ensures updates { (app : App) (types : TypeMeanings) → AreTexts app types.presents
+        → (v : Shift) (h : HeadAt) (inside : List (Mark Item)) (values : List Data) → IsRecorded app types h inside values
+        → IsInRange (move_rect v h.measures.extent) → IsRecorded app types (move_head v h) (move_marks move_item v inside) values }
 {}
 
 /// Where an old update of faithful records may be kept at an opening of its site, the body that would be drawn there ends as the update says
