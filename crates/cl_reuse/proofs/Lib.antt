@@ -13,6 +13,7 @@ pub mod FaithLemmas
 pub mod FlatRows
 pub mod MarkedFaith
 pub mod OnceForms
+pub mod OnceRows
 pub mod CacheLemmas
 pub mod DisplayNames
 pub mod PayLemmas
