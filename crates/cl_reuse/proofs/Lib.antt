@@ -14,6 +14,7 @@ pub mod FlatRows
 pub mod MarkedFaith
 pub mod OnceForms
 pub mod OnceRows
+pub mod GoneLemmas
 pub mod CacheLemmas
 pub mod DisplayNames
 pub mod PayLemmas
