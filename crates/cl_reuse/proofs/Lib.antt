@@ -22,4 +22,5 @@ pub mod PayForms
 pub mod PayRows
 pub mod FaithForms
 pub mod FaithRows
+pub mod CountForms
 pub mod DisplayPays
