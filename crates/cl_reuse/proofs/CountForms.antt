@@ -1,5 +1,5 @@
 -- What is kept of faithful records has no more items than what is drawn: sums over runs.
-use Rattle.std.proofs.Common.{◌≡◌, ◌∙◌, ap, sym, subst, refl, ℕ, ◌+◌, ◌-◌, ◌≤◌, nat_le, Bool, true, false, if◌then◌else◌, List, [], ◌∷◌, ◌++◌, append-nil}
+use Rattle.std.proofs.Common.{◌≡◌, ◌∙◌, ap, sym, refl, ℕ, ◌+◌, ◌-◌, ◌≤◌, Bool, true, false, if◌then◌else◌, List, [], ◌∷◌, ◌++◌, append-nil}
 use Rattle.std.proofs.Common.{Option, Some, None, Result, Ok, Err, arith}
 use Rattle.std.specs.Prelude.{IfSome}
 use Rattle.cl_region.specs.declared.rects.Shift.{Shift}
@@ -12,18 +12,15 @@ use Rattle.cl_eval.proofs.LimitLemmas.{no_value}
 use Rattle.cl_medium.specs.Items.{Item, move_item}
 use Rattle.cl_record.specs.Counts.{count_of}
 use Rattle.cl_record.specs.Heads.{HeadAt}
-use Rattle.cl_record.specs.Labels.{LabelAt}
-use Rattle.cl_record.specs.Marks.{Mark, close, history_marks, marks_of_all, open_presentation, open_update}
+use Rattle.cl_record.specs.Marks.{Mark, close, history_marks, marks_of_all, open_update}
 use Rattle.cl_record.specs.Shifts.{still}
 use Rattle.cl_record.specs.Trees.{Trees}
 use Rattle.cl_record.specs.Trees as records
 use Rattle.cl_display.specs.Drawings.{DrawingAt}
 use Rattle.cl_display.specs.Fresh.{Allowance, bodies_on, draws_body, draws_keyed, left_over}
 use Rattle.cl_display.specs.Outcomes.{Draw, DrawOutcome, opens_none, run_of, walk_after, ◌>->◌, ◌>>=◌}
-use Rattle.cl_display.specs.Siblings.{is_taken, note}
-use Rattle.cl_display.specs.Updates.{KeyAt, ended, enter_body, enter_update, head_at, key_weight, opening_at}
+use Rattle.cl_display.specs.Updates.{KeyAt, ended, enter_body, enter_update, head_at, opening_at}
 use Rattle.cl_display.specs.Walks.{OpeningAt, Walk, done, ◌then◌}
-use Rattle.cl_reuse.specs.Bodies.{body_from}
 use Rattle.cl_reuse.specs.Keeping.{EndsAs, kept_part, may_keep, shift_at}
 use Rattle.cl_reuse.specs.Kept.{KeptAt, OldUpdate, found, items_kept, kept_at, kept_here, kept_of}
 use Rattle.cl_reuse.specs.ReadValues.{scene_on}
@@ -31,7 +28,7 @@ use Rattle.cl_reuse.specs.Recorded.{AreFaithful}
 use Rattle.cl_reuse.proofs.FaithForms.{Draws, StepDraws}
 use Rattle.cl_reuse.proofs.GoneLemmas.{count-behind, count-moved, items-behind}
 use Rattle.cl_reuse.proofs.PayForms.{Ends, FoundAs, found-among}
-use Rattle.cl_reuse.proofs.PayLemmas.{kept-then, none-kept}
+use Rattle.cl_reuse.proofs.PayLemmas.{kept-then}
 
 -- the drawing at an end
 abbrev end_of : DrawingAt → Outcome DrawingAt → DrawingAt

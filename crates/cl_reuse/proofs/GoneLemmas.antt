@@ -1,13 +1,9 @@
 -- What is kept of an old history has no more items than the history, where no level of the walk opens a site and an id twice.
-use Rattle.std.proofs.Common.{◌≡◌, ◌∙◌, ap, sym, refl, ℕ, ◌+◌, ◌≤◌, Bool, true, false, if◌then◌else◌, List, [], ◌∷◌, ◌++◌, length, Option, Some, None, arith}
-use Rattle.std.specs.Prelude.{◌&&◌, ◌||◌}
-use Rattle.std.specs.Ordering.{is_eq}
-use Rattle.cl_value.specs.Data.{Data, order_of}
+use Rattle.std.proofs.Common.{◌≡◌, ap, refl, ℕ, ◌+◌, ◌≤◌, Bool, true, false, if◌then◌else◌, List, [], ◌∷◌, ◌++◌, Option, Some, None, arith}
+use Rattle.std.specs.Prelude.{◌||◌}
 use Rattle.cl_region.specs.declared.rects.Shift.{Shift}
-use Rattle.cl_syntax.specs.declared.sites.Site.{Site}
 use Rattle.cl_medium.specs.Items.{Item, move_item}
 use Rattle.cl_record.specs.Counts.{count_of}
-use Rattle.cl_record.specs.Heads.{HeadAt}
 use Rattle.cl_record.specs.Marks.{Mark, close, draw, history_marks, marks_of, marks_of_all, move_marks, open_presentation, open_update}
 use Rattle.cl_record.specs.Shifts.{join_shifts, still}
 use Rattle.cl_record.specs.Trees.{Tree, Trees, leaf, none, presentation, tree, trees_of, update}

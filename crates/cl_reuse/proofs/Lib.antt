@@ -15,6 +15,8 @@ pub mod MarkedFaith
 pub mod OnceForms
 pub mod OnceRows
 pub mod GoneLemmas
+pub mod CountRows
+pub mod Reports
 pub mod CacheLemmas
 pub mod DisplayNames
 pub mod PayLemmas

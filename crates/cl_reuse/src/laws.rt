@@ -14,6 +14,7 @@ ghost use Rattle.cl_medium.specs.Ambients.{AmbientAt};
 ghost use Rattle.cl_medium.specs.Items.{Item, item_bounds, move_item};
 ghost use Rattle.cl_region.specs.Places.{IsInRange, move_rect};
 ghost use Rattle.cl_region.specs.declared.rects.Shift.{Shift};
+ghost use Rattle.cl_record.specs.Counts.{count_of};
 ghost use Rattle.cl_record.specs.Heads.{HeadAt, move_head};
 ghost use Rattle.cl_record.specs.Marks.{Mark, history_marks, move_marks};
 ghost use Rattle.cl_record.specs.Ranges.{AreSound};
@@ -26,7 +27,8 @@ ghost use Rattle.cl_display.specs.Updates.{KeyAt, leave_update, opening_at};
 ghost use Rattle.cl_display.specs.Walks.{OpeningAt};
 ghost use Rattle.cl_reuse.specs.Bodies.{body_from, motion_between};
 ghost use Rattle.cl_reuse.specs.Keeping.{EndsAs, kept_head, kept_part, may_keep, shift_at};
-ghost use Rattle.cl_reuse.specs.Kept.{KeptAt, costs, count_moved, count_still, kept, work};
+ghost use Rattle.cl_reuse.specs.Kept.{IsReport, KeptAt, ReportAt, costs, count_moved, count_still, items_kept, kept, report_of, work};
+ghost use Rattle.cl_reuse.specs.Once.{OpensOnce};
 ghost use Rattle.cl_reuse.specs.Motions.{FitsThere, Motion, move_drawing};
 ghost use Rattle.cl_reuse.specs.ReadValues.{AgreeOnForms, SeesReads, scene_on};
 ghost use Rattle.cl_reuse.specs.Recorded.{HasFaithfulHistory, IsFaithful, IsFaithfulHistory, IsRecorded};
@@ -124,4 +126,24 @@ pub fn what_is_kept_costs_no_more_than_the_display()
         → (old : List (Tree Item)) → IsFaithfulHistory app types old → (o : DrawOutcome) → o ≡ fresh limits (scene_on app slots types) forms env
         → work old o + costs (kept old o) ≡ cost_of o.outcome }
     ensures counts { (ks : List KeptAt) → count_still ks + count_moved ks ≡ length ks }
+{}
+
+/// A display that ended has exactly one report over a faithful old history: the items of what is kept are no more than those that it drew, nor
+/// than those of the old history, so what is left of each is a number. The first holds since what is kept is what a body would draw at its
+/// opening, and the second since no level of a display opens two updates of one site and id, so that no old update is kept twice.
+pub fn reports_add_up()
+    ensures once { (limits : Limits) (scene : Scene) (forms : List ShapeTree) (env : Env) → OpensOnce (fresh limits scene forms env).walk }
+    ensures gone { (old : List (Tree Item)) (o : DrawOutcome) → OpensOnce o.walk → items_kept (kept old o) ≤ count_of (history_marks move_item old) }
+    ensures new { (limits : Limits) (app : App) (types : TypeMeanings) (slots : Slots) (forms : List ShapeTree) (env : Env)
+        → AreTexts app types.presents → SeesReads app types.presents → AreCovered app → AreApart app → AreOwn app (shape_trees_of forms)
+        → (old : List (Tree Item)) → IsFaithfulHistory app types old
+        → (s : DrawingAt) (cost reach : ℕ) → (fresh limits (scene_on app slots types) forms env).outcome ≡ Gives s cost reach
+        → items_kept (kept old (fresh limits (scene_on app slots types) forms env)) ≤ count_of s.part.marks }
+    ensures report { (limits : Limits) (app : App) (types : TypeMeanings) (slots : Slots) (forms : List ShapeTree) (env : Env)
+        → AreTexts app types.presents → SeesReads app types.presents → AreCovered app → AreApart app → AreOwn app (shape_trees_of forms)
+        → (old : List (Tree Item)) → IsFaithfulHistory app types old
+        → (s : DrawingAt) (cost reach : ℕ) → (fresh limits (scene_on app slots types) forms env).outcome ≡ Gives s cost reach
+        → IsReport (report_of old (fresh limits (scene_on app slots types) forms env) s.part.marks) old
+        (fresh limits (scene_on app slots types) forms env) s.part.marks }
+    ensures only { (r : ReportAt) (old : List (Tree Item)) (o : DrawOutcome) (marks : List (Mark Item)) → IsReport r old o marks → r ≡ report_of old o marks }
 {}
