@@ -13,6 +13,7 @@ pub mod FaithLemmas
 pub mod FlatRows
 pub mod MarkedFaith
 pub mod OnceForms
+pub mod NameLemmas
 pub mod OnceRows
 pub mod GoneLemmas
 pub mod CountRows

@@ -79,28 +79,28 @@ name-holds P site id other d h p =
     let ids = same_data id d (equal-of (order_of id d) (and_right (same_site site other) (is_eq (order_of id d)) h)) in
     subst (λ (e : Data). P other e) ids (subst (λ (s : Site). P s id) sites p)
 
-either-true : (a b : Bool) → b ≡ true → (a || b) ≡ true
+pub either-true : (a b : Bool) → b ≡ true → (a || b) ≡ true
 either-true true b h = refl
 either-true false b h = h
 
-first-true : (a b : Bool) → a ≡ true → (a || b) ≡ true
+pub first-true : (a b : Bool) → a ≡ true → (a || b) ≡ true
 first-true a b h = rw h refl
 
 -- neither
-both-false : (a b : Bool) → (a ≡ true → ⊥) → b ≡ false → (a || b) ≡ false
-both-false true b h k = absurd (h refl)
-both-false false b h k = k
+pub or-false : (a b : Bool) → (a ≡ true → ⊥) → b ≡ false → (a || b) ≡ false
+or-false true b h k = absurd (h refl)
+or-false false b h k = k
 
-never : (b : Bool) → b ≡ true → b ≡ false → ⊥
-never true h k = cc
-never false h k = cc
+pub never-both : (b : Bool) → b ≡ true → b ≡ false → ⊥
+never-both true h k = cc
+never-both false h k = cc
 
 -- what is taken is not opened
 not-opened : (site : Site) (id : Data) (w : Walk) (l : Siblings) → is_taken site id l ≡ true → OpensNew l w → is_opened site id w ≡ false
 not-opened site id done l h k = refl
 not-opened site id (met o inside rest) l h k =
-    both-false (same_name site id o.site o.id) (is_opened site id rest)
-    (λ e. never (is_taken o.site o.id l) (name-holds (λ s d. is_taken s d l ≡ true) site id o.site o.id e h) k.0)
+    or-false (same_name site id o.site o.id) (is_opened site id rest)
+    (λ e. never-both (is_taken o.site o.id l) (name-holds (λ s d. is_taken s d l ≡ true) site id o.site o.id e h) k.0)
     (not-opened site id rest (note o.site o.id l)
     (taken-noted o.site site o.id id l ∙ either-true (same_name site id o.site o.id) (is_taken site id l) h) k.1.1)
 
