@@ -1,5 +1,5 @@
 -- What is kept of faithful records has no more items than what is drawn: sums over runs.
-use Rattle.std.proofs.Common.{◌≡◌, ◌∙◌, ap, sym, refl, ℕ, ◌+◌, ◌-◌, ◌≤◌, Bool, true, false, if◌then◌else◌, List, [], ◌∷◌, ◌++◌, append-nil}
+use Rattle.std.proofs.Common.{◌≡◌, ◌∙◌, nat_le, ap, sym, refl, ℕ, ◌+◌, ◌-◌, ◌≤◌, Bool, true, false, if◌then◌else◌, List, [], ◌∷◌, ◌++◌, append-nil}
 use Rattle.std.proofs.Common.{Option, Some, None, Result, Ok, Err, arith}
 use Rattle.std.specs.Prelude.{IfSome}
 use Rattle.cl_region.specs.declared.rects.Shift.{Shift}
@@ -19,13 +19,14 @@ use Rattle.cl_record.specs.Trees as records
 use Rattle.cl_display.specs.Drawings.{DrawingAt}
 use Rattle.cl_display.specs.Fresh.{Allowance, bodies_on, draws_body, draws_keyed, left_over}
 use Rattle.cl_display.specs.Outcomes.{Draw, DrawOutcome, opens_none, run_of, walk_after, ◌>->◌, ◌>>=◌}
-use Rattle.cl_display.specs.Updates.{KeyAt, ended, enter_body, enter_update, head_at, opening_at}
+use Rattle.cl_display.specs.Siblings.{is_taken, note}
+use Rattle.cl_display.specs.Updates.{KeyAt, ended, enter_body, enter_update, head_at, key_weight, opening_at}
 use Rattle.cl_display.specs.Walks.{OpeningAt, Walk, done, ◌then◌}
 use Rattle.cl_reuse.specs.Keeping.{EndsAs, kept_part, may_keep, shift_at}
 use Rattle.cl_reuse.specs.Kept.{KeptAt, OldUpdate, found, items_kept, kept_at, kept_here, kept_of}
 use Rattle.cl_reuse.specs.ReadValues.{scene_on}
 use Rattle.cl_reuse.specs.Recorded.{AreFaithful}
-use Rattle.cl_reuse.proofs.FaithForms.{Draws, StepDraws}
+use Rattle.cl_reuse.proofs.FaithForms.{DrawsTo, StepDraws}
 use Rattle.cl_reuse.proofs.GoneLemmas.{count-behind, count-moved, items-behind}
 use Rattle.cl_reuse.proofs.PayForms.{Ends, FoundAs, found-among}
 use Rattle.cl_reuse.proofs.PayLemmas.{kept-then}
@@ -63,16 +64,35 @@ abbrev pub RunCounts : Shift → Trees Item → DrawingAt → Draw → Type 0
 RunCounts at old s m = (c d : ℕ) → CountsFor at old s (m c d)
 
 module _ (app : App) (types : TypeMeanings) where
-  pub drawn-more : (xs ys : List (Mark Item)) → Draws app types xs ys → count_of xs ≤ count_of ys
-  drawn-more xs ys p =
+  drawn-more : (s t : DrawingAt) → DrawsTo app types s t → drawn_in s ≤ drawn_in t
+  drawn-more s t p =
       let all = ap (λ (ms : List (Mark Item)). count_of ms) p.behind in
-      let sum = count-behind xs (history_marks move_item p.own) in
+      let sum = count-behind s.part.marks (history_marks move_item p.own) in
       omega (arith, all, sum)
+
+  -- a step draws no fewer items
+  abbrev pub StepMore : DrawingAt → Result DrawingAt ℕ → Type 0
+  StepMore s (Ok t) = drawn_in s ≤ drawn_in t
+  StepMore s (Err k) = Unit {0}
+
+  pub step-more : (s : DrawingAt) (r : Result DrawingAt ℕ) → StepDraws app types s r → StepMore s r
+  step-more s (Ok t) h = drawn-more s t h
+  step-more s (Err k) h = tt
+
+  entered-more : (key : KeyAt) (s : DrawingAt) (taken fits : Bool)
+      → StepMore s (if taken then Err 8 else (if fits
+      then Ok (record s { weight = s.weight + key_weight key; siblings = note key.site key.id s.siblings }) else Err 10))
+  entered-more key s true fits = tt
+  entered-more key s false true = omega arith
+  entered-more key s false false = tt
+
+  opening-more : (most : ℕ) (key : KeyAt) (s : DrawingAt) → StepMore s (enter_update most key s)
+  opening-more most key s = entered-more key s (is_taken key.site key.id s.siblings) (nat_le (s.weight + key_weight key) most)
 
   module _ (at : Shift) (old : Trees Item) where
     pub counts-lift : (s : DrawingAt) (r : Result DrawingAt ℕ) → StepDraws app types s r → RunCounts at old s (opens_none (lift r))
     counts-lift s (Ok u) h c d t n l p =
-        let more = drawn-more s.part.marks u.part.marks h in
+        let more = drawn-more s u h in
         let same : drawn_in u ≡ drawn_in t = same-end s u t c d n l p in
         omega (arith, more, same)
     counts-lift s (Err k) h c d t n l p = absurd (no_value k c d t n l p)
@@ -121,12 +141,11 @@ module _ (app : App) (types : TypeMeanings) where
     counts-come s m f h c d t n l p = counts-given s m f c d (m c d) refl (λ x i j q. h x c d i j q) t n l p
 
     -- what goes on from a step
-    pub counts-set : (s : DrawingAt) (r : Result DrawingAt ℕ) (f : DrawingAt → Draw) → StepDraws app types s r → ((u : DrawingAt) → RunCounts at old u (f u))
+    pub counts-set : (s : DrawingAt) (r : Result DrawingAt ℕ) (f : DrawingAt → Draw) → StepMore s r → ((u : DrawingAt) → RunCounts at old u (f u))
         → RunCounts at old s (lift r >-> f)
     counts-set s (Ok u) f e h c d t n l p =
-        let more = drawn-more s.part.marks u.part.marks e in
         let rest = h u c d t n l p in
-        omega (arith, more, rest)
+        omega (arith, e, rest)
     counts-set s (Err k) f e h c d t n l p = absurd (no_value k c d t n l p)
 
     -- a body that is drawn from u, and left
@@ -204,7 +223,7 @@ module _ (app : App) (types : TypeMeanings) where
         (counts-found o (found key.site key.id at old) b (found-among app types key.site key.id at old f)
         (counts (left_over allowed c s.weight) (enter_body s) refl) (λ u g keep. ends u.head o refl g.same u.inside g.recorded keep)) c d
 
-    pub counts-keyed : (s : DrawingAt) → StepDraws app types s (enter_update allowed.weight key s)
-        → RunCounts at old s (draws_keyed allowed (bodies_on left (scene_on app slots types)) level env body s key)
-    counts-keyed s h =
-        counts-set at old s (enter_update allowed.weight key s) (draws_body allowed (bodies_on left (scene_on app slots types)) level env body key) h counts-body
+    pub counts-keyed : (s : DrawingAt) → RunCounts at old s (draws_keyed allowed (bodies_on left (scene_on app slots types)) level env body s key)
+    counts-keyed s =
+        counts-set at old s (enter_update allowed.weight key s) (draws_body allowed (bodies_on left (scene_on app slots types)) level env body key)
+        (opening-more allowed.weight key s) counts-body

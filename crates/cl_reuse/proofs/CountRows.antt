@@ -36,9 +36,9 @@ use Rattle.cl_reuse.specs.Recorded.{AreFaithful, IsFaithfulHistory}
 use Rattle.cl_reuse.specs.Sited.{AreApart, AreOwn}
 use Rattle.cl_reuse.proofs.CacheLemmas.{cache-holds}
 use Rattle.cl_reuse.proofs.CountForms.{BodyCounts, RunCounts, count-branch, counts-choice, counts-come, counts-give, counts-keyed, counts-leave, counts-lift}
-use Rattle.cl_reuse.proofs.CountForms.{counts-set, counts-then, counts-trap, counts-value, drawn_in}
+use Rattle.cl_reuse.proofs.CountForms.{counts-set, counts-then, counts-trap, counts-value, drawn_in, step-more}
 use Rattle.cl_reuse.proofs.DisplayNames.{display-declared}
-use Rattle.cl_reuse.proofs.FaithForms.{StepDraws, figure-draws, indent-draws, ink-draws, newline-draws, opening-draws, present_text-draws, value-draws}
+use Rattle.cl_reuse.proofs.FaithForms.{StepDraws, figure-draws, indent-draws, ink-draws, newline-draws, present_text-draws, value-draws}
 use Rattle.cl_reuse.proofs.GoneLemmas.{count-behind}
 use Rattle.cl_reuse.proofs.PayForms.{ends-cached}
 use Rattle.cl_reuse.proofs.PayRows.{AllOwn, Own, no-cache-comes}
@@ -74,7 +74,7 @@ module _ (app : App) (slots : Slots) (types : TypeMeanings) where
       counts-within : (env : Env) (body : ShapeTrees) → AllOwn app slots types body → (s : DrawingAt) (r : Result DrawingAt ℕ) (leave : DrawingAt → DrawingAt)
           → StepDraws app types s r → ((t : DrawingAt) → (leave t).part ≡ t.part) → RunCounts at old s (within go level env body r leave)
       counts-within env body of s r leave h e =
-          counts-set app types at old s r (draws_to go level env body leave) h
+          counts-set app types at old s r (draws_to go level env body leave) (step-more app types s r h)
           (λ u. counts-to env body of u u leave (λ t more. let same = ap (λ (p : PartAt). count_of p.marks) (e t) in omega (arith, same)))
 
       counts-presented : (env : Env) (body : ShapeTrees) → AllOwn app slots types body → (s : DrawingAt) (weight : ℕ) (label : LabelAt) (b : Bool)
@@ -113,7 +113,7 @@ module _ (app : App) (slots : Slots) (types : TypeMeanings) where
           (ends-cached app slots types texts sees covered apart u env body of id cache u.cache refl
           (cache-holds app slots env left allowed.budget level u.cache c d cache i j q)
           (no-cache-comes app slots types left allowed.budget level env u.cache c d cache i j q))
-          (counts-bodies env body (λ w h. of w (inr h))) at old k s (opening-draws app types allowed.weight (key_at u id cache) s) i j))
+          (counts-bodies env body (λ w h. of w (inr h))) at old k s i j))
 
       -- the meanings there
       abbrev value : Go

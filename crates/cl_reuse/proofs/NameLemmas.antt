@@ -1,6 +1,5 @@
 -- The names of the updates of a level, and the updates so far.
-use Rattle.std.proofs.Common.{◌≡◌, ◌∙◌, ap, sym, subst, refl, Bool, true, false, List, [], ◌∷◌, ◌++◌, append_assoc, append-nil}
-use Rattle.std.specs.Prelude.{◌||◌}
+use Rattle.std.proofs.Common.{◌≡◌, ◌∙◌, ap, sym, subst, refl, true, false, List, [], ◌∷◌, ◌++◌, append_assoc}
 use Rattle.cl_value.specs.Data.{Data}
 use Rattle.cl_syntax.specs.declared.sites.Site.{Site}
 use Rattle.cl_medium.specs.Items.{Item}
@@ -39,10 +38,11 @@ not-named site id (n ∷ ns) l h k =
 
 pub names-once : (ns : List (Site × Data)) (l : Siblings) → AreNew l ns → AreOnce ns
 names-once [] l h = tt
-names-once (n ∷ ns) l h =
-    (not-named n.0 n.1 ns (note n.0 n.1 l)
-    (taken-noted n.0 n.0 n.1 n.1 l ∙ first-true (same_name n.0 n.1 n.0 n.1) (is_taken n.0 n.1 l) (name-itself n.0 n.1)) h.1,
-    names-once ns (note n.0 n.1 l) h.1)
+names-once (n ∷ ns) l h = (
+  not-named n.0 n.1 ns (note n.0 n.1 l)
+      (taken-noted n.0 n.0 n.1 n.1 l ∙ first-true (same_name n.0 n.1 n.0 n.1) (is_taken n.0 n.1 l) (name-itself n.0 n.1)) h.1,
+  names-once ns (note n.0 n.1 l) h.1,
+)
 
 -- ---- rows
 
@@ -67,7 +67,7 @@ names-then l m n ts us p q =
     let all = names-row ts us in
     record {
       new = subst (λ (ns : List (Site × Data)). AreNew l ns) (sym all)
-      (new-names-then (names (trees_of ts)) (names (trees_of us)) l p.new (subst (λ (k : Siblings). AreNew k (names (trees_of us))) p.left q.new));
+          (new-names-then (names (trees_of ts)) (names (trees_of us)) l p.new (subst (λ (k : Siblings). AreNew k (names (trees_of us))) p.left q.new));
       left =
           q.left ∙ ap (λ (k : Siblings). noted_names (names (trees_of us)) k) p.left
           ∙ sym (noted-names-then (names (trees_of ts)) (names (trees_of us)) l)
