@@ -88,6 +88,12 @@ begins v (leaf a) ms h = h
 begins v (presentation l p ts) ms h = h
 begins v (update h p ts) ms k = k
 
+-- a tree draws something
+pub no-branch : (v : Shift) (t : Tree Item) (ms : List (Mark Item)) → [] ≡ one_flat v t ms → ⊥
+no-branch v (leaf a) ms e = cc
+no-branch v (presentation l p ts) ms e = cc
+no-branch v (update h p ts) ms e = cc
+
 mutual
   pub split-tree : (v w : Shift) (t u : Tree Item) (rest others : List (Mark Item)) → one_flat v t rest ≡ one_flat w u others → SameTrees v w t u rest others
   split-tree v w (leaf a) (leaf b) rest others e = record {

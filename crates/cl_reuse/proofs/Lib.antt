@@ -12,6 +12,7 @@ pub mod KeepLemmas
 pub mod FaithLemmas
 pub mod FlatRows
 pub mod MarkedFaith
+pub mod MarkedNames
 pub mod OnceForms
 pub mod NameLemmas
 pub mod OnceRows

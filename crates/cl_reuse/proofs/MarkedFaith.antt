@@ -20,7 +20,7 @@ use Rattle.cl_reuse.specs.Motions.{FitsThere, Motion, move_ambient, move_drawing
 use Rattle.cl_reuse.specs.ReadValues.{scene_on}
 use Rattle.cl_reuse.specs.Recorded.{AreFaithful, IsFaithful, IsFaithfulHistory, IsRecorded}
 use Rattle.cl_reuse.proofs.BodyMoves.{forms-move}
-use Rattle.cl_reuse.proofs.FlatRows.{apart_by, behind, first, flat, moved-apart, one_flat, row-flat, split-row, split-tree}
+use Rattle.cl_reuse.proofs.FlatRows.{apart_by, behind, first, flat, moved-apart, no-branch, one_flat, row-flat, split-row, split-tree}
 use Rattle.cl_reuse.proofs.MotionLemmas.{measures-move}
 
 -- all of it is moved as far
@@ -117,15 +117,10 @@ module _ (app : App) (types : TypeMeanings) (texts : AreTexts app types.presents
     faith-row : (v w : Shift) (ts us : Trees Item) → flat v ts [] ≡ flat w us [] → AreSound item_bounds move_item us → AreFaithful app types ts
         → AreFaithful app types us
     faith-row v w ts none e s f = tt
-    faith-row v w none (tree u us) e s f = absurd (opened w u (flat w us []) e)
+    faith-row v w none (tree u us) e s f = absurd (no-branch w u (flat w us []) e)
     faith-row v w (tree t ts) (tree u us) e s f =
         let one = split-tree v w t u (flat v ts []) (flat w us []) e in
         (faith-tree v w t u (flat v ts []) (flat w us []) e s.0 f.0, faith-row v w ts us one.behind s.1 f.1)
-
-    opened : (w : Shift) (u : Tree Item) (ms : List (Mark Item)) → [] ≡ one_flat w u ms → ⊥
-    opened w (leaf a) ms e = cc
-    opened w (presentation l p ts) ms e = cc
-    opened w (update h p ts) ms e = cc
 
 -- a history with the marks of a faithful one is faithful, where it holds together
 pub marked-faithful : (app : App) (types : TypeMeanings) → AreTexts app types.presents → (a b : List (Tree Item))

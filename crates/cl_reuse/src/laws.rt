@@ -22,13 +22,13 @@ ghost use Rattle.cl_record.specs.Trees.{Tree, move_tree, trees_of};
 ghost use Rattle.cl_display.specs.Drawings.{DrawingAt};
 ghost use Rattle.cl_display.specs.Fresh.{Allowance, Scene, bodies_on, closes, draws, draws_body, in_order};
 ghost use Rattle.cl_display.specs.Outcomes.{DrawOutcome};
-ghost use Rattle.cl_display.specs.Script.{fresh};
+ghost use Rattle.cl_display.specs.Script.{fresh, script};
 ghost use Rattle.cl_display.specs.Updates.{KeyAt, leave_update, opening_at};
 ghost use Rattle.cl_display.specs.Walks.{OpeningAt};
 ghost use Rattle.cl_reuse.specs.Bodies.{body_from, motion_between};
 ghost use Rattle.cl_reuse.specs.Keeping.{EndsAs, kept_head, kept_part, may_keep, shift_at};
 ghost use Rattle.cl_reuse.specs.Kept.{IsReport, KeptAt, ReportAt, costs, count_moved, count_still, items_kept, kept, report_of, work};
-ghost use Rattle.cl_reuse.specs.Once.{OpensOnce};
+ghost use Rattle.cl_reuse.specs.Once.{IsNamedOnce, OpensOnce};
 ghost use Rattle.cl_reuse.specs.Motions.{FitsThere, Motion, move_drawing};
 ghost use Rattle.cl_reuse.specs.ReadValues.{AgreeOnForms, SeesReads, scene_on};
 ghost use Rattle.cl_reuse.specs.Recorded.{HasFaithfulHistory, IsFaithful, IsFaithfulHistory, IsRecorded};
@@ -111,6 +111,17 @@ pub fn displays_are_faithful()
         → (s : DrawingAt) (cost reach : ℕ) → (fresh limits (scene_on app slots types) forms env).outcome ≡ Gives s cost reach
         → HasFaithfulHistory app types s.part.marks }
     ensures panes { (app : App) (pane : PaneDecl) → AreOwn app (shape_trees_of (forms_of pane app)) }
+{}
+
+/// No level of the history that a display leaves has two updates of one site and id, however its records are put together: so has none whose
+/// marks are those of the display, through a trap too. A level is what a history or an update holds, with what the presentations in it hold.
+/// So an update that is found by its site and id is the only one of its level.
+pub fn histories_name_updates_once()
+    ensures none { IsNamedOnce [] }
+    ensures marks { (a b : List (Tree Item)) → history_marks move_item a ≡ history_marks move_item b → IsNamedOnce a → IsNamedOnce b }
+    ensures drawn { (limits : Limits) (app : App) (types : TypeMeanings) (slots : Slots) (forms : List ShapeTree) (env : Env)
+        → AreOwn app (shape_trees_of forms) → (b : List (Tree Item))
+        → history_marks move_item b ≡ script limits (scene_on app slots types) forms env → IsNamedOnce b }
 {}
 
 /// Over no old records nothing is kept. Over faithful ones the costs of what is kept do not pass the cost of the display, up to its trap where
