@@ -28,3 +28,4 @@ pub mod FaithForms
 pub mod FaithRows
 pub mod CountForms
 pub mod DisplayPays
+pub mod ScriptFaith

@@ -72,12 +72,16 @@ pub fn moved_records_stay_faithful()
 {}
 
 /// Whether a history is faithful is told by its marks, where it holds together: a branch stands wherever its records were put together, and what
-/// it holds may be moved the other way. So a history that is read from the marks of a faithful one is faithful. What an update says of itself
-/// and its marks are recorded wherever they are moved within the range of coordinates, since its body may be drawn there.
+/// it holds may be moved the other way. So a history with the marks of a faithful one is faithful, and one with the marks that a display leaves,
+/// through a trap too. What an update says of itself and its marks are recorded wherever they are moved within the range of coordinates, since
+/// its body may be drawn there.
 pub fn faithfulness_is_told_by_the_marks()
     ensures histories { (app : App) (types : TypeMeanings) → AreTexts app types.presents → (a b : List (Tree Item))
         → history_marks move_item a ≡ history_marks move_item b → AreSound item_bounds move_item (trees_of b)
         → IsFaithfulHistory app types a → IsFaithfulHistory app types b }
+    ensures displays { (limits : Limits) (app : App) (types : TypeMeanings) (slots : Slots) (forms : List ShapeTree) (env : Env)
+        → AreTexts app types.presents → AreOwn app (shape_trees_of forms) → (b : List (Tree Item)) → AreSound item_bounds move_item (trees_of b)
+        → history_marks move_item b ≡ script limits (scene_on app slots types) forms env → IsFaithfulHistory app types b }
     ensures updates { (app : App) (types : TypeMeanings) → AreTexts app types.presents
         → (v : Shift) (h : HeadAt) (inside : List (Mark Item)) (values : List Data) → IsRecorded app types h inside values
         → IsInRange (move_rect v h.measures.extent) → IsRecorded app types (move_head v h) (move_marks move_item v inside) values }
