@@ -4,6 +4,7 @@ use Rattle.std.proofs.Common.{append_assoc, append-nil, length, Option, Some, No
 use Rattle.std.specs.Prelude.{IfSome, int_le, int_lt, negsuc}
 use Rattle.std.proofs.lemmas.Int.{ints}
 use Rattle.cl_value.specs.Data.{Data, int, text}
+use Rattle.cl_syntax.specs.declared.sites.Site.{Site}
 use Rattle.cl_application.specs.declared.applications.App.{App}
 use Rattle.cl_eval.specs.TypeMeanings.{TypeMeanings}
 use Rattle.cl_medium.specs.Ambients.{AmbientAt}
@@ -19,10 +20,11 @@ use Rattle.cl_display.specs.Drawings.{DrawingAt, after_text, is_in_range, is_nea
 use Rattle.cl_display.specs.Figures.{area_at, draw_parts, leaf_in, with_origin_used}
 use Rattle.cl_display.specs.Presentations.{label_weight, leave_after, present_text, write_inside, write_value}
 use Rattle.cl_display.specs.Settings.{indent, set_ink}
-use Rattle.cl_display.specs.Siblings.{is_taken, note}
-use Rattle.cl_display.specs.Updates.{KeyAt, enter_update, key_weight}
+use Rattle.cl_display.specs.Siblings.{Siblings, is_taken, note}
 use Rattle.cl_display.specs.declared.figures.FigureParts.{FigureParts}
+use Rattle.cl_reuse.specs.Once.{names}
 use Rattle.cl_reuse.specs.Recorded.{AreFaithful, IsRecorded}
+use Rattle.cl_reuse.proofs.NameLemmas.{AreNew, Names, names-once, names-then, noted_names}
 
 -- ---- marks of trees in a row
 
@@ -54,72 +56,100 @@ update-marks head ts ms e =
     ap (λ (ks : List (Mark Item)). open_update head ∷ (ks ++ close ∷ [])) e ∙ sym (all-still move_item item-still own)
     ∙ sym (append-nil (marks_of move_item (update head still (trees_of ts))))
 
+-- the names of a branch
+names-presented : (label : LabelAt) (l m : Siblings) (ts : List (Tree Item)) → Names l m ts → Names l m (presentation label still (trees_of ts) ∷ [])
+names-presented label l m ts p =
+    let same = append-nil (names (trees_of ts)) in
+    record {
+      new = subst (λ (ns : List (Site × Data)). AreNew l ns) (sym same) p.new;
+      left = p.left ∙ ap (λ (ns : List (Site × Data)). noted_names ns l) (sym same);
+      inside = (p.inside, tt);
+    }
+
+names-updated : (head : HeadAt) (l m : Siblings) (ts : List (Tree Item)) → Names [] m ts → is_taken head.site head.id l ≡ false
+    → Names l (note head.site head.id l) (update head still (trees_of ts) ∷ [])
+names-updated head l m ts p free =
+    record { new = (free, tt); left = refl; inside = ((names-once (names (trees_of ts)) [] p.new, p.inside), tt) }
+
 module _ (app : App) (types : TypeMeanings) where
   row-faithful : (ts us : List (Tree Item)) → AreFaithful app types (trees_of ts) → AreFaithful app types (trees_of us)
       → AreFaithful app types (trees_of (ts ++ us))
   row-faithful [] us f g = g
   row-faithful (t ∷ ts) us f g = (f.0, row-faithful ts us f.1 g)
 
-  -- what was drawn from one drawing to another are these faithful records
-  pub record Draws (before after : List (Mark Item)) : Type 0 where
+  -- what was drawn from one drawing to another are these faithful records, and the updates of their level are those that there are besides
+  pub record Draws (l m : Siblings) (before after : List (Mark Item)) : Type 0 where
     pub own : List (Tree Item)
     pub behind : after ≡ before ++ history_marks move_item own
     pub faithful : AreFaithful app types (trees_of own)
+    pub named : Names l m own
 
-  pub draws-none : (ms ns : List (Mark Item)) → ns ≡ ms → Draws ms ns
-  draws-none ms ns e = record { own = []; behind = e ∙ sym (append-nil ms); faithful = tt }
+  pub draws-none : (l m : Siblings) (ms ns : List (Mark Item)) → m ≡ l → ns ≡ ms → Draws l m ms ns
+  draws-none l m ms ns f e =
+      record { own = []; behind = e ∙ sym (append-nil ms); faithful = tt; named = record { new = tt; left = f; inside = tt } }
 
-  pub draws-then : (xs ys zs : List (Mark Item)) → Draws xs ys → Draws ys zs → Draws xs zs
-  draws-then xs ys zs p q = record {
+  pub draws-then : (l m n : Siblings) (xs ys zs : List (Mark Item)) → Draws l m xs ys → Draws m n ys zs → Draws l n xs zs
+  draws-then l m n xs ys zs p q = record {
     own = p.own ++ q.own;
     behind =
         q.behind ∙ ap (λ (ms : List (Mark Item)). ms ++ history_marks move_item q.own) p.behind
         ∙ append_assoc xs (history_marks move_item p.own) (history_marks move_item q.own)
         ∙ ap (λ (ms : List (Mark Item)). xs ++ ms) (sym (row-marks p.own q.own));
     faithful = row-faithful p.own q.own p.faithful q.faithful;
+    named = names-then l m n p.own q.own p.named q.named;
   }
 
-  draws-item : (ms : List (Mark Item)) (a : Item) → Draws ms (ms ++ draw a ∷ [])
-  draws-item ms a = record { own = leaf a ∷ []; behind = refl; faithful = (tt, tt) }
+  draws-item : (l : Siblings) (ms : List (Mark Item)) (a : Item) → Draws l l ms (ms ++ draw a ∷ [])
+  draws-item l ms a =
+      record { own = leaf a ∷ []; behind = refl; faithful = (tt, tt); named = record { new = tt; left = refl; inside = (tt, tt) } }
 
   -- a part that began with nothing, behind the one around it
-  pub draws-joined : (outer inner : List (Mark Item)) → Draws [] inner → Draws outer (outer ++ inner)
-  draws-joined outer inner p = record { own = p.own; behind = ap (λ (ms : List (Mark Item)). outer ++ ms) p.behind; faithful = p.faithful }
+  pub draws-joined : (l m : Siblings) (outer inner : List (Mark Item)) → Draws l m [] inner → Draws l m outer (outer ++ inner)
+  draws-joined l m outer inner p =
+      record { own = p.own; behind = ap (λ (ms : List (Mark Item)). outer ++ ms) p.behind; faithful = p.faithful; named = p.named }
 
-  pub draws-presented : (label : LabelAt) (outer inner : List (Mark Item)) → Draws [] inner
-      → Draws outer (outer ++ (open_presentation label ∷ (inner ++ close ∷ [])))
-  draws-presented label outer inner p = record {
+  pub draws-presented : (label : LabelAt) (l m : Siblings) (outer inner : List (Mark Item)) → Draws l m [] inner
+      → Draws l m outer (outer ++ (open_presentation label ∷ (inner ++ close ∷ [])))
+  draws-presented label l m outer inner p = record {
     own = presentation label still (trees_of p.own) ∷ [];
     behind = ap (λ (ms : List (Mark Item)). outer ++ ms) (presentation-marks label p.own inner p.behind);
     faithful = (p.faithful, tt);
+    named = names-presented label l m p.own p.named;
   }
 
-  pub draws-updated : (head : HeadAt) (outer inner : List (Mark Item)) → Draws [] inner → IfSome head.cache (IsRecorded app types head inner)
-      → Draws outer (outer ++ (open_update head ∷ (inner ++ close ∷ [])))
-  draws-updated head outer inner p r = record {
+  pub draws-updated : (head : HeadAt) (l m : Siblings) (outer inner : List (Mark Item)) → Draws [] m [] inner
+      → IfSome head.cache (IsRecorded app types head inner) → is_taken head.site head.id l ≡ false
+      → Draws l (note head.site head.id l) outer (outer ++ (open_update head ∷ (inner ++ close ∷ [])))
+  draws-updated head l m outer inner p r free = record {
     own = update head still (trees_of p.own) ∷ [];
     behind = ap (λ (ms : List (Mark Item)). outer ++ ms) (update-marks head p.own inner p.behind);
     faithful = ((subst (λ (ms : List (Mark Item)). IfSome head.cache (IsRecorded app types head ms)) p.behind r, p.faithful), tt);
+    named = names-updated head l m p.own p.named free;
   }
 
   -- ---- steps
 
+  -- from one drawing to another
+  abbrev pub DrawsTo : DrawingAt → DrawingAt → Type 0
+  DrawsTo s t = Draws s.siblings t.siblings s.part.marks t.part.marks
+
   abbrev pub StepDraws : DrawingAt → Result DrawingAt ℕ → Type 0
-  StepDraws s (Ok t) = Draws s.part.marks t.part.marks
+  StepDraws s (Ok t) = DrawsTo s t
   StepDraws s (Err k) = Unit {0}
 
-  same-where : (s u : DrawingAt) (b : Bool) (k : ℕ) → u.part.marks ≡ s.part.marks → StepDraws s (if b then Ok u else Err k)
-  same-where s u true k e = draws-none s.part.marks u.part.marks e
-  same-where s u false k e = tt
+  same-where : (s u : DrawingAt) (b : Bool) (k : ℕ) → u.siblings ≡ s.siblings → u.part.marks ≡ s.part.marks
+      → StepDraws s (if b then Ok u else Err k)
+  same-where s u true k f e = draws-none s.siblings u.siblings s.part.marks u.part.marks f e
+  same-where s u false k f e = tt
 
   text-draws : (s : DrawingAt) (one : Item) (weight : ℕ) (a : AmbientAt) (b c : Bool)
       → StepDraws s (if b then then_to a (if c then Ok (record s { weight = weight; part = with_item one s.part }) else Err 10) else Err 9)
-  text-draws s one weight a true true = draws-item s.part.marks one
+  text-draws s one weight a true true = draws-item s.siblings s.part.marks one
   text-draws s one weight a true false = tt
   text-draws s one weight a false c = tt
 
   pub value-draws : (most : ℕ) (s : DrawingAt) (d : Data) → StepDraws s (write_value most s d)
-  value-draws most s (text []) = draws-none s.part.marks s.part.marks refl
+  value-draws most s (text []) = draws-none s.siblings s.siblings s.part.marks s.part.marks refl refl
   value-draws most s (text (b ∷ bs)) =
       let one = text_leaf s.ambient (b ∷ bs) in
       let weight = s.weight + (length (b ∷ bs) + 1) in
@@ -127,14 +157,14 @@ module _ (app : App) (types : TypeMeanings) where
   value-draws most s d = tt
 
   pub newline-draws : (s : DrawingAt) → StepDraws s (newline s)
-  newline-draws s = same-where s _ (is_near (s.ambient.y +ℤ pos 1)) 9 refl
+  newline-draws s = same-where s _ (is_near (s.ambient.y +ℤ pos 1)) 9 refl refl
 
   figure-drawn : (s : DrawingAt) (one : Item) (negative none b c : Bool)
       → StepDraws s (if negative then Err 9 else (if none then Ok s else (if b then with_origin_used (if c
       then Ok (record s { weight = s.weight + 1; part = with_item one s.part }) else Err 10) else Err 9)))
   figure-drawn s one true none b c = tt
-  figure-drawn s one false true b c = draws-none s.part.marks s.part.marks refl
-  figure-drawn s one false false true true = draws-item s.part.marks one
+  figure-drawn s one false true b c = draws-none s.siblings s.siblings s.part.marks s.part.marks refl refl
+  figure-drawn s one false false true true = draws-item s.siblings s.part.marks one
   figure-drawn s one false false true false = tt
   figure-drawn s one false false false c = tt
 
@@ -146,37 +176,29 @@ module _ (app : App) (types : TypeMeanings) where
       (is_in_range (bounds_of area)) (nat_le (s.weight + 1) most)
 
   pub indent-draws : (s : DrawingAt) (d : Data) → StepDraws s (indent d s)
-  indent-draws s (int n) = same-where s _ (is_near (s.ambient.margin +ℤ n)) 9 refl
+  indent-draws s (int n) = same-where s _ (is_near (s.ambient.margin +ℤ n)) 9 refl refl
   indent-draws s d = tt
 
   pub ink-draws : (s : DrawingAt) (d : Data) → StepDraws s (set_ink d s)
-  ink-draws s (int (pos n)) = same-where s _ (nat_le n 7) 9 refl
+  ink-draws s (int (pos n)) = same-where s _ (nat_le n 7) 9 refl refl
   ink-draws s (int (negsuc n)) = tt
   ink-draws s d = tt
 
   -- a text that presents a value
-  left-draws : (label : LabelAt) (s u : DrawingAt) (r : Result DrawingAt ℕ) → u.part.marks ≡ [] → StepDraws u r → StepDraws s (leave_after label s.part r)
-  left-draws label s u (Ok t) e p =
-      draws-presented label s.part.marks t.part.marks (subst (λ (ms : List (Mark Item)). Draws ms t.part.marks) e p)
-  left-draws label s u (Err k) e p = tt
+  left-draws : (label : LabelAt) (s u : DrawingAt) (r : Result DrawingAt ℕ) → u.siblings ≡ s.siblings → u.part.marks ≡ [] → StepDraws u r
+      → StepDraws s (leave_after label s.part r)
+  left-draws label s u (Ok t) f e p =
+      draws-presented label s.siblings t.siblings s.part.marks t.part.marks
+      (subst (λ (k : Siblings). Draws k t.siblings [] t.part.marks) f (subst (λ (ms : List (Mark Item)). Draws u.siblings t.siblings ms t.part.marks) e p))
+  left-draws label s u (Err k) f e p = tt
 
   text-in-draws : (most : ℕ) (label : LabelAt) (s : DrawingAt) (x : Data) (b : Bool)
       → StepDraws s (leave_after label s.part (write_inside most x (if b then Ok
       (start (record s { weight = s.weight + label_weight label.object })) else Err 10)))
   text-in-draws most label s x true =
       let u = start (record s { weight = s.weight + label_weight label.object }) in
-      left-draws label s u (write_value most u x) refl (value-draws most u x)
+      left-draws label s u (write_value most u x) refl refl (value-draws most u x)
   text-in-draws most label s x false = tt
 
   pub present_text-draws : (most : ℕ) (label : LabelAt) (s : DrawingAt) (x : Data) → StepDraws s (present_text most label s x)
   present_text-draws most label s x = text-in-draws most label s x (nat_le (s.weight + label_weight label.object) most)
-
-  opened-draws : (key : KeyAt) (s : DrawingAt) (taken b : Bool)
-      → StepDraws s (if taken then Err 8 else (if b
-      then Ok (record s { weight = s.weight + key_weight key; siblings = note key.site key.id s.siblings }) else Err 10))
-  opened-draws key s true b = tt
-  opened-draws key s false true = draws-none s.part.marks s.part.marks refl
-  opened-draws key s false false = tt
-
-  pub opening-draws : (most : ℕ) (key : KeyAt) (s : DrawingAt) → StepDraws s (enter_update most key s)
-  opening-draws most key s = opened-draws key s (is_taken key.site key.id s.siblings) (nat_le (s.weight + key_weight key) most)

@@ -1,5 +1,5 @@
 -- The rows of display forms draw faithful records.
-use Rattle.std.proofs.Common.{◌≡◌, ap, sym, subst, refl, ℕ, zero, suc, ◌+◌, ◌==◌, Bool, true, false, if◌then◌else◌, nat_le, inl, inr, List, [], ◌∷◌}
+use Rattle.std.proofs.Common.{◌≡◌, ap, subst, refl, ℕ, zero, suc, ◌+◌, ◌==◌, Bool, true, false, if◌then◌else◌, nat_le, inl, inr, List, [], ◌∷◌}
 use Rattle.std.proofs.Common.{length, Option, Some, None, Result, Ok, Err}
 use Rattle.std.specs.Prelude.{IfSome}
 use Rattle.cl_value.specs.Data.{Data}
@@ -15,10 +15,8 @@ use Rattle.cl_eval.specs.Outcome.{Gives, Outcome, Run, Traps, after, give, lift,
 use Rattle.cl_eval.specs.Slots.{Env, Slots, bind_parameters}
 use Rattle.cl_eval.specs.TypeMeanings.{TypeMeanings}
 use Rattle.cl_eval.proofs.LimitLemmas.{no_value}
-use Rattle.cl_medium.specs.Items.{Item}
-use Rattle.cl_record.specs.Marks.{Mark}
 use Rattle.cl_record.specs.Labels.{LabelAt}
-use Rattle.cl_display.specs.Drawings.{DrawingAt, PartAt, newline, start}
+use Rattle.cl_display.specs.Drawings.{DrawingAt, newline, start}
 use Rattle.cl_display.specs.Figures.{draw_figure, figure_parts}
 use Rattle.cl_display.specs.Fresh.{Allowance, Draws as Meaning, bodies_on, call_display, draws, draws_body, draws_cached, draws_keyed, draws_to}
 use Rattle.cl_display.specs.Fresh.{draws_update, for_each}
@@ -26,15 +24,16 @@ use Rattle.cl_display.specs.Fresh.{for_members, in_order, left_over, presents_bo
 use Rattle.cl_display.specs.Outcomes.{Draw, opens_none, run_of, ◌>->◌, ◌>>=◌}
 use Rattle.cl_display.specs.Presentations.{Texts, label_of, label_weight, leave_presentation, present_text, texts_on, write_value}
 use Rattle.cl_display.specs.Settings.{enter_room, indent, leave_room, restore_ink, restore_margin, set_ink}
-use Rattle.cl_display.specs.Updates.{KeyAt, cache_of, ended, enter_body, enter_update, head_at, id_of, key_at}
+use Rattle.cl_display.specs.Siblings.{is_taken, note}
+use Rattle.cl_display.specs.Updates.{KeyAt, cache_of, ended, enter_body, head_at, id_of, key_at, key_weight}
 use Rattle.cl_reuse.specs.ReadValues.{scene_on}
 use Rattle.cl_reuse.specs.Recorded.{IsRecorded}
 use Rattle.cl_reuse.specs.Sited.{HoldCache}
 use Rattle.cl_reuse.proofs.CacheLemmas.{cache-holds}
 use Rattle.cl_reuse.proofs.DisplayNames.{display-declared}
-use Rattle.cl_reuse.proofs.FaithForms.{Draws, StepDraws, draws-joined, draws-none, draws-presented, draws-then, draws-updated, figure-draws}
+use Rattle.cl_reuse.proofs.FaithForms.{Draws, DrawsTo, StepDraws, draws-joined, draws-none, draws-presented, draws-then, draws-updated, figure-draws}
 use Rattle.cl_reuse.proofs.FaithForms.{indent-draws, ink-draws}
-use Rattle.cl_reuse.proofs.FaithForms.{newline-draws, opening-draws, present_text-draws, value-draws}
+use Rattle.cl_reuse.proofs.FaithForms.{newline-draws, present_text-draws, value-draws}
 use Rattle.cl_reuse.proofs.PayRows.{AllOwn, Own, no-cache-comes}
 
 -- the drawing at an end
@@ -45,14 +44,14 @@ end_of s (Traps kind cost deepest) = s
 module _ (app : App) (types : TypeMeanings) where
   -- where the draw ends, faithful records were drawn
   abbrev pub RunDraws : DrawingAt → Draw → Type 0
-  RunDraws s m = (c d : ℕ) (t : DrawingAt) (n l : ℕ) → (m c d).outcome ≡ Gives t n l → Draws app types s.part.marks t.part.marks
+  RunDraws s m = (c d : ℕ) (t : DrawingAt) (n l : ℕ) → (m c d).outcome ≡ Gives t n l → DrawsTo app types s t
 
   lift-run : (s : DrawingAt) (r : Result DrawingAt ℕ) → StepDraws app types s r → RunDraws s (opens_none (lift r))
-  lift-run s (Ok u) h c d t n l p = subst (λ (x : DrawingAt). Draws app types s.part.marks x.part.marks) (ap (end_of s) p) h
+  lift-run s (Ok u) h c d t n l p = subst (λ (x : DrawingAt). DrawsTo app types s x) (ap (end_of s) p) h
   lift-run s (Err k) h c d t n l p = absurd (no_value k c d t n l p)
 
   give-run : (s : DrawingAt) → RunDraws s (opens_none (give s))
-  give-run s = lift-run s (Ok s) (draws-none app types s.part.marks s.part.marks refl)
+  give-run s = lift-run s (Ok s) (draws-none app types s.siblings s.siblings s.part.marks s.part.marks refl refl)
 
   trap-run : (s : DrawingAt) (k : ℕ) → RunDraws s (opens_none (trap k))
   trap-run s k c d t n l p = absurd (no_value k c d t n l p)
@@ -62,17 +61,17 @@ module _ (app : App) (types : TypeMeanings) where
   choice-run s false m n g h = h
 
   behind-run : (s : DrawingAt) (m : Draw) (f : DrawingAt → Draw) → RunDraws s m → ((u : DrawingAt) → RunDraws u (f u)) → (c d : ℕ) (o : Outcome DrawingAt)
-      → (m c d).outcome ≡ o → (t : DrawingAt) (n l : ℕ) → after o (λ x. run_of (f x)) ≡ Gives t n l → Draws app types s.part.marks t.part.marks
+      → (m c d).outcome ≡ o → (t : DrawingAt) (n l : ℕ) → after o (λ x. run_of (f x)) ≡ Gives t n l → DrawsTo app types s t
   behind-run s m f g h c d (Gives u i j) q t n l p =
-      draws-then app types s.part.marks u.part.marks t.part.marks (g c d u i j q) (h u i j t n l p)
+      draws-then app types s.siblings u.siblings t.siblings s.part.marks u.part.marks t.part.marks (g c d u i j q) (h u i j t n l p)
   behind-run s m f g h c d (Traps k i j) q t n l p = absurd (no_value k i j t n l p)
 
   then-run : (s : DrawingAt) (m : Draw) (f : DrawingAt → Draw) → RunDraws s m → ((u : DrawingAt) → RunDraws u (f u)) → RunDraws s (m >>= f)
   then-run s m f g h c d t n l p = behind-run s m f g h c d (m c d).outcome refl t n l p
 
   given-run : {A : Type 0} (s : DrawingAt) (m : Run A) (f : A → Draw) (c d : ℕ)
-      → ((x : A) (i j : ℕ) → m c d ≡ Gives x i j → (t : DrawingAt) (n l : ℕ) → (f x i j).outcome ≡ Gives t n l → Draws app types s.part.marks t.part.marks)
-      → (o : Outcome A) → m c d ≡ o → (t : DrawingAt) (n l : ℕ) → after o (λ x. run_of (f x)) ≡ Gives t n l → Draws app types s.part.marks t.part.marks
+      → ((x : A) (i j : ℕ) → m c d ≡ Gives x i j → (t : DrawingAt) (n l : ℕ) → (f x i j).outcome ≡ Gives t n l → DrawsTo app types s t)
+      → (o : Outcome A) → m c d ≡ o → (t : DrawingAt) (n l : ℕ) → after o (λ x. run_of (f x)) ≡ Gives t n l → DrawsTo app types s t
   given-run s m f c d h (Gives x i j) q t n l p = h x i j q t n l p
   given-run s m f c d h (Traps k i j) q t n l p = absurd (no_value k i j t n l p)
 
@@ -81,30 +80,35 @@ module _ (app : App) (types : TypeMeanings) where
 
   -- the same where it counts how the value came
   come-run : {A : Type 0} (s : DrawingAt) (m : Run A) (f : A → Draw)
-      → ((x : A) (c d i j : ℕ) → m c d ≡ Gives x i j → (t : DrawingAt) (n l : ℕ) → (f x i j).outcome ≡ Gives t n l → Draws app types s.part.marks t.part.marks)
+      → ((x : A) (c d i j : ℕ) → m c d ≡ Gives x i j → (t : DrawingAt) (n l : ℕ) → (f x i j).outcome ≡ Gives t n l → DrawsTo app types s t)
       → RunDraws s (m >-> f)
   come-run s m f h c d t n l p = given-run s m f c d (λ x i j q. h x c d i j q) (m c d) refl t n l p
 
   -- a body that is drawn from u, and left
   left-run : (s u : DrawingAt) (m : Draw) (leave : DrawingAt → DrawingAt) → RunDraws u m
-      → ((t : DrawingAt) → Draws app types u.part.marks t.part.marks → Draws app types s.part.marks (leave t).part.marks)
+      → ((t : DrawingAt) → DrawsTo app types u t → DrawsTo app types s (leave t))
       → (c d : ℕ) (o : Outcome DrawingAt) → (m c d).outcome ≡ o → (t : DrawingAt) (n l : ℕ) → after o (λ x. run_of (opens_none (give (leave x)))) ≡ Gives t n l
-      → Draws app types s.part.marks t.part.marks
+      → DrawsTo app types s t
   left-run s u m leave g h c d (Gives x i j) q t n l p =
-      subst (λ (y : DrawingAt). Draws app types s.part.marks y.part.marks) (ap (end_of s) p) (h x (g c d x i j q))
+      subst (λ (y : DrawingAt). DrawsTo app types s y) (ap (end_of s) p) (h x (g c d x i j q))
   left-run s u m leave g h c d (Traps k i j) q t n l p = absurd (no_value k i j t n l p)
 
   -- ---- updates
 
-  updated-run : (key : KeyAt) (level : ℕ) (s : DrawingAt) (o : Outcome DrawingAt) (c d : ℕ) (t : DrawingAt) (n l : ℕ) → ended key level s o c d ≡ Gives t n l
+  -- the drawing behind the opening of an update
+  abbrev opened : KeyAt → DrawingAt → DrawingAt
+  opened key s = record s { weight = s.weight + key_weight key; siblings = note key.site key.id s.siblings }
+
+  updated-run : (key : KeyAt) (level : ℕ) (s : DrawingAt) → is_taken key.site key.id s.siblings ≡ false → (o : Outcome DrawingAt) (c d : ℕ)
+      → (t : DrawingAt) (n l : ℕ) → ended key level (opened key s) o c d ≡ Gives t n l
       → ((u : DrawingAt) (i r : ℕ) → o ≡ Gives u i r
-      → Draws app types [] u.part.marks × IfSome key.cache (IsRecorded app types (head_at key s.ambient u i r) u.part.marks))
-      → Draws app types s.part.marks t.part.marks
-  updated-run key level s (Gives u i r) c d t n l p h =
+      → Draws app types [] u.siblings [] u.part.marks × IfSome key.cache (IsRecorded app types (head_at key s.ambient u i r) u.part.marks))
+      → DrawsTo app types s t
+  updated-run key level s free (Gives u i r) c d t n l p h =
       let body = h u i r refl in
-      subst (λ (y : DrawingAt). Draws app types s.part.marks y.part.marks) (ap (end_of s) p)
-      (draws-updated app types (head_at key s.ambient u i r) s.part.marks u.part.marks body.0 body.1)
-  updated-run key level s (Traps k i r) c d t n l p h = absurd (no_value k (c + i) d t n l p)
+      subst (λ (y : DrawingAt). DrawsTo app types s y) (ap (end_of s) p)
+      (draws-updated app types (head_at key s.ambient u i r) s.siblings u.siblings s.part.marks u.part.marks body.0 body.1 free)
+  updated-run key level s free (Traps k i r) c d t n l p h = absurd (no_value k (c + i) d t n l p)
 
   recorded : (slots : Slots) (env : Env) (u : UpdateTree) (body : ShapeTrees) → Own app slots types (shape.Update u body)
       → (id : Data) (cache : Option (List Data))
@@ -153,24 +157,24 @@ module _ (app : App) (types : TypeMeanings) where
           (each-run env x body of ds)
 
       to-run : (env : Env) (body : ShapeTrees) → AllOwn app slots types body → (s u : DrawingAt) (leave : DrawingAt → DrawingAt)
-          → ((t : DrawingAt) → Draws app types u.part.marks t.part.marks → Draws app types s.part.marks (leave t).part.marks)
+          → ((t : DrawingAt) → DrawsTo app types u t → DrawsTo app types s (leave t))
           → RunDraws s (draws_to go level env body leave u)
       to-run env body of s u leave h c d t n l p =
           left-run s u (in_order go level env body u) leave (order-run env body of u) h c d (in_order go level env body u c d).outcome refl t n l p
 
       -- a body behind what was set, which draws nothing
       within-run : (env : Env) (body : ShapeTrees) → AllOwn app slots types body → (s : DrawingAt) (r : Result DrawingAt ℕ) (leave : DrawingAt → DrawingAt)
-          → StepDraws app types s r → ((t : DrawingAt) → (leave t).part ≡ t.part) → RunDraws s (within go level env body r leave)
+          → StepDraws app types s r → ((t : DrawingAt) → DrawsTo app types t (leave t)) → RunDraws s (within go level env body r leave)
       within-run env body of s (Ok u) leave h e c d t n l p =
-          to-run env body of s u leave (λ x q. subst (λ (ms : List (Mark Item)). Draws app types s.part.marks ms) (sym (ap (λ (y : PartAt). y.marks) (e x)))
-          (draws-then app types s.part.marks u.part.marks x.part.marks h q)) c d t n l p
+          to-run env body of s u leave (λ x q. draws-then app types s.siblings x.siblings (leave x).siblings s.part.marks x.part.marks (leave x).part.marks
+          (draws-then app types s.siblings u.siblings x.siblings s.part.marks u.part.marks x.part.marks h q) (e x)) c d t n l p
       within-run env body of s (Err k) leave h e c d t n l p = absurd (no_value k c d t n l p)
 
       presented-run : (env : Env) (body : ShapeTrees) → AllOwn app slots types body → (s : DrawingAt) (weight : ℕ) (label : LabelAt) (b : Bool)
           → RunDraws s (within go level env body (if b then Ok (start (record s { weight = weight })) else Err 10) (leave_presentation label s.part))
       presented-run env body of s weight label true c d t n l p =
           to-run env body of s (start (record s { weight = weight })) (leave_presentation label s.part)
-          (λ x q. draws-presented app types label s.part.marks x.part.marks q) c d t n l p
+          (λ x q. draws-presented app types label s.siblings x.siblings s.part.marks x.part.marks q) c d t n l p
       presented-run env body of s weight label false c d t n l p = absurd (no_value 10 c d t n l p)
 
       called-run : (x : List ℕ) (f : Option DisplayDecl) → display_named x app ≡ f → (ds : List Data) (s : DrawingAt)
@@ -200,21 +204,21 @@ module _ (app : App) (types : TypeMeanings) where
           → ((ws : ExprTrees) → u.cache ≡ Some ws → IfSome cache (HoldCache app slots env ws)) → (u.cache ≡ None → cache ≡ None)
           → RunDraws s (draws_keyed allowed (bodies_on left (scene_on app slots types)) level env body s (key_at u id cache))
       keyed-run env u body of s id cache holds without =
-          set-run s (enter_update allowed.weight (key_at u id cache) s) (draws_body allowed (bodies_on left (scene_on app slots types)) level env body
-          (key_at u id cache))
-          (opening-draws app types allowed.weight (key_at u id cache) s)
-          (λ t c d y n l p. updated-run (key_at u id cache) level t
-          ((bodies_on left (scene_on app slots types)).draw (left_over allowed c t.weight) env body (enter_body t)).outcome c d y n l p
-          (λ end i r q. (
-            order-run (draws left (left_over allowed c t.weight) (scene_on app slots types)) 0 (below (left_over allowed c t.weight) 0) env body
-                (λ w h. of w (inr h)) (enter_body t) 0 0 end i r q,
-            recorded slots env u body of id cache holds without left (left_over allowed c t.weight) t end i r q,
-          )))
+          entered-run (is_taken u.site id s.siblings) (nat_le (s.weight + key_weight (key_at u id cache)) allowed.weight) refl
         where
-          set-run : (a : DrawingAt) (r : Result DrawingAt ℕ) (f : DrawingAt → Draw) → StepDraws app types a r → ((b : DrawingAt) → RunDraws b (f b))
-              → RunDraws a (lift r >-> f)
-          set-run a (Ok b) f h k c d t n l p = draws-then app types a.part.marks b.part.marks t.part.marks h (k b c d t n l p)
-          set-run a (Err e) f h k c d t n l p = absurd (no_value e c d t n l p)
+          entered-run : (taken fits : Bool) → is_taken u.site id s.siblings ≡ taken
+              → RunDraws s (lift (if taken then Err 8 else (if fits then Ok (opened (key_at u id cache) s) else Err 10))
+              >-> draws_body allowed (bodies_on left (scene_on app slots types)) level env body (key_at u id cache))
+          entered-run true fits e c d t n l p = absurd (no_value 8 c d t n l p)
+          entered-run false false e c d t n l p = absurd (no_value 10 c d t n l p)
+          entered-run false true e c d t n l p =
+              let inner = left_over allowed c (opened (key_at u id cache) s).weight in
+              let from = enter_body (opened (key_at u id cache) s) in
+              updated-run (key_at u id cache) level s e ((bodies_on left (scene_on app slots types)).draw inner env body from).outcome c d t n l p
+              (λ end i r q. (
+                order-run (draws left inner (scene_on app slots types)) 0 (below inner 0) env body (λ w h. of w (inr h)) from 0 0 end i r q,
+                recorded slots env u body of id cache holds without left inner (opened (key_at u id cache) s) end i r q,
+              ))
 
       update-run : (env : Env) (u : UpdateTree) (body : ShapeTrees) → Own app slots types (shape.Update u body) → (s : DrawingAt)
           → RunDraws s (draws_update allowed value (bodies_on left (scene_on app slots types)) level env u body s)
@@ -237,12 +241,14 @@ module _ (app : App) (types : TypeMeanings) where
           (λ ds. lift-run s (draw_figure allowed.weight figure ds s) (figure-draws app types allowed.weight (figure_parts figure ds) s))
       rows-run env (shape.Indent t body) of s =
           value-run s (value level env t) (λ d. within go level env body (indent d s) (restore_margin s.ambient))
-          (λ d. within-run go level g env body of s (indent d s) (restore_margin s.ambient) (indent-draws app types s d) (λ x. refl))
+          (λ d. within-run go level g env body of s (indent d s) (restore_margin s.ambient) (indent-draws app types s d)
+          (λ x. draws-none app types x.siblings x.siblings x.part.marks x.part.marks refl refl))
       rows-run env (shape.Ink t body) of s =
           value-run s (value level env t) (λ d. within go level env body (set_ink d s) (restore_ink s.ambient))
-          (λ d. within-run go level g env body of s (set_ink d s) (restore_ink s.ambient) (ink-draws app types s d) (λ x. refl))
+          (λ d. within-run go level g env body of s (set_ink d s) (restore_ink s.ambient) (ink-draws app types s d)
+          (λ x. draws-none app types x.siblings x.siblings x.part.marks x.part.marks refl refl))
       rows-run env (shape.Room body) of s =
-          to-run go level g env body of s (enter_room s) (leave_room s.ambient s.part) (λ x q. draws-joined app types s.part.marks x.part.marks q)
+          to-run go level g env body of s (enter_room s) (leave_room s.ambient s.part) (λ x q. draws-joined app types s.siblings x.siblings s.part.marks x.part.marks q)
       rows-run env (shape.Present t spec) of s =
           value-run s (value level env t) (λ d. for_members types.holds spec d (presents_text allowed.weight text level spec s d))
           (λ d. choice-run s (types.holds d spec) (presents_text allowed.weight text level spec s d) (opens_none (trap 1))

@@ -10,6 +10,15 @@ pub mod BodyMoves
 pub mod SitedLemmas
 pub mod KeepLemmas
 pub mod FaithLemmas
+pub mod FlatRows
+pub mod MarkedFaith
+pub mod MarkedNames
+pub mod OnceForms
+pub mod NameLemmas
+pub mod OnceRows
+pub mod GoneLemmas
+pub mod CountRows
+pub mod Reports
 pub mod CacheLemmas
 pub mod DisplayNames
 pub mod PayLemmas
@@ -17,6 +26,8 @@ pub mod PayForms
 pub mod PayRows
 pub mod FaithForms
 pub mod FaithRows
+pub mod CountForms
 pub mod DisplayPays
 pub mod ToldRecords
 pub mod ToldKept
+pub mod ScriptFaith

@@ -32,7 +32,7 @@ use Rattle.cl_display.specs.Siblings.{same_site}
 use Rattle.cl_display.specs.Updates.{KeyAt, ended, enter_body, enter_update, key_at, opening_at}
 use Rattle.cl_display.specs.Walks.{OpeningAt}
 use Rattle.cl_reuse.specs.Bodies.{body_from}
-use Rattle.cl_reuse.specs.Keeping.{may_keep, measures_fit, same_cache, shift_at}
+use Rattle.cl_reuse.specs.Keeping.{EndsAs, may_keep, measures_fit, same_cache, shift_at}
 use Rattle.cl_reuse.specs.Kept.{OldUpdate, costs, found, found_in, is_that, kept_at, kept_here, kept_of, or_then}
 use Rattle.cl_reuse.specs.ReadValues.{SeesReads, scene_on}
 use Rattle.cl_reuse.specs.Recorded.{AreFaithful, IsFaithful, IsRecorded}
@@ -97,6 +97,13 @@ module _ (app : App) (slots : Slots) (types : TypeMeanings) where
       → IfSome h.cache (IsRecorded app types h (marks_of_all move_item ts)) → may_keep h o ≡ true
       → cost_of (body_from o.depth (record { budget = o.budget; weight = o.weight }) scene env body o.ambient).outcome ≡ h.measures.cost
 
+  -- the same, and it ends as the update says of itself
+  abbrev pub Ends : Env → ShapeTrees → KeyAt → Type 0
+  Ends env body key = (h : HeadAt) (o : OpeningAt) → o.cache ≡ key.cache → key.site ≡ h.site → (ts : Trees Item)
+      → IfSome h.cache (IsRecorded app types h (marks_of_all move_item ts)) → may_keep h o ≡ true
+      → EndsAs h (marks_of_all move_item ts) (shift_at h o) o.ambient
+      (body_from o.depth (record { budget = o.budget; weight = o.weight }) scene env body o.ambient).outcome
+
   -- a body pays over all faithful records
   abbrev pub BodyPays : DrawOutcome → Type 0
   BodyPays b = (at : Shift) (old : Trees Item) → AreFaithful app types old → PaysFor at old 0 b
@@ -137,17 +144,22 @@ module _ (app : App) (slots : Slots) (types : TypeMeanings) where
       (grows-lift (enter_update allowed.weight key s)) (λ t. pays-body allowed left level env body key keeps pays t at old f)
 
   module _ (texts : AreTexts app types.presents) (sees : SeesReads app types.presents) (covered : AreCovered app) (apart : AreApart app) where
-    pub keeps-cached : (u : UpdateTree) (env : Env) (body : ShapeTrees) → ((w : Sited) → Has w (shape.Update u body) → IsUpdateOf app w)
+    -- where an old update may be kept at an opening of this update, the body that is drawn there ends as it says of itself
+    pub ends-cached : (u : UpdateTree) (env : Env) (body : ShapeTrees) → ((w : Sited) → Has w (shape.Update u body) → IsUpdateOf app w)
         → (id : Data) (cache : Option (List Data)) (ts : Option ExprTrees) → u.cache ≡ ts
-        → ((ws : ExprTrees) → ts ≡ Some ws → IfSome cache (HoldCache app slots env ws)) → (ts ≡ None → cache ≡ None) → Keeps env body (key_at u id cache)
-    keeps-cached u env body of id cache (Some ws) e holds without h o c s ts r keep =
+        → ((ws : ExprTrees) → ts ≡ Some ws → IfSome cache (HoldCache app slots env ws)) → (ts ≡ None → cache ≡ None) → Ends env body (key_at u id cache)
+    ends-cached u env body of id cache (Some ws) e holds without h o c s ts r keep =
         let w : Sited = record { site = u.site; cache = ws; body = body } in
         let cached : IfSome o.cache (HoldCache app slots env ws) =
         subst (λ (x : Option (List Data)). IfSome x (HoldCache app slots env ws)) (sym c) (holds ws refl) in
-        let ends = kept-as-recorded app types texts sees covered apart h (marks_of_all move_item ts) o r keep w
-        (of w (inl (refl, (e, refl)))) s slots env cached in
-        ap (λ (x : Outcome DrawingAt). cost_of x) ends.is
-    keeps-cached u env body of id cache None e holds without h o c s ts r keep =
+        kept-as-recorded app types texts sees covered apart h (marks_of_all move_item ts) o r keep w (of w (inl (refl, (e, refl)))) s slots env cached
+    ends-cached u env body of id cache None e holds without h o c s ts r keep =
         let nothing : o.cache ≡ None = c ∙ without refl in
         absurd (no-cache h.cache (ap (λ (x : Option (List Data)). same_cache h.cache x) (sym nothing)
         ∙ and_left (same_cache h.cache o.cache) (measures_fit (shift_at h o) h.measures o) keep))
+
+    pub keeps-cached : (u : UpdateTree) (env : Env) (body : ShapeTrees) → ((w : Sited) → Has w (shape.Update u body) → IsUpdateOf app w)
+        → (id : Data) (cache : Option (List Data)) (ts : Option ExprTrees) → u.cache ≡ ts
+        → ((ws : ExprTrees) → ts ≡ Some ws → IfSome cache (HoldCache app slots env ws)) → (ts ≡ None → cache ≡ None) → Keeps env body (key_at u id cache)
+    keeps-cached u env body of id cache ts e holds without h o c s olds r keep =
+        ap (λ (x : Outcome DrawingAt). cost_of x) (ends-cached u env body of id cache ts e holds without h o c s olds r keep).is

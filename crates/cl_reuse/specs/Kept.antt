@@ -122,3 +122,12 @@ pub record IsReport (r : ReportAt) (old : List (Tree Item)) (o : DrawOutcome) (m
   pub elsewhere : r.moved ≡ count_moved (kept old o)
   pub new : r.drawn + items_kept (kept old o) ≡ count_of marks
   pub gone : r.erased + items_kept (kept old o) ≡ count_of (history_marks move_item old)
+
+-- the report of a display that ended with these marks
+abbrev pub report_of : List (Tree Item) → DrawOutcome → List (Mark Item) → ReportAt
+report_of old o marks = record {
+  kept = count_still (kept old o);
+  moved = count_moved (kept old o);
+  drawn = count_of marks - items_kept (kept old o);
+  erased = count_of (history_marks move_item old) - items_kept (kept old o);
+}

@@ -6,3 +6,4 @@ pub mod Recorded
 pub mod Keeping
 pub mod Kept
 pub mod Records
+pub mod Once

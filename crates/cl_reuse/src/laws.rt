@@ -1,5 +1,6 @@
 //! What the definitions of this crate say. The contracts are the laws.
 ghost use Rattle.std.specs.Prelude.{◌≡◌, ◌+◌, ◌-◌, ◌≤◌, IfSome, List, [], length, max, true, ℕ};
+ghost use Rattle.cl_value.specs.Data.{Data};
 ghost use Rattle.cl_syntax.specs.ShapeTree.{ShapeTree, ShapeTrees, shape_trees_of};
 ghost use Rattle.cl_application.specs.App.{forms_of};
 ghost use Rattle.cl_application.specs.declared.applications.App.{App};
@@ -10,20 +11,24 @@ ghost use Rattle.cl_eval.specs.declared.metering.Limits.{Limits};
 ghost use Rattle.cl_eval.specs.Outcome.{Gives, cost_of};
 ghost use Rattle.cl_eval.specs.TypeMeanings.{AreTexts, TypeMeanings};
 ghost use Rattle.cl_medium.specs.Ambients.{AmbientAt};
-ghost use Rattle.cl_medium.specs.Items.{Item, move_item};
+ghost use Rattle.cl_medium.specs.Items.{Item, item_bounds, move_item};
+ghost use Rattle.cl_region.specs.Places.{IsInRange, move_rect};
 ghost use Rattle.cl_region.specs.declared.rects.Shift.{Shift};
-ghost use Rattle.cl_record.specs.Heads.{HeadAt};
-ghost use Rattle.cl_record.specs.Marks.{Mark, history_marks};
-ghost use Rattle.cl_record.specs.Trees.{Tree, move_tree};
+ghost use Rattle.cl_record.specs.Counts.{count_of};
+ghost use Rattle.cl_record.specs.Heads.{HeadAt, move_head};
+ghost use Rattle.cl_record.specs.Marks.{Mark, history_marks, move_marks};
+ghost use Rattle.cl_record.specs.Ranges.{AreSound};
+ghost use Rattle.cl_record.specs.Trees.{Tree, move_tree, trees_of};
 ghost use Rattle.cl_display.specs.Drawings.{DrawingAt};
 ghost use Rattle.cl_display.specs.Fresh.{Allowance, Scene, bodies_on, closes, draws, draws_body, in_order};
 ghost use Rattle.cl_display.specs.Outcomes.{DrawOutcome};
-ghost use Rattle.cl_display.specs.Script.{fresh};
+ghost use Rattle.cl_display.specs.Script.{fresh, script};
 ghost use Rattle.cl_display.specs.Updates.{KeyAt, leave_update, opening_at};
 ghost use Rattle.cl_display.specs.Walks.{OpeningAt};
 ghost use Rattle.cl_reuse.specs.Bodies.{body_from, motion_between};
 ghost use Rattle.cl_reuse.specs.Keeping.{EndsAs, kept_head, kept_part, may_keep, shift_at};
-ghost use Rattle.cl_reuse.specs.Kept.{KeptAt, costs, count_moved, count_still, kept, work};
+ghost use Rattle.cl_reuse.specs.Kept.{IsReport, KeptAt, ReportAt, costs, count_moved, count_still, items_kept, kept, report_of, work};
+ghost use Rattle.cl_reuse.specs.Once.{IsNamedOnce, OpensOnce};
 ghost use Rattle.cl_reuse.specs.Motions.{FitsThere, Motion, move_drawing};
 ghost use Rattle.cl_reuse.specs.ReadValues.{AgreeOnForms, SeesReads, scene_on};
 ghost use Rattle.cl_reuse.specs.Recorded.{HasFaithfulHistory, IsFaithful, IsFaithfulHistory, IsRecorded};
@@ -67,6 +72,22 @@ pub fn moved_records_stay_faithful()
         → IsFaithful app types t → IsFaithful app types (move_tree move_item v t) }
 {}
 
+/// Whether a history is faithful is told by its marks, where it holds together: a branch stands wherever its records were put together, and what
+/// it holds may be moved the other way. So a history with the marks of a faithful one is faithful, and one with the marks that a display leaves,
+/// through a trap too. What an update says of itself and its marks are recorded wherever they are moved within the range of coordinates, since
+/// its body may be drawn there.
+pub fn faithfulness_is_told_by_the_marks()
+    ensures histories { (app : App) (types : TypeMeanings) → AreTexts app types.presents → (a b : List (Tree Item))
+        → history_marks move_item a ≡ history_marks move_item b → AreSound item_bounds move_item (trees_of b)
+        → IsFaithfulHistory app types a → IsFaithfulHistory app types b }
+    ensures displays { (limits : Limits) (app : App) (types : TypeMeanings) (slots : Slots) (forms : List ShapeTree) (env : Env)
+        → AreTexts app types.presents → AreOwn app (shape_trees_of forms) → (b : List (Tree Item)) → AreSound item_bounds move_item (trees_of b)
+        → history_marks move_item b ≡ script limits (scene_on app slots types) forms env → IsFaithfulHistory app types b }
+    ensures updates { (app : App) (types : TypeMeanings) → AreTexts app types.presents
+        → (v : Shift) (h : HeadAt) (inside : List (Mark Item)) (values : List Data) → IsRecorded app types h inside values
+        → IsInRange (move_rect v h.measures.extent) → IsRecorded app types (move_head v h) (move_marks move_item v inside) values }
+{}
+
 /// Where an old update of faithful records may be kept at an opening of its site, the body that would be drawn there ends as the update says
 /// of itself, moved from the old start to the new one, and draws the old marks, moved. So its records may stand for the body, unlooked at.
 /// The second clause says that it is this body that an update draws which is opened, and the third what the display then goes on from: it is
@@ -97,6 +118,17 @@ pub fn displays_are_faithful()
     ensures panes { (app : App) (pane : PaneDecl) → AreOwn app (shape_trees_of (forms_of pane app)) }
 {}
 
+/// No level of the history that a display leaves has two updates of one site and id, however its records are put together: so has none whose
+/// marks are those of the display, through a trap too. A level is what a history or an update holds, with what the presentations in it hold.
+/// So an update that is found by its site and id is the only one of its level.
+pub fn histories_name_updates_once()
+    ensures none { IsNamedOnce [] }
+    ensures marks { (a b : List (Tree Item)) → history_marks move_item a ≡ history_marks move_item b → IsNamedOnce a → IsNamedOnce b }
+    ensures drawn { (limits : Limits) (app : App) (types : TypeMeanings) (slots : Slots) (forms : List ShapeTree) (env : Env)
+        → AreOwn app (shape_trees_of forms) → (b : List (Tree Item))
+        → history_marks move_item b ≡ script limits (scene_on app slots types) forms env → IsNamedOnce b }
+{}
+
 /// Over no old records nothing is kept. Over faithful ones the costs of what is kept do not pass the cost of the display, up to its trap where
 /// it traps: its work and these are together its cost. What is kept stands where it stood or is moved.
 pub fn what_is_kept_costs_no_more_than_the_display()
@@ -116,4 +148,24 @@ pub fn what_is_kept_costs_no_more_than_the_display()
 /// kept where those of the history are, and as those. So two histories with the same marks keep the same.
 pub fn what_is_kept_is_told_by_the_marks()
     ensures { (old : List (Tree Item)) (o : DrawOutcome) → kept_among (history_marks move_item old) o ≡ kept old o }
+{}
+
+/// A display that ended has exactly one report over a faithful old history: the items of what is kept are no more than those that it drew, nor
+/// than those of the old history, so what is left of each is a number. The first holds since what is kept is what a body would draw at its
+/// opening, and the second since no level of a display opens two updates of one site and id, so that no old update is kept twice.
+pub fn reports_add_up()
+    ensures once { (limits : Limits) (scene : Scene) (forms : List ShapeTree) (env : Env) → OpensOnce (fresh limits scene forms env).walk }
+    ensures gone { (old : List (Tree Item)) (o : DrawOutcome) → OpensOnce o.walk → items_kept (kept old o) ≤ count_of (history_marks move_item old) }
+    ensures new { (limits : Limits) (app : App) (types : TypeMeanings) (slots : Slots) (forms : List ShapeTree) (env : Env)
+        → AreTexts app types.presents → SeesReads app types.presents → AreCovered app → AreApart app → AreOwn app (shape_trees_of forms)
+        → (old : List (Tree Item)) → IsFaithfulHistory app types old
+        → (s : DrawingAt) (cost reach : ℕ) → (fresh limits (scene_on app slots types) forms env).outcome ≡ Gives s cost reach
+        → items_kept (kept old (fresh limits (scene_on app slots types) forms env)) ≤ count_of s.part.marks }
+    ensures report { (limits : Limits) (app : App) (types : TypeMeanings) (slots : Slots) (forms : List ShapeTree) (env : Env)
+        → AreTexts app types.presents → SeesReads app types.presents → AreCovered app → AreApart app → AreOwn app (shape_trees_of forms)
+        → (old : List (Tree Item)) → IsFaithfulHistory app types old
+        → (s : DrawingAt) (cost reach : ℕ) → (fresh limits (scene_on app slots types) forms env).outcome ≡ Gives s cost reach
+        → IsReport (report_of old (fresh limits (scene_on app slots types) forms env) s.part.marks) old
+        (fresh limits (scene_on app slots types) forms env) s.part.marks }
+    ensures only { (r : ReportAt) (old : List (Tree Item)) (o : DrawOutcome) (marks : List (Mark Item)) → IsReport r old o marks → r ≡ report_of old o marks }
 {}
