@@ -1,0 +1,9 @@
+pub mod Levels
+pub mod Gathers
+pub mod Places
+pub mod Openings
+pub mod Tallies
+pub mod Putting
+pub mod Keeping
+pub mod Redraws
+pub mod Redisplays
