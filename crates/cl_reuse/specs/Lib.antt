@@ -5,3 +5,4 @@ pub mod Sited
 pub mod Recorded
 pub mod Keeping
 pub mod Kept
+pub mod Records
