@@ -5,14 +5,13 @@ use Rattle.std.proofs.lemmas.Option.{get_or_from_slice_get, slice_get_within}
 use Rattle.cl_application.specs.Panes.{panes_of}
 use Rattle.cl_application.specs.declared.applications.App.{App}
 use Rattle.cl_application.specs.declared.declarations.PaneDecl.{PaneDecl}
-use Rattle.cl_display.specs.Script.{pane_fresh}
 use Rattle.cl_eval.specs.Outcome.{RisesBy}
 use Rattle.cl_eval.specs.Slots.{Slots}
 use Rattle.cl_raster.specs.Raster.{SameSize}
 use Rattle.cl_frame.specs.Frames.{AreShown, Evaluates, IsFrameOf, SettlesAt}
 use Rattle.cl_frame.specs.Ground.{Ground}
 use Rattle.cl_frame.specs.Panes.{IsCounted, area_of_pane, marks_of_pane}
-use Rattle.cl_frame.specs.Settling.{is_due, met_memory, settle_if}
+use Rattle.cl_frame.specs.Settling.{PaneStep, is_due, met_memory, pane_draw, reused, settle_if}
 use Rattle.cl_frame.specs.declared.frames.Frame.{Frame}
 use Rattle.cl_frame.specs.declared.panes.Pane.{Pane}
 use Rattle.cl_frame.specs.declared.reports.PaneReport.TheVariants as report
@@ -23,6 +22,10 @@ use Rattle.cl_frame.proofs.ShownPanes.{areas_put, shown_kept}
 -- a pane as it was, which was not asked for
 abbrev pub quiet : Pane → Pane
 quiet p = record { area = p.area; history = p.history; items = p.items; report = report.Quiet }
+
+-- a pane, whether it is settled or not
+abbrev step_if : Ground → Which → Slots → PaneDecl → Pane → (due met : Bool) → PaneStep
+step_if g w slots d o due met = settle_if due (pane_draw g.limits g.app g.types d slots) (reused w (marks_of_pane o)) (marks_of_pane o) met
 
 pub settles_quiet : (g : Ground) (w : Which) (slots : Slots) (k : ℕ) (panes : List Pane) (d : PaneDecl) (o : Pane) (steps : ℕ)
     → slice_get (panes_of g.app) k ≡ Some d → slice_get panes k ≡ Some o → is_due w (marks_of_pane o) ≡ false
@@ -35,15 +38,15 @@ settles_quiet g w slots k panes d o steps declares stands due = record {
   stood = stands;
   stands = refl;
   settles = record {
-    marks = ap (λ (b : Bool). (settle_if b (pane_fresh g.limits g.app g.types d slots) (marks_of_pane o) false).marks) (sym due);
-    report = ap (λ (b : Bool). (settle_if b (pane_fresh g.limits g.app g.types d slots) (marks_of_pane o) false).report) (sym due);
+    marks = ap (λ (b : Bool). (step_if g w slots d o b false).marks) (sym due);
+    report = ap (λ (b : Bool). (step_if g w slots d o b false).report) (sym due);
   };
-  spends = subst (λ (b : Bool). RisesBy false steps steps (settle_if b (pane_fresh g.limits g.app g.types d slots) (marks_of_pane o) false).cost) (sym due) (omega arith);
+  spends = subst (λ (b : Bool). RisesBy false steps steps (step_if g w slots d o b false).cost) (sym due) (omega arith);
 }
 
 pub settles_due : (g : Ground) (w : Which) (slots : Slots) (k : ℕ) (old new : List Pane) (d : PaneDecl) (o p : Pane) (from to : ℕ)
     → slice_get (panes_of g.app) k ≡ Some d → slice_get old k ≡ Some o → new ≡ slice_set old k p → is_due w (marks_of_pane o) ≡ true
-    → Evaluates (pane_fresh g.limits g.app g.types d slots) o p from to → SettlesAt g w slots k old new from to
+    → Evaluates (pane_draw g.limits g.app g.types d slots) (reused w (marks_of_pane o)) o p from to → SettlesAt g w slots k old new from to
 settles_due g w slots k old new d o p from to declares stood stands due e = record {
   declared = d;
   before = o;
@@ -52,10 +55,10 @@ settles_due g w slots k old new d o p from to declares stood stands due e = reco
   stood = stood;
   stands = stands;
   settles = record {
-    marks = subst (λ (b : Bool). marks_of_pane p ≡ (settle_if b (pane_fresh g.limits g.app g.types d slots) (marks_of_pane o) (met_memory p.report)).marks) (sym due) e.marks;
-    report = subst (λ (b : Bool). p.report ≡ (settle_if b (pane_fresh g.limits g.app g.types d slots) (marks_of_pane o) (met_memory p.report)).report) (sym due) e.report;
+    marks = subst (λ (b : Bool). marks_of_pane p ≡ (step_if g w slots d o b (met_memory p.report)).marks) (sym due) e.marks;
+    report = subst (λ (b : Bool). p.report ≡ (step_if g w slots d o b (met_memory p.report)).report) (sym due) e.report;
   };
-  spends = subst (λ (b : Bool). RisesBy (met_memory p.report) from to (settle_if b (pane_fresh g.limits g.app g.types d slots) (marks_of_pane o) (met_memory p.report)).cost) (sym due) e.spends;
+  spends = subst (λ (b : Bool). RisesBy (met_memory p.report) from to (step_if g w slots d o b (met_memory p.report)).cost) (sym due) e.spends;
 }
 
 -- a frame of which one pane is put in the place of another

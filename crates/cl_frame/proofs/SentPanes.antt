@@ -1,5 +1,5 @@
 -- What is sent of panes that are settled one after another.
-use Rattle.std.proofs.Common.{◌≡◌, ℕ, suc, ◌+◌, ◌<◌, ◌≤◌, Bool, true, false, not, if◌then◌else◌, List, [], ◌∷◌, ◌++◌, Some, Option, length, get_or, set, map, take, drop, refl, sym, ◌∙◌, ap, subst, arith, slice_get, slice_set, append_assoc, append-nil, length-append}
+use Rattle.std.proofs.Common.{◌≡◌, ℕ, ◌+◌, ◌<◌, ◌≤◌, Bool, true, false, not, if◌then◌else◌, List, [], ◌∷◌, ◌++◌, Some, Option, length, set, map, take, drop, refl, sym, ◌∙◌, ap, subst, arith, slice_get, slice_set, append_assoc, append-nil, length-append}
 use Rattle.std.specs.Prelude.{option_map}
 use Rattle.std.proofs.KnownBytes.{Appends-nil, Appends-trans}
 use Rattle.std.proofs.lemmas.List.{drop_all, get_or-set_same, length-set, map-append, take_all, take_more_set}
@@ -10,7 +10,7 @@ use Rattle.cl_application.specs.declared.declarations.PaneDecl.{PaneDecl}
 use Rattle.cl_eval.specs.Slots.{Slots}
 use Rattle.cl_outside.proofs.WritingLemmas.{CutShort-behind, Wrote-more}
 use Rattle.cl_outside.specs.Operations.{Op, ops_bytes}
-use Rattle.cl_outside.specs.Writing.{CutShort, Says, Wrote}
+use Rattle.cl_outside.specs.Writing.{CutShort, Wrote}
 use Rattle.cl_redisplay.proofs.WireLemmas.{ops_bytes-append}
 use Rattle.cl_redisplay.specs.Operations.{pane_ops}
 use Rattle.cl_redisplay.specs.Screens.{BreaksAt, StaleAfter}

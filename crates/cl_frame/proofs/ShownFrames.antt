@@ -1,5 +1,5 @@
 -- Frames whose panes are shown where they are declared.
-use Rattle.std.proofs.Common.{◌≡◌, ℕ, ◌<◌, Bool, true, false, List, [], ◌∷◌, Option, map, refl, sym, ◌∙◌, ap, arith}
+use Rattle.std.proofs.Common.{◌≡◌, ℕ, ◌<◌, List, [], ◌∷◌, map, refl, sym, ◌∙◌, ap, arith}
 use Rattle.std.proofs.lemmas.Bool.Decides.{nat_tests}
 use Rattle.cl_application.specs.Panes.{panes_of}
 use Rattle.cl_application.specs.declared.applications.App.{App}
@@ -7,7 +7,7 @@ use Rattle.cl_application.specs.declared.declarations.PaneDecl.{PaneDecl}
 use Rattle.cl_outside.specs.Operations.{Op, clears}
 use Rattle.cl_redisplay.proofs.OperationLemmas.{area_ops-same}
 use Rattle.cl_redisplay.specs.Operations.{redraw_ops, whole_area}
-use Rattle.cl_redisplay.specs.Paint.{cell_at, covers}
+use Rattle.cl_redisplay.specs.Paint.{cell_at}
 use Rattle.cl_redisplay.specs.Shown.{Shown, shown_at}
 use Rattle.cl_redisplay.specs.Wires.{WireShows}
 use Rattle.cl_redisplay.specs.declared.areas.Area.{Area}

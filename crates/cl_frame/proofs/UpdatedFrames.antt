@@ -1,5 +1,5 @@
 -- Frames that are updated: what is sent, and what the wire shows then.
-use Rattle.std.proofs.Common.{◌≡◌, ℕ, Bool, true, false, if◌then◌else◌, List, Option, map, refl, sym, ◌∙◌, ap, subst}
+use Rattle.std.proofs.Common.{◌≡◌, ℕ, Bool, true, false, if◌then◌else◌, List, Option, map, sym, ◌∙◌, ap, subst}
 use Rattle.cl_application.specs.declared.applications.App.{App}
 use Rattle.cl_outside.specs.Device as device
 use Rattle.cl_outside.specs.Operations.{Op, mended, ops_bytes}

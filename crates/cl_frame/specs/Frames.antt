@@ -1,18 +1,24 @@
 -- A frame: its panes on one screen.
-use Rattle.std.specs.Prelude.{◌≡◌, ◌≤◌, ℕ, Bool, true, false, All, List, [], ◌∷◌, Some, None, map, slice_get, slice_set}
+use Rattle.std.specs.Prelude.{◌≡◌, ◌≤◌, ℕ, Bool, true, false, All, IfSome, List, [], ◌∷◌, Some, None, map, slice_get, slice_set}
 use Rattle.cl_outside.specs.Causes.{Rose}
 use Rattle.cl_application.specs.Panes.{panes_of}
 use Rattle.cl_application.specs.declared.applications.App.{App}
 use Rattle.cl_application.specs.declared.declarations.PaneDecl.{PaneDecl}
-use Rattle.cl_eval.specs.Outcome.{Outcome, RisesBy, cost_of}
+use Rattle.cl_eval.specs.Outcome.{RisesBy}
 use Rattle.cl_eval.specs.Slots.{Slots}
-use Rattle.cl_display.specs.Drawings.{DrawingAt}
+use Rattle.cl_eval.specs.TypeMeanings.{TypeMeanings}
+use Rattle.cl_display.specs.Outcomes.{DrawOutcome}
+use Rattle.cl_medium.specs.Items.{Item}
 use Rattle.cl_raster.specs.Raster.{Picture}
 use Rattle.cl_record.specs.Counts.{count_of}
+use Rattle.cl_record.specs.Marks.{Mark}
 use Rattle.cl_redisplay.specs.Paint.{LiesIn}
 use Rattle.cl_redisplay.specs.Shown.{AreApart, Shows, areas_of}
 use Rattle.cl_redisplay.specs.declared.screens.Painted.{Painted}
 use Rattle.cl_redisplay.specs.declared.screens.Painted.TheVariants as painted
+use Rattle.cl_reuse.specs.Kept.{work}
+use Rattle.cl_reuse.specs.Records.{kept_among, records_of}
+use Rattle.cl_reuse.specs.Recorded.{IsFaithfulHistory}
 use Rattle.cl_frame.specs.Ground.{Ground}
 use Rattle.cl_frame.specs.Panes.{IsCounted, PaneMarks, area_of, area_of_pane, marks_in, marks_of_pane, report_of_pane, shown_of_pane}
 use Rattle.cl_frame.specs.Settling.{marks_after, marks_settled, met_memory, report_after, report_settled, settle_pane, settle_panes}
@@ -53,15 +59,23 @@ pub record IsFrameOf (app : App) (f : Frame) : Type 0 where
 abbrev pub is_blank_pane : Pane → Type 0
 is_blank_pane p = (p.history ≡ None) × (p.items ≡ 0)
 
+-- the history of a pane, where it has one, is faithful: what it says of its updates is what their bodies come to
+abbrev pub IsPaneFaithful : App → TypeMeanings → Pane → Type 0
+IsPaneFaithful app types p = IfSome p.history (IsFaithfulHistory app types)
+
+-- so it is of each pane
+pub record ArePanesFaithful (app : App) (types : TypeMeanings) (panes : List Pane) : Type 0 where
+  pub all : All (IsPaneFaithful app types) panes
+
 -- ---- settling
 
--- what the evaluation of a display leaves of its pane
-pub record Evaluates (shown : Outcome DrawingAt) (old new : Pane) (from to : ℕ) : Type 0 where
+-- what the evaluation of a display over these old marks leaves of its pane
+pub record Evaluates (drawn : DrawOutcome) (over : List (Mark Item)) (old new : Pane) (from to : ℕ) : Type 0 where
   pub area : new.area ≡ old.area
-  pub marks : marks_of_pane new ≡ marks_settled shown (met_memory new.report)
-  pub report : new.report ≡ report_settled shown (count_of (marks_in (marks_of_pane old))) (met_memory new.report)
+  pub marks : marks_of_pane new ≡ marks_settled drawn.outcome (met_memory new.report)
+  pub report : new.report ≡ report_settled drawn.outcome (kept_among over drawn) (count_of (marks_in (marks_of_pane old))) (met_memory new.report)
   pub counted : IsCounted new
-  pub spends : RisesBy (met_memory new.report) from to (cost_of shown)
+  pub spends : RisesBy (met_memory new.report) from to (work (records_of over) drawn)
 
 -- what became of one pane
 pub record SettlesPane (g : Ground) (which : Which) (slots : Slots) (d : PaneDecl) (old new : Pane) : Type 0 where

@@ -1,11 +1,20 @@
--- What becomes of panes that are settled: each shows its display, evaluated once, from nothing, on the present slots.
-use Rattle.std.specs.Prelude.{◌≡◌, ℕ, ◌+◌, Bool, true, false, is_none, List, [], ◌∷◌, Some, None}
+-- What becomes of panes that are settled: each shows its display, evaluated once on the present slots. What may be kept of its old history is kept.
+use Rattle.std.specs.Prelude.{◌≡◌, ℕ, ◌+◌, ◌-◌, Bool, true, false, is_none, List, [], ◌∷◌, Some, None}
+use Rattle.cl_application.specs.App.{forms_of}
+use Rattle.cl_application.specs.declared.applications.App.{App}
 use Rattle.cl_application.specs.declared.declarations.PaneDecl.{PaneDecl}
-use Rattle.cl_eval.specs.Outcome.{Outcome, Gives, RisesBy, Traps, cost_of}
+use Rattle.cl_eval.specs.Outcome.{Outcome, Gives, RisesBy, Traps}
 use Rattle.cl_eval.specs.Slots.{Slots}
+use Rattle.cl_eval.specs.TypeMeanings.{TypeMeanings}
+use Rattle.cl_eval.specs.declared.metering.Limits.{Limits}
 use Rattle.cl_display.specs.Drawings.{DrawingAt}
-use Rattle.cl_display.specs.Script.{history_of, pane_fresh}
+use Rattle.cl_display.specs.Outcomes.{DrawOutcome}
+use Rattle.cl_display.specs.Script.{fresh, history_of}
+use Rattle.cl_medium.specs.Items.{Item}
 use Rattle.cl_record.specs.Counts.{count_of}
+use Rattle.cl_record.specs.Marks.{Mark}
+use Rattle.cl_reuse.specs.Kept.{KeptAt, count_moved, count_still, items_kept, work}
+use Rattle.cl_reuse.specs.Records.{kept_among, records_of}
 use Rattle.cl_frame.specs.Ground.{Ground}
 use Rattle.cl_frame.specs.Panes.{PaneMarks, marks_in}
 use Rattle.cl_frame.specs.declared.reports.PaneReport.{PaneReport}
@@ -24,20 +33,37 @@ abbrev pub marks_settled : Outcome DrawingAt → (met : Bool) → PaneMarks
 marks_settled shown true = None
 marks_settled shown false = Some (history_of shown)
 
--- its report: nothing is kept, its items are drawn, and so many are erased
-abbrev pub report_settled : Outcome DrawingAt → (erased : ℕ) → (met : Bool) → PaneReport
-report_settled shown erased true = report.Memory
-report_settled (Gives s cost deepest) erased false =
-    report.Shown (record { kept = 0; moved = 0; drawn = count_of s.part.marks; erased = erased })
-report_settled (Traps kind cost deepest) erased false = report.Trapped kind
+-- its report: how many updates are kept where they stood, and how many are moved; and how many items are drawn, and erased of so many, outside of these
+abbrev pub report_settled : Outcome DrawingAt → List KeptAt → (erased : ℕ) → (met : Bool) → PaneReport
+report_settled shown ks erased true = report.Memory
+report_settled (Gives s cost deepest) ks erased false = report.Shown (record {
+  kept = count_still ks;
+  moved = count_moved ks;
+  drawn = count_of s.part.marks - items_kept ks;
+  erased = erased - items_kept ks;
+})
+report_settled (Traps kind cost deepest) ks erased false = report.Trapped kind
 
--- a pane that is settled, and one that is not
-abbrev pub settle_if : (due : Bool) → Outcome DrawingAt → PaneMarks → (met : Bool) → PaneStep
-settle_if true shown old met =
-    record { marks = marks_settled shown met; report = report_settled shown (count_of (marks_in old)) met; cost = cost_of shown }
-settle_if false shown old met = record { marks = old; report = report.Quiet; cost = 0 }
+-- what the display of a pane comes to, with the updates that it opens
+abbrev pub pane_draw : Limits → App → TypeMeanings → PaneDecl → Slots → DrawOutcome
+pane_draw limits app types pane slots = fresh limits (record { app = app; slots = slots; types = types }) (forms_of pane app) []
 
--- which panes are settled: all, those that are blank for want of memory, or all anew
+-- the old marks of which something may be kept: where all histories are discarded there are none
+abbrev pub reused : Which → PaneMarks → List (Mark Item)
+reused which.All marks = marks_in marks
+reused which.Blank marks = marks_in marks
+reused which.Force marks = []
+
+-- A pane that is settled, over these old marks, and one that is not. The cost of what is kept is not paid again.
+abbrev pub settle_if : (due : Bool) → DrawOutcome → (over : List (Mark Item)) → PaneMarks → (met : Bool) → PaneStep
+settle_if true drawn over old met = record {
+  marks = marks_settled drawn.outcome met;
+  report = report_settled drawn.outcome (kept_among over drawn) (count_of (marks_in old)) met;
+  cost = work (records_of over) drawn;
+}
+settle_if false drawn over old met = record { marks = old; report = report.Quiet; cost = 0 }
+
+-- which panes are settled: all, those that are blank for want of memory, or all from nothing
 abbrev pub is_due : Which → PaneMarks → Bool
 is_due which.All marks = true
 is_due which.Blank marks = is_none marks
@@ -45,7 +71,7 @@ is_due which.Force marks = true
 
 -- one pane
 abbrev pub settle_pane : Ground → Which → Slots → PaneDecl → PaneMarks → (met : Bool) → PaneStep
-settle_pane g which slots d old met = settle_if (is_due which old) (pane_fresh g.limits g.app g.types d slots) old met
+settle_pane g which slots d old met = settle_if (is_due which old) (pane_draw g.limits g.app g.types d slots) (reused which old) old met
 
 -- all panes, each with what it met; where that is not told, it met nothing
 abbrev pub settle_panes : Ground → Which → Slots → List PaneDecl → List PaneMarks → (mets : List Bool) → List PaneStep

@@ -2,7 +2,8 @@
 ghost use Rattle.std.specs.Prelude.{◌≡◌, ◌<◌, true, false, not, All, IfOk, map};
 ghost use Rattle.cl_application.specs.Panes.{IsPlaced, panes_of};
 ghost use Rattle.cl_application.specs.declared.applications.App.{App};
-ghost use Rattle.cl_frame.specs.Frames.{AreShown, IsFrameOf, is_blank_pane, pane_met};
+ghost use Rattle.cl_eval.specs.TypeMeanings.{TypeMeanings};
+ghost use Rattle.cl_frame.specs.Frames.{ArePanesFaithful, AreShown, IsFrameOf, is_blank_pane, pane_met};
 ghost use Rattle.cl_frame.specs.Panes.{area_of, area_of_pane, shown_of_pane};
 ghost use Rattle.std.specs.List.{list_any};
 ghost use Rattle.cl_frame.specs.Sending.{SendsOn, wire_of};
@@ -32,6 +33,7 @@ impl Frame {
         requires { IsPlaced app.now.frame }
         ensures frame { IfOk result (IsFrameOf app.now) }
         ensures blank { IfOk result (λ f. All is_blank_pane f.panes.items) }
+        ensures faithful { IfOk result (λ f. (types : TypeMeanings) → ArePanesFaithful app.now types f.panes.items) }
         ensures stale { IfOk result (λ f. f.screen.stale ≡ true) }
     {
         let screen = Screen::new(alloc, app.frame.width, app.frame.height)?;

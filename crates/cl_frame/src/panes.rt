@@ -1,19 +1,25 @@
 //! One pane: where it lies, and its history.
-ghost use Rattle.std.specs.Prelude.{◌≡◌, ◌≤◌, Some, None};
-ghost use Rattle.cl_display.specs.Script.{pane_fresh};
-ghost use Rattle.cl_frame.specs.Frames.{Evaluates};
+ghost use Rattle.std.specs.Prelude.{◌≡◌, ◌≤◌, ◌-◌, [], Some, None};
+ghost use Rattle.cl_application.specs.declared.applications.App.{App};
+ghost use Rattle.cl_eval.specs.TypeMeanings.{TypeMeanings};
+ghost use Rattle.cl_frame.specs.Frames.{Evaluates, IsPaneFaithful};
 ghost use Rattle.cl_frame.specs.Ground.{meanings_of};
-ghost use Rattle.cl_frame.specs.Panes.{IsCounted, area_of};
+ghost use Rattle.cl_frame.specs.Panes.{IsCounted, area_of, marks_of_pane};
+ghost use Rattle.cl_frame.specs.Settling.{pane_draw, reused};
 ghost use Rattle.cl_medium.specs.Items.{move_item};
 ghost use Rattle.cl_record.specs.Counts.{count_of};
 ghost use Rattle.cl_record.specs.Marks.{history_marks};
+ghost use Rattle.cl_reuse.specs.Recorded.{IsFaithfulHistory};
+ghost use Rattle.cl_updating.specs.Redisplays.{CanReuse};
 
 use crate::reports::{PaneReport, Report};
+use crate::settling::Which;
 use cl_application::PaneDecl;
-use cl_display::{History, Shown, display};
+use cl_display::History;
 use cl_eval::{Env, Program, Slots, Types};
 use cl_outside::{Ledger, Steps};
 use cl_redisplay::Area;
+use cl_updating::{Redisplayed, Reuse, redisplay};
 
 /// A pane: its area of the screen, its history, None where it is blank for want of memory, how many
 /// items that draws, and what became of it when its frame was settled last.
@@ -50,40 +56,77 @@ impl Pane {
         }
     }
 
-    // The pane once its display was evaluated, once, from nothing. Each form that is entered is a step.
+    // The pane once its display was evaluated, once, over its old history, which is taken as empty where
+    // all histories are discarded. The steps are those of what is drawn anew.
     pub(crate) fn evaluated<T: Types, L: Ledger>(
         &self,
         program: &Program<'_, T>,
+        which: Which,
         declared: &PaneDecl,
         slots: &Slots,
         steps: &mut Steps<L>,
     ) -> Pane
         requires depth { program.now.limits.depth ≤ 512 }
         requires counted { IsCounted self.now }
+        requires reuse { CanReuse program.now.app.now (meanings_of T.holds T.presents program.now.types.now) }
+        requires faithful { IsPaneFaithful program.now.app.now (meanings_of T.holds T.presents program.now.types.now) self.now }
         ensures evaluates { Evaluates
-            (pane_fresh program.now.limits program.now.app.now (meanings_of T.holds T.presents program.now.types.now)
-            declared.now slots.now) self.now result steps.old steps.new }
+            (pane_draw program.now.limits program.now.app.now (meanings_of T.holds T.presents program.now.types.now)
+            declared.now slots.now) (reused which (marks_of_pane self.now)) self.now result steps.old steps.new }
+        ensures faithful { IsPaneFaithful program.now.app.now (meanings_of T.holds T.presents program.now.types.now) result }
         ensures later { steps.old ≤ steps.new }
     {
         let env = Env::new(program.alloc);
         let forms = program.app.forms_of(declared);
-        match display(program, forms, &env, slots, steps) {
-            Shown::Built(history) => {
-                let report = Report {
-                    kept: 0,
-                    moved: 0,
-                    drawn: history.count(),
-                    erased: self.items,
-                };
+        let blank = History::empty(program.alloc);
+        let old = self.reused(which, &blank);
+        match redisplay(program, forms, &env, slots, old, steps) {
+            Redisplayed::Built(history, reuse) => {
+                let report = self.report_of(&history, reuse);
                 self.with_history(history, PaneReport::Shown(report))
             }
-            Shown::Trapped(history, kind) => self.with_history(history, PaneReport::Trapped(kind)),
-            Shown::Memory => Pane {
+            Redisplayed::Trapped(history, kind) => {
+                self.with_history(history, PaneReport::Trapped(kind))
+            }
+            Redisplayed::Memory => Pane {
                 area: self.area,
                 history: None,
                 items: 0,
                 report: PaneReport::Memory,
             },
+        }
+    }
+
+    // The old history of which something may be kept; where there is none to keep, this blank one.
+    fn reused<'a>(&'a self, which: Which, blank: &'a History) -> &'a History
+        requires { blank.now ≡ [] }
+        ensures marks { history_marks move_item result.now ≡ reused which (marks_of_pane self.now) }
+        ensures faithful { (app : App) (types : TypeMeanings) → IsPaneFaithful app types self.now → IsFaithfulHistory app types result.now }
+    {
+        let Some(history) = &self.history else {
+            return blank;
+        };
+        match which {
+            Which::All => history,
+            Which::Blank => history,
+            Which::Force => blank,
+        }
+    }
+
+    // What was done to show a new history in the place of that of the pane.
+    fn report_of(&self, history: &History, reuse: Reuse) -> Report
+        ensures { result ≡ record {
+          kept = reuse.kept;
+          moved = reuse.moved;
+          drawn = count_of (history_marks move_item history.now) - reuse.items;
+          erased = self.now.items - reuse.items;
+        } }
+    {
+        Report {
+            kept: reuse.kept,
+            moved: reuse.moved,
+            drawn: history.count().saturating_sub(reuse.items),
+            erased: self.items.saturating_sub(reuse.items),
         }
     }
 

@@ -2,8 +2,8 @@
 ghost use Rattle.std.specs.Prelude.{◌≡◌};
 ghost use Rattle.cl_frame.specs.Settling.{met_memory};
 
-/// What was done to show a pane anew: how many pieces were kept in place and moved, and how many
-/// items were drawn and erased. While displays have no pieces to keep, all items are drawn.
+/// What was done to show a pane anew: how many updates of the old history were kept where they stood,
+/// and how many were moved; and how many items were drawn, and erased, outside of these.
 #[derive(Clone, Copy, PartialEq, Eq, Debug)]
 pub struct Report {
     pub kept: u64,

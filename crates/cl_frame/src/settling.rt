@@ -3,14 +3,15 @@ ghost use Rattle.std.specs.Prelude.{◌≡◌, ◌≤◌, ◌<◌, true, false, 
 ghost use Rattle.cl_application.specs.Panes.{panes_of};
 ghost use Rattle.cl_raster.specs.Raster.{SameSize};
 ghost use Rattle.cl_redisplay.specs.Paint.{LiesIn, Repaints};
-ghost use Rattle.cl_frame.specs.Frames.{AreShown, GoesStale, IsFrameOf, Replaces, Settles, SettlesAt, fault_between, is_stale_under, marks_of_frame, reports_of_frame};
-ghost use Rattle.cl_frame.specs.Ground.{ground_of};
+ghost use Rattle.cl_frame.specs.Frames.{ArePanesFaithful, AreShown, GoesStale, IsFrameOf, Replaces, Settles, SettlesAt, fault_between, is_stale_under, marks_of_frame, reports_of_frame};
+ghost use Rattle.cl_frame.specs.Ground.{ground_of, meanings_of};
 ghost use Rattle.cl_frame.specs.Panes.{marks_in, marks_of_pane};
 ghost use Rattle.cl_frame.specs.Settling.{SpendsPanes, is_due, met_memory, settle_panes};
 ghost use Rattle.cl_frame.specs.Sending.{SendsAt, SendsOn, SendsPane, ShowsPanes, settled_ops, update_bytes, wire_of};
 ghost use Rattle.cl_outside.specs.Operations.{ops_bytes};
 ghost use Rattle.cl_redisplay.specs.Operations.{pane_ops};
 ghost use Rattle.cl_redisplay.specs.Screens.{Agree, BreaksAt, PaintedRose, StaleAfter, is_fault};
+ghost use Rattle.cl_updating.specs.Redisplays.{CanReuse};
 
 use crate::frames::Frame;
 use crate::panes::Pane;
@@ -26,7 +27,7 @@ pub enum Which {
     All,
     /// Those that are blank for want of memory.
     Blank,
-    /// Each of them, from nothing, on a screen that is redrawn in full afterwards.
+    /// Each of them, from nothing: all old histories are taken as empty, and the screen is redrawn in full afterwards.
     Force,
 }
 
@@ -67,11 +68,12 @@ impl Which {
 }
 
 impl Frame {
-    /// Settles panes in their order: each that is asked for shows its display, evaluated once, from
-    /// nothing, and is blank where it meets want of memory. A pane that is not asked for stays as it
-    /// is, and its report is `Quiet`. The area of each settled pane is sent to the device, unless the
-    /// screen is stale. `Force` sends nothing and leaves the screen stale, so that a refresh must
-    /// follow.
+    /// Settles panes in their order: each that is asked for shows its display, evaluated once over its
+    /// old history, and is blank where it meets want of memory. What the display would draw as it
+    /// stands in the old history, there or moved, is kept of it; the steps are those of what is drawn
+    /// anew. A pane that is not asked for stays as it is, and its report is `Quiet`. The area of each
+    /// settled pane is sent to the device, unless the screen is stale. `Force` takes all old histories
+    /// as empty, sends nothing and leaves the screen stale, so that a refresh must follow.
     pub fn settle<T: Types, D: Device, L: Ledger>(
         &mut self,
         program: &Program<'_, T>,
@@ -82,6 +84,8 @@ impl Frame {
     ) -> Painted
         requires depth { program.now.limits.depth ≤ 512 }
         requires frame { IsFrameOf program.now.app.now self.old }
+        requires reuse { CanReuse program.now.app.now (meanings_of T.holds T.presents program.now.types.now) }
+        requires faithful { ArePanesFaithful program.now.app.now (meanings_of T.holds T.presents program.now.types.now) self.old.panes.items }
         requires agree { Agree self.old.screen.stale self.old.screen.raster (D.broken device.old)
             (D.cleared device.old) (D.picture device.old) }
         ensures settles { Settles (ground_of T.holds T.presents T.reads T.hierarchy program.now) which slots.now
@@ -90,6 +94,7 @@ impl Frame {
             which slots.now (panes_of program.now.app.now) (marks_of_frame self.old)
             (map met_memory (reports_of_frame self.new))) steps.old steps.new }
         ensures frame { IsFrameOf program.now.app.now self.new }
+        ensures faithful { ArePanesFaithful program.now.app.now (meanings_of T.holds T.presents program.now.types.now) self.new.panes.items }
         ensures agree { Agree self.new.screen.stale self.new.screen.raster (D.broken device.new)
             (D.cleared device.new) (D.picture device.new) }
         ensures stale { StaleAfter (is_stale_under which self.old.screen.stale)
@@ -124,6 +129,8 @@ impl Frame {
     ) -> Painted
         requires depth { program.now.limits.depth ≤ 512 }
         requires frame { IsFrameOf program.now.app.now self.old }
+        requires reuse { CanReuse program.now.app.now (meanings_of T.holds T.presents program.now.types.now) }
+        requires faithful { ArePanesFaithful program.now.app.now (meanings_of T.holds T.presents program.now.types.now) self.old.panes.items }
         requires agree { Agree self.old.screen.stale self.old.screen.raster (D.broken device.old)
             (D.cleared device.old) (D.picture device.old) }
         ensures settles { Settles (ground_of T.holds T.presents T.reads T.hierarchy program.now) which slots.now
@@ -132,6 +139,7 @@ impl Frame {
             which slots.now (panes_of program.now.app.now) (marks_of_frame self.old)
             (map met_memory (reports_of_frame self.new))) steps.old steps.new }
         ensures frame { IsFrameOf program.now.app.now self.new }
+        ensures faithful { ArePanesFaithful program.now.app.now (meanings_of T.holds T.presents program.now.types.now) self.new.panes.items }
         ensures agree { Agree self.new.screen.stale self.new.screen.raster (D.broken device.new)
             (D.cleared device.new) (D.picture device.new) }
         ensures stale { self.new.screen.stale ≡ is_fault result }
@@ -167,6 +175,8 @@ impl Frame {
         requires depth { program.now.limits.depth ≤ 512 }
         requires place { place < length self.old.panes.items }
         requires frame { IsFrameOf program.now.app.now self.old }
+        requires reuse { CanReuse program.now.app.now (meanings_of T.holds T.presents program.now.types.now) }
+        requires faithful { ArePanesFaithful program.now.app.now (meanings_of T.holds T.presents program.now.types.now) self.old.panes.items }
         requires agree { Agree self.old.screen.stale self.old.screen.raster (D.broken device.old)
             (D.cleared device.old) (D.picture device.old) }
         ensures settles { SettlesAt (ground_of T.holds T.presents T.reads T.hierarchy program.now) which slots.now
@@ -177,6 +187,7 @@ impl Frame {
         ensures bytes { SendsAt which program.now.app.now place self.old.panes.items
             self.new.panes.items self.old.screen.stale self.new.screen.stale (wire_of (D.wire device.old) (D.faults device.old) (D.lent device.old).told) (wire_of (D.wire device.new) (D.faults device.new) (D.lent device.new).told) }
         ensures frame { IsFrameOf program.now.app.now self.new }
+        ensures faithful { ArePanesFaithful program.now.app.now (meanings_of T.holds T.presents program.now.types.now) self.new.panes.items }
         ensures agree { Agree self.new.screen.stale self.new.screen.raster (D.broken device.new)
             (D.cleared device.new) (D.picture device.new) }
         ensures goes_stale { GoesStale self.old.screen.stale self.new.screen.stale
@@ -191,7 +202,7 @@ impl Frame {
             self.panes[place].report = PaneReport::Quiet;
             return;
         }
-        let pane = self.panes[place].evaluated(program, declared, slots, steps);
+        let pane = self.panes[place].evaluated(program, which, declared, slots, steps);
         self.put(place, pane, device);
     }
 

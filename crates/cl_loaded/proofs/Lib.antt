@@ -6,3 +6,4 @@ pub mod TextsStable
 pub mod SitesLemmas
 pub mod SitesForms
 pub mod SitesTexts
+pub mod Reused

@@ -10,12 +10,14 @@ use Rattle.cl_lattice.specs.World.{World}
 use Rattle.cl_load.specs.Application.{IsApplication}
 use Rattle.cl_load.specs.Loads.{Loads}
 use Rattle.cl_load.specs.Reason.{refused, uncovered}
-use Rattle.cl_load.specs.Types.{Bounds, types_in}
+use Rattle.cl_load.specs.Types.{Bounds, holds_in, types_in}
 use Rattle.cl_load.specs.declared.refusals.LoadRefusal.{LoadRefusal}
 use Rattle.cl_load.specs.declared.refusals.LoadRefusal.TheVariants as refusal
+use Rattle.cl_loaded.proofs.Reused.{loaded_reuse}
 use Rattle.cl_outside.specs.Causes.{Rose}
 use Rattle.cl_outside.specs.Place.{IsTold}
 use Rattle.cl_ptext.specs.Subtyping.{hierarchy_in}
+use Rattle.cl_updating.specs.Redisplays.{CanReuse}
 use Rattle.cl_program.specs.Command.{IsCheck, IsRun, Names, application_of}
 use Rattle.cl_program.specs.Commands.{Checked, KeepsFiles, RanOn, RanText, RefusesText, SaysLine, Stands, Tells}
 use Rattle.cl_program.specs.Hosts.{HostMeanings, meanings_in, reads_in}
@@ -100,6 +102,13 @@ Ran-check hosts words name old new s t text how.LoadsCut is of r = (record { nam
 Ran-check hosts words name old new s t text how.WireFault is of r = absurd r
 Ran-check hosts words name old new s t text how.Memory is of r = inl r
 Ran-check hosts words name old new s t text (how.Ended e) is of r = absurd r
+
+-- its histories may be reused
+pub reuse-loaded : (hosts : HostMeanings) (text : List ℕ) (app : App) (types : World) → IsApplication hosts.bounds text app → types ≡ types_in hosts.bounds app
+    → CanReuse app (meanings_in hosts.names types app)
+reuse-loaded hosts text app types is same =
+    subst (λ (w : World). CanReuse app (meanings_in hosts.names w app)) (sym same)
+    (loaded_reuse hosts.bounds text hosts.names (holds_in (types_in hosts.bounds app) app) app is)
 
 -- an application that was loaded, with its types
 pub Ran-application : (hosts : HostMeanings) (text : List ℕ) (wire : Option (List ℕ)) (limits : Limits) (app : App) (types : World) (p q : Placed) (s t : Streams) (h : How)

@@ -11,6 +11,7 @@ ghost use Rattle.cl_program.specs.Run.{Ran, RanLoaded};
 ghost use Rattle.cl_program.specs.Surroundings.{placed, streams};
 ghost use Rattle.cl_ptext.specs.Subtyping.{hierarchy_in};
 ghost use Rattle.cl_tables.specs.Rings.{HasNoRing};
+ghost use Rattle.cl_updating.specs.Redisplays.{CanReuse};
 
 use crate::running::{How, limits_of, run_program};
 use crate::saying::{say_loads, say_refusal, say_uncovered, say_usage};
@@ -150,6 +151,7 @@ fn run_application<H: Hosts, P: Place, G: Source, O: Sink, L: Ledger>(
     steps: &mut Steps<L>,
 ) -> How
     requires depth { setting.limits.depth ≤ 512 }
+    requires reuse { CanReuse loaded.app (meanings_in (H.entries hosts.now) loaded.lattice loaded.app) }
     ensures ran { RanOn (option_map (λ name. name.now) setting.entry.wire)
         (ground loaded.app (meanings_in (H.entries hosts.now) loaded.lattice loaded.app)
         (reads_in (H.entries hosts.now) loaded.lattice loaded.app) (hierarchy_in loaded.lattice) setting.entry.limits)
@@ -188,6 +190,7 @@ fn run_types<'a, T: Types, P: Place, G: Source, O: Sink, L: Ledger>(
     steps: &mut Steps<L>,
 ) -> How
     requires depth { setting.limits.depth ≤ 512 }
+    requires reuse { CanReuse loaded.now.app (meanings_of T.holds T.presents types.now) }
     ensures ran { RanOn (option_map (λ name. name.now) setting.entry.wire)
         (ground loaded.now.app (meanings_of T.holds T.presents types.now) (T.reads types.now) (T.hierarchy types.now) setting.entry.limits)
         (placed (P.file place.old) (P.app_faults place.old) (P.making_faults place.old)
@@ -240,6 +243,7 @@ fn run_on<T: Types, P: Place, G: Source, O: Sink, L: Ledger>(
     requires depth { program.now.limits.depth ≤ 512 }
     requires placed { IsPlaced program.now.app.now.frame }
     requires no_ring { HasNoRing program.now.app.now.tables }
+    requires reuse { CanReuse program.now.app.now (meanings_of T.holds T.presents program.now.types.now) }
     requires opening { slots.now ≡ opening_slots program.now.app.now }
     ensures ran { RanOn (option_map (λ name. name.now) wire.entry)
         (ground_of T.holds T.presents T.reads T.hierarchy program.now) (placed (P.file place.old) (P.app_faults place.old)
@@ -286,6 +290,7 @@ fn run_on_wire<T: Types, P: Place, G: Source, O: Sink, L: Ledger>(
     requires depth { program.now.limits.depth ≤ 512 }
     requires placed { IsPlaced program.now.app.now.frame }
     requires no_ring { HasNoRing program.now.app.now.tables }
+    requires reuse { CanReuse program.now.app.now (meanings_of T.holds T.presents program.now.types.now) }
     requires opening { slots.now ≡ opening_slots program.now.app.now }
     requires made { P.made place.old ≡ true }
     requires unused { P.tells place.old ≡ true → P.taken place.old ≡ Some [] }

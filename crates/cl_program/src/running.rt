@@ -1,13 +1,14 @@
 //! The run of an application: its frame is opened on a device, and gestures are served.
 ghost use Rattle.std.specs.Prelude.{◌≡◌, ◌≤◌, ◌+◌, ℕ, [], IfOk, false};
 ghost use Rattle.cl_application.specs.Panes.{IsPlaced};
-ghost use Rattle.cl_frame.specs.Ground.{ground_of};
+ghost use Rattle.cl_frame.specs.Ground.{ground_of, meanings_of};
 ghost use Rattle.cl_frame.specs.Sending.{Wire, wire_of};
 ghost use Rattle.cl_load.specs.Opening.{opening_slots};
 ghost use Rattle.cl_redisplay.specs.Screens.{Agree};
 ghost use Rattle.cl_program.specs.Run.{EndsAs, IsOpening, OpensOn, RanLoaded, limits_of, opening_cost};
 ghost use Rattle.cl_program.specs.Surroundings.{streams};
 ghost use Rattle.cl_tables.specs.Rings.{HasNoRing};
+ghost use Rattle.cl_updating.specs.Redisplays.{CanReuse};
 
 use cl_eval::{Limits, Program, Slots, Types};
 use cl_gesture::{Ahead, Gestures};
@@ -76,6 +77,7 @@ pub fn run_program<T: Types, D: Device, G: Source, O: Sink, L: Ledger>(
     requires depth { program.now.limits.depth ≤ 512 }
     requires placed { IsPlaced program.now.app.now.frame }
     requires no_ring { HasNoRing program.now.app.now.tables }
+    requires reuse { CanReuse program.now.app.now (meanings_of T.holds T.presents program.now.types.now) }
     requires opening { slots.now ≡ opening_slots program.now.app.now }
     requires whole { D.broken device.old ≡ false }
     ensures ran { RanLoaded (ground_of T.holds T.presents T.reads T.hierarchy program.now) (streams (G.left gestures.old)
@@ -110,6 +112,7 @@ fn open<T: Types, D: Device, L: Ledger>(
     requires depth { program.now.limits.depth ≤ 512 }
     requires placed { IsPlaced program.now.app.now.frame }
     requires no_ring { HasNoRing program.now.app.now.tables }
+    requires reuse { CanReuse program.now.app.now (meanings_of T.holds T.presents program.now.types.now) }
     requires opening { slots.now ≡ opening_slots program.now.app.now }
     requires whole { D.broken device.old ≡ false }
     ensures opening { IfOk result

@@ -4,17 +4,21 @@ use Rattle.std.proofs.lemmas.List.Elements.{All-head, All-tail}
 use Rattle.cl_application.specs.Panes.{panes_of}
 use Rattle.cl_application.specs.declared.declarations.PaneDecl.{PaneDecl}
 use Rattle.cl_display.specs.Drawings.{DrawingAt}
-use Rattle.cl_display.specs.Script.{pane_fresh}
+use Rattle.cl_display.specs.Outcomes.{DrawOutcome}
 use Rattle.cl_eval.specs.Outcome.{Gives, Outcome, RisesBy, Traps}
 use Rattle.cl_eval.specs.Slots.{Slots}
 use Rattle.cl_frame.specs.Ground.{Ground}
 use Rattle.cl_frame.specs.Panes.{PaneMarks, marks_in}
-use Rattle.cl_frame.specs.Settling.{PaneStep, SpendsPanes, costs, is_due, met_memory, report_settled, settle_if, settle_pane, settle_panes}
+use Rattle.cl_frame.specs.Settling.{PaneStep, SpendsPanes, costs, is_due, met_memory, pane_draw, report_settled, reused, settle_if, settle_pane, settle_panes}
 use Rattle.cl_frame.specs.declared.settling.Which.{Which}
 use Rattle.cl_gesture.specs.Gesture.{LineKind, idle, bad, does, kind_of}
 use Rattle.cl_gesture.specs.Lines.{Piece}
 use Rattle.cl_gesture.specs.declared.answers.Gesture.{Gesture}
+use Rattle.cl_medium.specs.Items.{Item}
 use Rattle.cl_record.specs.Counts.{count_of}
+use Rattle.cl_record.specs.Marks.{Mark}
+use Rattle.cl_reuse.specs.Kept.{KeptAt}
+use Rattle.cl_reuse.specs.Records.{kept_among}
 use Rattle.cl_session.specs.Laws.{AllFalse, AreDetermined, MetNothing, worlds_of}
 use Rattle.cl_session.specs.Step.{Met, Next, Spends, handled, next, next_behind, which_after}
 use Rattle.cl_session.specs.Streams.{SpendsAll, transcript}
@@ -65,15 +69,16 @@ same_after g w (does act) (stepped met) h = ap (λ (n : Next). n.world) (next_no
 
 -- ---- costs
 
-reported : (shown : Outcome DrawingAt) (erased : ℕ) → met_memory (report_settled shown erased false) ≡ false
-reported (Gives s cost deepest) erased = refl
-reported (Traps kind cost deepest) erased = refl
+reported : (shown : Outcome DrawingAt) (ks : List KeptAt) (erased : ℕ) → met_memory (report_settled shown ks erased false) ≡ false
+reported (Gives s cost deepest) ks erased = refl
+reported (Traps kind cost deepest) ks erased = refl
 
-paid_if : (due : Bool) (shown : Outcome DrawingAt) (old : PaneMarks) (from to : ℕ)
-    → RisesBy (met_memory (settle_if due shown old false).report) from to (settle_if due shown old false).cost → to ≡ from + (settle_if due shown old false).cost
-paid_if true shown old from to h =
-    rw (reported shown (count_of (marks_in old))) at h
-paid_if false shown old from to h = h
+paid_if : (due : Bool) (drawn : DrawOutcome) (over : List (Mark Item)) (old : PaneMarks) (from to : ℕ)
+    → RisesBy (met_memory (settle_if due drawn over old false).report) from to (settle_if due drawn over old false).cost
+    → to ≡ from + (settle_if due drawn over old false).cost
+paid_if true drawn over old from to h =
+    rw (reported drawn.outcome (kept_among over drawn) (count_of (marks_in old))) at h
+paid_if false drawn over old from to h = h
 
 -- panes that met nothing cost just what they cost
 pub paid_panes : (g : Ground) (w : Which) (slots : Slots) (ds : List PaneDecl) (os : List PaneMarks) (from to : ℕ)
@@ -81,7 +86,7 @@ pub paid_panes : (g : Ground) (w : Which) (slots : Slots) (ds : List PaneDecl) (
 paid_panes g w slots [] os from to h = omega (arith, h)
 paid_panes g w slots (d ∷ ds) [] from to h = omega (arith, h)
 paid_panes g w slots (d ∷ ds) (o ∷ os) from to h =
-    omega (arith, paid_if (is_due w o) (pane_fresh g.limits g.app g.types d slots) o from h.0 h.1, paid_panes g w slots ds os h.0 to h.2)
+    omega (arith, paid_if (is_due w o) (pane_draw g.limits g.app g.types d slots) (reused w o) o from h.0 h.1, paid_panes g w slots ds os h.0 to h.2)
 
 -- what a line costs
 abbrev line_cost : Ground → World → LineKind → ℕ

@@ -1,22 +1,26 @@
 -- What met want of memory in a gesture, and whether the device failed, is told by its lines.
-use Rattle.std.proofs.Common.{◌≡◌, ℕ, zero, suc, ◌+◌, ◌≤◌, Bool, true, false, List, [], ◌∷◌, ◌++◌, length, length-append, append_assoc, get_or, map, refl, sym, ◌∙◌, ap, arith}
+use Rattle.std.proofs.Common.{◌≡◌, ℕ, zero, suc, ◌+◌, ◌-◌, ◌≤◌, Bool, true, false, List, [], ◌∷◌, ◌++◌, length, length-append, append_assoc, get_or, map, refl, sym, ◌∙◌, ap, arith}
 use Rattle.std.specs.Prelude.{codes, nat_le}
 use Rattle.std.specs.Fmt.{decimal}
 use Rattle.cl_application.specs.Panes.{panes_of}
 use Rattle.cl_application.specs.declared.declarations.PaneDecl.{PaneDecl}
 use Rattle.cl_display.specs.Drawings.{DrawingAt}
-use Rattle.cl_display.specs.Script.{pane_fresh}
+use Rattle.cl_display.specs.Outcomes.{DrawOutcome}
 use Rattle.cl_eval.specs.Outcome.{Gives, Outcome, Traps}
 use Rattle.cl_eval.specs.Slots.{Slots}
 use Rattle.cl_frame.specs.Ground.{Ground}
 use Rattle.cl_frame.specs.Panes.{PaneMarks, marks_in}
-use Rattle.cl_frame.specs.Settling.{PaneStep, is_due, marks_after, report_after, report_settled, settle_if, settle_pane, settle_panes}
+use Rattle.cl_frame.specs.Settling.{PaneStep, is_due, marks_after, pane_draw, report_after, report_settled, reused, settle_if, settle_pane, settle_panes}
 use Rattle.cl_frame.specs.declared.settling.Which.{Which}
 use Rattle.cl_gesture.specs.declared.answers.Gesture.{Gesture}
 use Rattle.cl_gesture.specs.declared.answers.Gesture.TheVariants as gesture
 use Rattle.cl_line.specs.Elements.{typed}
 use Rattle.cl_line.specs.declared.lines.TheConstants.{MAX_ELEMENTS}
+use Rattle.cl_medium.specs.Items.{Item}
 use Rattle.cl_record.specs.Counts.{count_of}
+use Rattle.cl_record.specs.Marks.{Mark}
+use Rattle.cl_reuse.specs.Kept.{KeptAt, count_moved, count_still, items_kept}
+use Rattle.cl_reuse.specs.Records.{kept_among}
 use Rattle.cl_redisplay.specs.Shown.{Shown, glyph_in, row_from, rows_from, told_row}
 use Rattle.cl_session.specs.Laws.{IsToldByLines}
 use Rattle.cl_session.specs.Naming.{command_of_line, command_of_stroke}
@@ -40,17 +44,18 @@ behind_same (x ∷ xs) ys zs e = behind_same xs ys zs (behind_of x x (xs ++ ys) 
 abbrev named_line : List ℕ → List ℕ → List ℕ
 named_line name rest = (codes "pane " ++ name) ++ rest
 
-abbrev report_rest : (drawn erased : ℕ) → List ℕ
-report_rest drawn erased = codes " kept " ++ (decimal 0 ++ (codes " moved " ++ (decimal 0 ++ report_tail drawn erased)))
+abbrev report_rest : (kept moved drawn erased : ℕ) → List ℕ
+report_rest kept moved drawn erased = codes " kept " ++ (decimal kept ++ (codes " moved " ++ (decimal moved ++ report_tail drawn erased)))
 
-report_named : (name : List ℕ) (drawn erased : ℕ) → report_line name 0 0 drawn erased ≡ named_line name (report_rest drawn erased)
-report_named name drawn erased =
+report_named : (name : List ℕ) (kept moved drawn erased : ℕ) → report_line name kept moved drawn erased ≡ named_line name (report_rest kept moved drawn erased)
+report_named name kept moved drawn erased =
     let tail = report_tail drawn erased in
-    let zeros : List ℕ = decimal 0 in
-    append_assoc (codes "pane " ++ name ++ codes " kept " ++ zeros ++ codes " moved ") zeros tail
-    ∙ (append_assoc (codes "pane " ++ name ++ codes " kept " ++ zeros) (codes " moved ") (zeros ++ tail)
-    ∙ (append_assoc (codes "pane " ++ name ++ codes " kept ") zeros (codes " moved " ++ (zeros ++ tail))
-    ∙ append_assoc (codes "pane " ++ name) (codes " kept ") (zeros ++ (codes " moved " ++ (zeros ++ tail)))))
+    let stay : List ℕ = decimal kept in
+    let go : List ℕ = decimal moved in
+    append_assoc (codes "pane " ++ name ++ codes " kept " ++ stay ++ codes " moved ") go tail
+    ∙ (append_assoc (codes "pane " ++ name ++ codes " kept " ++ stay) (codes " moved ") (go ++ tail)
+    ∙ (append_assoc (codes "pane " ++ name ++ codes " kept ") stay (codes " moved " ++ (go ++ tail))
+    ∙ append_assoc (codes "pane " ++ name) (codes " kept ") (stay ++ (codes " moved " ++ (go ++ tail)))))
 
 trap_named : (name : List ℕ) (kind : ℕ) → trap_line name kind ≡ named_line name (codes " trap " ++ decimal kind)
 trap_named name kind = append_assoc (codes "pane " ++ name) (codes " trap ") (decimal kind)
@@ -61,30 +66,39 @@ memory_is_no_report name line rest e h f =
     let behind = behind_same (codes "pane " ++ name) (codes " memory") rest (h ∙ e) in
     f (sym (ap (λ (l : List ℕ). get_or l 1 0) behind))
 
-memory_alone : (name : List ℕ) (shown : Outcome DrawingAt) (erased : ℕ) (more rest : List (List ℕ))
-    → memory_line name ∷ more ≡ report_lines name (report_settled shown erased false) ++ rest → ⊥
-memory_alone name (Gives s cost deepest) erased more rest e =
-    let line = report_line name 0 0 (count_of s.part.marks) erased in
-    memory_is_no_report name line (report_rest (count_of s.part.marks) erased) (report_named name (count_of s.part.marks) erased)
+-- a line of a pane by its four numbers
+shown_alone : (name : List ℕ) (kept moved drawn erased : ℕ) (more rest : List (List ℕ))
+    → memory_line name ∷ more ≡ report_line name kept moved drawn erased ∷ rest → ⊥
+shown_alone name kept moved drawn erased more rest e =
+    let line = report_line name kept moved drawn erased in
+    memory_is_no_report name line (report_rest kept moved drawn erased) (report_named name kept moved drawn erased)
     (first_of (memory_line name) line more rest e) (λ no. omega (arith, no))
-memory_alone name (Traps kind cost deepest) erased more rest e =
+
+memory_alone : (name : List ℕ) (shown : Outcome DrawingAt) (ks : List KeptAt) (erased : ℕ) (more rest : List (List ℕ))
+    → memory_line name ∷ more ≡ report_lines name (report_settled shown ks erased false) ++ rest → ⊥
+memory_alone name (Gives s cost deepest) ks erased more rest e =
+    shown_alone name (count_still ks) (count_moved ks) (count_of s.part.marks - items_kept ks) (erased - items_kept ks) more rest e
+memory_alone name (Traps kind cost deepest) ks erased more rest e =
     memory_is_no_report name (trap_line name kind) (codes " trap " ++ decimal kind) (trap_named name kind)
     (first_of (memory_line name) (trap_line name kind) more rest e) (λ no. omega (arith, no))
 
 -- the lines behind that of a pane
-rest_told : (name : List ℕ) (shown : Outcome DrawingAt) (erased : ℕ) (more rest : List (List ℕ))
-    → report_lines name (report_settled shown erased false) ++ more ≡ report_lines name (report_settled shown erased false) ++ rest → more ≡ rest
-rest_told name shown erased more rest e = behind_same (report_lines name (report_settled shown erased false)) more rest e
+rest_told : (name : List ℕ) (shown : Outcome DrawingAt) (ks : List KeptAt) (erased : ℕ) (more rest : List (List ℕ))
+    → report_lines name (report_settled shown ks erased false) ++ more ≡ report_lines name (report_settled shown ks erased false) ++ rest → more ≡ rest
+rest_told name shown ks erased more rest e = behind_same (report_lines name (report_settled shown ks erased false)) more rest e
 
 -- equal lines of one pane, and of those behind it
-pane_told : (due : Bool) (name : List ℕ) (shown : Outcome DrawingAt) (old : PaneMarks) (m n : Bool) (more rest : List (List ℕ))
-    → report_lines name (settle_if due shown old m).report ++ more ≡ report_lines name (settle_if due shown old n).report ++ rest
-    → ((settle_if due shown old m).marks ≡ (settle_if due shown old n).marks) × (more ≡ rest)
-pane_told false name shown old m n more rest e = (refl, e)
-pane_told true name shown old true true more rest e = (refl, behind_of (memory_line name) (memory_line name) more rest e)
-pane_told true name shown old true false more rest e = absurd (memory_alone name shown (count_of (marks_in old)) more rest e)
-pane_told true name shown old false true more rest e = absurd (memory_alone name shown (count_of (marks_in old)) rest more (sym e))
-pane_told true name shown old false false more rest e = (refl, rest_told name shown (count_of (marks_in old)) more rest e)
+pane_told : (due : Bool) (name : List ℕ) (drawn : DrawOutcome) (over : List (Mark Item)) (old : PaneMarks) (m n : Bool) (more rest : List (List ℕ))
+    → report_lines name (settle_if due drawn over old m).report ++ more ≡ report_lines name (settle_if due drawn over old n).report ++ rest
+    → ((settle_if due drawn over old m).marks ≡ (settle_if due drawn over old n).marks) × (more ≡ rest)
+pane_told false name drawn over old m n more rest e = (refl, e)
+pane_told true name drawn over old true true more rest e = (refl, behind_of (memory_line name) (memory_line name) more rest e)
+pane_told true name drawn over old true false more rest e =
+    absurd (memory_alone name drawn.outcome (kept_among over drawn) (count_of (marks_in old)) more rest e)
+pane_told true name drawn over old false true more rest e =
+    absurd (memory_alone name drawn.outcome (kept_among over drawn) (count_of (marks_in old)) rest more (sym e))
+pane_told true name drawn over old false false more rest e =
+    (refl, rest_told name drawn.outcome (kept_among over drawn) (count_of (marks_in old)) more rest e)
 
 module _ (g : Ground) (w : Which) (slots : Slots) where
   -- the lines of all panes, and what comes behind them
@@ -99,7 +113,7 @@ module _ (g : Ground) (w : Which) (slots : Slots) where
       let its = report_lines d.name (settle_pane g w slots d o n).report in
       let here : mine ++ lines_then ds ss xs ≡ its ++ lines_then ds ts ys =
       sym (append_assoc mine (pane_lines ds (map report_after ss)) xs) ∙ (e ∙ append_assoc its (pane_lines ds (map report_after ts)) ys) in
-      pane_told (is_due w o) d.name (pane_fresh g.limits g.app g.types d slots) o m n (lines_then ds ss xs) (lines_then ds ts ys) here
+      pane_told (is_due w o) d.name (pane_draw g.limits g.app g.types d slots) (reused w o) o m n (lines_then ds ss xs) (lines_then ds ts ys) here
 
   cons_marks : (s t : PaneStep) (ss ts : List PaneStep) → s.marks ≡ t.marks → map marks_after ss ≡ map marks_after ts
       → map marks_after (s ∷ ss) ≡ map marks_after (t ∷ ts)
@@ -134,16 +148,21 @@ module _ (g : Ground) (w : Which) (slots : Slots) where
   not_eight name line rest e some eight =
       omega (arith, some, ap length e, eight, length-append (codes "pane " ++ name) rest, length-append (codes "pane ") name)
 
-  report_not_eight : (name : List ℕ) (shown : Outcome DrawingAt) (erased : ℕ) (met : Bool) (more rest : List (List ℕ)) (x : List ℕ)
-      → report_lines name (report_settled shown erased met) ++ more ≡ x ∷ rest → length x ≡ 8 → ⊥
-  report_not_eight name shown erased true more rest x e eight =
+  shown_not_eight : (name : List ℕ) (kept moved drawn erased : ℕ) → length (report_line name kept moved drawn erased) ≡ 8 → ⊥
+  shown_not_eight name kept moved drawn erased eight =
+      not_eight name (report_line name kept moved drawn erased) (report_rest kept moved drawn erased) (report_named name kept moved drawn erased)
+      (omega (arith, length-append (codes " kept ") (decimal kept ++ (codes " moved " ++ (decimal moved ++ report_tail drawn erased))))) eight
+
+  report_not_eight : (name : List ℕ) (shown : Outcome DrawingAt) (ks : List KeptAt) (erased : ℕ) (met : Bool) (more rest : List (List ℕ)) (x : List ℕ)
+      → report_lines name (report_settled shown ks erased met) ++ more ≡ x ∷ rest → length x ≡ 8 → ⊥
+  report_not_eight name shown ks erased true more rest x e eight =
       not_eight name (memory_line name) (codes " memory") refl (omega arith) (ap length (first_of (memory_line name) x more rest e) ∙ eight)
-  report_not_eight name (Gives s cost deepest) erased false more rest x e eight =
-      let line = report_line name 0 0 (count_of s.part.marks) erased in
-      not_eight name line (report_rest (count_of s.part.marks) erased) (report_named name (count_of s.part.marks) erased)
-      (omega (arith, length-append (codes " kept ") (decimal 0 ++ (codes " moved " ++ (decimal 0 ++ report_tail (count_of s.part.marks) erased)))))
-      (ap length (first_of line x more rest e) ∙ eight)
-  report_not_eight name (Traps kind cost deepest) erased false more rest x e eight =
+  report_not_eight name (Gives s cost deepest) ks erased false more rest x e eight =
+      let new = count_of s.part.marks - items_kept ks in
+      let gone = erased - items_kept ks in
+      let line = report_line name (count_still ks) (count_moved ks) new gone in
+      shown_not_eight name (count_still ks) (count_moved ks) new gone (ap length (first_of line x more rest e) ∙ eight)
+  report_not_eight name (Traps kind cost deepest) ks erased false more rest x e eight =
       not_eight name (trap_line name kind) (codes " trap " ++ decimal kind) (trap_named name kind) (omega (arith, length-append (codes " trap ") (decimal kind)))
       (ap length (first_of (trap_line name kind) x more rest e) ∙ eight)
 
@@ -151,10 +170,11 @@ module _ (g : Ground) (w : Which) (slots : Slots) where
   wire_not_eight true rest x e eight = omega (arith, ap length (first_of (codes "! wire") x [] rest e), eight)
   wire_not_eight false rest x e eight = no_first x rest e
 
-  pane_not_eight : (due : Bool) (name : List ℕ) (shown : Outcome DrawingAt) (old : PaneMarks) (met : Bool) (more rest : List (List ℕ)) (x : List ℕ)
-      → (more ≡ x ∷ rest → ⊥) → length x ≡ 8 → report_lines name (settle_if due shown old met).report ++ more ≡ x ∷ rest → ⊥
-  pane_not_eight true name shown old met more rest x f eight e = report_not_eight name shown (count_of (marks_in old)) met more rest x e eight
-  pane_not_eight false name shown old met more rest x f eight e = f e
+  pane_not_eight : (due : Bool) (name : List ℕ) (drawn : DrawOutcome) (over : List (Mark Item)) (old : PaneMarks) (met : Bool) (more rest : List (List ℕ)) (x : List ℕ)
+      → (more ≡ x ∷ rest → ⊥) → length x ≡ 8 → report_lines name (settle_if due drawn over old met).report ++ more ≡ x ∷ rest → ⊥
+  pane_not_eight true name drawn over old met more rest x f eight e =
+      report_not_eight name drawn.outcome (kept_among over drawn) (count_of (marks_in old)) met more rest x e eight
+  pane_not_eight false name drawn over old met more rest x f eight e = f e
 
   -- what is said behind the own replies does not begin with a line of eight bytes
   behind_not_eight : (ds : List PaneDecl) (os : List PaneMarks) (ms : List Bool) (wire : Bool) (rest : List (List ℕ)) (x : List ℕ) → length x ≡ 8
@@ -164,12 +184,12 @@ module _ (g : Ground) (w : Which) (slots : Slots) where
   behind_not_eight (d ∷ ds) (o ∷ os) [] wire rest x eight e =
       let ss = settle_panes g w slots ds os [] in
       let mine = report_lines d.name (settle_pane g w slots d o false).report in
-      pane_not_eight (is_due w o) d.name (pane_fresh g.limits g.app g.types d slots) o false (lines_then ds ss (wire_lines wire)) rest x
+      pane_not_eight (is_due w o) d.name (pane_draw g.limits g.app g.types d slots) (reused w o) o false (lines_then ds ss (wire_lines wire)) rest x
       (behind_not_eight ds os [] wire rest x eight) eight (sym (append_assoc mine (pane_lines ds (map report_after ss)) (wire_lines wire)) ∙ e)
   behind_not_eight (d ∷ ds) (o ∷ os) (m ∷ ms) wire rest x eight e =
       let ss = settle_panes g w slots ds os ms in
       let mine = report_lines d.name (settle_pane g w slots d o m).report in
-      pane_not_eight (is_due w o) d.name (pane_fresh g.limits g.app g.types d slots) o m (lines_then ds ss (wire_lines wire)) rest x
+      pane_not_eight (is_due w o) d.name (pane_draw g.limits g.app g.types d slots) (reused w o) o m (lines_then ds ss (wire_lines wire)) rest x
       (behind_not_eight ds os ms wire rest x eight) eight (sym (append_assoc mine (pane_lines ds (map report_after ss)) (wire_lines wire)) ∙ e)
 
 length_row : (panes : List Shown) (y x count : ℕ) → length (row_from glyph_in panes y x count) ≡ count

@@ -3,7 +3,7 @@ use Rattle.std.specs.Prelude.{◌≡◌, ℕ, ◌+◌, true, List, [], ◌∷◌
 use Rattle.cl_application.specs.Panes.{panes_of}
 use Rattle.cl_application.specs.declared.declarations.PaneDecl.{PaneDecl}
 use Rattle.cl_eval.specs.Slots.{Slots}
-use Rattle.cl_frame.specs.Frames.{IsFrameOf, reports_of_frame}
+use Rattle.cl_frame.specs.Frames.{ArePanesFaithful, IsFrameOf, reports_of_frame}
 use Rattle.cl_frame.specs.Ground.{Ground}
 use Rattle.cl_frame.specs.Settling.{report_after}
 use Rattle.cl_gesture.specs.declared.answers.Gesture.{Gesture}
@@ -15,18 +15,22 @@ use Rattle.cl_session.specs.Accessible.{IsAccessible}
 use Rattle.cl_session.specs.Replies.{met_of, own_lines}
 use Rattle.cl_session.specs.Step.{handled_or_not, next, settled_behind}
 use Rattle.cl_session.specs.World.{World, cost_of_pane}
+use Rattle.cl_updating.specs.Redisplays.{CanReuse}
 
 abbrev pub world_of : Session → Slots → World
 world_of session slots = world_at slots session.desk session.frame
 
--- A session fits an application and slots: it has what is accessible from the application's command table; its frame is that of the application, with the
--- cells of its histories on the screen; and each pane has the script of its display on these slots, or is blank for want of memory.
+-- A session fits an application and slots: the histories of the application's displays may be reused; the session has what is accessible from the
+-- application's command table; its frame is that of the application, with the cells of its histories on the screen, and these histories are faithful;
+-- and each pane has the script of its display on these slots, or is blank for want of memory.
 pub record Fits (g : Ground) (slots : Slots) (session : Session) : Type 0 where
+  pub reuse : CanReuse g.app g.types
   pub accessible : IsAccessible g.app session.accessible
   pub frame : IsFrameOf g.app session.frame
+  pub faithful : ArePanesFaithful g.app g.types session.frame.panes.items
   pub current : IsCurrent g (world_of session slots)
 
--- what the displays of panes cost together on these slots
+-- what the displays of panes cost together on these slots, from nothing
 abbrev pub costs_of_panes : Ground → Slots → List PaneDecl → ℕ
 costs_of_panes g slots [] = 0
 costs_of_panes g slots (d ∷ ds) = cost_of_pane g slots d + costs_of_panes g slots ds

@@ -350,8 +350,8 @@ sent_behind g h steps = update_bytes (which_after h.after) h.world.stale h.world
 abbrev pub gesture_bytes : Ground → World → Gesture → Met → List ℕ
 gesture_bytes g w act met = sent_behind g (handled_or_not g w act met.handling) (settled_behind g (handled_or_not g w act met.handling) met.panes)
 
--- the ledger rises by the cost of what the handling ran, and then by the costs of the displays of the panes that were settled; by no
--- more, where one of these met want of memory
+-- the ledger rises by the cost of what the handling ran, and then by the costs of what was drawn anew of the panes that were settled; by
+-- no more, where one of these met want of memory
 pub record Spends (g : Ground) (w : World) (act : Gesture) (met : Met) (old new : ℕ) : Type 0 where
   pub handled_at : ℕ
   pub handling : RisesBy met.handling old handled_at (handled g w act).cost

@@ -42,6 +42,6 @@ opening g slots failed = record {
   stale = failed;
 }
 
--- what the display of a pane costs
+-- what the display of a pane costs from nothing
 abbrev pub cost_of_pane : Ground → Slots → PaneDecl → ℕ
 cost_of_pane g slots d = cost_of (pane_fresh g.limits g.app g.types d slots)

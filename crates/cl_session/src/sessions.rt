@@ -1,7 +1,7 @@
 //! A session: an application with its slots, its command line and its panes.
 ghost use Rattle.std.specs.Prelude.{◌≡◌, ◌≤◌, ◌+◌, IfOk, true, false, not};
 ghost use Rattle.cl_application.specs.Panes.{IsPlaced};
-ghost use Rattle.cl_frame.specs.Ground.{ground_of};
+ghost use Rattle.cl_frame.specs.Ground.{ground_of, meanings_of};
 ghost use Rattle.cl_frame.specs.Sending.{SendsOn, ShowsPanes, frame_ops, wire_of};
 ghost use Rattle.cl_outside.specs.Operations.{mended, ops_bytes};
 ghost use Rattle.cl_redisplay.specs.Screens.{Agree};
@@ -12,6 +12,7 @@ ghost use Rattle.cl_session.specs.Step.{Spends, gesture_bytes};
 ghost use Rattle.cl_session.specs.Transcript.{RoseIf};
 ghost use Rattle.cl_session.specs.World.{opening};
 ghost use Rattle.cl_tables.specs.Rings.{HasNoRing};
+ghost use Rattle.cl_updating.specs.Redisplays.{CanReuse};
 
 use crate::accessible::{Accessible, accessible_of};
 use crate::answers::Replies;
@@ -38,7 +39,7 @@ pub struct Session {
 }
 
 impl Session {
-    /// Opens the frame, settles all panes and redraws the screen in full, with no reply. A pane that
+    /// Opens the frame, settles all panes, which are drawn from nothing, and redraws the screen in full, with no reply. A pane that
     /// meets want of memory here makes the whole call answer want of memory. The screen is stale
     /// afterwards exactly where the device failed here.
     pub fn new<T: Types, D: Device, L: Ledger>(
@@ -50,6 +51,7 @@ impl Session {
         requires depth { program.now.limits.depth ≤ 512 }
         requires placed { IsPlaced program.now.app.now.frame }
         requires no_ring { HasNoRing program.now.app.now.tables }
+        requires reuse { CanReuse program.now.app.now (meanings_of T.holds T.presents program.now.types.now) }
         ensures world { IfOk result (λ s. world_of s slots.now
             ≡ opening (ground_of T.holds T.presents T.reads T.hierarchy program.now) slots.now s.frame.screen.stale) }
         ensures failed { IfOk result

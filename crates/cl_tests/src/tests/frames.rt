@@ -1,7 +1,9 @@
 //! A frame of two panes, and a session with it, over a device in memory, which fails at one call.
 ghost use Rattle.std.specs.Prelude.{◌≡◌, ◌≤◌};
 ghost use Rattle.cl_application.specs.Panes.{IsPlaced};
+ghost use Rattle.cl_frame.specs.Ground.{meanings_of};
 ghost use Rattle.cl_tables.specs.Rings.{HasNoRing};
+ghost use Rattle.cl_updating.specs.Redisplays.{CanReuse};
 
 use super::saying::put_bytes;
 use super::showing::shows;
@@ -29,6 +31,7 @@ const TWO: &[u8] = b"(define-application-frame two (:size 7 2) (:slots (n intege
 /// The application with the limits of a run.
 fn program<'a, T: Types>(alloc: Global, app: &'a App, types: &'a T) -> Program<'a, T>
     ensures app { result.app.now ≡ app.now }
+    ensures types { result.types.now ≡ types.now }
     ensures depth { result.limits.depth ≤ 512 }
 {
     Program {
@@ -76,7 +79,8 @@ fn frame_states<T: Types>(
     types: &T,
     slots: &Slots,
 ) -> Result<String, Fail>
-    requires { IsPlaced app.now.frame }
+    requires placed { IsPlaced app.now.frame }
+    requires reuse { CanReuse app.now (meanings_of T.holds T.presents types.now) }
 {
     let program = program(alloc, app, types);
     let mut said = String::new(alloc);
@@ -121,6 +125,7 @@ done, shown, quiet|quiet|3clq3  |
 ";
 
 #[test]
+#[tactic(auto, using(cl_loaded::proofs::Reused::loaded_reuse))]
 fn a_frame_is_settled_and_sent(rt: HostRuntime) -> Result<(), Fail> {
     let hosts = HostTypes { types: &[] };
     let loaded = load(rt.alloc(), TWO, &hosts)?;
@@ -139,6 +144,7 @@ fn session_states<T: Types>(
 ) -> Result<String, Fail>
     requires placed { IsPlaced app.now.frame }
     requires no_ring { HasNoRing app.now.tables }
+    requires reuse { CanReuse app.now (meanings_of T.holds T.presents types.now) }
 {
     let program = program(alloc, app, types);
     let mut said = String::new(alloc);
@@ -189,6 +195,7 @@ done, shown, drawn 2 erased 2|trap 3|0cltra |
 ";
 
 #[test]
+#[tactic(auto, using(cl_loaded::proofs::Reused::loaded_reuse))]
 fn a_session_redraws_behind_a_fault(rt: HostRuntime) -> Result<(), Fail> {
     let hosts = HostTypes { types: &[] };
     let loaded = load(rt.alloc(), TWO, &hosts)?;

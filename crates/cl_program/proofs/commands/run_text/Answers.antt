@@ -1,6 +1,10 @@
 use Rattle.cl_program.specs.Hosts.{hosts_of}
-use Rattle.cl_program.proofs.CommandLemmas.{Ran-application, Ran-refused}
+use Rattle.cl_program.proofs.CommandLemmas.{Ran-application, Ran-refused, reuse-loaded}
 use Rattle.cl_program.proofs.commands.run_text.Goals as goal
+
+pub run_application-requires-clause-reuse : goal.run_application-requires-clause-reuse
+run_application-requires-clause-reuse g c =
+    reuse-loaded (hosts_of g.H.Hosts.bounds g.H.Hosts.entries c.args.hosts.now) _ c.in-Ok.loaded.app c.in-Ok.loaded.lattice c.in-Ok.ensures.0 c.in-Ok.ensures.1
 
 pub returns-in-Ok-clause-ran : goal.returns-in-Ok-clause-ran
 returns-in-Ok-clause-ran g c =

@@ -12,6 +12,7 @@ pub panes-init : goal.panes-init
 panes-init g c = record {
   frame = frame-started c.args.program.now.app.now c.args.self.now c.start.new.screen c.start.ensures.raster c.requires.frame;
   agree = agree-started c.args.which c.args.self.now.screen c.start.new.screen _ _ _ c.start.ensures.raster c.start.ensures.stale c.requires.agree;
+  faithful = c.requires.faithful;
   rest = refl;
   goes_on = λ ns last h. h;
   goes_stale = stale-same c.start.new.screen.stale (g.D.Device.faults c.args.device.now);
@@ -29,6 +30,7 @@ panes-preserved g c =
     record {
       frame = c.settle_at.ensures.frame;
       agree = c.settle_at.ensures.agree;
+      faithful = c.settle_at.ensures.faithful;
       rest = rest_next c.args.self.now.panes.items c.panes.self.panes.items c.settle_at.new.self.panes.items place settled.now settled.stands c.panes.invariant.rest;
       goes_on = settled_next (ground_of g.T.Types.holds g.T.Types.presents g.T.Types.reads g.T.Types.hierarchy c.args.program.now) c.args.which c.args.slots.now (panes_of c.args.program.now.app.now)
           c.args.self.now.panes.items c.panes.self.panes.items c.settle_at.new.self.panes.items place c.args.steps.now c.panes.steps c.settle_at.new.steps

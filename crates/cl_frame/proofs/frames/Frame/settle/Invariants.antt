@@ -1,7 +1,7 @@
 use Rattle.std.proofs.Common.{◌≡◌, ◌≤◌, ◌++◌, List, ℕ, drop, take, true, false}
 use Rattle.cl_application.specs.Panes.{panes_of}
-use Rattle.cl_frame.specs.Frames.{GoesStale, IsFrameOf, SettlesPanes}
-use Rattle.cl_frame.specs.Ground.{ground_of}
+use Rattle.cl_frame.specs.Frames.{ArePanesFaithful, GoesStale, IsFrameOf, SettlesPanes}
+use Rattle.cl_frame.specs.Ground.{ground_of, meanings_of}
 use Rattle.cl_frame.specs.Sending.{wire_of}
 use Rattle.cl_frame.proofs.SentPanes.{SentSoFar}
 use Rattle.cl_frame.specs.declared.panes.Pane.{Pane}
@@ -12,6 +12,7 @@ abbrev pub invariant-panes : goal.invariant-panes
 invariant-panes g l = record {
   frame : IsFrameOf l.program.app.now l.self;
   agree : Agree l.self.screen.stale l.self.screen.raster (g.D.Device.broken l.device) (g.D.Device.cleared l.device) (g.D.Device.picture l.device);
+  faithful : ArePanesFaithful l.program.app.now (meanings_of g.T.Types.holds g.T.Types.presents l.program.types.now) l.self.panes.items;
   rest : drop l.place l.self.panes.items ≡ drop l.place l.initial.self.panes.items;
   goes_on : (ns : List Pane) (last : ℕ)
       → SettlesPanes (ground_of g.T.Types.holds g.T.Types.presents g.T.Types.reads g.T.Types.hierarchy l.program) l.which l.slots (drop l.place (panes_of l.program.app.now)) (drop l.place l.initial.self.panes.items) ns l.steps last

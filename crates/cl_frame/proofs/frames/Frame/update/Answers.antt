@@ -1,4 +1,4 @@
-use Rattle.std.proofs.Common.{◌≡◌, ◌∙◌, ap, not, subst, sym}
+use Rattle.std.proofs.Common.{◌∙◌, ap, not, subst, sym}
 use Rattle.cl_outside.specs.Operations.{mended, ops_bytes}
 use Rattle.cl_redisplay.specs.Operations.{redraw_ops}
 use Rattle.cl_redisplay.specs.Paint.{cell_at}

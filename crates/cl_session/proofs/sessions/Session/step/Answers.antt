@@ -54,8 +54,10 @@ returns-clause-fits g c =
     c.args.slots.now c.handle-handling.new.slots c.args.gesture.now c.handle-handling.result c.update-painted.result c.replies_of.result
     c.handle-handling.ensures.handles (rw c.which-which.ensures at c.update-painted.ensures.settles) c.update-painted.ensures.stale c.replies_of.ensures in
     record {
+      reuse = c.requires.fits.reuse;
       accessible = c.requires.fits.accessible;
       frame = c.update-painted.ensures.frame;
+      faithful = c.update-painted.ensures.faithful;
       current = subst (IsCurrent own) (sym steps.world)
           (next_current own (world_of c.args.self.now c.args.slots.now) c.args.gesture.now (met_of c.update-painted.new.self c.replies_of.result) c.requires.fits.current);
     }
