@@ -51,7 +51,8 @@ pub record OpensOn (g : Ground) (failed : Bool) (old new : Wire) : Type 0 where
   pub told : new.told ≡ old.told
 
 -- These bytes are a transcript of the pieces up to a world, from the opening of the application on: the ledger rose by what the opening costs
--- and then by what the commands and displays of the transcript cost, and the device was sent the opening and then what each gesture sends.
+-- and then by what the commands of the transcript cost and what is drawn anew of its displays, and the device was sent the opening and then
+-- what each gesture sends.
 pub record IsTranscriptTo (g : Ground) (to : World) (ps : List Piece) (bytes : List ℕ) (spent : ℕ) (device : Wire) (last : Meters) : Type 0 where
   pub failed : Bool
   pub opened : Wire
