@@ -1,0 +1,9 @@
+//! What has to be painted again when new records take the place of old ones: the definition, and the laws on it.
+#![tactic(auto)]
+
+mod laws;
+
+pub use laws::{
+    children_hold_what_records_draw, equal_children_touch_nothing,
+    places_that_are_not_touched_show_the_same,
+};
