@@ -24,7 +24,7 @@ mutual
 
 -- two names of updates, each a site and an id, are the same
 abbrev pub is_same_name : Site × Data → Site × Data → Bool
-is_same_name a b = (a.0.form == b.0.form) && (a.0.query == b.0.query) && is_eq (order_of a.1 b.1)
+is_same_name a b = ((a.0.form == b.0.form) && (a.0.query == b.0.query)) && is_eq (order_of a.1 b.1)
 
 module _ {A : Type 0} where
   -- as a list

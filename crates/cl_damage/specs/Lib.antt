@@ -1,3 +1,5 @@
 pub mod Children
+pub mod Keeps
+pub mod NewChildren
 pub mod Touched
 pub mod Agreement
