@@ -11,11 +11,6 @@ use Rattle.cl_reuse.specs.Keeping.{may_keep, shift_to}
 use Rattle.cl_reuse.specs.Kept.{OldUpdate, found}
 use Rattle.cl_damage.specs.Keeps.{Keeps, none, opened}
 
--- and then others of the same level
-abbrev pub followed_by : Keeps → Keeps → Keeps
-followed_by none more = more
-followed_by (opened v inside rest) more = opened v inside (followed_by rest more)
-
 -- how far an old update is moved that is kept at an opening
 abbrev pub moved_to : OldUpdate → OpeningAt → Shift
 moved_to old o = shift_to (move_point old.place old.head.measures.start) o.ambient
