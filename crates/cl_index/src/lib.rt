@@ -7,3 +7,6 @@ mod trees;
 
 pub use hits::{Hits, HitsAt};
 pub use indexes::Bounds;
+
+#[cfg(test)]
+mod tests;
