@@ -9,10 +9,10 @@ use Rattle.cl_region.proofs.Corners.{and_left, and_right, both, none_held, false
 use Rattle.cl_index.specs.Found.{places_from, places_where}
 use Rattle.cl_index.specs.Boxes.{after, before, head_of}
 
-le_true : (k n : ℕ) → k ≤ n → nat_le k n ≡ true
+pub le_true : (k n : ℕ) → k ≤ n → nat_le k n ≡ true
 le_true k n h = grind (arith, nat_tests)
 
-le_false : (k n : ℕ) → n < k → nat_le k n ≡ false
+pub le_false : (k n : ℕ) → n < k → nat_le k n ≡ false
 le_false k n h = grind (arith, nat_tests)
 
 from_le : (k n : ℕ) → nat_le k n ≡ true → k ≤ n
@@ -92,7 +92,7 @@ kept-out : (q : ℕ → Bool) (p : Rect → Bool) (n : ℕ) (r : Rect) (rs : Lis
     → filter q (places_from p n (r ∷ rs)) ≡ filter q (places_from p (n + 1) rs)
 kept-out q p n r rs h = kept-cons q p n r rs ∙ rw h refl
 
-by_bool : {P : Type 0} (b : Bool) → (b ≡ true → P) → (b ≡ false → P) → P
+pub by_bool : {P : Type 0} (b : Bool) → (b ≡ true → P) → (b ≡ false → P) → P
 by_bool true f g = f refl
 by_bool false f g = g refl
 

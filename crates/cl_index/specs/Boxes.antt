@@ -1,29 +1,37 @@
 -- How private functions go: boxes of boxes over a list of rectangles, and the places from one on and before one.
-use Rattle.std.specs.Prelude.{◌≡◌, ℕ, ◌+◌, ◌<◌, ◌^◌, Bool, nat_le, nat_lt, if◌then◌else◌, List, [], ◌∷◌, ◌++◌, length, filter, reverse, All, Option, Some, None}
+use Rattle.std.specs.Prelude.{◌≡◌, ℕ, ◌+◌, ◌<◌, ◌≤◌, ◌/◌, ◌^◌, Bool, nat_le, nat_lt, if◌then◌else◌, List, [], ◌∷◌, ◌++◌, length, filter, reverse, Option, Some, None}
 use Rattle.cl_region.specs.declared.rects.Rect.{Rect}
-use Rattle.cl_region.specs.Places.{Covers}
 use Rattle.cl_index.specs.declared.trees.Tree.{Tree}
 use Rattle.cl_index.specs.declared.trees.Tree.TheVariants.{Few, Many'}
+use Rattle.cl_index.specs.declared.trees.TheConstants.{FEW}
 use Rattle.cl_index.specs.Found.{overlaps, places_from}
+use Rattle.cl_index.specs.Looks.{box_in}
 
 -- the rectangles under the boxes, in their order
 abbrev pub rects_in : Tree → List Rect
 rects_in (Few around rects) = rects.items
 rects_in (Many' around count p first q second) = rects_in first ++ rects_in second
 
--- the box of all
+-- the box of the whole tree
 abbrev pub box_of : Tree → Rect
 box_of (Few around rects) = around
 box_of (Many' around count p first q second) = around
 
--- a box of two holds the places of all under it, and tells how many the first half has
-pub record IsFork (around : Rect) (count : ℕ) (first second : List Rect) : Type 0 where
-  pub covers : All (Covers around) (first ++ second)
-  pub count_is : count ≡ length first
+-- the box is that of the rectangles, and these are few
+pub record IsLeaf (around : Rect) (rects : List Rect) : Type 0 where
+  pub box_is : around ≡ box_in rects
+  pub few : length rects ≤ FEW
 
--- each box holds the places of all under it, at any depth
+-- the box is that of both halves, which together are more than few, and the first half has `count` rectangles
+pub record IsFork (around : Rect) (count : ℕ) (first second : List Rect) : Type 0 where
+  pub box_is : around ≡ box_in (first ++ second)
+  pub count_is : count ≡ length first
+  pub half : count ≡ length (first ++ second) / 2
+  pub many : FEW < length (first ++ second)
+
+-- each box is that of all under it, at any depth
 abbrev pub IsSound : Tree → Type 0
-IsSound (Few around rects) = All (Covers around) rects.items
+IsSound (Few around rects) = IsLeaf around rects.items
 IsSound (Many' around count p first q second) = IsFork around count (rects_in first) (rects_in second) × IsSound first × IsSound second
 
 -- boxes over a list of so many rectangles, each of whose places can be told

@@ -2,6 +2,7 @@
 ghost use Rattle.std.specs.Prelude.{◌≡◌, ◌≤◌, ◌<◌, ◌^◌, ◌↔◌, [], length, reverse, IfOk, IsTrue};
 ghost use Rattle.cl_index.specs.Found.{overlaps, is_at, places_where};
 ghost use Rattle.cl_index.specs.Boxes.{head_of, after, before};
+ghost use Rattle.cl_index.specs.Looks.{looked_in};
 
 use crate::hits::{Hits, HitsAt};
 use crate::trees::Tree;
@@ -72,15 +73,18 @@ impl Bounds {
         HitsAt::new(self, x, y)
     }
 
-    /// How many rectangles of the list `overlapping`, run to its end, looks at.
+    /// How many rectangles of the list `overlapping`, run to its end, looks at: all but those under a box that shares no
+    /// place with this one. The boxes are those of the list, of its halves, of their halves, and so on until eight or fewer
+    /// are left.
     pub fn probes(&self, rect: &Rect) -> u64
+        ensures exact { result ≡ looked_in rect.now (length self.now) self.now }
         ensures hits { length (places_where (overlaps rect.now) self.now) ≤ result }
         ensures list { result ≤ length self.now }
     {
         self.tree.looked_at(rect) as u64
     }
 
-    // The first place, from one on, of a rectangle that overlaps.
+    // The first place, `from` or behind it, of a rectangle that overlaps.
     pub(crate) fn first_from(&self, rect: &Rect, from: usize) -> Option<usize>
         ensures first { result ≡ head_of (after from (overlaps rect.now) 0 self.now) }
         ensures inside { length self.now < 2 ^ 64 }
@@ -88,7 +92,7 @@ impl Bounds {
         self.tree.first_from(rect, 0, from)
     }
 
-    // The last place, before one, of a rectangle that holds x, y.
+    // The last place before `end` of a rectangle that holds x, y.
     pub(crate) fn last_before(&self, x: i64, y: i64, end: usize) -> Option<usize>
         ensures { result ≡ head_of (before end (is_at x y) 0 self.now) }
     {

@@ -1,8 +1,8 @@
 //! Boxes of boxes over a list of rectangles.
-ghost use Rattle.std.specs.Prelude.{◌≡◌, ◌+◌, ◌<◌, ◌^◌, ◌++◌, length, All, IfOk};
-ghost use Rattle.cl_region.specs.Places.{Covers};
+ghost use Rattle.std.specs.Prelude.{◌≡◌, ◌+◌, ◌/◌, ◌<◌, ◌≤◌, ◌^◌, ◌++◌, length, IfOk};
 ghost use Rattle.cl_index.specs.Found.{overlaps, is_at};
 ghost use Rattle.cl_index.specs.Boxes.{IsSound, box_of, rects_in, looked_at, head_of, after, before};
+ghost use Rattle.cl_index.specs.Looks.{box_in};
 
 use cl_region::Rect;
 use std::alloc::{AllocError, Global};
@@ -10,7 +10,7 @@ use std::alloc::{AllocError, Global};
 // At most so many rectangles stand in one box that is not cut further.
 const FEW: usize = 8;
 
-// A list of rectangles under boxes, each of which holds the places of those under it. `count` is how many the first half has.
+// A list of rectangles under boxes, each the least box of those under it. `count` is how many the first half has.
 #[derive(Drop)]
 pub(crate) enum Tree {
     Few {
@@ -32,13 +32,13 @@ impl Tree {
         ensures sound { IfOk result IsSound }
     {
         if rects.len() <= FEW {
-            return few(alloc, rects);
+            return tree_of_few(alloc, rects);
         }
         let half = rects.len() / 2;
         let (front, back) = rects.split_at(half);
         let first = Tree::of(alloc, front)?;
         let second = Tree::of(alloc, back)?;
-        joined(alloc, half, first, second)
+        tree_of_halves(alloc, half, first, second)
     }
 
     // The box of all.
@@ -51,7 +51,7 @@ impl Tree {
         }
     }
 
-    // The first place, from one on, of a rectangle that overlaps, where the first of all has the place `base`.
+    // The first place, `from` or behind it, of a rectangle that overlaps, where the first of all has the place `base`.
     pub(crate) fn first_from(&self, rect: &Rect, base: usize, from: usize) -> Option<usize>
         requires sound { IsSound self.now }
         requires fits { base + length (rects_in self.now) < 2 ^ 64 }
@@ -79,7 +79,7 @@ impl Tree {
         }
     }
 
-    // The last place, before one, of a rectangle that holds x, y, where the first of all has the place `base`.
+    // The last place before `end` of a rectangle that holds x, y, where the first of all has the place `base`.
     pub(crate) fn last_before(&self, x: i64, y: i64, base: usize, end: usize) -> Option<usize>
         requires sound { IsSound self.now }
         requires fits { base + length (rects_in self.now) < 2 ^ 64 }
@@ -124,7 +124,8 @@ impl Tree {
 }
 
 // A box that is not cut further.
-fn few(alloc: Global, rects: &[Rect]) -> Result<Tree, AllocError>
+fn tree_of_few(alloc: Global, rects: &[Rect]) -> Result<Tree, AllocError>
+    requires { length rects.now ≤ FEW }
     ensures rects { IfOk result (λ t. rects_in t ≡ rects.now) }
     ensures sound { IfOk result IsSound }
 {
@@ -134,11 +135,18 @@ fn few(alloc: Global, rects: &[Rect]) -> Result<Tree, AllocError>
     })
 }
 
-// A box of two.
-fn joined(alloc: Global, count: usize, first: Tree, second: Tree) -> Result<Tree, AllocError>
+// A box of two halves, of which the first has `count` rectangles.
+fn tree_of_halves(
+    alloc: Global,
+    count: usize,
+    first: Tree,
+    second: Tree,
+) -> Result<Tree, AllocError>
     requires sound_first { IsSound first }
     requires sound_second { IsSound second }
     requires count { count ≡ length (rects_in first) }
+    requires half { count ≡ (length (rects_in first) + length (rects_in second)) / 2 }
+    requires many { FEW < length (rects_in first) + length (rects_in second) }
     ensures rects { IfOk result (λ t. rects_in t ≡ rects_in first ++ rects_in second) }
     ensures sound { IfOk result IsSound }
 {
@@ -151,9 +159,9 @@ fn joined(alloc: Global, count: usize, first: Tree, second: Tree) -> Result<Tree
     })
 }
 
-// A rectangle that holds the places of each; one without places where there is none.
+// The least box of all; one without places where there is none.
 fn box_around(rects: &[Rect]) -> Rect
-    ensures { All (Covers result) rects.now }
+    ensures { result ≡ box_in rects.now }
 {
     let mut around = Rect {
         x1: 0,
@@ -167,7 +175,7 @@ fn box_around(rects: &[Rect]) -> Rect
     around
 }
 
-// The first place, from one on, of a rectangle that overlaps, one by one.
+// The same of few rectangles, one by one: the first place, `from` or behind it, of one that overlaps.
 fn first_of(rects: &[Rect], rect: &Rect, base: usize, from: usize) -> Option<usize>
     requires { base + length rects.now < 2 ^ 64 }
     ensures { result ≡ head_of (after from (overlaps rect.now) base rects.now) }
@@ -180,7 +188,7 @@ fn first_of(rects: &[Rect], rect: &Rect, base: usize, from: usize) -> Option<usi
     None
 }
 
-// The last place, before one, of a rectangle that holds x, y, one by one.
+// The same of few rectangles, one by one: the last place before `end` of one that holds x, y.
 fn last_of(rects: &[Rect], x: i64, y: i64, base: usize, end: usize) -> Option<usize>
     requires { base + length rects.now < 2 ^ 64 }
     ensures { result ≡ head_of (before end (is_at x y) base rects.now) }
