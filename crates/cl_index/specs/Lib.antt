@@ -1,0 +1,3 @@
+pub mod Boxes
+pub mod Found
+pub mod Looks
