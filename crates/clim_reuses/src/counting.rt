@@ -1,4 +1,6 @@
 //! The types of an application, with counts of what they are asked.
+ghost use Rattle.std.specs.Prelude.{◌≡◌};
+
 use cl_eval::{Evaluated, Limits, Slots, Types};
 use cl_outside::{Ledger, Steps};
 use cl_syntax::TypeSpec;
