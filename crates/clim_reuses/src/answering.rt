@@ -1,5 +1,7 @@
 //! Answers the questions on an application.
 ghost use Rattle.cl_reuse.specs.Recorded.{IsFaithfulHistory};
+ghost use Rattle.cl_load.specs.Types.{holds_in};
+ghost use Rattle.cl_loaded.specs.Texts.{texts_in};
 ghost use Rattle.cl_updating.specs.Redisplays.{CanReuse, IsFaithfulOf};
 
 use crate::counting::Counting;
@@ -21,34 +23,49 @@ const LIMITS: Limits = Limits {
     depth: 512,
 };
 
-/// The answers to the questions of a sheet, a line each.
+/// The answers to the questions of a sheet, two lines each.
 pub fn answer_sheet(alloc: Global, sheet: &Sheet) -> Result<String, Fault> {
     let day = Box::new(alloc, |text: &[u8]| weekday_number(text))?;
     let month = Box::new(alloc, |text: &[u8]| month_number(text))?;
     let types = shipped_types(alloc, day, month)?;
-    let hosts = HostTypes { types: &types };
-    let loaded = load(alloc, sheet.application.as_bytes(), &hosts)?;
-    answer_all(alloc, &loaded, &hosts, sheet.questions.as_slice())
+    answer_loaded(alloc, sheet, &HostTypes { types: &types })
 }
 
-#[tactic(auto, using(cl_loaded::proofs::Reused::loaded_reuse))]
-fn answer_all<H: Hosts>(
+// The same, where these are the host types.
+fn answer_loaded<H: Hosts>(alloc: Global, sheet: &Sheet, hosts: &H) -> Result<String, Fault> {
+    let loaded = load(alloc, sheet.application.as_bytes(), hosts)?;
+    answer_on_types(alloc, &loaded, hosts, sheet.questions.as_slice())
+}
+
+// The answers to questions on an application, by its own types.
+fn answer_on_types<H: Hosts>(
     alloc: Global,
     loaded: &Loaded,
     hosts: &H,
     questions: &[Question],
-) -> Result<String, Fault> {
-    let book = TypeBook::new(alloc, &loaded.app, &loaded.lattice, hosts);
+) -> Result<String, Fault>
+    requires { CanReuse loaded.now.app (record {
+      holds = holds_in loaded.now.lattice loaded.now.app;
+      presents = texts_in (H.entries hosts.now) loaded.now.lattice loaded.now.app;
+    }) }
+{
+    let types = TypeBook::new(alloc, &loaded.app, &loaded.lattice, hosts);
+    answer_all(alloc, &loaded.app, &types, &loaded.slots, questions)
+}
+
+// The answers to questions on an application, on its opening slots.
+fn answer_all<T: Types>(
+    alloc: Global,
+    app: &App,
+    types: &T,
+    slots: &Slots,
+    questions: &[Question],
+) -> Result<String, Fault>
+    requires { CanReuse app.now (record { holds = T.holds types.now; presents = T.presents types.now }) }
+{
     let mut answers = String::new(alloc);
     for question in questions {
-        answer(
-            alloc,
-            &loaded.app,
-            &book,
-            &loaded.slots,
-            question,
-            &mut answers,
-        )?;
+        answer(alloc, app, types, slots, question, &mut answers)?;
     }
     Ok(answers)
 }

@@ -2,6 +2,8 @@
 ghost use Rattle.std.specs.Prelude.{◌≡◌, ◌≤◌};
 ghost use Rattle.cl_application.specs.Panes.{IsPlaced};
 ghost use Rattle.cl_frame.specs.Ground.{meanings_of};
+ghost use Rattle.cl_load.specs.Types.{holds_in};
+ghost use Rattle.cl_loaded.specs.Texts.{texts_in};
 ghost use Rattle.cl_tables.specs.Rings.{HasNoRing};
 ghost use Rattle.cl_updating.specs.Redisplays.{CanReuse};
 
@@ -11,9 +13,9 @@ use cl_application::App;
 use cl_eval::{Limits, Program, Slots, Types};
 use cl_frame::{Frame, PaneReport, Which};
 use cl_gesture::Gesture;
-use cl_load::load;
+use cl_load::{Loaded, load};
 use cl_outside::{MemDevice, own_steps};
-use cl_ptext::{HostTypes, TypeBook};
+use cl_ptext::{HostTypes, Hosts, TypeBook};
 use cl_redisplay::Painted;
 use cl_session::{DEPTH, Session};
 use cl_value::Text;
@@ -124,17 +126,6 @@ failed, stale, drawn 2 erased 2|drawn 2 erased 2|3clq3  |
 done, shown, quiet|quiet|3clq3  |
 ";
 
-#[test]
-#[tactic(auto, using(cl_loaded::proofs::Reused::loaded_reuse))]
-fn a_frame_is_settled_and_sent(rt: HostRuntime) -> Result<(), Fail> {
-    let hosts = HostTypes { types: &[] };
-    let loaded = load(rt.alloc(), TWO, &hosts)?;
-    let types = TypeBook::new(rt.alloc(), &loaded.app, &loaded.lattice, &hosts);
-    let said = frame_states(rt.alloc(), &loaded.app, &types, &loaded.slots)?;
-    assert_eq!(rt; said.as_str(), FRAME_STATES);
-    Ok(())
-}
-
 /// A session is opened; its panes are shown anew, which fails at a span of the redraw; a command is typed, and runs.
 fn session_states<T: Types>(
     alloc: Global,
@@ -194,14 +185,49 @@ done, shown, quiet|quiet|3clq3  |
 done, shown, drawn 2 erased 2|trap 3|0cltra |
 ";
 
+/// What is done with the panes.
+#[derive(Clone, Copy)]
+enum Run {
+    Frame,
+    Session,
+}
+
+/// What the panes of an application say, by its own types.
+fn said_on_types<H: Hosts>(
+    alloc: Global,
+    loaded: &Loaded,
+    hosts: &H,
+    run: Run,
+) -> Result<String, Fail>
+    requires { CanReuse loaded.now.app (record {
+      holds = holds_in loaded.now.lattice loaded.now.app;
+      presents = texts_in (H.entries hosts.now) loaded.now.lattice loaded.now.app;
+    }) }
+{
+    let types = TypeBook::new(alloc, &loaded.app, &loaded.lattice, hosts);
+    let mut slots = loaded.slots.copy(alloc)?;
+    match run {
+        Run::Frame => frame_states(alloc, &loaded.app, &types, &slots),
+        Run::Session => session_states(alloc, &loaded.app, &types, &mut slots),
+    }
+}
+
+/// What the two panes say, with these host types.
+fn said_of_two<H: Hosts>(alloc: Global, hosts: &H, run: Run) -> Result<String, Fail> {
+    let loaded = load(alloc, TWO, hosts)?;
+    said_on_types(alloc, &loaded, hosts, run)
+}
+
 #[test]
-#[tactic(auto, using(cl_loaded::proofs::Reused::loaded_reuse))]
+fn a_frame_is_settled_and_sent(rt: HostRuntime) -> Result<(), Fail> {
+    let said = said_of_two(rt.alloc(), &HostTypes { types: &[] }, Run::Frame)?;
+    assert_eq!(rt; said.as_str(), FRAME_STATES);
+    Ok(())
+}
+
+#[test]
 fn a_session_redraws_behind_a_fault(rt: HostRuntime) -> Result<(), Fail> {
-    let hosts = HostTypes { types: &[] };
-    let loaded = load(rt.alloc(), TWO, &hosts)?;
-    let types = TypeBook::new(rt.alloc(), &loaded.app, &loaded.lattice, &hosts);
-    let mut slots = loaded.slots.copy(rt.alloc())?;
-    let said = session_states(rt.alloc(), &loaded.app, &types, &mut slots)?;
+    let said = said_of_two(rt.alloc(), &HostTypes { types: &[] }, Run::Session)?;
     assert_eq!(rt; said.as_str(), SESSION_STATES);
     Ok(())
 }
