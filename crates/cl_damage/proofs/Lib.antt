@@ -6,3 +6,5 @@ pub mod LevelLemmas
 pub mod DepthLemmas
 pub mod EqualLemmas
 pub mod ChildLemmas
+pub mod KeepLemmas
+pub mod MeetLemmas
