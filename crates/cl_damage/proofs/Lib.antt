@@ -8,3 +8,5 @@ pub mod EqualLemmas
 pub mod ChildLemmas
 pub mod KeepLemmas
 pub mod MeetLemmas
+pub mod GiveLemmas
+pub mod AgreeLemmas

@@ -1,6 +1,8 @@
 //! What has to be painted again when new records take the place of old ones: the definition, the laws on it, and the program.
 #![tactic(auto)]
 
+mod agreeing;
+mod giving;
 mod items;
 mod keeps;
 mod laws;
