@@ -10,3 +10,5 @@ pub mod KeepLemmas
 pub mod MeetLemmas
 pub mod GiveLemmas
 pub mod AgreeLemmas
+pub mod NextLemmas
+pub mod PutLemmas

@@ -8,3 +8,4 @@ pub mod Agreement
 pub mod SameItems
 pub mod SameLaws
 pub mod Lents
+pub mod Places

@@ -7,6 +7,7 @@ mod items;
 mod keeps;
 mod laws;
 mod lents;
+mod places;
 
 pub use items::Recognizable;
 pub use keeps::Keeps;
