@@ -12,3 +12,5 @@ pub mod GiveLemmas
 pub mod AgreeLemmas
 pub mod NextLemmas
 pub mod PutLemmas
+pub mod PairLemmas
+pub mod PartLemmas

@@ -9,3 +9,4 @@ pub mod SameItems
 pub mod SameLaws
 pub mod Lents
 pub mod Places
+pub mod Steps

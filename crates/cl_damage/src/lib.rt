@@ -2,11 +2,13 @@
 #![tactic(auto)]
 
 mod agreeing;
+mod comparing;
 mod giving;
 mod items;
 mod keeps;
 mod laws;
 mod lents;
+mod parts;
 mod places;
 
 pub use items::Recognizable;
