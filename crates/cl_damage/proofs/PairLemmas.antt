@@ -8,7 +8,7 @@ use Rattle.cl_value.specs.Data.{Data}
 use Rattle.cl_damage.specs.Children.{Child, Children, child, inside_of, item, list_of, name_of, none, updated}
 use Rattle.cl_damage.specs.Places.{IsNext}
 use Rattle.cl_damage.specs.Steps.{Steps, compared_each, size_of, size_of_all, sizes_of}
-use Rattle.cl_damage.specs.Touched.{Compared, Partner, agreeing, all_compared, all_give, between, but_last, child_of, compared, ending, gives, level, pair_gives, partner, step, without_end}
+use Rattle.cl_damage.specs.Touched.{Compared, Partner, agreeing, all_compared, all_give, between, but_last, child_of, compared, ending, gives, level, pair_gives, partner, step, touched, without_end}
 use Rattle.cl_damage.proofs.LevelLemmas.{but_last-map}
 
 module _ {A : Type 0} where
@@ -124,3 +124,9 @@ module _ {A : Type 0} (bounds : A → Rect) (same : A → A → Bool) where
       e ∙ ap (λ (ks : List (Child A)). agreeing same os ks) (sym (each-children ns)) in
       ap (λ (cs : List (Compared A)). without_end bounds same (drop n os) cs) (sym (drop-map (compared bounds same) n ns))
       ∙ ap (λ (k : ℕ). without_end bounds same (drop k os) (drop k (compared_each bounds same ns))) count
+
+  pub touched-is : (old new : Children A) (olds news : List (Child A)) → olds ≡ list_of old → news ≡ list_of new
+      → level bounds same olds (compared_each bounds same news) ≡ touched bounds same old new
+  touched-is old new olds news e f =
+      let each = ap (λ (ns : List (Child A)). compared_each bounds same ns) f ∙ each-list new in
+      λ i. level bounds same (e i) (each i)

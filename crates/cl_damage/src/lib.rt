@@ -10,6 +10,7 @@ mod laws;
 mod lents;
 mod parts;
 mod places;
+mod touching;
 
 pub use items::Recognizable;
 pub use keeps::Keeps;
@@ -17,3 +18,4 @@ pub use laws::{
     children_hold_what_records_draw, equal_children_touch_nothing,
     places_that_are_not_touched_show_the_same,
 };
+pub use touching::touched;
