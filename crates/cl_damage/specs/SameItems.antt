@@ -9,9 +9,17 @@ use Rattle.cl_medium.specs.declared.shapes.Direction.TheVariants.{Horizontal, Ve
 use Rattle.cl_medium.specs.declared.shapes.LeafShape.{LeafShape}
 use Rattle.cl_medium.specs.declared.shapes.LeafShape.TheVariants.{Fill, Line, Outline, Point, Text}
 
+-- two areas have the same corner
+abbrev pub same_corner : Area → Area → Bool
+same_corner a b = int_eq a.x b.x && int_eq a.y b.y
+
+-- two areas have the same sizes
+abbrev pub same_size : Area → Area → Bool
+same_size a b = int_eq a.width b.width && int_eq a.height b.height
+
 -- two areas have the same corner, the same sizes and the same ink
 abbrev pub same_area : Area → Area → Bool
-same_area a b = int_eq a.x b.x && (int_eq a.y b.y && (int_eq a.width b.width && (int_eq a.height b.height && a.ink == b.ink)))
+same_area a b = same_corner a b && (same_size a b && a.ink == b.ink)
 
 -- two lines have the same way
 abbrev pub same_way : Direction → Direction → Bool

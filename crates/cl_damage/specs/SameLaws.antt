@@ -24,14 +24,13 @@ as_well b f g h = (λ e. f (h.0 e), λ q. h.1 (g q))
 area_told : (a b : Area) → Decides (same_area a b) (a ≡ b)
 area_told a b =
     as_well (same_area a b)
-    (λ h i. record { x = h.0 i; y = h.1.0 i; width = h.1.1.0 i; height = h.1.1.1.0 i; ink = h.1.1.1.1 i })
+    (λ h i. record { x = h.0.0 i; y = h.0.1 i; width = h.1.0.0 i; height = h.1.0.1 i; ink = h.1.1 i })
     (λ e. (
-      ap (λ (r : Area). r.x) e,
-      (ap (λ (r : Area). r.y) e, (ap (λ (r : Area). r.width) e, (ap (λ (r : Area). r.height) e, ap (λ (r : Area). r.ink) e))),
+      (ap (λ (r : Area). r.x) e, ap (λ (r : Area). r.y) e),
+      ((ap (λ (r : Area). r.width) e, ap (λ (r : Area). r.height) e), ap (λ (r : Area). r.ink) e),
     ))
-    (both _ _ (signed_Decides a.x b.x)
-    (both _ _ (signed_Decides a.y b.y)
-    (both _ _ (signed_Decides a.width b.width) (both _ _ (signed_Decides a.height b.height) (unsigned_Decides a.ink b.ink)))))
+    (both _ _ (both _ _ (signed_Decides a.x b.x) (signed_Decides a.y b.y))
+    (both _ _ (both _ _ (signed_Decides a.width b.width) (signed_Decides a.height b.height)) (unsigned_Decides a.ink b.ink)))
 
 way_means : (a b : Direction) → same_way a b ≡ true → a ≡ b
 way_means Horizontal Horizontal e = refl

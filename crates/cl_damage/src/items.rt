@@ -1,7 +1,7 @@
 //! Items that are known again wherever their records stand.
 ghost use Rattle.std.specs.Prelude.{◌≡◌};
 ghost use Rattle.cl_region.specs.Places.{IsInRange, move_rect};
-ghost use Rattle.cl_damage.specs.SameItems.{same_area, same_item, same_shape, same_way};
+ghost use Rattle.cl_damage.specs.SameItems.{same_area, same_corner, same_item, same_shape, same_size, same_way};
 ghost use Rattle.cl_damage.specs.SameLaws.{item_same_itself, item_same_means};
 
 use cl_medium::{AnyLeaf, Area, Direction, Leaf, LeafShape};
@@ -39,12 +39,28 @@ impl Recognizable for AnyLeaf {
     }
 }
 
+// Whether two areas have the same corner.
+fn same_corner(a: Area, b: Area) -> bool
+    ensures { result ≡ same_corner a b }
+{
+    a.x == b.x && a.y == b.y
+}
+
+// Whether two areas have the same sizes.
+fn same_size(a: Area, b: Area) -> bool
+    ensures { result ≡ same_size a b }
+{
+    a.width == b.width && a.height == b.height
+}
+
+// Whether two areas have the same corner, the same sizes and the same ink.
 fn same_area(a: Area, b: Area) -> bool
     ensures { result ≡ same_area a b }
 {
-    a.x == b.x && a.y == b.y && a.width == b.width && a.height == b.height && a.ink == b.ink
+    same_corner(a, b) && same_size(a, b) && a.ink == b.ink
 }
 
+// Whether two lines have the same way.
 fn same_way(a: Direction, b: Direction) -> bool
     ensures { result ≡ same_way a b }
 {
@@ -55,6 +71,7 @@ fn same_way(a: Direction, b: Direction) -> bool
     }
 }
 
+// Whether two shapes are of the same kind, and have the same bytes or the same way.
 fn same_shape(a: &LeafShape, b: &LeafShape) -> bool
     ensures { result ≡ same_shape a.now b.now }
 {

@@ -1,16 +1,16 @@
-use Rattle.std.proofs.Common.{rules, arith, ◌≡◌, ◌+◌, ◌*◌, ◌<◌, ◌++◌, ◌∙◌, ap, drop, length, map, take}
-use Rattle.std.proofs.lemmas.List.{length-map}
+use Rattle.std.proofs.Common.{rules, arith, ◌≡◌, suc, ◌+◌, ◌*◌, ◌<◌, List, ◌∷◌, ◌++◌, ◌∙◌, add-one, ap, drop, length, map, subst, sym, take}
+use Rattle.std.proofs.lemmas.List.{drop-map, length-map}
 use Rattle.std.proofs.lemmas.Result.{on_ok_weaker}
 use Rattle.cl_record.specs.Trees.{trees_of}
-use Rattle.cl_damage.specs.Children.{inside_of, list_of, none}
+use Rattle.cl_damage.specs.Children.{Child, inside_of, list_of, none}
 use Rattle.cl_damage.specs.KeepRows.{keeps_of}
-use Rattle.cl_damage.specs.Lents.{AllStand, child_lent}
+use Rattle.cl_damage.specs.Lents.{AllStand, Stands, child_lent}
 use Rattle.cl_damage.specs.Touched.{all_give}
 use Rattle.cl_damage.specs.NewChildren.{new_children_before}
 use Rattle.cl_damage.specs.Steps.{size_of, sizes_of}
 use Rattle.cl_damage.specs.declared.lents.Lent.{Lent}
-use Rattle.cl_damage.proofs.AgreeLemmas.{next_at}
-use Rattle.cl_damage.proofs.PairLemmas.{level-is, next_within, one_paired, opened, sizes-list, without_end-is}
+use Rattle.cl_damage.proofs.AgreeLemmas.{each_at, next_at}
+use Rattle.cl_damage.proofs.PairLemmas.{PairsOn, level-is, next_within, one_paired, opened, pairs_more, sizes-list, without_end-is}
 use Rattle.cl_damage.proofs.comparing.+level.Goals as goal
 
 pub level-returns : goal.level-returns
@@ -68,3 +68,34 @@ pair-returns g t c =
     on_ok_weaker c.level.result
     (λ given. rw (c.in-Update.is, ← whole) given)
     c.level.ensures
+
+pub one-bounds-old-at : goal.one-bounds-old-at
+one-bounds-old-at g t c =
+    let see = child_lent g.L.Leaf.moved_by in
+    let os = map see c.args.old.now in
+    rw (← length-map c.args.old.now see) (next_within os c.args.next c.in-Some.at _ (c.in-Some.ensures os c.requires.places))
+
+pub one-pair-requires : goal.one-pair-requires
+one-pair-requires g t c κs within =
+    let see = child_lent g.L.Leaf.moved_by in
+    let os = map see c.args.old.now in
+    let there : c.in-Some.at < length c.args.old.now =
+    rw (← length-map c.args.old.now see) (next_within os c.args.next c.in-Some.at _ (c.in-Some.ensures os c.requires.places)) in
+    let old = each_at (Stands g.L.Leaf.bounds g.L.Leaf.moved_by) c.args.old.now c.in-Some.at c.index-old-at.result there c.index-old-at.is c.requires.old in
+    (search rules, (within, (old, c.requires.new)))
+
+pub pairs-loop-child-preserved : goal.pairs-loop-child-preserved
+pairs-loop-child-preserved g t c =
+    let see = child_lent g.L.Leaf.moved_by in
+    let index = c.loop-child.child-index in
+    let k = see c.child-item.result in
+    let left = map see (drop (suc index) c.args.new.now) in
+    let step : map see (drop index c.args.new.now) ≡ k ∷ left =
+    sym (drop-map see index c.args.new.now)
+    ∙ (next_at see c.args.new.now index c.child-item.result c.loop-child-test.true c.child-item.is
+    ∙ ap (λ (ks : List (Child _)). k ∷ ks) (drop-map see (suc index) c.args.new.now)) in
+    let before = subst (λ (ks : List (Child _)). PairsOn g.L.Leaf.bounds g.L.Recognizable.same (map see c.args.old.now) c.loop-child.next
+    (map see c.args.new.now) ks c.args.rects.now.items c.loop-child.rects.items) step c.loop-child.invariant in
+    rw (add-one index)
+    (pairs_more g.L.Leaf.bounds g.L.Recognizable.same (map see c.args.old.now) c.loop-child.next c.in_ok-next.next (map see c.args.new.now) k left
+    c.args.rects.now.items c.loop-child.rects.items c.one.new.rects.items before (c.in_ok-next.ensures {u = tt}))

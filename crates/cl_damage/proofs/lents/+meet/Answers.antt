@@ -35,7 +35,7 @@ meet_node-returns-in_ok-push-in-Update-clause-stand g t c =
     let inside : ArePlaced g.L.Leaf.bounds g.L.Leaf.moved_by c.joined-place.result (trees_of p.inside) =
     rw (c.joined-place.ensures, c.place-in-Update.ensures)
     (placed-piece g.L.Leaf.bounds g.L.Leaf.moved_by g.met.L.Leaf.moves_bounds c.args.at p.place p.head (trees_of p.inside) placed) in
-    stand-last g.L.Leaf.bounds g.L.Leaf.moved_by c.args.met.now.items _ _ c.requires.stand inside c.in_ok-push-in-Update.ensures.items
+    stand-last g.L.Leaf.bounds g.L.Leaf.moved_by c.args.met.now.items c.push-in-Update.new.self.items _ c.requires.stand inside c.in_ok-push-in-Update.ensures.items
 
 pub meet_row-meet_node-requires : goal.meet_row-meet_node-requires
 meet_row-meet_node-requires g t c κs within =
