@@ -12,6 +12,7 @@ use Rattle.cl_medium.specs.declared.shapes.LeafShape.{LeafShape}
 use Rattle.cl_medium.specs.declared.shapes.LeafShape.TheVariants.{Fill, Line, Outline, Point, Text}
 use Rattle.cl_damage.specs.SameItems.{same_area, same_item, same_shape, same_way}
 
+-- two tests tell two facts
 both : {P Q : Type 0} (b c : Bool) → Decides b P → Decides c Q → Decides (b && c) (P × Q)
 both true true h k = (λ e. (h.0 e, k.0 e), λ p. refl)
 both true false h k = (λ e. absurd (cc), λ p. k.1 p.1)
@@ -21,6 +22,7 @@ both false c h k = (λ e. absurd (cc), λ p. h.1 p.0)
 as_well : {P Q : Type 0} (b : Bool) → (P → Q) → (Q → P) → Decides b P → Decides b Q
 as_well b f g h = (λ e. f (h.0 e), λ q. h.1 (g q))
 
+-- the test of two areas tells that they are equal
 area_told : (a b : Area) → Decides (same_area a b) (a ≡ b)
 area_told a b =
     as_well (same_area a b)
@@ -60,11 +62,13 @@ shape_itself (Fill a) = (unsigned_Decides a a).1 refl
 parts_told : (i j : Item) → Decides (same_item i j) ((i.area ≡ j.area) × (same_shape i.shape j.shape ≡ true))
 parts_told i j = both (same_area i.area j.area) (same_shape i.shape j.shape) (area_told i.area j.area) (λ e. e, λ e. e)
 
+-- what counts as the same is equal
 pub item_same_means : (i j : Item) → same_item i j ≡ true → i ≡ j
 item_same_means i j e =
     let parts = (parts_told i j).0 e in
     let shapes = shape_means i.shape j.shape parts.1 in
     λ k. record { area = parts.0 k; shape = shapes k }
 
+-- each item counts as the same as itself
 pub item_same_itself : (i : Item) → same_item i i ≡ true
 item_same_itself i = (parts_told i i).1 (refl, shape_itself i.shape)

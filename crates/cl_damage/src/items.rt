@@ -7,8 +7,8 @@ ghost use Rattle.cl_damage.specs.SameLaws.{item_same_itself, item_same_means};
 use cl_medium::{AnyLeaf, Area, Direction, Leaf, LeafShape};
 use cl_region::Shift;
 
-/// A leaf that is known again where the records around it stand elsewhere: it is told whether two of them, each moved from
-/// where it stands by itself, come to the same thing at the same place.
+/// A leaf that is known again where the records around it stand elsewhere: of two of them, each moved by the places around
+/// it, it can be told whether they come to the same thing at the same place.
 pub trait Recognizable: Leaf {
     ghost use Rattle.std.specs.Prelude.{◌≡◌, Bool, true};
 

@@ -45,7 +45,7 @@ pub(crate) fn joined(first: Shift, second: Shift) -> Shift
     }
 }
 
-// How far the update at this place was moved, if it was kept; no further update was.
+// How far the update at this place was moved, if it was kept; one that is not told of was not.
 fn moved_at(keeps: &[Keep], place: usize) -> Option<Shift>
     ensures { result ≡ first_moved (keeps_of (drop place keeps.now)) }
 {
@@ -78,8 +78,8 @@ fn after(keeps: &[Keep], place: usize) -> usize
     }
 }
 
-// Puts the children that a record is, moved by `at`, behind the others, where this update is the next that was opened.
-// Answers which is the next one then.
+// Puts the children that a record is, moved by `at`, behind the others. What became of its updates is told from place `next` of
+// the keeps on. Answers from which place on it is told of those behind it.
 #[cycle(meet)]
 fn meet_node<'a, L: Leaf>(
     node: &'a Node<L>,
@@ -143,7 +143,7 @@ fn meet_row<'a, L: Leaf>(
     Ok(next)
 }
 
-// The children of the level of these records, which stand so far from the start, where these updates were kept.
+// The children of the level of these records, which stand so far from the start, where this was kept of its updates.
 pub(crate) fn level_of<'a, L: Leaf>(
     alloc: Global,
     row: &'a Nodes<L>,

@@ -15,7 +15,7 @@ use cl_record::{History, STILL};
 use cl_region::Rect;
 use std::alloc::{AllocError, Global};
 
-// The outermost children of a history, where these updates were kept.
+// The outermost children of a history, where this was kept of its updates.
 fn children_of<'a, L: Leaf>(
     alloc: Global,
     history: &'a History<L>,
@@ -31,11 +31,11 @@ fn children_of<'a, L: Leaf>(
     level_of(alloc, nodes, STILL, keeps)
 }
 
-/// The rectangles, in columns and rows of the pane, outside of which the new history of a pane shows what the old one did: the
-/// bounds of each item that is gone or new, or stands elsewhere, in the order in which levels are compared. `keeps` tells which updates
-/// of the new history were kept from the old one; of one that stayed where it was, nothing is given and nothing is looked at. Some
-/// rectangles may share cells. The steps it takes are nearly in proportion to what was not kept. It fails only where memory is
-/// wanting.
+/// What has to be painted again when the new history of a pane takes the place of the old one: rectangles in the pane's
+/// columns and rows, each the bounds of an item that is gone, is new, stands elsewhere or comes in another order, as levels are
+/// compared. `keeps` tells which updates of the new history were kept from the old one: one that was kept where it stood and in
+/// its order gives nothing, and is not looked into. Rectangles may share cells. The steps are nearly in proportion to the
+/// children of the levels that were not kept. It fails only where memory is wanting.
 pub fn touched<L: Recognizable>(
     alloc: Global,
     old: &History<L>,
