@@ -99,3 +99,17 @@ pairs-loop-child-preserved g t c =
     rw (add-one index)
     (pairs_more g.L.Leaf.bounds g.L.Recognizable.same (map see c.args.old.now) c.loop-child.next c.in_ok-next.next (map see c.args.new.now) k left
     c.args.rects.now.items c.loop-child.rects.items c.one.new.rects.items before (c.in_ok-next.ensures {u = tt}))
+
+pub one-offset_bounds-old-at : goal.one-offset_bounds-old-at
+one-offset_bounds-old-at g t c =
+    let os = map (child_lent g.L.Leaf.moved_by) c.args.old.now in
+    let there : c.in-Some.at < length c.args.old.now =
+    rw (← length-map c.args.old.now (child_lent g.L.Leaf.moved_by)) (next_within os c.args.next c.in-Some.at _ (c.in-Some.ensures os c.requires.places)) in
+    search rules
+
+pub one-overflow_add-result : goal.one-overflow_add-result
+one-overflow_add-result g t c =
+    let os = map (child_lent g.L.Leaf.moved_by) c.args.old.now in
+    let there : c.in-Some.at < length c.args.old.now =
+    rw (← length-map c.args.old.now (child_lent g.L.Leaf.moved_by)) (next_within os c.args.next c.in-Some.at _ (c.in-Some.ensures os c.requires.places)) in
+    search rules
