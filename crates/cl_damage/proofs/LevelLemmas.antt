@@ -13,7 +13,7 @@ use Rattle.cl_damage.proofs.PartnerLemmas.{IfFound, Splits, is_partner, partner-
 use Rattle.cl_damage.proofs.PlaceLemmas.{all_seen, all_seen-none, joined, joined-append, outside_left, outside_right, seen, seen-none}
 
 module _ {A : Type 0} where
-  but_last-map : {B : Type 0} (f : A → B) (n : ℕ) (xs : List A) → but_last n (map f xs) ≡ map f (but_last n xs)
+  pub but_last-map : {B : Type 0} (f : A → B) (n : ℕ) (xs : List A) → but_last n (map f xs) ≡ map f (but_last n xs)
   but_last-map f n xs = ap (λ (k : ℕ). take (k - n) (map f xs)) (length-map xs f) ∙ take-map f (length xs - n) xs
 
   each_map : {B : Type 0} (P : B → Type 0) (f : A → B) (xs : List A) → Each (λ a. P (f a)) xs → Each P (map f xs)

@@ -6,3 +6,11 @@ pub mod LevelLemmas
 pub mod DepthLemmas
 pub mod EqualLemmas
 pub mod ChildLemmas
+pub mod KeepLemmas
+pub mod MeetLemmas
+pub mod GiveLemmas
+pub mod AgreeLemmas
+pub mod NextLemmas
+pub mod PutLemmas
+pub mod PairLemmas
+pub mod PartLemmas

@@ -1,5 +1,12 @@
 pub mod Children
 pub mod Keeps
+pub mod KeepRows
+pub mod KeepFalls
 pub mod NewChildren
 pub mod Touched
 pub mod Agreement
+pub mod SameItems
+pub mod SameLaws
+pub mod Lents
+pub mod Places
+pub mod Steps

@@ -1,5 +1,5 @@
 -- The children that old and new records are, where some updates of the new ones were kept.
-use Rattle.std.specs.Prelude.{List, Option, None}
+use Rattle.std.specs.Prelude.{List, None}
 use Rattle.cl_region.specs.declared.rects.Shift.{Shift}
 use Rattle.cl_record.specs.Shifts.{join_shifts, still}
 use Rattle.cl_record.specs.Trees.{Tree, Trees, leaf, presentation, tree, trees_of, update}

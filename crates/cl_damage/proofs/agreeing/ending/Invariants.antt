@@ -1,0 +1,11 @@
+use Rattle.std.proofs.Common.{◌-◌, length, map, reverse}
+use Rattle.cl_damage.specs.Lents.{child_lent}
+use Rattle.cl_damage.proofs.AgreeLemmas.{AgreesOn}
+use Rattle.cl_damage.proofs.agreeing.ending.Given as goal
+
+abbrev pub invariant-loop-count : goal.invariant-loop-count
+invariant-loop-count g l =
+    AgreesOn g.L.Recognizable.same l.count (reverse (map (child_lent g.L.Leaf.moved_by) l.old)) (reverse (map (child_lent g.L.Leaf.moved_by) l.new))
+
+abbrev pub decreases-loop-count : goal.decreases-loop-count
+decreases-loop-count g l = length l.old - l.count
