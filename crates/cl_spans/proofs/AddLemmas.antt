@@ -8,9 +8,9 @@ use Rattle.cl_region.specs.declared.rects.Rect.{Rect}
 use Rattle.cl_region.specs.Places.{is_between, is_thin}
 use Rattle.cl_region.proofs.Corners.{HasCell, false_holds, from_between, has_cell, none_held, same_bool, thin_test, to_between}
 use Rattle.cl_spans.specs.declared.runs.Span.{Span}
-use Rattle.cl_spans.specs.SpanRows.{row_of}
+use Rattle.cl_spans.specs.SpanRows.{row_of, rows_in}
 use Rattle.cl_spans.specs.Extending.{extended}
-use Rattle.cl_spans.specs.Filling.{IsAdded, IsWithin, columns_of, row_in, rows_from, rows_in}
+use Rattle.cl_spans.specs.Filling.{IsAdded, IsWithin, columns_of, row_in, rows_from}
 use Rattle.cl_spans.proofs.RowLemmas.{row_before, row_from}
 
 abbrev items_of : Vec Span → List Span

@@ -1,15 +1,11 @@
 -- How rows are filled. So private functions go; no public call promises it.
-use Rattle.std.specs.Prelude.{◌≡◌, ℕ, ℤ, ◌-ℤ◌, ◌≤ℤ◌, ◌<◌, unsigned_abs, Bool, true, false, not, ◌&&◌, if◌then◌else◌, List, [], ◌∷◌, map, slice_index_or}
+use Rattle.std.specs.Prelude.{◌≡◌, ℕ, ℤ, ◌-ℤ◌, ◌≤ℤ◌, ◌<◌, unsigned_abs, Bool, true, false, not, ◌&&◌, if◌then◌else◌, List, [], ◌∷◌, slice_index_or}
 use Rattle.std.specs.Global.{Vec}
 use Rattle.cl_region.specs.declared.rects.Rect.{Rect}
 use Rattle.cl_region.specs.Places.{is_between, is_thin}
 use Rattle.cl_spans.specs.declared.runs.Span.{Span}
-use Rattle.cl_spans.specs.SpanRows.{SpanRows, row_of}
+use Rattle.cl_spans.specs.SpanRows.{SpanRows, row_of, rows_in}
 use Rattle.cl_spans.specs.Extending.{extended}
-
--- the spans of each row
-abbrev pub rows_in : List (Vec Span) → List (List Span)
-rows_in vs = map (λ v. v.items) vs
 
 -- the spans at a place in the rows, and none past them
 abbrev pub row_in : List (Vec Span) → ℕ → List Span

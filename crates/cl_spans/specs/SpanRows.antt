@@ -1,5 +1,6 @@
 -- Rows of spans from a first row on.
-use Rattle.std.specs.Prelude.{ℤ, ◌-ℤ◌, int_lt, unsigned_abs, Bool, if◌then◌else◌, List, [], ◌∷◌, slice_index_or}
+use Rattle.std.specs.Prelude.{ℤ, ◌-ℤ◌, int_lt, unsigned_abs, Bool, if◌then◌else◌, List, [], ◌∷◌, map, slice_index_or}
+use Rattle.std.specs.Global.{Vec}
 use Rattle.cl_spans.specs.declared.runs.Span.{Span}
 use Rattle.cl_spans.specs.Runs.{AreRuns, row_holds}
 
@@ -7,6 +8,10 @@ use Rattle.cl_spans.specs.Runs.{AreRuns, row_holds}
 pub record SpanRows : Type 0 where
   pub first : ℤ
   pub rows : List (List Span)
+
+-- the spans of each row that is kept
+abbrev pub rows_in : List (Vec Span) → List (List Span)
+rows_in vs = map (λ v. v.items) vs
 
 -- the spans of row y, and none where there is no such row
 abbrev pub row_of : SpanRows → ℤ → List Span

@@ -19,8 +19,7 @@ pub struct Spans {
 }
 
 impl Model for Spans {
-    ghost use Rattle.cl_spans.specs.SpanRows.{SpanRows, AllAreRuns};
-    ghost use Rattle.cl_spans.specs.Filling.{rows_in};
+    ghost use Rattle.cl_spans.specs.SpanRows.{AllAreRuns, SpanRows, rows_in};
 
     ghost Value = { SpanRows };
 

@@ -1,5 +1,4 @@
-use Rattle.cl_spans.specs.Filling.{rows_in}
-use Rattle.cl_spans.specs.SpanRows.{SpanRows}
+use Rattle.cl_spans.specs.SpanRows.{SpanRows, rows_in}
 use Rattle.cl_spans.proofs.RowLemmas.{none_held_in_none, none_in_none_held}
 use Rattle.cl_spans.proofs.rows.Spans.is_empty.Goals as goal
 

@@ -1,7 +1,8 @@
 use Rattle.std.proofs.Common.{◌<◌, ◌≡◌, length, subst, sym, ◌∙◌, arith}
 use Rattle.std.proofs.lemmas.Bool.{ltb-true}
+use Rattle.cl_spans.specs.SpanRows.{rows_in}
 use Rattle.cl_spans.specs.Runs.{AreRuns}
-use Rattle.cl_spans.specs.Filling.{rows_in, row_in}
+use Rattle.cl_spans.specs.Filling.{row_in}
 use Rattle.cl_spans.proofs.RowLemmas.{row_at, runs_at}
 use Rattle.cl_spans.proofs.rows.Spans.row.Goals as goal
 
