@@ -1,0 +1,4 @@
+pub mod Extending
+pub mod Filling
+pub mod Runs
+pub mod SpanRows
