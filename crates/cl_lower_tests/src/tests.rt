@@ -1,4 +1,5 @@
 //! One part for each crate that is called.
+mod damage;
 mod medium;
 mod outside;
 mod raster;
