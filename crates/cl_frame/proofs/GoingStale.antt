@@ -81,3 +81,15 @@ agree-under which.Force stale p broken cleared shown h = tt
 pub agree-started : (w : Which) (old new : Screen) (broken cleared : Bool) (shown : Option device.Picture) → new.raster ≡ old.raster
     → new.stale ≡ is_stale_under w old.stale → Agree old.stale old.raster broken cleared shown → Agree new.stale new.raster broken cleared shown
 agree-started w old new broken cleared shown e f h = rw (e, f) (agree-under w old.stale old.raster broken cleared shown h)
+
+-- ---- a settling that discards all histories goes on with a stale screen
+
+pub under-started : (w : Which) (stale new : Bool) → new ≡ is_stale_under w stale → is_stale_under w new ≡ new
+under-started which.All stale new e = refl
+under-started which.Blank stale new e = refl
+under-started which.Force stale new e = sym e
+
+pub under-later : (w : Which) (a b : Bool) → (a ≡ true → b ≡ true) → is_stale_under w a ≡ a → is_stale_under w b ≡ b
+under-later which.All a b stays e = refl
+under-later which.Blank a b stays e = refl
+under-later which.Force a b stays e = sym (stays (sym e))

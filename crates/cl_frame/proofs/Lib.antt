@@ -7,3 +7,5 @@ pub mod OpenedPanes
 pub mod SentPanes
 pub mod ShownFrames
 pub mod UpdatedFrames
+mod DamagedPanes
+mod KeptPanes

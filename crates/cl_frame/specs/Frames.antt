@@ -17,6 +17,7 @@ use Rattle.cl_redisplay.specs.Shown.{AreApart, Shows, areas_of}
 use Rattle.cl_redisplay.specs.declared.screens.Painted.{Painted}
 use Rattle.cl_redisplay.specs.declared.screens.Painted.TheVariants as painted
 use Rattle.cl_reuse.specs.Kept.{work}
+use Rattle.cl_reuse.specs.Once.{IsNamedOnce}
 use Rattle.cl_reuse.specs.Records.{kept_among, records_of}
 use Rattle.cl_reuse.specs.Recorded.{IsFaithfulHistory}
 use Rattle.cl_frame.specs.Ground.{Ground}
@@ -59,9 +60,11 @@ pub record IsFrameOf (app : App) (f : Frame) : Type 0 where
 abbrev pub is_blank_pane : Pane → Type 0
 is_blank_pane p = (p.history ≡ None) × (p.items ≡ 0)
 
--- the history of a pane, where it has one, is faithful: what it says of its updates is what their bodies come to
-abbrev pub IsPaneFaithful : App → TypeMeanings → Pane → Type 0
-IsPaneFaithful app types p = IfSome p.history (IsFaithfulHistory app types)
+-- the history of a pane, where it has one, is faithful: what it says of its updates is what their bodies come to, and no level of it has two
+-- updates of one site and id
+pub record IsPaneFaithful (app : App) (types : TypeMeanings) (p : Pane) : Type 0 where
+  pub faithful : IfSome p.history (IsFaithfulHistory app types)
+  pub once : IfSome p.history IsNamedOnce
 
 -- so it is of each pane
 pub record ArePanesFaithful (app : App) (types : TypeMeanings) (panes : List Pane) : Type 0 where

@@ -3,3 +3,4 @@ pub mod Panes
 pub mod Settling
 pub mod Frames
 pub mod Sending
+pub mod Damages

@@ -1,16 +1,22 @@
 -- What is sent to the device of a frame whose panes are settled.
-use Rattle.std.specs.Prelude.{◌≡◌, ℕ, Bool, true, false, not, if◌then◌else◌, List, [], ◌∷◌, ◌++◌, Option, Some, slice_get}
+use Rattle.std.specs.Prelude.{◌≡◌, ℕ, ℤ, Bool, true, false, not, if◌then◌else◌, List, [], ◌∷◌, ◌++◌, Option, Some, None, slice_get}
 use Rattle.cl_application.specs.Panes.{panes_of}
 use Rattle.cl_application.specs.declared.applications.App.{App}
 use Rattle.cl_application.specs.declared.declarations.PaneDecl.{PaneDecl}
+use Rattle.cl_display.specs.Outcomes.{DrawOutcome}
+use Rattle.cl_eval.specs.Slots.{Slots}
 use Rattle.cl_outside.specs.Operations.{Op, mended, ops_bytes}
 use Rattle.cl_outside.specs.Writing.{Says}
-use Rattle.cl_redisplay.specs.Operations.{pane_ops, redraw_ops}
+use Rattle.cl_redisplay.specs.Operations.{redraw_ops}
 use Rattle.cl_redisplay.specs.Shown.{shown_at}
+use Rattle.cl_redisplay.specs.Touching.{everywhere, touched_pane_ops}
 use Rattle.cl_redisplay.specs.Wires.{WireShows}
+use Rattle.cl_region.specs.Places.{one_holds}
+use Rattle.cl_untouched.specs.Among.{touched_by}
 use Rattle.cl_frame.specs.Frames.{is_stale_under}
 use Rattle.cl_frame.specs.Panes.{PaneMarks, area_of, marks_in, marks_of_pane, shown_panes}
-use Rattle.cl_frame.specs.Settling.{is_due}
+use Rattle.cl_frame.specs.Ground.{Ground}
+use Rattle.cl_frame.specs.Settling.{is_due, pane_draw}
 use Rattle.cl_frame.specs.declared.panes.Pane.{Pane}
 use Rattle.cl_frame.specs.declared.settling.Which.{Which}
 
@@ -29,26 +35,33 @@ SendsOn whole old new bytes = Says whole old.bytes new.bytes bytes old.faults ne
 
 -- ---- the operations
 
--- those of one pane: they show it, where it is settled
-abbrev pub step_ops : Which → PaneDecl → (old new : PaneMarks) → List Op
-step_ops which d old new = if is_due which old then pane_ops (area_of d) (marks_in new) else []
+-- what is touched of a pane whose display comes to this, in its columns and rows: all of it, where it was blank for want of memory or is so now
+abbrev pub touched_in : DrawOutcome → (old new : PaneMarks) → ℤ → ℤ → Bool
+touched_in drawn None new = everywhere
+touched_in drawn (Some old) None = everywhere
+touched_in drawn (Some old) (Some new) = one_holds (touched_by old drawn)
+
+-- those of one pane: they show what is touched of it, where it is settled
+abbrev pub step_ops : Ground → Which → Slots → PaneDecl → (old new : PaneMarks) → List Op
+step_ops g which slots d old new =
+    if is_due which old then touched_pane_ops (area_of d) (marks_in new) (touched_in (pane_draw g.limits g.app g.types d slots) old new) else []
 
 -- those of all panes, one after another
-abbrev pub settled_ops : Which → List PaneDecl → (olds news : List PaneMarks) → List Op
-settled_ops which [] olds news = []
-settled_ops which (d ∷ ds) [] news = []
-settled_ops which (d ∷ ds) (o ∷ os) [] = []
-settled_ops which (d ∷ ds) (o ∷ os) (n ∷ ns) = step_ops which d o n ++ settled_ops which ds os ns
+abbrev pub settled_ops : Ground → Which → Slots → List PaneDecl → (olds news : List PaneMarks) → List Op
+settled_ops g which slots [] olds news = []
+settled_ops g which slots (d ∷ ds) [] news = []
+settled_ops g which slots (d ∷ ds) (o ∷ os) [] = []
+settled_ops g which slots (d ∷ ds) (o ∷ os) (n ∷ ns) = step_ops g which slots d o n ++ settled_ops g which slots ds os ns
 
 -- those that redraw a frame in full
 abbrev pub frame_ops : App → List PaneMarks → List Op
 frame_ops app panes = redraw_ops (shown_at (shown_panes (panes_of app) panes)) app.frame.width app.frame.height
 
--- The bytes of an update. A screen that was stale, or whose histories are discarded, is redrawn in full, behind a line feed where the device
--- is broken; else each pane that is settled is sent, in order.
-abbrev pub update_bytes : Which → (stale broken : Bool) → App → (olds news : List PaneMarks) → List ℕ
-update_bytes which stale broken app olds news =
-    if is_stale_under which stale then mended broken (ops_bytes (frame_ops app news)) else ops_bytes (settled_ops which (panes_of app) olds news)
+-- The bytes of an update. A screen that was stale, or whose histories are discarded, is redrawn in full, after a line feed where the device
+-- is broken; else what is touched of each pane that is settled is sent, in order.
+abbrev pub update_bytes : Ground → Which → Slots → (stale broken : Bool) → (olds news : List PaneMarks) → List ℕ
+update_bytes g which slots stale broken olds news =
+    if is_stale_under which stale then mended broken (ops_bytes (frame_ops g.app news)) else ops_bytes (settled_ops g which slots (panes_of g.app) olds news)
 
 -- playback of the wire shows these panes, where its bytes are told at all times
 abbrev pub ShowsPanes : App → List PaneMarks → Wire → Type 0
@@ -62,7 +75,7 @@ SendsPane true is_stale old new bytes = new.bytes ≡ old.bytes
 SendsPane false is_stale old new bytes = SendsOn (not is_stale) old new bytes
 
 -- the pane in a place was sent, where it was settled
-abbrev pub SendsAt : Which → App → (place : ℕ) → (olds news : List Pane) → (was_stale is_stale : Bool) → (old new : Wire) → Type 0
-SendsAt which app place olds news was_stale is_stale old new = (d : PaneDecl) (o n : Pane)
-    → slice_get (panes_of app) place ≡ Some d → slice_get olds place ≡ Some o → slice_get news place ≡ Some n
-    → SendsPane was_stale is_stale old new (ops_bytes (step_ops which d (marks_of_pane o) (marks_of_pane n)))
+abbrev pub SendsAt : Ground → Which → Slots → (place : ℕ) → (olds news : List Pane) → (was_stale is_stale : Bool) → (old new : Wire) → Type 0
+SendsAt g which slots place olds news was_stale is_stale old new = (d : PaneDecl) (o n : Pane)
+    → slice_get (panes_of g.app) place ≡ Some d → slice_get olds place ≡ Some o → slice_get news place ≡ Some n
+    → SendsPane was_stale is_stale old new (ops_bytes (step_ops g which slots d (marks_of_pane o) (marks_of_pane n)))

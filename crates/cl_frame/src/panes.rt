@@ -1,25 +1,30 @@
 //! One pane: where it lies, and its history.
-ghost use Rattle.std.specs.Prelude.{◌≡◌, ◌≤◌, ◌-◌, [], Some, None};
+ghost use Rattle.std.specs.Prelude.{◌≡◌, ◌≤◌, ◌-◌, [], Some, None, IfOk, false};
 ghost use Rattle.cl_application.specs.declared.applications.App.{App};
 ghost use Rattle.cl_eval.specs.TypeMeanings.{TypeMeanings};
+ghost use Rattle.cl_frame.specs.Damages.{IsDamage, blank_for_memory, touched_with};
 ghost use Rattle.cl_frame.specs.Frames.{Evaluates, IsPaneFaithful};
 ghost use Rattle.cl_frame.specs.Ground.{meanings_of};
 ghost use Rattle.cl_frame.specs.Panes.{IsCounted, area_of, marks_of_pane};
-ghost use Rattle.cl_frame.specs.Settling.{pane_draw, reused};
+ghost use Rattle.cl_frame.specs.Settling.{met_memory, pane_draw, reused};
 ghost use Rattle.cl_medium.specs.Items.{move_item};
 ghost use Rattle.cl_record.specs.Counts.{count_of};
 ghost use Rattle.cl_record.specs.Marks.{history_marks};
 ghost use Rattle.cl_reuse.specs.Recorded.{IsFaithfulHistory};
+ghost use Rattle.cl_untouched.specs.Among.{keeps_among};
 ghost use Rattle.cl_updating.specs.Redisplays.{CanReuse};
 
 use crate::reports::{PaneReport, Report};
 use crate::settling::Which;
 use cl_application::PaneDecl;
+use cl_damage::{Keeps, touched};
 use cl_display::History;
 use cl_eval::{Env, Program, Slots, Types};
 use cl_outside::{Ledger, Steps};
 use cl_redisplay::Area;
+use cl_spans::Spans;
 use cl_updating::{Redisplayed, Reuse, redisplay};
+use std::alloc::{AllocError, Global};
 
 /// A pane: its area of the screen, its history, None where it is blank for want of memory, how many
 /// items that draws, and what became of it when its frame was settled last.
@@ -29,6 +34,13 @@ pub struct Pane {
     pub history: Option<History>,
     pub items: u64,
     pub report: PaneReport,
+}
+
+// A pane whose display was evaluated, and what that kept of the updates of its old history.
+#[derive(Drop)]
+pub(crate) struct Evaluated {
+    pub(crate) pane: Pane,
+    pub(crate) keeps: Keeps,
 }
 
 /// The area of the screen that a pane is declared to have.
@@ -56,6 +68,18 @@ impl Pane {
         }
     }
 
+    // A pane that is blank for want of memory.
+    pub(crate) fn blank_for_memory(area: Area) -> Pane
+        ensures { result ≡ blank_for_memory area }
+    {
+        Pane {
+            area,
+            history: None,
+            items: 0,
+            report: PaneReport::Memory,
+        }
+    }
+
     // The pane once its display was evaluated, once, over its old history, which is taken as empty where
     // all histories are discarded. The steps are those of what is drawn anew.
     pub(crate) fn evaluated<T: Types, L: Ledger>(
@@ -65,15 +89,17 @@ impl Pane {
         declared: &PaneDecl,
         slots: &Slots,
         steps: &mut Steps<L>,
-    ) -> Pane
+    ) -> Evaluated
         requires depth { program.now.limits.depth ≤ 512 }
         requires counted { IsCounted self.now }
         requires reuse { CanReuse program.now.app.now (meanings_of T.holds T.presents program.now.types.now) }
         requires faithful { IsPaneFaithful program.now.app.now (meanings_of T.holds T.presents program.now.types.now) self.now }
         ensures evaluates { Evaluates
             (pane_draw program.now.limits program.now.app.now (meanings_of T.holds T.presents program.now.types.now)
-            declared.now slots.now) (reused which (marks_of_pane self.now)) self.now result steps.old steps.new }
-        ensures faithful { IsPaneFaithful program.now.app.now (meanings_of T.holds T.presents program.now.types.now) result }
+            declared.now slots.now) (reused which (marks_of_pane self.now)) self.now result.pane steps.old steps.new }
+        ensures keeps { met_memory result.pane.report ≡ false → result.keeps ≡ keeps_among (reused which (marks_of_pane self.now))
+            (pane_draw program.now.limits program.now.app.now (meanings_of T.holds T.presents program.now.types.now) declared.now slots.now) }
+        ensures faithful { IsPaneFaithful program.now.app.now (meanings_of T.holds T.presents program.now.types.now) result.pane }
         ensures later { steps.old ≤ steps.new }
     {
         let env = Env::new(program.alloc);
@@ -81,20 +107,43 @@ impl Pane {
         let blank = History::empty(program.alloc);
         let old = self.reused(which, &blank);
         match redisplay(program, forms, &env, slots, old, steps) {
-            Redisplayed::Built(history, reuse) => {
+            Redisplayed::Built(history, reuse, keeps) => {
                 let report = self.report_of(&history, reuse);
-                self.with_history(history, PaneReport::Shown(report))
+                Evaluated {
+                    pane: self.with_history(history, PaneReport::Shown(report)),
+                    keeps,
+                }
             }
-            Redisplayed::Trapped(history, kind) => {
-                self.with_history(history, PaneReport::Trapped(kind))
-            }
-            Redisplayed::Memory => Pane {
-                area: self.area,
-                history: None,
-                items: 0,
-                report: PaneReport::Memory,
+            Redisplayed::Trapped(history, kind) => Evaluated {
+                pane: self.with_history(history, PaneReport::Trapped(kind)),
+                keeps: Keeps::new(program.alloc),
+            },
+            Redisplayed::Memory => Evaluated {
+                pane: Pane::blank_for_memory(self.area),
+                keeps: Keeps::new(program.alloc),
             },
         }
+    }
+
+    // What has to be shown of a pane that takes the place of this one, of whose updates this was kept: the
+    // touched places of its area, or None, which is all of it, where one of both is blank.
+    pub(crate) fn damage(
+        &self,
+        alloc: Global,
+        new: &Pane,
+        keeps: &Keeps,
+    ) -> Result<Option<Spans>, AllocError>
+        ensures damage { IfOk result (IsDamage new.now.area (touched_with (marks_of_pane self.now) (marks_of_pane new.now) keeps.now)) }
+        ensures whole { IfOk result (λ d. new.now.history ≡ None → d ≡ None) }
+    {
+        let Some(before) = &self.history else {
+            return Ok(None);
+        };
+        let Some(after) = &new.history else {
+            return Ok(None);
+        };
+        let rects = touched(alloc, before, after, keeps)?;
+        Ok(Some(Spans::of(alloc, &rects, &new.area.own_rect())?))
     }
 
     // The old history of which something may be kept; where there is none to keep, this blank one.

@@ -3,9 +3,15 @@ pub mod Choices
 pub mod EvenRows
 pub mod OperationLemmas
 pub mod PartLemmas
+pub mod PatchLemmas
+pub mod PatchWalks
 pub mod RowLemmas
 pub mod Runs
 pub mod ShownLemmas
 pub mod ShownRows
+pub mod TouchedAgreements
+pub mod TouchedPictures
+pub mod TouchedRuns
+pub mod TouchedSpans
 pub mod WindowLemmas
 pub mod WireLemmas

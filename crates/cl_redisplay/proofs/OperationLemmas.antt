@@ -55,7 +55,7 @@ rows_ops-same c d x width y (suc n) same =
     let rest = rows_ops-same c d x width (y + 1) n (λ u v from less below above. same u v from less (omega (arith, below)) (omega (arith, above))) in
     ap (λ (ops : List Op). ops ++ rows_ops c x width (y + 1) n) first ∙ ap (λ (ops : List Op). row_ops d y x width ++ ops) rest
 
-covered : (area : Area) (u v : ℕ) → area.x ≤ u → u < area.x + area.width → area.y ≤ v → v < area.y + area.height → covers area u v ≡ true
+pub covered : (area : Area) (u v : ℕ) → area.x ≤ u → u < area.x + area.width → area.y ≤ v → v < area.y + area.height → covers area u v ≡ true
 covered area u v left right top bottom = grind (arith, nat_tests, left, right, top, bottom)
 
 -- the operations of an area are those of any screen that has its cells

@@ -163,7 +163,7 @@ module _ {A : Type 0} (cell : A → ℤ → ℤ → Option Painted) where
   }
 
 -- painted once more there is no change
-twice : (o : Option Painted) (a b c : Bool) (p q r : Painted) → c ≡ a || b → q ≡ (if a then unwrap_or o p else p)
+pub twice : (o : Option Painted) (a b c : Bool) (p q r : Painted) → c ≡ a || b → q ≡ (if a then unwrap_or o p else p)
     → r ≡ (if b then unwrap_or o q else q) → r ≡ (if c then unwrap_or o p else p)
 twice None true true c p q r e f g = rw e (g ∙ f)
 twice None true false c p q r e f g = rw e (g ∙ f)
@@ -207,7 +207,7 @@ nowhere None b under h f = refl
 nowhere (Some c) b under h f = absurd (false_holds b h (f c refl))
 
 -- a part that has all places of the area in which something can be painted
-whole : (o : Option Painted) (in_part in_area in_bounds : Bool) (p q : Painted) → in_part ≡ in_area && in_bounds
+pub whole : (o : Option Painted) (in_part in_area in_bounds : Bool) (p q : Painted) → in_part ≡ in_area && in_bounds
     → ((c : Painted) → o ≡ Some c → in_bounds ≡ true) → q ≡ (if in_part then unwrap_or o p else p) → q ≡ (if in_area then unwrap_or o p else p)
 whole o in_part true true p q e f g = rw e at g
 whole o in_part true false p q e f g = (rw e at g) ∙ sym (nowhere o false p refl f)

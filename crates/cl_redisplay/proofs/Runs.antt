@@ -34,7 +34,7 @@ runs-begin cell x (suc n) = before-begin x (cell x) (runs_from cell (x + 1) n)
 -- ---- what runs show
 
 -- a span of one cell shows that cell
-one_shown : (x y u v : ℕ) (c under : Painted)
+pub one_shown : (x y u v : ℕ) (c under : Painted)
     → cell_after (shows x y c.ink (c.glyph ∷ [])) u v under ≡ (if in_span x y 1 u v then c else under)
 one_shown x y u v c under =
     choice_is (in_span x y 1 u v) (record { glyph = slice_index (c.glyph ∷ []) (u - x); ink = c.ink }) under (if in_span x y 1 u v then c else under)
@@ -42,7 +42,7 @@ one_shown x y u v c under =
     (λ no. rw no refl)
 
 -- one cell and the run behind it show what the longer run shows
-over-longer : (x y u v ink glyph : ℕ) (glyphs : List ℕ) (under : Painted)
+pub over-longer : (x y u v ink glyph : ℕ) (glyphs : List ℕ) (under : Painted)
     → cell_after (shows x y ink (glyph ∷ glyphs)) u v under
     ≡ cell_after (shows (x + 1) y ink glyphs) u v (if in_span x y 1 u v then record { glyph = glyph; ink = ink } else under)
 over-longer x y u v ink glyph glyphs under =
@@ -57,10 +57,10 @@ over-longer x y u v ink glyph glyphs under =
     (λ apart. let none : in_span x y (suc (length glyphs)) u v ≡ false = grind (arith, nat_tests, no, apart) in
     rw (no, apart, none) refl))
 
-same_ink : (m n : ℕ) → (m == n) ≡ true → m ≡ n
-same_ink m n h = grind (arith, nat_tests, h)
+pub same_number : (m n : ℕ) → (m == n) ≡ true → m ≡ n
+same_number m n h = grind (arith, nat_tests, h)
 
-moved_span : (x to y u v ink to_ink : ℕ) (glyphs : List ℕ) (under : Painted) → x ≡ to → ink ≡ to_ink
+pub moved_span : (x to y u v ink to_ink : ℕ) (glyphs : List ℕ) (under : Painted) → x ≡ to → ink ≡ to_ink
     → cell_after (shows x y ink glyphs) u v under ≡ cell_after (shows to y to_ink glyphs) u v under
 moved_span x to y u v ink to_ink glyphs under e f =
     ap (λ (m : ℕ). cell_after (shows m y ink glyphs) u v under) e ∙ ap (λ (m : ℕ). cell_after (shows to y m glyphs) u v under) f
@@ -73,7 +73,7 @@ over-before x y u v c under ink (r ∷ rs) begin =
     by_cases {P = cell_after_all (map (run_op y) (before x c (r ∷ rs))) u v under
     ≡ cell_after_all (map (run_op y) (r ∷ rs)) u v (if in_span x y 1 u v then c else under)}
     (r.ink == c.ink)
-    (λ same. let is : r.ink ≡ c.ink = same_ink r.ink c.ink same in
+    (λ same. let is : r.ink ≡ c.ink = same_number r.ink c.ink same in
     rw same (ap (cell_after_all (map (run_op y) rs) u v)
     (over-longer x y u v c.ink c.glyph r.glyphs under
     ∙ moved_span (x + 1) r.x y u v c.ink r.ink r.glyphs (if in_span x y 1 u v then c else under) (sym begin.0) (sym is))))

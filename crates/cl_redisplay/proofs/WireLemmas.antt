@@ -102,10 +102,10 @@ CutShort-redraw p width height broken a b x y w h cut =
     (CutShort-more a b (mended broken clear) rest x y (rw (w, h) at cut))
 
 -- a place that an area covers is one of the picture it lies in
-left_of : (area : Area) (p : Picture) (u v : ℕ) → LiesIn area p → covers area u v ≡ true → u < p.width
+pub left_of : (area : Area) (p : Picture) (u v : ℕ) → LiesIn area p → covers area u v ≡ true → u < p.width
 left_of area p u v lies here = let columns = lies.columns in grind (arith, nat_tests, here, columns)
 
-above : (area : Area) (p : Picture) (u v : ℕ) → LiesIn area p → covers area u v ≡ true → v < p.height
+pub above : (area : Area) (p : Picture) (u v : ℕ) → LiesIn area p → covers area u v ≡ true → v < p.height
 above area p u v lies here = let rows = lies.rows in grind (arith, nat_tests, here, rows)
 
 -- the operations of an area that was painted anew are those of its pane

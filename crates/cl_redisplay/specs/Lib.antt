@@ -1,8 +1,11 @@
 pub mod Operations
 pub mod Paint
 pub mod Parts
+pub mod Patches
 pub mod Screens
 pub mod Sending
 pub mod Shown
 pub mod Windows
 pub mod Wires
+pub mod Touching
+pub mod TouchedSending

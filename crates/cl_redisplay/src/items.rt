@@ -31,7 +31,7 @@ pub(crate) fn paint_item<L: Leaf>(
 }
 
 // Paints an item, moved by `at`, at the places of a part of the area.
-fn paint_part<L: Leaf>(
+pub(crate) fn paint_part<L: Leaf>(
     raster: &mut Raster,
     area: Area,
     part: Area,

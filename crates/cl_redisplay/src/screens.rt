@@ -21,8 +21,8 @@ use std::marker::Model;
 /// than these cells. Nothing but a redraw is sent to the device of a stale screen.
 #[derive(Drop)]
 pub struct Screen {
-    raster: Raster,
-    stale: bool,
+    pub(crate) raster: Raster,
+    pub(crate) stale: bool,
 }
 
 impl Model for Screen {

@@ -64,7 +64,7 @@ pub(crate) fn send_area<D: Device>(raster: &Raster, area: Area, device: &mut D) 
 }
 
 // Shows the columns from `left` on, up to `right`, of row `y`, whose glyphs and inks these are.
-fn send_row<D: Device>(
+pub(crate) fn send_row<D: Device>(
     glyphs: &[u8],
     inks: &[u8],
     left: u16,

@@ -27,7 +27,7 @@ use Rattle.cl_reuse.proofs.MotionLemmas.{bounds-move}
 use Rattle.cl_reuse.proofs.ToldRecords.{all_settled, history-told, row-marks, settled}
 
 -- an old update in absolute places
-abbrev settled_update : OldUpdate → OldUpdate
+abbrev pub settled_update : OldUpdate → OldUpdate
 settled_update u = record { head = move_head u.place u.head; place = still; inside = all_settled u.place u.inside }
 
 -- ---- found
@@ -48,7 +48,7 @@ mutual
   in-settled site id at (update h p ts) = test-settled (is_that site id h) (record { head = h; place = join_shifts p at; inside = ts })
 
   -- the same update is found, in absolute places
-  found-settled : (site : Site) (id : Data) (at : Shift) (ts : Trees Item) → found site id still (all_settled at ts) ≡ option_map settled_update (found site id at ts)
+  pub found-settled : (site : Site) (id : Data) (at : Shift) (ts : Trees Item) → found site id still (all_settled at ts) ≡ option_map settled_update (found site id at ts)
   found-settled site id at none = refl
   found-settled site id at (tree t ts) =
       let one = in-settled site id at t in
@@ -92,7 +92,7 @@ module _ (p : Shift) (start : Point) (a : AmbientAt) where
       λ i. record { x1 = x1 i; y1 = y1 i; x2 = x2 i; y2 = y2 i }
 
 -- a head that was moved may be kept where the head may
-keep-settled : (p : Shift) (h : HeadAt) (o : OpeningAt) → may_keep (move_head p h) o ≡ may_keep h o
+pub keep-settled : (p : Shift) (h : HeadAt) (o : OpeningAt) → may_keep (move_head p h) o ≡ may_keep h o
 keep-settled p h o =
     let m = h.measures in
     let margins = margin-settled p m.start o.ambient m.margin in

@@ -147,7 +147,7 @@ module _ (g : Ground) (old new : Session) (slots_old slots_new : Slots) (act : G
 
   -- what was sent, and what the wire shows
   pub sent-to : (a b : Wire) (broken : Bool) → broken ≡ old.frame.screen.stale
-      → SendsOn (not (is_fault p)) a b (update_bytes (which_after (after_of h)) old.frame.screen.stale broken g.app (marks_of_frame old.frame) (marks_of_frame new.frame))
+      → SendsOn (not (is_fault p)) a b (update_bytes g (which_after (after_of h)) slots_new old.frame.screen.stale broken (marks_of_frame old.frame) (marks_of_frame new.frame))
       → SendsOn (not r.wire) a b (gesture_bytes g (world_of old slots_old) act (met_of new.frame r))
   sent-to a b broken e sends =
       let w = world_of old slots_old in
@@ -156,11 +156,11 @@ module _ (g : Ground) (old new : Session) (slots_old slots_new : Slots) (act : G
       let marks : map marks_after (settled_behind g hd (mets_of new.frame)) ≡ marks_of_frame new.frame =
       ap (λ (ss : List PaneStep). map marks_after ss) steps ∙ sym settles.marks in
       let bytes : sent_behind g hd (settled_behind g hd (mets_of new.frame))
-      ≡ update_bytes (which_after (after_of h)) old.frame.screen.stale broken g.app (marks_of_frame old.frame) (marks_of_frame new.frame) =
-      ap (λ (ms : List PaneMarks). update_bytes (which_after hd.after) hd.world.stale hd.world.stale g.app hd.world.panes ms) marks
-      ∙ (ap (λ (x : After). update_bytes (which_after x) hd.world.stale hd.world.stale g.app hd.world.panes (marks_of_frame new.frame)) left.after
-      ∙ (ap (λ (x : World). update_bytes (which_after (after_of h)) x.stale x.stale g.app x.panes (marks_of_frame new.frame)) left.world
-      ∙ ap (λ (b : Bool). update_bytes (which_after (after_of h)) old.frame.screen.stale b g.app (marks_of_frame old.frame) (marks_of_frame new.frame)) (sym e))) in
+      ≡ update_bytes g (which_after (after_of h)) slots_new old.frame.screen.stale broken (marks_of_frame old.frame) (marks_of_frame new.frame) =
+      ap (λ (ms : List PaneMarks). update_bytes g (which_after hd.after) hd.world.slots hd.world.stale hd.world.stale hd.world.panes ms) marks
+      ∙ (ap (λ (x : After). update_bytes g (which_after x) hd.world.slots hd.world.stale hd.world.stale hd.world.panes (marks_of_frame new.frame)) left.after
+      ∙ (ap (λ (x : World). update_bytes g (which_after (after_of h)) x.slots x.stale x.stale x.panes (marks_of_frame new.frame)) left.world
+      ∙ ap (λ (b : Bool). update_bytes g (which_after (after_of h)) slots_new old.frame.screen.stale b (marks_of_frame old.frame) (marks_of_frame new.frame)) (sym e))) in
       subst (λ (m : Bool). SendsOn (not r.wire) a b (sent_behind g (handled_or_not g w act m) (settled_behind g (handled_or_not g w act m) (mets_of new.frame)))) (sym memory)
       (subst (λ (f : Bool). SendsOn (not f) a b (sent_behind g hd (settled_behind g hd (mets_of new.frame)))) (sym (fault_of h p r are))
       (subst (λ (bs : List ℕ). SendsOn (not (is_fault p)) a b bs) (sym bytes) sends))

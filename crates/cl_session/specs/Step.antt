@@ -341,10 +341,10 @@ abbrev pub next : Ground → World → Gesture → Met → Next
 next g w act met =
     next_behind g (handled_or_not g w act met.handling) (settled_behind g (handled_or_not g w act met.handling) met.panes) met.wire
 
--- what is sent to the device behind a handling: the panes that were settled, or the whole screen behind a line feed where it was stale, since
--- its device is broken then
+-- what is sent to the device after a handling: what is touched of the panes that were settled, or the whole screen after a line feed where it was
+-- stale, since its device is broken then
 abbrev pub sent_behind : Ground → Handled → List PaneStep → List ℕ
-sent_behind g h steps = update_bytes (which_after h.after) h.world.stale h.world.stale g.app h.world.panes (map marks_after steps)
+sent_behind g h steps = update_bytes g (which_after h.after) h.world.slots h.world.stale h.world.stale h.world.panes (map marks_after steps)
 
 -- what is sent in a gesture
 abbrev pub gesture_bytes : Ground → World → Gesture → Met → List ℕ

@@ -1,9 +1,3 @@
-//! One part for each crate that is called, and what reads the texts of some.
-mod display;
-mod evaluation;
-mod execution;
+//! Frames of two panes, and what shows their cells.
 mod frames;
-mod phases;
-mod reading;
-mod saying;
 mod showing;

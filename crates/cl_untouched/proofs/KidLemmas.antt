@@ -10,7 +10,7 @@ use Rattle.cl_reuse.specs.Kept.{OldUpdate, found}
 use Rattle.cl_damage.specs.Agreement.{Agree}
 use Rattle.cl_damage.specs.Children.{Child, Children, child, none}
 use Rattle.cl_damage.specs.Keeps.{Keeps, opened}
-use Rattle.cl_untouched.specs.Keeps.{at_opening, keeps_of}
+use Rattle.cl_untouched.specs.Keeps.{at_opening, followed_by, keeps_of}
 use Rattle.cl_damage.specs.Keeps as keeps
 
 -- ---- children
@@ -33,11 +33,6 @@ join-agrees none more os h k = k
 join-agrees (child n ns) more os h k = (h.0, join-agrees ns more os h.1 k)
 
 -- ---- keeps
-
--- and then others of the same level
-abbrev pub followed_by : Keeps → Keeps → Keeps
-followed_by keeps.none more = more
-followed_by (opened v inside rest) more = opened v inside (followed_by rest more)
 
 pub followed-none : (ks : Keeps) → followed_by ks keeps.none ≡ ks
 followed-none keeps.none = refl

@@ -6,3 +6,5 @@ pub mod UpdateForms
 pub mod RunRows
 pub mod ToldChildren
 pub mod Untouched
+pub mod ToldKeeps
+pub mod PaneLemmas

@@ -26,9 +26,9 @@ use Rattle.cl_display.specs.declared.figures.FigureParts.{FigureParts}
 use Rattle.cl_damage.specs.Agreement.{Agree}
 use Rattle.cl_damage.specs.Children.{Child, Children, child, children_before, item, list_of, none}
 use Rattle.cl_damage.specs.Keeps.{Keeps}
-use Rattle.cl_untouched.specs.Keeps.{keeps_of}
+use Rattle.cl_untouched.specs.Keeps.{followed_by, keeps_of}
 use Rattle.cl_damage.specs.NewChildren.{new_children_before}
-use Rattle.cl_untouched.proofs.KidLemmas.{followed-twice, followed_by, join, join-agrees, join-join, keeps-then}
+use Rattle.cl_untouched.proofs.KidLemmas.{followed-twice, join, join-agrees, join-join, keeps-then}
 use Rattle.cl_untouched.proofs.RowLemmas.{new-row}
 
 -- ---- marks of trees in a row

@@ -44,12 +44,12 @@ same-flat : (a b : List (Tree Item)) → history_marks move_item a ≡ history_m
 same-flat a b e =
     row-flat still (trees_of a) ∙ (ap (λ (ms : List (Mark Item)). move_marks move_item still ms) e ∙ sym (row-flat still (trees_of b)))
 
-old-items : (old : List (Tree Item)) → items_in (old_children move_item old) ≡ items_drawn (history_marks move_item old)
+pub old-items : (old : List (Tree Item)) → items_in (old_children move_item old) ≡ items_drawn (history_marks move_item old)
 old-items old =
     children-hold move_item item_moves_twice still (trees_of old)
     ∙ ap (λ (ms : List (Mark Item)). items_drawn ms) (all-still move_item item_stays (history_marks move_item old))
 
-new-drawn : (new : List (Tree Item)) (ks : Keeps) → items_in (new_children move_item new ks) ≡ items_drawn (history_marks move_item new)
+pub new-drawn : (new : List (Tree Item)) (ks : Keeps) → items_in (new_children move_item new ks) ≡ items_drawn (history_marks move_item new)
 new-drawn new ks =
     new-items still (trees_of new) ks (λ _. none) [] (λ _. refl)
     ∙ (append-nil (drawn still (history_marks move_item new))
@@ -69,6 +69,10 @@ module _ (limits : Limits) (app : App) (types : TypeMeanings) (slots : Slots) (f
       renews-order app slots types (draws limits.depth (whole_allowance limits) (scene_on app slots types)) 0
       (renews-draws app slots types texts sees covered apart limits.depth (whole_allowance limits) 0) env (shape_trees_of forms) own blank_drawing still
       (trees_of old) (faithful.all, (once.top, once.inside)) 0 0 s cost reach ends
+
+  -- records that have the marks of the display
+  pub own-records : (new : List (Tree Item)) × (history_marks move_item new ≡ s.part.marks)
+  own-records = (renewed.own, sym renewed.behind)
 
   pub new-agrees : (new : List (Tree Item)) → history_marks move_item new ≡ s.part.marks → Agree (new_children move_item new kept_here) (list_of (old_children move_item old))
   new-agrees new e =

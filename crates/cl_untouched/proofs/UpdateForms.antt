@@ -40,11 +40,11 @@ use Rattle.cl_damage.specs.Touched.{is_still, is_zero}
 use Rattle.cl_damage.proofs.ChildLemmas.{children-hold}
 use Rattle.cl_damage.proofs.EachLemmas.{each_weaker}
 use Rattle.cl_damage.specs.Keeps.{Keeps, opened}
-use Rattle.cl_untouched.specs.Keeps.{at_opening, keeps_of, moved_to}
+use Rattle.cl_untouched.specs.Keeps.{at_opening, followed_by, keeps_of, moved_to}
 use Rattle.cl_damage.specs.Keeps as keeps
 use Rattle.cl_damage.specs.NewChildren.{new_children_before}
 use Rattle.cl_untouched.proofs.FoundLemmas.{IsOnce, OldAs, old-all, once-among}
-use Rattle.cl_untouched.proofs.KidLemmas.{followed-none, followed_by, join-none}
+use Rattle.cl_untouched.proofs.KidLemmas.{followed-none, join-none}
 use Rattle.cl_untouched.proofs.RowLemmas.{drawn, new-items}
 use Rattle.cl_untouched.proofs.RunForms.{Renews, RunRenews, end_of, renews-none, renews-set, StepRenews, update-marks}
 

@@ -26,3 +26,8 @@ abbrev pub keeps_of : (at : Shift) → Trees Item → Walk → Keeps
 keeps_of at old done = none
 keeps_of at old (met o inside rest) =
     at_opening (found o.site o.id at old) o (λ there olds. keeps_of there olds inside) (keeps_of at old rest)
+
+-- keeps of updates of a level, and then those of others
+abbrev pub followed_by : Keeps → Keeps → Keeps
+followed_by none more = more
+followed_by (opened v inside rest) more = opened v inside (followed_by rest more)

@@ -20,10 +20,10 @@ use Rattle.cl_display.specs.Fresh.{Draws, draws_to, for_each, for_members, in_or
 use Rattle.cl_display.specs.Outcomes.{Draw, DrawOutcome, opens_none, walk_after}
 use Rattle.cl_display.specs.Presentations.{Texts, check_member, label_of, leave_presentation, present_text}
 use Rattle.cl_display.specs.Walks.{done}
-use Rattle.cl_reuse.specs.Kept.{KeptAt}
 use Rattle.cl_reuse.specs.Sited.{AreOwn}
 use Rattle.cl_updating.specs.Levels.{LevelAt}
 use Rattle.cl_updating.specs.Redraws.{IsOwn, Redrawn, Redraws}
+use Rattle.cl_updating.specs.Tallies.{KeptIn}
 use Rattle.cl_updating.specs.declared.tallies.Tally.{Tally}
 use Rattle.cl_updating.proofs.RedrawLemmas.{Goes, counts-none, goes-then, lift-on, redraws-give, redraws-then, stop-then}
 
@@ -196,6 +196,6 @@ drop-next xs at x e = e ∙ ap (λ (n : ℕ). x ∷ drop n xs) (one-more at)
     one-more n = omega arith
 
 -- a trap is what the outcome is
-pub trap-agrees : (ks : List KeptAt) (x : Stop) (kind : ℕ) (s : DrawingAt) (c : ℕ) (n : Meter) (a b : Tally) (o : Outcome DrawingAt) → x ≡ Trap kind
-    → Redrawn ks (Err x) s c n a b o → o ≡ Traps kind n.cost n.deepest
-trap-agrees ks x kind s c n a b o e q = (subst (λ (y : Stop). Redrawn ks (Err y) s c n a b o) e q).0
+pub trap-agrees : (k : KeptIn) (x : Stop) (kind : ℕ) (s : DrawingAt) (c : ℕ) (n : Meter) (a b : Tally) (o : Outcome DrawingAt) → x ≡ Trap kind
+    → Redrawn k (Err x) s c n a b o → o ≡ Traps kind n.cost n.deepest
+trap-agrees k x kind s c n a b o e q = (subst (λ (y : Stop). Redrawn k (Err y) s c n a b o) e q).0

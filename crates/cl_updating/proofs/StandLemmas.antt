@@ -1,5 +1,5 @@
 -- Old updates that are found at an opening: what is counted where one is kept, and where its body is drawn over what it holds.
-use Rattle.std.proofs.Common.{◌≡◌, ◌∙◌, ap, subst, sym, refl, ℕ, ◌+◌, ◌-◌, ◌≤◌, ◌==◌, ◌&&◌, nat_le, Bool, true, false, if◌then◌else◌, inl, Bor, List, [], ◌∷◌, append-nil, Option, Some, None, Result, Ok, Err, arith}
+use Rattle.std.proofs.Common.{◌≡◌, ◌∙◌, ap, subst, sym, refl, ℕ, ◌+◌, ◌-◌, ◌≤◌, ◌==◌, ◌&&◌, nat_le, Bool, true, false, if◌then◌else◌, inl, Bor, List, [], append-nil, Option, Some, None, Result, Ok, Err, arith}
 use Rattle.std.specs.Prelude.{IfSome, max}
 use Rattle.std.proofs.lemmas.Bool.Decides.{nat_tests}
 use Rattle.cl_value.specs.Data.{Data}
@@ -13,6 +13,7 @@ use Rattle.cl_syntax.specs.ShapeTree.{ShapeTrees}
 use Rattle.cl_syntax.specs.UpdateTree.{UpdateTree}
 use Rattle.cl_application.specs.declared.applications.App.{App}
 use Rattle.cl_cover.specs.Updates.{AreCovered}
+use Rattle.cl_eval.specs.Agrees.{Comes, always}
 use Rattle.cl_eval.specs.Outcome.{Gives, Outcome}
 use Rattle.cl_eval.specs.Slots.{Env, Slots}
 use Rattle.cl_eval.specs.TypeMeanings.{AreTexts, TypeMeanings}
@@ -30,10 +31,13 @@ use Rattle.cl_display.specs.declared.drawings.Drawing.{Drawing}
 use Rattle.cl_display.specs.declared.updates.Key.{Key}
 use Rattle.cl_display.specs.Fresh.{Allowance, Scene, bodies_on, draws_body, left_over}
 use Rattle.cl_display.specs.Outcomes.{DrawOutcome}
-use Rattle.cl_display.specs.Updates.{KeyAt, ended, enter_body, key_at, key_of, leave_update, opening_at}
+use Rattle.cl_display.specs.Updates.{KeyAt, ended, enter_body, head_at, key_at, key_of, leave_update, opening_at}
 use Rattle.cl_display.specs.Walks.{OpeningAt}
 use Rattle.cl_reuse.specs.Keeping.{EndsAs, kept_head, kept_part, limits_fit, margin_fits, may_keep, measures_fit, origin_fits, same_cache, shift_at}
-use Rattle.cl_reuse.specs.Kept.{KeptAt, OldUpdate, found, found_in, is_that, kept_at, kept_here, kept_of, or_then}
+use Rattle.cl_damage.specs.Keeps as keeps
+use Rattle.cl_damage.specs.Keeps.{Keeps, with_last}
+use Rattle.cl_reuse.specs.Kept.{KeptAt, OldUpdate, count_moved, count_still, found, found_in, is_that, items_kept, kept_at, kept_of, or_then}
+use Rattle.cl_untouched.specs.Keeps.{at_opening, keeps_of}
 use Rattle.cl_reuse.specs.ReadValues.{SeesReads, scene_on}
 use Rattle.cl_reuse.specs.Recorded.{AreFaithful, IsRecorded}
 use Rattle.cl_reuse.specs.Sited.{AreApart, HoldCache, Sited}
@@ -42,7 +46,8 @@ use Rattle.cl_reuse.proofs.PayForms.{FoundAs, found-among, no-cache}
 use Rattle.cl_updating.specs.Levels.{LevelAt, kept_from, old_of}
 use Rattle.cl_updating.specs.Keeping.{KeepsUpdate}
 use Rattle.cl_updating.specs.Redraws.{IsOwn, Redrawn, Redraws, StandsFor}
-use Rattle.cl_updating.specs.Tallies.{Counts, with_kept}
+use Rattle.cl_updating.specs.Tallies.{Counts, KeptIn, LeavesTrapped, kept_anew, kept_one, put_behind, with_kept}
+use Rattle.cl_updating.proofs.RedrawLemmas.{behind-none}
 use Rattle.cl_updating.specs.declared.levels.Old.{Old}
 use Rattle.cl_updating.specs.declared.tallies.Tally.{Tally}
 
@@ -72,8 +77,16 @@ stands-cached app slots types texts sees covered apart u env body own id cache N
 -- ---- over a level
 
 -- one update more is kept
-counts-kept : (k : KeptAt) (c d : ℕ) (a : Tally) → d ≡ c + k.cost → Counts (k ∷ []) c d a (with_kept k a)
-counts-kept k c d a e = record { steps = omega (arith, e); kept = omega arith; moved = omega arith; items = omega arith }
+counts-kept : (old : OldUpdate) (o : OpeningAt) (c d : ℕ) (a : Tally) → d ≡ c + old.head.measures.cost
+    → Counts (kept_one old o) c d a (with_kept old o a)
+counts-kept old o c d a e =
+    record {
+      steps = omega (arith, e);
+      kept = omega arith;
+      moved = omega arith;
+      items = omega arith;
+      keeps = refl;
+    }
 
 module _ (scene : Scene) (env : Env) (body : ShapeTrees) (key : KeyAt) (l : LevelAt) (allowed : Allowance) (depth level : ℕ) (s : DrawingAt) (c d : ℕ) where
   abbrev pub opening : OpeningAt
@@ -82,18 +95,31 @@ module _ (scene : Scene) (env : Env) (body : ShapeTrees) (key : KeyAt) (l : Leve
   abbrev pub drawn : DrawOutcome
   drawn = (bodies_on depth scene).draw (left_over allowed c s.weight) env body (enter_body s)
 
+  -- what is kept in the body, of these records
+  abbrev pub kept_over : Shift → Trees Item → KeptIn
+  kept_over there olds = record { list = kept_of there olds drawn.walk; keeps = keeps_of there olds drawn.walk }
+
   -- what is kept of the level
   kept-found : (u : Option OldUpdate) → found key.site key.id l.at (trees_of l.old) ≡ u
       → kept_from l (draws_body allowed (bodies_on depth scene) level env body key s c d).walk
-      ≡ kept_at u opening (λ there olds. kept_of there olds drawn.walk)
-  kept-found u e = rw e (append-nil (kept_at u opening (λ there olds. kept_of there olds drawn.walk)))
+      ≡ record {
+        list = kept_at u opening (λ there olds. kept_of there olds drawn.walk);
+        keeps = at_opening u opening (λ there olds. keeps_of there olds drawn.walk) keeps.none;
+      }
+  kept-found u e =
+      rw e
+      (ap (λ (ks : List KeptAt). kept_with ks (at_opening u opening (λ there olds. keeps_of there olds drawn.walk) keeps.none))
+      (append-nil (kept_at u opening (λ there olds. kept_of there olds drawn.walk))))
+    where
+      kept_with : List KeptAt → Keeps → KeptIn
+      kept_with ks more = record { list = ks; keeps = more }
 
   -- it is kept
   pub over-kept : (old : OldUpdate) → found key.site key.id l.at (trees_of l.old) ≡ Some old → may_keep old.head opening ≡ true
       → AreFaithful scene.app scene.types (trees_of l.old) → StandsFor scene env body key → (n : Meter) (a : Tally)
       → n.cost ≡ c + old.head.measures.cost → n.deepest ≡ max d (level + old.head.measures.reach)
       → Redraws l (Ok tt) (leave_update (kept_head (shift_at old.head opening) key old.head)
-      (kept_part (shift_at old.head opening) old.head (marks_of_all move_item old.inside)) s) c n a (with_kept (kept_here old opening) a)
+      (kept_part (shift_at old.head opening) old.head (marks_of_all move_item old.inside)) s) c n a (with_kept old opening a)
       (draws_body allowed (bodies_on depth scene) level env body key s c d)
   over-kept old e keep f stands n a cost deepest =
       let at : FoundAs scene.app scene.types key.site old =
@@ -101,23 +127,23 @@ module _ (scene : Scene) (env : Env) (body : ShapeTrees) (key : KeyAt) (l : Leve
       (found-among scene.app scene.types key.site key.id l.at (trees_of l.old) f) in
       let ends = stands.ends old.head (marks_of_all move_item old.inside) opening at.recorded keep at.same refl in
       let joined = kept-joined old.head (marks_of_all move_item old.inside) (shift_at old.head opening) key level s opening drawn c d ends in
-      let kept : kept_from l (draws_body allowed (bodies_on depth scene) level env body key s c d).walk ≡ kept_here old opening ∷ [] =
+      let kept : kept_from l (draws_body allowed (bodies_on depth scene) level env body key s c d).walk ≡ kept_one old opening =
       rw keep at (kept-found (Some old) e) in
-      rw (kept, cost, deepest) (joined, counts-kept (kept_here old opening) c (c + old.head.measures.cost) a refl)
+      rw (kept, cost, deepest) (joined, counts-kept old opening c (c + old.head.measures.cost) a refl)
 
   -- it is not, so what it holds is the level below
   pub over-body : (old : OldUpdate) → found key.site key.id l.at (trees_of l.old) ≡ Some old → may_keep old.head opening ≡ false
       → (r : Result (Unit {0}) Stop) (t : DrawingAt) (n : Meter) (a b : Tally)
-      → Redrawn (kept_of old.place old.inside drawn.walk) r t c n a b (ended key level s drawn.outcome c d)
+      → Redrawn (kept_anew (kept_over old.place old.inside)) r t c n a b (ended key level s drawn.outcome c d)
       → Redraws l r t c n a b (draws_body allowed (bodies_on depth scene) level env body key s c d)
   over-body old e keep r t n a b p =
-      let kept : kept_from l (draws_body allowed (bodies_on depth scene) level env body key s c d).walk ≡ kept_of old.place old.inside drawn.walk =
+      let kept : kept_from l (draws_body allowed (bodies_on depth scene) level env body key s c d).walk ≡ kept_anew (kept_over old.place old.inside) =
       rw keep at (kept-found (Some old) e) in
       rw kept p
 
   -- nothing is found
   pub over-none : found key.site key.id l.at (trees_of l.old) ≡ None → (r : Result (Unit {0}) Stop) (t : DrawingAt) (n : Meter) (a b : Tally)
-      → Redrawn (kept_of still records.none drawn.walk) r t c n a b (ended key level s drawn.outcome c d)
+      → Redrawn (kept_anew (kept_over still records.none)) r t c n a b (ended key level s drawn.outcome c d)
       → Redraws l r t c n a b (draws_body allowed (bodies_on depth scene) level env body key s c d)
   over-none e r t n a b p = rw (kept-found None e) p
 
@@ -130,37 +156,59 @@ module _ (scene : Scene) (env : Env) (body : ShapeTrees) (key : KeyAt) (l : Leve
 
 -- ---- bodies
 
+-- what a body counts is what is counted of the update that is drawn anew
+counts-anew : (k : KeptIn) (c n : ℕ) (a inner b left : Tally) (outer : Keeps) → outer ≡ a.keeps → inner ≡ record a { keeps = keeps.none }
+    → Counts k 0 n inner b → left ≡ record b { keeps = with_last outer None b.keeps } → Counts (kept_anew k) c (c + n) a left
+counts-anew k c n a inner b left outer e i q f =
+    rw f
+    (record {
+      steps = omega (arith, q.steps, ap (λ (t : Tally). t.steps) i);
+      kept = q.kept ∙ ap (λ (t : Tally). count_still k.list + t.kept) i;
+      moved = q.moved ∙ ap (λ (t : Tally). count_moved k.list + t.moved) i;
+      items = q.items ∙ ap (λ (t : Tally). items_kept k.list + t.items) i;
+      keeps = λ j. with_last (e j) None (inside j);
+    })
+  where
+    inside : b.keeps ≡ k.keeps
+    inside = q.keeps ∙ ap (λ (t : Tally). put_behind t.keeps k.keeps) i ∙ behind-none k.keeps
+
 -- a body that ended is left
-pub body-left : (ks : List KeptAt) (key : KeyAt) (level : ℕ) (s t after : DrawingAt) (own m : Meter) (c d : ℕ) (o : Outcome DrawingAt) (r : Result (Unit {0}) Stop)
-    (a b : Tally) → Redrawn ks (Ok tt) t 0 own a b o → m.cost ≡ c + own.cost → m.deepest ≡ max d (level + own.deepest)
-    → Rattle.cl_eval.specs.Agrees.Comes (Rattle.cl_eval.specs.Agrees.always after) r
-    (Ok (leave_update (Rattle.cl_display.specs.Updates.head_at key s.ambient t own.cost own.deepest) t.part s))
-    → Redrawn ks r after c m a b (ended key level s o c d)
-body-left ks key level s t after own m c d o (Ok u) a b p cost deepest h =
-    let left = leave_update (Rattle.cl_display.specs.Updates.head_at key s.ambient t own.cost own.deepest) t.part s in
+pub body-left : (k : KeptIn) (key : KeyAt) (level : ℕ) (s t after : DrawingAt) (own m : Meter) (c d : ℕ) (o : Outcome DrawingAt) (r : Result (Unit {0}) Stop)
+    (a inner b left : Tally) (outer : Keeps) → Redrawn k (Ok tt) t 0 own inner b o → m.cost ≡ c + own.cost → m.deepest ≡ max d (level + own.deepest)
+    → outer ≡ a.keeps → inner ≡ record a { keeps = keeps.none } → left ≡ record b { keeps = with_last outer None b.keeps }
+    → Comes (always after) r (Ok (leave_update (head_at key s.ambient t own.cost own.deepest) t.part s))
+    → Redrawn (kept_anew k) r after c m a left (ended key level s o c d)
+body-left k key level s t after own m c d o (Ok u) a inner b left outer p cost deepest e i f h =
+    let end = leave_update (head_at key s.ambient t own.cost own.deepest) t.part s in
     rw (p.0, cost, deepest)
-    (ap (λ (x : DrawingAt). Gives x (c + own.cost) (max d (level + own.deepest))) (left-same left after h), counts-behind ks c own.cost a b p.1)
+    (ap (λ (x : DrawingAt). Gives x (c + own.cost) (max d (level + own.deepest))) (left-same end after h), counts-anew k c own.cost a inner b left outer e i p.1 f)
   where
     left-same : (x y : DrawingAt) → ◌≡◌ {A = Result DrawingAt ℕ} (Ok x) (Ok y) → x ≡ y
     left-same x y e = cc
-
-    counts-behind : (ks : List KeptAt) (c n : ℕ) (a b : Tally) → Counts ks 0 n a b → Counts ks c (c + n) a b
-    counts-behind ks c n a b q = record { steps = omega (arith, q.steps); kept = q.kept; moved = q.moved; items = q.items }
-body-left ks key level s t after own m c d o (Err (Trap k)) a b p cost deepest h =
-    let left = leave_update (Rattle.cl_display.specs.Updates.head_at key s.ambient t own.cost own.deepest) t.part s in
-    absurd (left-trap left k h)
+body-left k key level s t after own m c d o (Err (Trap kind)) a inner b left outer p cost deepest e i f h =
+    absurd (left-trap (leave_update (head_at key s.ambient t own.cost own.deepest) t.part s) kind h)
   where
-    left-trap : (x : DrawingAt) (k : ℕ) → ◌≡◌ {A = Result DrawingAt ℕ} (Ok x) (Err k) → ⊥
-    left-trap x k e = cc
-body-left ks key level s t after own m c d o (Err Memory) a b p cost deepest h = tt
+    left-trap : (x : DrawingAt) (kind : ℕ) → ◌≡◌ {A = Result DrawingAt ℕ} (Ok x) (Err kind) → ⊥
+    left-trap x kind e = cc
+body-left k key level s t after own m c d o (Err Memory) a inner b left outer p cost deepest e i f h = tt
 
 -- one that trapped traps
-pub body-trapped : (ks : List KeptAt) (key : KeyAt) (level : ℕ) (s t after : DrawingAt) (own m : Meter) (c d kind : ℕ) (o : Outcome DrawingAt)
-    (a b : Tally) → Redrawn ks (Err (Trap kind)) t 0 own a b o → m.cost ≡ c + own.cost → m.deepest ≡ d
-    → Redrawn ks (Err (Trap kind)) after c m a b (ended key level s o c d)
-body-trapped ks key level s t after own m c d kind o a b p cost deepest =
-    rw (p.0, cost, deepest)
-    (refl, record { steps = omega (arith, p.1.steps); kept = p.1.kept; moved = p.1.moved; items = p.1.items })
+pub body-trapped : (k : KeptIn) (key : KeyAt) (level : ℕ) (s t after : DrawingAt) (own m : Meter) (c d kind : ℕ) (o : Outcome DrawingAt)
+    (a inner b left : Tally) (outer : Keeps) → Redrawn k (Err (Trap kind)) t 0 own inner b o → m.cost ≡ c + own.cost → m.deepest ≡ d
+    → outer ≡ a.keeps → inner ≡ record a { keeps = keeps.none } → left ≡ record b { keeps = with_last outer None b.keeps }
+    → Redrawn (kept_anew k) (Err (Trap kind)) after c m a left (ended key level s o c d)
+body-trapped k key level s t after own m c d kind o a inner b left outer p cost deepest e i f =
+    rw (p.0, cost, deepest) (refl, counts-anew k c own.cost a inner b left outer e i p.1 f)
+
+-- it traps, or there was no memory to say what was kept
+pub body-stopped : (k : KeptIn) (key : KeyAt) (level : ℕ) (s t after : DrawingAt) (own m : Meter) (c d kind told : ℕ) (o : Outcome DrawingAt)
+    (a inner b left : Tally) (outer : Keeps) (r : Stop) → Redrawn k (Err (Trap kind)) t 0 own inner b o → m.cost ≡ c + own.cost → m.deepest ≡ d
+    → outer ≡ a.keeps → inner ≡ record a { keeps = keeps.none } → told ≡ kind → LeavesTrapped r told outer b left
+    → Redrawn (kept_anew k) (Err r) after c m a left (ended key level s o c d)
+body-stopped k key level s t after own m c d kind told o a inner b left outer (Trap j) p cost deepest e i same f =
+    subst (λ (n : ℕ). Redrawn (kept_anew k) (Err (Trap n)) after c m a left (ended key level s o c d)) (sym (f.0 ∙ same))
+    (body-trapped k key level s t after own m c d kind o a inner b left outer p cost deepest e i f.1)
+body-stopped k key level s t after own m c d kind told o a inner b left outer Memory p cost deepest e i same f = tt
 
 -- ---- what is found
 

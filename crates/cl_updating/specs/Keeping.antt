@@ -9,7 +9,6 @@ use Rattle.cl_display.specs.Drawings.{DrawingAt, drawing_of}
 use Rattle.cl_display.specs.Updates.{key_of, leave_update}
 use Rattle.cl_display.specs.declared.drawings.Drawing.{Drawing}
 use Rattle.cl_reuse.specs.Keeping.{kept_head, kept_part, shift_at}
-use Rattle.cl_reuse.specs.Kept.{kept_here}
 use Rattle.cl_updating.specs.Levels.{old_of}
 use Rattle.cl_updating.specs.Openings.{opening_of}
 use Rattle.cl_updating.specs.Tallies.{with_kept}
@@ -28,7 +27,7 @@ pub record Keeps (level : ℕ) (old : Old) (opening : Opening) (before after : D
   pub drawing : drawing_of after ≡ kept_drawing old opening (drawing_of before)
   pub cost : n.cost ≡ m.cost + old.piece.now.head.measures.cost
   pub deepest : n.deepest ≡ max m.deepest (level + old.piece.now.head.measures.reach)
-  pub tally : b ≡ with_kept (kept_here (old_of old) (opening_of opening)) a
+  pub tally : b ≡ with_kept (old_of old) (opening_of opening) a
 
 -- what is answered of it; only want of memory is in its way
 abbrev pub KeepsUpdate : (level : ℕ) → Old → Opening → Drawing → Result (Unit {0}) Stop → Drawing → (m n : Meter) → (a b : Tally) → Type 0

@@ -4,7 +4,9 @@ use Rattle.cl_region.specs.declared.rects.Shift.{Shift}
 use Rattle.cl_medium.specs.Items.{Item}
 use Rattle.cl_record.specs.Trees.{Tree, trees_of}
 use Rattle.cl_display.specs.Walks.{Walk}
-use Rattle.cl_reuse.specs.Kept.{KeptAt, OldUpdate, kept_of}
+use Rattle.cl_reuse.specs.Kept.{OldUpdate, kept_of}
+use Rattle.cl_untouched.specs.Keeps.{keeps_of}
+use Rattle.cl_updating.specs.Tallies.{KeptIn}
 use Rattle.cl_updating.specs.declared.levels.Old.{Old}
 
 -- how far the records of a level stand from the start, and the records
@@ -20,5 +22,5 @@ abbrev pub old_of : Old → OldUpdate
 old_of o = record { head = o.piece.now.head; place = o.place; inside = trees_of o.piece.now.inside }
 
 -- what is kept of a level where these updates are opened
-abbrev pub kept_from : LevelAt → Walk → List KeptAt
-kept_from l w = kept_of l.at (trees_of l.old) w
+abbrev pub kept_from : LevelAt → Walk → KeptIn
+kept_from l w = record { list = kept_of l.at (trees_of l.old) w; keeps = keeps_of l.at (trees_of l.old) w }

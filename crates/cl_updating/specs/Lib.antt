@@ -1,8 +1,8 @@
+pub mod Tallies
 pub mod Levels
 pub mod Gathers
 pub mod Places
 pub mod Openings
-pub mod Tallies
 pub mod Putting
 pub mod Keeping
 pub mod Redraws

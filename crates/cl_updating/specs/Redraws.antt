@@ -23,21 +23,20 @@ use Rattle.cl_display.specs.Updates.{KeyAt, enter_body}
 use Rattle.cl_display.specs.Walks.{OpeningAt}
 use Rattle.cl_reuse.specs.Bodies.{body_from}
 use Rattle.cl_reuse.specs.Keeping.{EndsAs, may_keep, shift_at}
-use Rattle.cl_reuse.specs.Kept.{KeptAt}
 use Rattle.cl_reuse.specs.ReadValues.{SeesReads}
 use Rattle.cl_reuse.specs.Recorded.{AreFaithful, IsRecorded}
 use Rattle.cl_reuse.specs.Sited.{AreApart, AreOwn, Has, IsUpdateOf, Sited}
 use Rattle.cl_updating.specs.Levels.{LevelAt, kept_from}
-use Rattle.cl_updating.specs.Tallies.{Counts}
+use Rattle.cl_updating.specs.Tallies.{Counts, KeptIn}
 use Rattle.cl_updating.specs.declared.grounds.Ground.{Ground}
 use Rattle.cl_updating.specs.declared.tallies.Tally.{Tally}
 
 -- An answer is the outcome, with the meter's cost and depth, and the tally rose by what was kept on the way. Nothing is said where there was
 -- no memory.
-abbrev pub Redrawn : List KeptAt → Result (Unit {0}) Stop → DrawingAt → (from : ℕ) → Meter → (old new : Tally) → Outcome DrawingAt → Type 0
-Redrawn ks (Ok u) s from m old new o = (o ≡ Gives s m.cost m.deepest) × Counts ks from m.cost old new
-Redrawn ks (Err (Trap k)) s from m old new o = (o ≡ Traps k m.cost m.deepest) × Counts ks from m.cost old new
-Redrawn ks (Err Memory) s from m old new o = Unit {0}
+abbrev pub Redrawn : KeptIn → Result (Unit {0}) Stop → DrawingAt → (from : ℕ) → Meter → (old new : Tally) → Outcome DrawingAt → Type 0
+Redrawn k (Ok u) s from m old new o = (o ≡ Gives s m.cost m.deepest) × Counts k from m.cost old new
+Redrawn k (Err (Trap kind)) s from m old new o = (o ≡ Traps kind m.cost m.deepest) × Counts k from m.cost old new
+Redrawn k (Err Memory) s from m old new o = Unit {0}
 
 -- the same of a draw, over a level
 abbrev pub Redraws : LevelAt → Result (Unit {0}) Stop → DrawingAt → (from : ℕ) → Meter → (old new : Tally) → DrawOutcome → Type 0

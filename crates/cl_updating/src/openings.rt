@@ -1,11 +1,12 @@
 //! The openings of updates, and which old updates may be kept there.
-ghost use Rattle.std.specs.Prelude.{◌≡◌, ◌&&◌, ◌+ℤ◌, ◌-ℤ◌, map};
+ghost use Rattle.std.specs.Prelude.{◌≡◌, ◌&&◌, ◌+ℤ◌, ◌-ℤ◌, IfOk, map};
 ghost use Rattle.cl_value.specs.Value.{data_of};
 ghost use Rattle.cl_region.specs.Places.{IsNear, move_rect};
 ghost use Rattle.cl_record.specs.Heads.{measures_of};
 ghost use Rattle.cl_display.specs.Drawings.{is_in_range};
 ghost use Rattle.cl_reuse.specs.Keeping.{limits_fit, margin_fits, may_keep, measures_fit, origin_fits, same_cache, same_number, same_values, shift_at, shift_to};
 ghost use Rattle.cl_reuse.specs.Kept.{is_still, kept_here};
+ghost use Rattle.cl_untouched.specs.Keeps.{moved_to};
 ghost use Rattle.cl_updating.specs.Levels.{old_of};
 ghost use Rattle.cl_updating.specs.Openings.{opening_of};
 
@@ -15,6 +16,7 @@ use cl_medium::{Ambient, AnyLeaf};
 use cl_record::{Head, Measures, Piece};
 use cl_region::{Rect, Shift};
 use cl_value::{Value, Values};
+use std::alloc::AllocError;
 
 /// An update at its opening: its key, what its body is drawn from, and what is left there of the budget, the weight and the depth.
 #[derive(Drop)]
@@ -48,6 +50,14 @@ impl Opening<'_> {
     {
         let measures = old.piece.head().measures();
         is_cursor_moved(old.place, &measures.start, &self.ambient)
+    }
+
+    /// How far it is moved, from where it stands. What stands in the range does not fail.
+    pub fn moved(&self, old: &Old<'_>) -> Result<Shift, AllocError>
+        ensures { IfOk result (λ v. v ≡ moved_to (old_of old.now) (opening_of self.now)) }
+    {
+        let measures = old.piece.head().measures();
+        move_to(old.place, &measures.start, &self.ambient)
     }
 
     // Whether these measures fit.
@@ -90,6 +100,23 @@ fn distance(from: i64, to: i64) -> i64
     ensures { result ≡ to -ℤ from }
 {
     to - from
+}
+
+// From the cursor of the first, moved so far, to that of the second; it fails where that is too far to be told.
+fn move_to(by: Shift, from: &Ambient, to: &Ambient) -> Result<Shift, AllocError>
+    ensures { IfOk result (λ v. v ≡ record { dx = to.now.x -ℤ (from.now.x +ℤ by.dx); dy = to.now.y -ℤ (from.now.y +ℤ by.dy) }) }
+{
+    let dx = distance_on(by.dx, from.x, to.x)?;
+    let dy = distance_on(by.dy, from.y, to.y)?;
+    Ok(Shift { dx, dy })
+}
+
+// From one number, moved so far, to another one; it fails where that is too far to be told.
+fn distance_on(by: i64, from: i64, to: i64) -> Result<i64, AllocError>
+    ensures { IfOk result (λ far. far ≡ to -ℤ (from +ℤ by)) }
+{
+    let moved = from.checked_add(by).ok_or(AllocError)?;
+    to.checked_sub(moved).ok_or(AllocError)
 }
 
 // Whether the cursor of the second is that of the first, moved so far.

@@ -4,17 +4,21 @@ ghost use Rattle.cl_syntax.specs.ShapeTree.{shape_trees_of};
 ghost use Rattle.cl_eval.specs.Outcome.{RisesBy};
 ghost use Rattle.cl_medium.specs.Items.{move_item};
 ghost use Rattle.cl_record.specs.Marks.{history_marks};
+ghost use Rattle.cl_record.specs.Shifts.{still};
+ghost use Rattle.cl_record.specs.Trees.{trees_of};
 ghost use Rattle.cl_display.specs.Script.{fresh, scene_of};
 ghost use Rattle.cl_reuse.specs.Kept.{work};
 ghost use Rattle.cl_reuse.specs.Records.{kept_among, records_of};
 ghost use Rattle.cl_reuse.specs.Recorded.{IsFaithfulHistory};
 ghost use Rattle.cl_reuse.specs.Sited.{AreOwn};
-ghost use Rattle.cl_updating.specs.Redisplays.{CanReuse, IsBuilt, IsFaithfulOf, IsFewOf, IsTrapped, Redisplays, met_memory};
+ghost use Rattle.cl_untouched.specs.Keeps.{keeps_of};
+ghost use Rattle.cl_updating.specs.Redisplays.{CanReuse, HasKeeps, IsBuilt, IsFaithfulOf, IsFewOf, IsOnceOf, IsTrapped, Redisplays, met_memory};
 
 use crate::grounds::Ground;
 use crate::levels::Level;
 use crate::redrawing::redraw_all;
 use crate::tallies::Tally;
+use cl_damage::Keeps;
 use cl_display::{Drawing, History, MAX_WEIGHT, Place, trapped};
 use cl_eval::{Context, Env, Meter, Program, Scope, Slots, Standpoint, Stop, Types};
 use cl_outside::{Ledger, Steps};
@@ -32,8 +36,8 @@ pub struct Reuse {
 /// What a display over an old history gives.
 #[derive(Drop)]
 pub enum Redisplayed {
-    /// The history of the whole display, and what it kept.
-    Built(History, Reuse),
+    /// The history of the whole display, how much it kept, and what, level by level.
+    Built(History, Reuse, Keeps),
     /// The one item of a display that trapped, and the kind of the trap.
     Trapped(History, u8),
     /// There was no memory.
@@ -59,6 +63,9 @@ pub fn redisplay<T: Types, L: Ledger>(
         (kept_among (history_marks move_item old.now) (fresh program.now.limits (scene_of T.holds T.presents program.now slots.now) forms.now env.now)) }
     ensures few { IsFewOf result }
     ensures faithful { IsFaithfulOf program.now.app.now (scene_of T.holds T.presents program.now slots.now).types result }
+    ensures keeps { HasKeeps result (keeps_of still (trees_of old.now)
+        (fresh program.now.limits (scene_of T.holds T.presents program.now slots.now) forms.now env.now).walk) }
+    ensures once { IsOnceOf result }
     ensures ledger { RisesBy (met_memory result) steps.old steps.new
         (work (records_of (history_marks move_item old.now)) (fresh program.now.limits (scene_of T.holds T.presents program.now slots.now) forms.now env.now)) }
 {
@@ -88,11 +95,11 @@ pub fn redisplay<T: Types, L: Ledger>(
     };
     let mut drawing = Drawing::blank(alloc);
     let mut meter = Meter::new();
-    let mut tally = Tally::new();
+    let mut tally = Tally::new(alloc);
     match redraw_all(&ground, forms, &mut drawing, &mut meter, &mut tally) {
         Ok(()) => {
             tally.pass_on(&meter, steps);
-            built(drawing, &tally)
+            built(drawing, tally)
         }
         Err(Stop::Trap(kind)) => {
             tally.pass_on(&meter, steps);
@@ -103,8 +110,8 @@ pub fn redisplay<T: Types, L: Ledger>(
 }
 
 // What was drawn to the end, and what was kept on the way.
-fn built(drawing: Drawing, tally: &Tally) -> Redisplayed
-    ensures { IsBuilt result drawing tally.now }
+fn built(drawing: Drawing, tally: Tally) -> Redisplayed
+    ensures { IsBuilt result drawing tally }
 {
     let nodes = drawing.part.nodes;
     // What the rows keep is known from here on.
@@ -114,7 +121,7 @@ fn built(drawing: Drawing, tally: &Tally) -> Redisplayed
         moved: tally.moved,
         items: tally.items,
     };
-    Redisplayed::Built(History::from_nodes(nodes), reuse)
+    Redisplayed::Built(History::from_nodes(nodes), reuse, tally.keeps)
 }
 
 // A display that trapped.

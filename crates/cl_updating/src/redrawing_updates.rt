@@ -14,6 +14,7 @@ ghost use Rattle.cl_reuse.specs.Kept.{found};
 ghost use Rattle.cl_reuse.specs.Sited.{AreOwn};
 ghost use Rattle.cl_record.specs.Trees.{trees_of};
 ghost use Rattle.cl_updating.specs.Levels.{kept_from, old_of};
+ghost use Rattle.cl_updating.specs.Tallies.{kept_anew};
 ghost use Rattle.cl_updating.specs.Redraws.{IsOwn, IsOwnBody, IsReusable, IsReusableOver, Redraws, Redrawn, body_over, scene_over};
 
 use crate::grounds::Ground;
@@ -128,8 +129,9 @@ fn redraw_body<T: Types>(
     requires reusable { IsReusableOver T.holds T.presents ground.now }
     requires own { IsOwnBody T.holds T.presents ground.now (key_of key) (shape_trees_of body.now) }
     requires below { IsReusable (scene_over T.holds T.presents ground.now).app (scene_over T.holds T.presents ground.now).types below.now }
-    ensures { Redrawn (kept_from below.now (body_over T.holds T.presents ground.now (shape_trees_of body.now) (drawing_of drawing.old) meter.old.cost).walk) result (drawing_of drawing.new)
-        meter.old.cost meter.new tally.old tally.new (ended (key_of key) ground.now.place.here.level (drawing_of drawing.old)
+    ensures { Redrawn (kept_anew (kept_from below.now
+        (body_over T.holds T.presents ground.now (shape_trees_of body.now) (drawing_of drawing.old) meter.old.cost).walk))
+        result (drawing_of drawing.new) meter.old.cost meter.new tally.old tally.new (ended (key_of key) ground.now.place.here.level (drawing_of drawing.old)
         (body_over T.holds T.presents ground.now (shape_trees_of body.now) (drawing_of drawing.old) meter.old.cost).outcome meter.old.cost meter.old.deepest) }
 {
     let context = ground.place.here.context;
@@ -151,15 +153,17 @@ fn redraw_body<T: Types>(
     };
     let mut inner = drawing.enter_body(context.alloc);
     let mut own = Meter::new();
+    let outer = tally.enter(context.alloc);
     match redraw_all(&inside, body, &mut inner, &mut own, tally) {
         Ok(()) => {
+            tally.leave(outer)?;
             meter.cost += own.cost;
             meter.deepest = meter.deepest.max(ground.place.here.level + own.deepest);
             drawing.leave_update(context.alloc, key, inner, &own)
         }
         Err(Stop::Trap(kind)) => {
             meter.cost += own.cost;
-            Err(Stop::Trap(kind))
+            Err(tally.leave_trapped(outer, kind))
         }
         Err(Stop::Memory) => Err(Stop::Memory),
     }

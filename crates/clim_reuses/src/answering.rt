@@ -90,7 +90,7 @@ fn answer<T: Types>(
     let later = slots_after(alloc, app, types, slots, command)?;
     let nothing = History::empty(alloc);
     let old = match drawn_over(alloc, app, types, pane, slots, &nothing).shown {
-        Redisplayed::Built(history, _) => history,
+        Redisplayed::Built(history, _, _) => history,
         Redisplayed::Trapped(history, _) => history,
         Redisplayed::Memory => return Err(Fault::Memory),
     };
@@ -172,7 +172,7 @@ impl Drawn {
     // The line of it, behind a word, where the old history drew so many items.
     fn say(&self, word: &str, old: u64, answers: &mut String) -> Result<(), Fault> {
         match &self.shown {
-            Redisplayed::Built(history, reuse) => write!(
+            Redisplayed::Built(history, reuse, _) => write!(
                 answers,
                 "{word} kept {} moved {} drawn {} erased {}",
                 reuse.kept,

@@ -7,7 +7,6 @@ ghost use Rattle.cl_loaded.specs.Texts.{texts_in};
 ghost use Rattle.cl_tables.specs.Rings.{HasNoRing};
 ghost use Rattle.cl_updating.specs.Redisplays.{CanReuse};
 
-use super::saying::put_bytes;
 use super::showing::shows;
 use cl_application::App;
 use cl_eval::{Limits, Program, Slots, Types};
@@ -47,6 +46,14 @@ fn program<'a, T: Types>(alloc: Global, app: &'a App, types: &'a T) -> Program<'
     }
 }
 
+/// Puts a character for each byte behind what is said.
+fn put_bytes(said: &mut String, bytes: &[u8]) -> Result<(), AllocError> {
+    for byte in bytes {
+        said.push(char::from(*byte))?;
+    }
+    Ok(())
+}
+
 /// What became of the panes, in words.
 fn put_reports(said: &mut String, frame: &Frame) -> Result<(), AllocError> {
     for pane in &frame.panes {
@@ -74,7 +81,8 @@ fn put_state(said: &mut String, failed: bool, shown: bool, frame: &Frame) -> Res
     Ok(said.push_str("|\n")?)
 }
 
-/// A frame is settled, redrawn, settled again, which fails at the first span of the second pane, and settled where it is blank.
+/// A frame is settled, redrawn, settled again, which sends nothing, since it shows the same, settled from nothing, which fails at a span
+/// of the redraw, and settled where it is blank.
 fn frame_states<T: Types>(
     alloc: Global,
     app: &App,
@@ -110,6 +118,13 @@ fn frame_states<T: Types>(
         shows(&device, &frame.screen),
         &frame,
     )?;
+    let painted = frame.update(&program, Which::Force, slots, &mut device, &mut steps);
+    put_state(
+        &mut said,
+        painted == Painted::DeviceFault,
+        shows(&device, &frame.screen),
+        &frame,
+    )?;
     let painted = frame.update(&program, Which::Blank, slots, &mut device, &mut steps);
     put_state(
         &mut said,
@@ -122,6 +137,7 @@ fn frame_states<T: Types>(
 
 const FRAME_STATES: &str = "done, stale, drawn 2 erased 0|drawn 2 erased 0|3clq3  |
 done, shown, drawn 2 erased 0|drawn 2 erased 0|3clq3  |
+done, shown, drawn 2 erased 2|drawn 2 erased 2|3clq3  |
 failed, stale, drawn 2 erased 2|drawn 2 erased 2|3clq3  |
 done, shown, quiet|quiet|3clq3  |
 ";

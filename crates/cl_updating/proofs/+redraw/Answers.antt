@@ -6,6 +6,7 @@ use Rattle.cl_value.specs.declared.Value.{Value}
 use Rattle.cl_syntax.specs.ShapeTree.{shape_trees_of}
 use Rattle.cl_syntax.specs.declared.display_forms.Shape.{Shape}
 use Rattle.cl_eval.specs.Scope.{variables_of}
+use Rattle.cl_eval.specs.declared.metering.Stop.{Stop}
 use Rattle.cl_eval.specs.declared.metering.Stop.TheVariants.{Trap}
 use Rattle.cl_display.specs.Drawings.{DrawingAt, drawing_of}
 use Rattle.cl_display.specs.Fresh.{Allowance, draws_to, for_each, in_order, presents_body}
@@ -18,11 +19,11 @@ use Rattle.cl_reuse.specs.Sited.{AreOwn}
 use Rattle.cl_reuse.proofs.CacheLemmas.{cache-holds}
 use Rattle.cl_reuse.proofs.DisplayNames.{display-declared}
 use Rattle.cl_reuse.proofs.PayRows.{no-cache-comes}
-use Rattle.cl_updating.specs.Levels.{old_of}
-use Rattle.cl_updating.specs.Redraws.{Redraws}
+use Rattle.cl_updating.specs.Levels.{kept_from, old_of}
+use Rattle.cl_updating.specs.Redraws.{Redrawn, Redraws, body_over}
 use Rattle.cl_updating.proofs.RowLemmas.{drop-next, each-end, each-next, each-stop, order-end, order-next, order-stop, own-drop, own-first}
 use Rattle.cl_updating.proofs.RowLemmas.{presentation-left, redraws-err, redraws-member, room-left, to-end, to-stop, trap-agrees, within-end, within-stop}
-use Rattle.cl_updating.proofs.StandLemmas.{faithful-inside, found-that, kept-within, over-answer, stands-cached}
+use Rattle.cl_updating.proofs.StandLemmas.{body-left, body-stopped, faithful-inside, found-that, kept-within, over-answer, stands-cached}
 use Rattle.cl_updating.proofs.+redraw.Goals as goal
 
 pub redrawing::redraw_all-redraw-requires : goal.redrawing::redraw_all-redraw-requires
@@ -374,3 +375,28 @@ redrawing_updates::redraw_update-redraw_keyed-requires g t c κs within =
     c.args.update.now (variables_of c.args.ground.now.place.here.scope.now) (shape_trees_of c.args.body.now) c.requires.own (data_of c.in_ok-id.id) c.in_ok-cache.cache c.args.update.now.cache refl holds
     without in
     (search rules, (search rules, (c.requires.depth, (c.requires.reusable, record { own = λ u h. c.requires.own u (inr h); stands = rw c.site-site.ensures stands }))))
+
+pub redrawing_updates::redraw_body-returns-in-Ok : goal.redrawing_updates::redraw_body-returns-in-Ok
+redrawing_updates::redraw_body-returns-in-Ok g t c =
+    let drawn = rw (c.saturating_sub.ensures, c.saturating_sub-2.ensures, c.enter_body-inner.ensures, c.new-own.ensures.cost, c.new-own.ensures.deepest) at c.in-Ok.ensures in
+    body-left _ (key_of c.args.key) c.args.ground.now.place.here.level (drawing_of c.args.drawing.now) (drawing_of c.redraw_all.new.drawing)
+    (drawing_of c.leave_update.new.self) c.redraw_all.new.meter
+    (record { cost = c.args.meter.now.cost + c.redraw_all.new.meter.cost; deepest = c.max-meter.result })
+    c.args.meter.now.cost c.args.meter.now.deepest _ c.leave_update.result c.args.tally.now c.enter-outer.new.self c.redraw_all.new.tally c.leave.new.self
+    c.enter-outer.result drawn refl c.max-meter.ensures c.enter-outer.ensures.outer c.enter-outer.ensures.inside c.in_ok-leave-in-Ok.ensures
+    c.leave_update.ensures
+
+pub redrawing_updates::redraw_body-returns-in-Err-Trap : goal.redrawing_updates::redraw_body-returns-in-Err-Trap
+redrawing_updates::redraw_body-returns-in-Err-Trap g t c =
+    let body = body_over g.T.Types.holds g.T.Types.presents c.args.ground.now (shape_trees_of c.args.body.now) (drawing_of c.args.drawing.now) c.args.meter.now.cost in
+    let k = kept_from c.args.below.now body.walk in
+    let is : c.redraw_all.result ≡ Err (Trap c.in-Err-Trap.kind) = c.in-Err-Trap.is ∙ ap (λ (x : Stop). Err x) c.in-Err-Trap.field-0-is in
+    let came = rw (c.saturating_sub.ensures, c.saturating_sub-2.ensures, c.enter_body-inner.ensures, c.new-own.ensures.cost, c.new-own.ensures.deepest) at c.redraw_all.ensures in
+    let drawn : Redrawn k (Err (Trap c.in-Err-Trap.kind)) (drawing_of c.redraw_all.new.drawing) 0 c.redraw_all.new.meter c.enter-outer.new.self c.redraw_all.new.tally body.outcome =
+    subst (λ (x : Result (Unit {0}) Stop). Redrawn k x (drawing_of c.redraw_all.new.drawing) 0 c.redraw_all.new.meter c.enter-outer.new.self c.redraw_all.new.tally body.outcome) is came in
+    body-stopped k (key_of c.args.key) c.args.ground.now.place.here.level (drawing_of c.args.drawing.now) (drawing_of c.redraw_all.new.drawing)
+    (drawing_of c.args.drawing.now) c.redraw_all.new.meter
+    (record { cost = c.args.meter.now.cost + c.redraw_all.new.meter.cost; deepest = c.args.meter.now.deepest })
+    c.args.meter.now.cost c.args.meter.now.deepest c.in-Err-Trap.kind _ body.outcome c.args.tally.now c.enter-outer.new.self c.redraw_all.new.tally
+    c.leave_trapped.new.self c.enter-outer.result c.leave_trapped.result drawn refl refl c.enter-outer.ensures.outer c.enter-outer.ensures.inside
+    c.in-Err-Trap.kind-is c.leave_trapped.ensures

@@ -1,4 +1,4 @@
-use Rattle.std.proofs.Common.{◌∙◌, sym, arith, length-take, length-drop, length, take, drop, ◌-◌}
+use Rattle.std.proofs.Common.{◌∙◌, sym, arith, length-take, length-drop, length, drop, ◌-◌}
 use Rattle.std.proofs.lemmas.Slice.Eq.{bytes_eq-Decides}
 use Rattle.cl_redisplay.proofs.EvenRows.{even_later}
 use Rattle.cl_redisplay.proofs.sending.is_even.Goals as goal

@@ -2,7 +2,7 @@ use Rattle.std.proofs.Common.{◌≡◌, ◌∙◌, refl, sym, ap, arith, true, 
 use Rattle.cl_application.specs.Panes.{panes_of}
 use Rattle.cl_redisplay.specs.Screens.{is_fault}
 use Rattle.cl_frame.specs.Ground.{ground_of}
-use Rattle.cl_frame.proofs.GoingStale.{agree-started, by-stale, fault-between, frame-started, stale-same, stale-then}
+use Rattle.cl_frame.proofs.GoingStale.{agree-started, by-stale, fault-between, frame-started, stale-same, stale-then, under-later, under-started}
 use Rattle.cl_frame.proofs.OpenedPanes.{frame_length}
 use Rattle.cl_frame.proofs.SentPanes.{sent_all, sent_next, sent_none}
 use Rattle.cl_frame.proofs.SettledPanes.{rest_next, settled_all, settled_frame, settled_next, settled_spends}
@@ -15,10 +15,11 @@ panes-init g c = record {
   faithful = c.requires.faithful;
   rest = refl;
   goes_on = λ ns last h. h;
+  under = under-started c.args.which c.args.self.now.screen.stale c.start.new.screen.stale c.start.ensures.stale;
   goes_stale = stale-same c.start.new.screen.stale (g.D.Device.faults c.args.device.now);
   idle = λ stale. refl;
   breaks = λ fresh after. let no : false ≡ true = sym fresh ∙ after in cc;
-  sent = λ fresh. sent_none c.args.which (panes_of c.args.program.now.app.now) c.args.self.now.panes.items c.start.new.screen.stale _ fresh;
+  sent = λ fresh. sent_none (ground_of g.T.Types.holds g.T.Types.presents g.T.Types.reads g.T.Types.hierarchy c.args.program.now) c.args.which c.args.slots.now (panes_of c.args.program.now.app.now) c.args.self.now.panes.items c.start.new.screen.stale _ fresh;
   lent = refl;
   later = omega arith;
 }
@@ -35,6 +36,7 @@ panes-preserved g c =
       goes_on = settled_next (ground_of g.T.Types.holds g.T.Types.presents g.T.Types.reads g.T.Types.hierarchy c.args.program.now) c.args.which c.args.slots.now (panes_of c.args.program.now.app.now)
           c.args.self.now.panes.items c.panes.self.panes.items c.settle_at.new.self.panes.items place c.args.steps.now c.panes.steps c.settle_at.new.steps
           refl c.panes.invariant.rest settled c.panes.invariant.goes_on;
+      under = under-later c.args.which c.panes.self.screen.stale c.settle_at.new.self.screen.stale c.settle_at.ensures.goes_stale.stays c.panes.invariant.under;
       goes_stale = stale-then c.start.new.screen.stale c.panes.self.screen.stale c.settle_at.new.self.screen.stale
           (g.D.Device.faults c.args.device.now) (g.D.Device.faults c.panes.device) (g.D.Device.faults c.settle_at.new.device) c.panes.invariant.goes_stale c.settle_at.ensures.goes_stale;
       idle = λ stale. c.settle_at.ensures.idle (c.panes.invariant.goes_stale.stays stale) ∙ c.panes.invariant.idle stale;
@@ -78,6 +80,6 @@ returns-clause-bytes g c = λ fresh.
     ap is_fault c.fault_between.ensures
     ∙ (fault-between c.stale-was_stale.result c.stale.result (c.stale-was_stale.ensures ∙ started) ∙ c.stale.ensures) in
     rw fault
-    (sent_all c.args.which (panes_of c.args.program.now.app.now) c.args.self.now.panes.items c.panes.self.panes.items c.panes.place c.panes.self.screen.stale _ _
+    (sent_all (ground_of g.T.Types.holds g.T.Types.presents g.T.Types.reads g.T.Types.hierarchy c.args.program.now) c.args.which c.args.slots.now (panes_of c.args.program.now.app.now) c.args.self.now.panes.items c.panes.self.panes.items c.panes.place c.panes.self.screen.stale _ _
     (omega (arith, olds, c.panes-test.false, c.len-place-end.ensures)) (omega (arith, c.panes-test.false, c.len-place-end.ensures))
     (omega (arith, nows, olds, c.panes-test.false, c.len-place-end.ensures)) (c.panes.invariant.sent started))

@@ -1,0 +1,6 @@
+//! Tests of public calls of the loader, the evaluator and the display. A crate's own tests are proved over the whole of it once
+//! more, and these alone.
+#![tactic(auto)]
+
+#[cfg(test)]
+mod tests;
