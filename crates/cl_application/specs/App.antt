@@ -8,6 +8,7 @@ use Rattle.cl_application.specs.declared.declarations.FunctionDecl.{FunctionDecl
 use Rattle.cl_application.specs.declared.declarations.DisplayDecl.{DisplayDecl}
 use Rattle.cl_application.specs.declared.declarations.MethodDecl.{MethodDecl}
 use Rattle.cl_application.specs.declared.declarations.CommandDecl.{CommandDecl}
+use Rattle.cl_application.specs.declared.declarations.DialogDecl.{DialogDecl}
 use Rattle.cl_application.specs.declared.declarations.SlotDecl.{SlotDecl}
 use Rattle.cl_application.specs.declared.declarations.PaneDecl.{PaneDecl}
 use Rattle.cl_syntax.specs.TypeSpecTree.{TypeSpecTree}
@@ -31,6 +32,9 @@ display_named x app = named x app.displays
 
 abbrev pub command_named : List ℕ → App → Option CommandDecl
 command_named x app = named x app.commands
+
+abbrev pub dialog_named : List ℕ → App → Option DialogDecl
+dialog_named x app = named x app.dialogs
 
 abbrev pub type_of_slot : Option SlotDecl → Option TypeSpecTree
 type_of_slot None = None

@@ -1,10 +1,10 @@
 //! Applications.
 ghost use Rattle.std.specs.Prelude.{◌≡◌, option_map};
-ghost use Rattle.cl_application.specs.App.{record_named, function_named, display_named, command_named, slot_type, pane_named, forms_of, present_method, accept_method};
+ghost use Rattle.cl_application.specs.App.{record_named, function_named, display_named, command_named, dialog_named, slot_type, pane_named, forms_of, present_method, accept_method};
 
 use crate::declarations::{
-    CommandDecl, Commands, DisplayDecl, Displays, FrameDecl, FunctionDecl, Functions, HostDecls,
-    MethodDecl, Methods, PaneDecl, TableDecls, TranslatorDecls,
+    CommandDecl, Commands, DialogDecl, DialogDecls, DisplayDecl, Displays, FrameDecl, FunctionDecl,
+    Functions, HostDecls, MethodDecl, Methods, PaneDecl, TableDecls, TranslatorDecls,
 };
 use cl_syntax::{RecordDecl, Records, Shape, TypeSpec, UserTypes};
 use cl_value::Text;
@@ -22,6 +22,7 @@ pub struct App {
     pub tables: TableDecls,
     pub commands: Commands,
     pub translators: TranslatorDecls,
+    pub dialogs: DialogDecls,
     pub frame: FrameDecl,
 }
 
@@ -66,6 +67,13 @@ impl App {
         ensures { option_map (λ d. d.now) result ≡ command_named name.now self.now }
     {
         self.commands.get(name)
+    }
+
+    /// The dialog of that name.
+    pub fn dialog(&self, name: &[u8]) -> Option<&DialogDecl>
+        ensures { option_map (λ d. d.now) result ≡ dialog_named name.now self.now }
+    {
+        self.dialogs.get(name)
     }
 
     /// The type of the frame's slot of that name.

@@ -61,6 +61,12 @@ pub type ArgumentDecls = Table<ArgumentDecl>;
 /// The translators of an application by name, both kinds.
 pub type TranslatorDecls = Table<TranslatorDecl>;
 
+/// The dialogs of an application by name.
+pub type DialogDecls = Table<DialogDecl>;
+
+/// The queries of a dialog by name, in order.
+pub type QueryDecls = Table<QueryDecl>;
+
 /// The command tables of an application by name.
 pub type TableDecls = Table<TableDecl>;
 
@@ -120,6 +126,22 @@ impl Declared for ArgumentDecl {
 
 impl Declared for TranslatorDecl {
     ghost own_name = { λ t. t.name };
+
+    fn name(&self) -> &Text {
+        &self.name
+    }
+}
+
+impl Declared for DialogDecl {
+    ghost own_name = { λ d. d.name };
+
+    fn name(&self) -> &Text {
+        &self.name
+    }
+}
+
+impl Declared for QueryDecl {
+    ghost own_name = { λ q. q.name };
 
     fn name(&self) -> &Text {
         &self.name
@@ -194,6 +216,34 @@ pub struct TranslatorDecl {
     pub parameter: Text,
     pub body: Expr,
     pub at: u32,
+}
+
+/// `(define-dialog NAME (:command COMMAND :pane PANE) QUERY ...)`: the arguments of a command as a form in a pane. The queries
+/// are the arguments of the command, in order.
+#[derive(Drop)]
+pub struct DialogDecl {
+    pub name: Text,
+    pub command: Text,
+    pub pane: Text,
+    pub queries: QueryDecls,
+    pub at: u32,
+}
+
+/// `(NAME)` or `(NAME :when E :else E)`: one without a condition is always shown.
+#[derive(Drop)]
+pub struct QueryDecl {
+    pub name: Text,
+    pub condition: Option<ConditionDecl>,
+    pub at: u32,
+}
+
+/// When a query is shown, an expression in which each query's name is a variable; and the value that stands for it where it
+/// is not, an expression that reads no slot and no variable, evaluated each time. `otherwise_at` is its offset.
+#[derive(Drop)]
+pub struct ConditionDecl {
+    pub when: Expr,
+    pub otherwise: Expr,
+    pub otherwise_at: u32,
 }
 
 /// `(define-application-frame NAME (:size WIDTH HEIGHT) (:slots SLOT ...) (:panes PANE ...)

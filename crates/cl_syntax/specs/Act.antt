@@ -9,6 +9,7 @@ abbrev pub act_tree_of : ActKind → ActTree
 act_tree_of (kind.Setf x t) = act.Setf x t
 act_tree_of (kind.Reply t) = act.Reply t
 act_tree_of (kind.Switch x on) = act.Switch x on
+act_tree_of (kind.OpenDialog x) = act.OpenDialog x
 act_tree_of (kind.If c) = act.If c.value.test c.value.then c.value.other
 act_tree_of (kind.When t ss) = act.When t (act_trees_of ss)
 act_tree_of (kind.Let bs ss) = act.Let (bindings_of bs.items) (act_trees_of ss)

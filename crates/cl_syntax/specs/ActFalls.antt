@@ -16,6 +16,7 @@ pub kind-nodes : (k : ActKind) → deep-ActKind k ≤ nodes (act_tree_of k)
 kind-nodes (kind.Setf x t) = omega arith
 kind-nodes (kind.Reply t) = omega arith
 kind-nodes (kind.Switch x on) = omega arith
+kind-nodes (kind.OpenDialog x) = omega arith
 kind-nodes (kind.If c) = omega arith
 kind-nodes (kind.When t ss) = omega arith
 kind-nodes (kind.Let bs ss) = omega arith

@@ -10,6 +10,8 @@ mutual
     Reply : ExprTree → ActTree
     -- (enable COMMAND), or (disable COMMAND) where it is false
     Switch : List ℕ → Bool → ActTree
+    -- (open-dialog DIALOG)
+    OpenDialog : List ℕ → ActTree
     -- (if TEST THEN ELSE)
     If : ExprTree → ActTree → ActTree → ActTree
     -- (when TEST STATEMENT ...)
@@ -35,6 +37,7 @@ abbrev mutual
   nodes (Setf x t) = 1
   nodes (Reply t) = 1
   nodes (Switch x on) = 1
+  nodes (OpenDialog x) = 1
   nodes (If t r s) = nodes r + nodes s + 1
   nodes (When t ss) = nodes_all ss + 1
   nodes (Let bs ss) = nodes_all ss + 1

@@ -5,7 +5,7 @@ use Rattle.std.specs.Coded.{Coded, coded_bool}
 use base.Stored.{Gv, gnil, gnum, gcons}
 use Rattle.cl_syntax.specs.Code.{head, tail, tag, has_parts, name_code, name_code-inj}
 use Rattle.cl_syntax.specs.ExprTreeCode.{coded_expr_tree, coded_bindings}
-use Rattle.cl_syntax.specs.ActTree.{ActTree, Setf, Reply, Switch, If, When, Let, Dolist, Progn, ActTrees, none, statement}
+use Rattle.cl_syntax.specs.ActTree.{ActTree, Setf, Reply, Switch, OpenDialog, If, When, Let, Dolist, Progn, ActTrees, none, statement}
 
 -- the place of a row in its table
 abbrev pub row : ActTree → ℕ
@@ -17,6 +17,7 @@ row (Let bs ss) = 4
 row (Dolist x t ss) = 5
 row (Progn ss) = 6
 row (Switch x on) = 7
+row (OpenDialog x) = 8
 
 abbrev mutual
   pub code : ActTree → Gv
@@ -28,6 +29,7 @@ abbrev mutual
   code (Dolist x t ss) = gcons (gnum 5) (gcons (name_code x) (gcons (coded_expr_tree.code t) (code_all ss)))
   code (Progn ss) = gcons (gnum 6) (code_all ss)
   code (Switch x on) = gcons (gnum 7) (gcons (name_code x) (coded_bool.code on))
+  code (OpenDialog x) = gcons (gnum 8) (name_code x)
 
   pub code_all : ActTrees → Gv
   code_all none = gnil
@@ -63,6 +65,7 @@ mutual
       let px : x ≡ x' = name_code-inj x x' (ap (λ g. head (tail g)) p) in
       let pon : on ≡ on' = coded_bool.inj on on' (ap (λ g. tail (tail g)) p) in
       λ i. Switch (px i) (pon i)
+  code-inj (OpenDialog x) (OpenDialog x') p = ap OpenDialog (name_code-inj x x' (ap tail p))
   code-inj x y p = absurd (eqb-false (row x) (row y) refl (ap tag p))
 
   pub code_all-inj : (xs ys : ActTrees) → code_all xs ≡ code_all ys → xs ≡ ys

@@ -14,7 +14,8 @@ plain_named name =
     else (if bytes_eq name (codes "string") then Some standard.String
     else (if bytes_eq name (codes "symbol") then Some standard.Symbol
     else (if bytes_eq name (codes "blank-area") then Some standard.BlankArea
-    else (if bytes_eq name (codes "command") then Some standard.Command else None)))))))
+    else (if bytes_eq name (codes "command") then Some standard.Command
+    else (if bytes_eq name (codes "dialog-choice") then Some standard.DialogChoice else None))))))))
 
 -- those that are made of constants or of other types
 abbrev pub built_named : List ℕ → Option StandardType

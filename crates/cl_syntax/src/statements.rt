@@ -25,6 +25,8 @@ pub enum ActKind {
     Reply(Expr),
     /// `(enable COMMAND)`, or `(disable COMMAND)` where it is false.
     Switch(Text, bool),
+    /// `(open-dialog DIALOG)`
+    OpenDialog(Text),
     /// `(if TEST THEN ELSE)`
     If(Box<ActChoice>),
     /// `(when TEST STATEMENT ...)`
@@ -119,6 +121,15 @@ impl Act {
     {
         Act {
             kind: ActKind::Switch(command, on),
+        }
+    }
+
+    /// `(open-dialog DIALOG)`
+    pub fn open_dialog(dialog: Text) -> Act
+        ensures { result ≡ act.OpenDialog dialog }
+    {
+        Act {
+            kind: ActKind::OpenDialog(dialog),
         }
     }
 

@@ -37,6 +37,8 @@ pub enum StandardType {
     BlankArea,
     /// `command`: a command with all its arguments.
     Command,
+    /// `dialog-choice`: the name of a query of a dialog, `exit` or `abort`. No text may name it.
+    DialogChoice,
 }
 
 /// The standard type of that name; `None` where it is none.
@@ -68,6 +70,8 @@ fn plain_named(name: &[u8]) -> Option<StandardType>
         Some(StandardType::BlankArea)
     } else if name == b"command".as_slice() {
         Some(StandardType::Command)
+    } else if name == b"dialog-choice".as_slice() {
+        Some(StandardType::DialogChoice)
     } else {
         None
     }
