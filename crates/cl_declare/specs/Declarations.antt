@@ -61,6 +61,7 @@ nothing_declared = record {
   tables = [];
   commands = [];
   translators = [];
+  dialogs = [];
   frames = [];
 }
 

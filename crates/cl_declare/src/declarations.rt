@@ -16,7 +16,7 @@ use crate::translator_shapes::TranslatorKind;
 use crate::translators::parse_translator;
 use crate::types::{parse_host_type, parse_user_type};
 use cl_application::{
-    Commands, Displays, Functions, HostDecls, Methods, TableDecls, TranslatorDecls,
+    Commands, DialogDecls, Displays, Functions, HostDecls, Methods, TableDecls, TranslatorDecls,
 };
 use cl_expressions::{Notes, Reader};
 use cl_forms::{Datum, DeclarationKind, FormRefusal, Outer, OuterKind};
@@ -35,6 +35,7 @@ pub struct Declarations {
     pub tables: TableDecls,
     pub commands: Commands,
     pub translators: TranslatorDecls,
+    pub dialogs: DialogDecls,
     pub frames: FrameForms,
 }
 
@@ -59,6 +60,7 @@ pub fn parse_declarations(
         tables: TableDecls::new(reader.alloc),
         commands: Commands::new(reader.alloc),
         translators: TranslatorDecls::new(reader.alloc),
+        dialogs: DialogDecls::new(reader.alloc),
         frames: FrameForms::new(reader.alloc),
     };
     for outer in outers {

@@ -12,7 +12,7 @@ use Rattle.cl_eval.specs.declared.metering.Stop.{Stop}
 use Rattle.cl_eval.specs.Outcome.{Gives, Traps, give, lift}
 use Rattle.cl_eval.specs.Slots.{Slots, Env}
 use Rattle.cl_eval.specs.Meaning.{Go, bind_each, entering, truth_of, parts_of_list, means}
-use Rattle.cl_eval.specs.Statements.{Member, Does, assigned, reply_with, add_switch, in_turn, for_each, acts_in, act_parts, does}
+use Rattle.cl_eval.specs.Statements.{Member, Does, assigned, reply_with, add_switch, with_dialog, in_turn, for_each, acts_in, act_parts, does}
 use Rattle.cl_eval.specs.declared.programs.Stage.{Stage}
 use Rattle.cl_eval.specs.Stage.{doing_on}
 use Rattle.cl_eval.specs.Agrees.{Agrees, always, itself}
@@ -54,6 +54,7 @@ grows-act_parts app member value v go g level env (act.Setf x t) s =
 grows-act_parts app member value v go g level env (act.Reply t) s =
     grows-then (value s.slots level env t) (λ d. lift (reply_with s d)) (v s.slots level env t) (λ d. grows-lift (reply_with s d))
 grows-act_parts app member value v go g level env (act.Switch x on) s = grows-give (add_switch x on s)
+grows-act_parts app member value v go g level env (act.OpenDialog x) s = grows-give (with_dialog x s)
 grows-act_parts app member value v go g level env (act.If t a b) s =
     grows-then (truth_of (value s.slots) level env t) (λ test. if test then go level env a s else go level env b s) (grows-tested (value s.slots) (v s.slots) level env t)
     (grows-then_act go g level env a b s)

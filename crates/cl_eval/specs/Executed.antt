@@ -1,5 +1,5 @@
 -- What running statements answers, against what the definition says.
-use Rattle.std.specs.Prelude.{◌≡◌, List, [], Bool, true, false}
+use Rattle.std.specs.Prelude.{◌≡◌, List, [], Bool, true, false, None}
 use Rattle.cl_value.specs.declared.Held.{Held}
 use Rattle.cl_value.specs.declared.Held.TheVariants as held
 use Rattle.cl_syntax.specs.ActTree.{ActTree, act_trees_of}
@@ -20,7 +20,7 @@ Decides held.Memory b = Unit {0}
 
 -- no statement was run yet
 abbrev pub no_effects : Slots → Effects
-no_effects slots = record { slots = slots; replies = []; reply_bytes = 0; switches = [] }
+no_effects slots = record { slots = slots; replies = []; reply_bytes = 0; switches = []; dialog = None }
 
 -- a body of statements, from no cost
 unfoldable pub outcome_of_exec : Limits → App → Member → List ActTree → Env → Slots → Outcome Effects

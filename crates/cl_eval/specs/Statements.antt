@@ -40,6 +40,10 @@ reply_with s d = Err 1
 abbrev pub add_switch : List ℕ → Bool → Effects → Effects
 add_switch x on s = record s { switches = s.switches ++ (x, on) ∷ [] }
 
+-- this dialog was opened last
+abbrev pub with_dialog : List ℕ → Effects → Effects
+with_dialog x s = record s { dialog = Some x }
+
 -- statements in order, each from the effects of the ones before it
 abbrev pub in_turn : Does → ℕ → Env → ActTrees → Effects → Run Effects
 in_turn go level env none s = give s
@@ -59,6 +63,7 @@ abbrev pub act_parts : App → Member → (Slots → Go) → Does → ℕ → En
 act_parts app member value go level env (act.Setf x t) s = value s.slots level env t >>= λ d. lift (assigned member x (slot_type x app) s d)
 act_parts app member value go level env (act.Reply t) s = value s.slots level env t >>= λ d. lift (reply_with s d)
 act_parts app member value go level env (act.Switch x on) s = give (add_switch x on s)
+act_parts app member value go level env (act.OpenDialog x) s = give (with_dialog x s)
 act_parts app member value go level env (act.If t a b) s =
     truth_of (value s.slots) level env t >>= λ yes. if yes then go level env a s else go level env b s
 act_parts app member value go level env (act.When t body) s =

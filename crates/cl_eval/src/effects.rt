@@ -3,7 +3,7 @@ ghost use Rattle.std.specs.Prelude.{◌≡◌, Ok, IfOk, [], ◌∷◌, ◌++◌
 ghost use Rattle.cl_value.specs.Value.{data_of};
 ghost use Rattle.cl_eval.specs.Agrees.{Comes, always};
 ghost use Rattle.cl_eval.specs.Executed.{no_effects};
-ghost use Rattle.cl_eval.specs.Statements.{add_switch, reply_with};
+ghost use Rattle.cl_eval.specs.Statements.{add_switch, reply_with, with_dialog};
 
 use crate::metering::Stop;
 use crate::slot_table::Slots;
@@ -96,14 +96,15 @@ impl Switches {
     }
 }
 
-/// What statements did so far: the slots as they are now, the texts of the replies, how many bytes these have together, and
-/// the commands switched on or off.
+/// What statements did so far: the slots as they are now, the texts of the replies, how many bytes these have together,
+/// the commands switched on or off, and the dialog that was opened last, if one was.
 #[derive(Drop)]
 pub struct Effects {
     pub slots: Slots,
     pub replies: Lines,
     pub reply_bytes: usize,
     pub switches: Switches,
+    pub dialog: Option<Text>,
 }
 
 impl Effects {
@@ -116,6 +117,7 @@ impl Effects {
             replies: Lines::new(alloc),
             reply_bytes: 0,
             switches: Switches::new(alloc),
+            dialog: None,
         })
     }
 }
@@ -143,5 +145,13 @@ pub fn switch(effects: &mut Effects, command: &Text, on: bool) -> Result<(), Sto
     ensures { Comes (always effects.new) result (Ok (add_switch command.now on effects.old)) }
 {
     effects.switches.push(command.copy()?, on)?;
+    Ok(())
+}
+
+/// The dialog of that name was opened last.
+pub fn open_dialog(effects: &mut Effects, dialog: &Text) -> Result<(), Stop>
+    ensures { Comes (always effects.new) result (Ok (with_dialog dialog.now effects.old)) }
+{
+    effects.dialog = Some(dialog.copy()?);
     Ok(())
 }

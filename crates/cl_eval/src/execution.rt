@@ -10,7 +10,7 @@ ghost use Rattle.cl_eval.specs.Stage.{doing_on, meaning_on, played_on};
 ghost use Rattle.cl_eval.specs.Agrees.{Agrees, always, itself};
 ghost use Rattle.cl_eval.specs.Executed.{Executes, met_memory, outcome_of_exec};
 
-use crate::effects::{Effects, reply, switch};
+use crate::effects::{Effects, open_dialog, reply, switch};
 use crate::metering::{Meter, Stop};
 use crate::programs::{Program, Stage, assign, frame_of, is_true, list_of, value_of};
 use crate::slot_table::Slots;
@@ -122,6 +122,7 @@ fn act_parts<T: Types, L: Ledger>(
             reply(effects, text)
         }
         ActKind::Switch(command, on) => switch(effects, command, *on),
+        ActKind::OpenDialog(dialog) => open_dialog(effects, dialog),
         ActKind::If(choice) => {
             if is_true(here, &choice.test, &effects.slots, meter, steps)? {
                 act(here, &choice.then, effects, meter, steps)

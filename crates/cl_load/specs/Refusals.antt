@@ -51,6 +51,7 @@ app_of s f = record {
   tables = s.tables;
   commands = s.commands;
   translators = s.translators;
+  dialogs = s.dialogs;
   frame = f;
 }
 

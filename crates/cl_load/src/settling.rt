@@ -79,6 +79,7 @@ fn app_of(declarations: Declarations, frame: FrameDecl) -> App
         tables: declarations.tables,
         commands: declarations.commands,
         translators: declarations.translators,
+        dialogs: declarations.dialogs,
         frame,
     }
 }

@@ -46,6 +46,7 @@ fn app_in(alloc: Global, forms: &[Datum]) -> Result<App, FormRefusal> {
         tables: Table::new(alloc),
         commands: Table::new(alloc),
         translators: Table::new(alloc),
+        dialogs: Table::new(alloc),
         frame: empty_frame(alloc)?,
     })
 }
