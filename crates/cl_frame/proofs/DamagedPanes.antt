@@ -1,5 +1,6 @@
 -- What has to be shown of a pane that takes the place of another one, and why all else shows it already.
-use Rattle.std.proofs.Common.{◌≡◌, ◌∙◌, ℕ, ◌+◌, ◌-◌, ◌<◌, ◌≤◌, ℤ, pos, Bool, true, false, if◌then◌else◌, All, List, [], Option, Some, None, get_or, set, map, ap, sym, subst, refl, arith, slice_get, slice_set}
+use Rattle.std.proofs.Common.{◌≡◌, ◌∙◌, ℕ, ◌+◌, ◌-◌, ◌<◌, ◌≤◌, ℤ, pos, Bool, true, false, if◌then◌else◌, All, List, [], Option, Some, None, get_or}
+use Rattle.std.proofs.Common.{set, map, ap, sym, subst, refl, arith, slice_get, slice_set}
 use Rattle.std.specs.Prelude.{◌&&◌, IfSome, option_map}
 use Rattle.std.proofs.lemmas.Bool.Decides.{nat_tests}
 use Rattle.std.proofs.lemmas.Int.{ints}

@@ -1,5 +1,6 @@
 -- Panes that are settled one after another.
-use Rattle.std.proofs.Common.{◌≡◌, ℕ, suc, ◌+◌, ◌≤◌, List, [], ◌∷◌, ◌++◌, Some, length, get_or, set, map, take, drop, refl, sym, ◌∙◌, ap, subst, arith, slice_get, append_assoc, append-nil, drop-cons}
+use Rattle.std.proofs.Common.{◌≡◌, ℕ, suc, ◌+◌, ◌≤◌, List, [], ◌∷◌, ◌++◌, Some, length, get_or, set, map, take, drop, refl, sym, ◌∙◌, ap, subst}
+use Rattle.std.proofs.Common.{arith, slice_get, append_assoc, append-nil, drop-cons}
 use Rattle.std.proofs.lemmas.List.{drop-drop, drop-set-lt, drop_all, take_all, take_more_set}
 use Rattle.std.proofs.lemmas.Option.{get_or_from_slice_get, slice_get_within}
 use Rattle.cl_application.specs.Panes.{panes_of}

@@ -23,7 +23,9 @@ use Rattle.cl_parser.specs.declared.parsing.Parsed.TheVariants as parsed
 use Rattle.cl_session.specs.Handling.{KeepsSlots}
 use Rattle.cl_session.specs.Naming.{command_of_line, command_of_stroke}
 use Rattle.cl_session.specs.Pointing.{TypedArgument, chosen_at, is_within, line_with, typed_in, values_in}
-use Rattle.cl_session.specs.Step.{Handled, bad_line, command_outcome, command_trap_line, finish_by, finish_named, finish_parsed, handled, handled_or_not, history_rows, is_on, need_line, parsed_line, refuse, run_command, stroke_by, stroke_parsed, tell, tell_history}
+use Rattle.cl_session.specs.Step.{Handled, bad_line, command_outcome, command_trap_line, finish_by, finish_named, finish_parsed, handled}
+use Rattle.cl_session.specs.Step.{handled_or_not, history_rows, is_on, need_line, parsed_line, refuse, run_command, stroke_by, stroke_parsed, tell}
+use Rattle.cl_session.specs.Step.{tell_history}
 use Rattle.cl_session.specs.Step.{act_on, got_line, point_at, run_chosen, run_named, take_object, with_pane}
 use Rattle.cl_session.specs.World.{World}
 use Rattle.cl_translate.specs.Choices.{Given}

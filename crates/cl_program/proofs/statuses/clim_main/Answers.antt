@@ -1,6 +1,7 @@
 use Rattle.std.proofs.Common.{map, List, ℕ}
 use denote.Bor.{Bor}
-use Rattle.cl_program.proofs.StatusLemmas.{check_named, end_reached, fault_named, limit_passed, loaded_declares, none_named, not_checked, opened_checked, opened_declares, refused_declares, run_named}
+use Rattle.cl_program.proofs.StatusLemmas.{check_named, end_reached, fault_named, limit_passed, loaded_declares, none_named, not_checked}
+use Rattle.cl_program.proofs.StatusLemmas.{opened_checked, opened_declares, refused_declares, run_named}
 use Rattle.cl_program.proofs.statuses.clim_main.Goals as goal
 
 pub returns-in-Usage-clause-refusal_due : goal.returns-in-Usage-clause-refusal_due
