@@ -4,7 +4,9 @@
 
 mod defaults;
 mod laws;
+mod one;
 mod parsing;
 
 pub use laws::arguments_are_members;
+pub use one::One;
 pub use parsing::{Parsed, Parser};
