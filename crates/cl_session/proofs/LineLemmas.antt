@@ -8,7 +8,8 @@ use Rattle.cl_line.specs.declared.elements.Element.{Element}
 use Rattle.cl_line.specs.declared.elements.Element.TheVariants.{Char}
 use Rattle.cl_line.specs.declared.lines.TheConstants.{MAX_ELEMENTS}
 use Rattle.cl_session.specs.Laws.{IsTakenBack}
-use Rattle.cl_session.specs.Step.{refuse, rub_out, tell}
+use Rattle.cl_session.specs.Runs.{refuse, tell}
+use Rattle.cl_session.specs.Step.{rub_out}
 use Rattle.cl_session.specs.World.{World}
 
 without_pushed : (line : List Element) (e : Element) → without_last (line ++ e ∷ []) ≡ line

@@ -17,8 +17,10 @@ use Rattle.cl_parser.specs.declared.parsing.Parsed.{Parsed}
 use Rattle.cl_parser.specs.declared.parsing.Parsed.TheVariants as parsed
 use Rattle.cl_session.specs.Pointing.{TypedArgument, chosen_at, is_within, line_with, typed_in, values_in}
 use Rattle.cl_session.specs.Step.{act_on, got_line, point_at, run_chosen, run_named, take_object, with_pane}
-use Rattle.cl_session.specs.Step.{Handled, bad_line, command_outcome, command_trap_line, finish_by, finish_parsed, is_on, need_line, parsed_line}
-use Rattle.cl_session.specs.Step.{stroke_by, stroke_parsed, history_rows, refuse, run_command, tell, tell_history}
+use Rattle.cl_session.specs.Runs.{Handled, bad_line, command_outcome, command_trap_line, is_on}
+use Rattle.cl_session.specs.Step.{finish_by, finish_parsed, need_line, parsed_line}
+use Rattle.cl_session.specs.Runs.{refuse, run_command, tell}
+use Rattle.cl_session.specs.Step.{stroke_by, stroke_parsed, history_rows, tell_history}
 use Rattle.cl_session.specs.World.{World}
 use Rattle.cl_translate.specs.Choices.{Given}
 use Rattle.cl_value.specs.Data.{Data, symbol, list, item}

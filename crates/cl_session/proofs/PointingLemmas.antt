@@ -18,7 +18,8 @@ use Rattle.cl_session.specs.Accessible.{IsAccessible}
 use Rattle.cl_session.specs.Handling.{enabled_in}
 use Rattle.cl_session.specs.declared.accessible.Accessible.{Accessible}
 use Rattle.cl_session.specs.Pointing.{TypedArgument, chosen_by, contexts_of, is_within, line_with, scene_by, typed_in, value_of, values_in}
-use Rattle.cl_session.specs.Step.{Handled, act_on, command_outcome, got_line, point_at, run_chosen, run_command, run_named, take_object, tell}
+use Rattle.cl_session.specs.Runs.{Handled, command_outcome, run_command, tell}
+use Rattle.cl_session.specs.Step.{act_on, got_line, point_at, run_chosen, run_named, take_object}
 use Rattle.cl_session.specs.World.{Enabled, World}
 use Rattle.cl_syntax.specs.TypeSpecTree.{TypeSpecTree}
 use Rattle.cl_tables.specs.Enabled.{States, is_enabled}

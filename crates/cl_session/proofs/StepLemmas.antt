@@ -21,7 +21,8 @@ use Rattle.cl_redisplay.specs.declared.screens.Painted.TheVariants as painted
 use Rattle.cl_session.specs.Handling.{AreRepliesOf, HandlesTo, after_of, enabled_in, handling_met, world_at}
 use Rattle.cl_session.specs.Replies.{lines_of, met_of, own_lines}
 use Rattle.cl_session.specs.Session.{StepsTo, world_of}
-use Rattle.cl_session.specs.Step.{Handled, Spends, gesture_bytes, handled, handled_or_not, next, next_behind, pane_lines, sent_behind, settled_behind, wire_lines, which_after}
+use Rattle.cl_session.specs.Runs.{Handled}
+use Rattle.cl_session.specs.Step.{Spends, gesture_bytes, handled, handled_or_not, next, next_behind, pane_lines, sent_behind, settled_behind, wire_lines, which_after}
 use Rattle.cl_session.specs.Transcript.{RoseIf}
 use Rattle.cl_session.specs.World.{Enabled, World}
 use Rattle.cl_session.specs.declared.answers.Replies.{Replies}

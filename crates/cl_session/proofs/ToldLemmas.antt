@@ -25,8 +25,10 @@ use Rattle.cl_redisplay.specs.Shown.{Shown, glyph_in, row_from, rows_from, told_
 use Rattle.cl_session.specs.Laws.{IsToldByLines}
 use Rattle.cl_session.specs.Naming.{command_of_line, command_of_stroke}
 use Rattle.cl_session.specs.Step.{point_at}
-use Rattle.cl_session.specs.Step.{Handled, handled, handled_or_not, memory_line, next_behind, pane_lines, refuse, report_line, report_lines}
-use Rattle.cl_session.specs.Step.{report_tail, settled_behind, shown_in, tell, trap_line, which_after, wire_lines}
+use Rattle.cl_session.specs.Runs.{Handled, refuse}
+use Rattle.cl_session.specs.Step.{handled, handled_or_not, memory_line, next_behind, pane_lines, report_line, report_lines}
+use Rattle.cl_session.specs.Runs.{tell}
+use Rattle.cl_session.specs.Step.{report_tail, settled_behind, shown_in, trap_line, which_after, wire_lines}
 use Rattle.cl_session.specs.World.{World}
 use Rattle.cl_session.proofs.OwnReplies.{IsNotMemory, first_of, memory_said, no_first, not_finished, not_full, not_history, not_inks, not_memory_if}
 use Rattle.cl_session.proofs.OwnReplies.{not_pointed, not_pressed, not_with}

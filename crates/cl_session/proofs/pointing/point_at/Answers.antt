@@ -4,7 +4,7 @@ use Rattle.cl_eval.specs.Outcome.{RisesBy}
 use Rattle.cl_frame.specs.Ground.{ground_of}
 use Rattle.cl_frame.specs.Panes.{marks_of_pane}
 use Rattle.cl_session.specs.Handling.{HandlesTo, handling_met, world_at}
-use Rattle.cl_session.specs.Step.{Handled}
+use Rattle.cl_session.specs.Runs.{Handled}
 use Rattle.cl_session.specs.Targets.{typed_of}
 use Rattle.cl_translate.specs.Choices.{given_of}
 use Rattle.cl_session.proofs.PointingLemmas.{acted_on}
