@@ -184,7 +184,7 @@ keeps_set_selected w (Some o) d = keeps_set w o o.selected d
 keeps_read : (w : World) (o : Option OpenDialog) (r : Option OneAt) → Keeps w (return_read w o r)
 keeps_read w o None = keeps_told w 0 (codes "! query" ∷ [])
 keeps_read w o (Some (one.Object d)) = keeps_set_selected w o d
-keeps_read w o (Some one.Bad) = keeps_told w 0 (bad_line 1 ∷ [])
+keeps_read w o (Some one.Bad) = keeps_told w 0 (codes "! bad 1" ∷ [])
 keeps_read w o (Some one.Surplus) = keeps_told w 0 (codes "! surplus" ∷ [])
 
 -- a selection leaves what panes show

@@ -20,7 +20,7 @@ without_pushed line e =
 taken_by : (w : World) (byte : ℕ) (fits : Bool) → fits ≡ true
     → (rub_out (if fits then tell (record w { line = w.line ++ Char byte ∷ [] }) 0 [] else refuse w 0 (codes "! full")).world).world ≡ w
 taken_by w byte true h =
-    let of : List Element → World = λ line. record { slots = w.slots; line = line; enabled = w.enabled; panes = w.panes; stale = w.stale } in
+    let of : List Element → World = λ line. record { slots = w.slots; line = line; enabled = w.enabled; dialog = w.dialog; panes = w.panes; stale = w.stale } in
     ap of (without_pushed w.line (Char byte))
 taken_by w byte false h = absurd (cc)
 

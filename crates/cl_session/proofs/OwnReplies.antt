@@ -155,7 +155,7 @@ not_set_selected w (Some o) d = not_set w o o.selected d
 not_read : (w : World) (o : Option OpenDialog) (r : Option OneAt) → IsNotMemory (return_read w o r).replies
 not_read w o None = not_query
 not_read w o (Some (one.Object d)) = not_set_selected w o d
-not_read w o (Some one.Bad) = differ_at 2 memory_said (bad_line 1) (λ no. omega (arith, no))
+not_read w o (Some one.Bad) = differ_at 2 memory_said (codes "! bad 1") (λ no. omega (arith, no))
 not_read w o (Some one.Surplus) = not_surplus
 
 not_selected : (w : World) (o : Option OpenDialog) (x : List ℕ) → IsNotMemory (select_query w o x).replies

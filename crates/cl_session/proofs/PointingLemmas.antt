@@ -1,5 +1,5 @@
 -- What is pointed at, by the program's parts.
-use Rattle.std.proofs.Common.{◌≡◌, ℕ, ℤ, ◌+◌, ◌≤◌, true, List, [], ◌∷◌, length, map, nat_le, Option, Some, Result, Ok, Err, IfOk, refl, sym, ◌∙◌, ap, subst}
+use Rattle.std.proofs.Common.{◌≡◌, ℕ, ℤ, ◌+◌, ◌≤◌, true, List, [], ◌∷◌, length, map, nat_le, Option, None, Some, Result, Ok, Err, IfOk, refl, sym, ◌∙◌, ap, subst}
 use Rattle.std.proofs.lemmas.Bool.{le-leb}
 use Rattle.cl_application.specs.App.{command_named}
 use Rattle.cl_application.specs.declared.declarations.CommandDecl.{CommandDecl}
@@ -100,21 +100,22 @@ same_choice g slots enabled types p d m s contexts marks x y o scenes same shown
     is ∙ (λ i. chosen (scenes i) p.gesture (same i) (candidates (touched item_bounds (across i) (down i) (shown i)) (blank_area d.name (across i) (down i))))
 
 -- what is typed and what is chosen decide
-pub acted_on : (g : Ground) (w : World) (p : PointAt) (d : PaneDecl) (m : PaneMarks) (t : Option TypedArgument) (r : Option Given)
-    → t ≡ typed_in g.app w.line → r ≡ chosen_by g w.slots w.enabled (contexts_of t) p d m → point_within g w p d m None ≡ act_on g w t r
-acted_on g w p d m t r typed is =
+pub acted_on : (g : Ground) (w : World) (p : PointAt) (d : PaneDecl) (m : PaneMarks) (t : Option TypedArgument) (contexts : List TypeSpecTree) (r : Option Given)
+    → t ≡ typed_in g.app w.line → contexts ≡ contexts_of t → r ≡ chosen_by g w.slots w.enabled contexts p d m
+    → point_within g w p d m None ≡ act_on g w t r
+acted_on g w p d m t contexts r typed types is =
     let both : r ≡ chosen_by g w.slots w.enabled (contexts_of (typed_in g.app w.line)) p d m =
-    is ∙ ap (λ u. chosen_by g w.slots w.enabled (contexts_of u) p d m) typed in
+    is ∙ ap (λ ts. chosen_by g w.slots w.enabled ts p d m) (types ∙ ap contexts_of typed) in
     sym (λ i. act_on g w (typed i) (both i))
 
 -- in a dialog what is chosen decides
 pub answered_on : (g : Ground) (w : World) (p : PointAt) (d : PaneDecl) (m : PaneMarks) (dialog : Option OpenDialog) (o : OpenDialog) (contexts : List TypeSpecTree)
     (r : Option Given) → dialog ≡ Some o → contexts ≡ dialog_contexts g.app o → r ≡ chosen_by g w.slots w.enabled contexts p d m
     → point_within g w p d m dialog ≡ answer g w dialog r
-answered_on g w p d m dialog o contexts r open types is =
+answered_on g w p d m dialog o contexts r opens types is =
     let chosen : r ≡ chosen_by g w.slots w.enabled (dialog_contexts g.app o) p d m =
     is ∙ ap (λ ts. chosen_by g w.slots w.enabled ts p d m) types in
-    ap (point_within g w p d m) open ∙ (ap (answer g w (Some o)) (sym chosen) ∙ ap (λ u. answer g w u r) (sym open))
+    ap (point_within g w p d m) opens ∙ (ap (answer g w (Some o)) (sym chosen) ∙ ap (λ u. answer g w u r) (sym opens))
 
 -- a command with its arguments is run
 pub chosen_run : (g : Ground) (w : World) (slice : List Value) (parts : List Data) (v first : Value) (rest : List Value) (x : List ℕ) (command : CommandDecl)

@@ -13,7 +13,7 @@ use Rattle.cl_frame.specs.Ground.{Ground}
 use Rattle.cl_line.specs.declared.elements.Element.{Element}
 use Rattle.cl_parser.specs.One.{OneAt, one_of}
 use Rattle.cl_parser.specs.One as one
-use Rattle.cl_session.specs.Runs.{Handled, bad_line, command_outcome, is_on, refuse, run_command, scene_at, tell}
+use Rattle.cl_session.specs.Runs.{Handled, command_outcome, is_on, refuse, run_command, scene_at, tell}
 use Rattle.cl_session.specs.World.{World}
 use Rattle.cl_session.specs.declared.handling.After.TheVariants as after
 use Rattle.cl_syntax.specs.TypeSpecTree.{TypeSpecTree, plain_type}
@@ -63,7 +63,7 @@ read_line g slots line o = read_by g slots line (selected_type g.app o)
 abbrev pub return_read : World → Option OpenDialog → Option OneAt → Handled
 return_read w dialog None = refuse w 0 (codes "! query")
 return_read w dialog (Some (one.Object d)) = set_selected w dialog d
-return_read w dialog (Some one.Bad) = refuse w 0 (bad_line 1)
+return_read w dialog (Some one.Bad) = refuse w 0 (codes "! bad 1")
 return_read w dialog (Some one.Surplus) = refuse w 0 (codes "! surplus")
 
 abbrev pub return_in_dialog : Ground → World → OpenDialog → Handled

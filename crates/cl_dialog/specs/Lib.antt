@@ -1,0 +1,3 @@
+pub mod Dialogs
+pub mod Exits
+pub mod Answers

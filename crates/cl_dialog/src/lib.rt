@@ -1,0 +1,4 @@
+//! Stand-in.
+#![tactic(auto)]
+mod dialogs;
+pub use dialogs::{Dialog, Exit};
