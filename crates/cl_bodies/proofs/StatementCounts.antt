@@ -8,7 +8,7 @@ use Rattle.cl_expressions.specs.Scopes.{Names}
 use Rattle.cl_expressions.specs.Expressions.{subs}
 use Rattle.cl_forms.specs.declared.datum.Datum.{Datum}
 use Rattle.cl_words.specs.declared.signatures.Signatures.{Signatures}
-use Rattle.cl_bodies.specs.Statements.{parse_setf, parse_place, parse_reply, parse_switch}
+use Rattle.cl_bodies.specs.Statements.{parse_setf, parse_place, parse_reply, parse_switch, parse_open_dialog}
 
 pub setf_counts : (w : Signatures) (at : ℕ) (ds : List Datum) (env : Names) (s : Notes) → (length ds ≡ 2 → ⊥)
     → parse_setf w at (subs w (datums_of (map datum_of ds))) env s ≡ Err (6, at)
@@ -34,3 +34,9 @@ pub switch_counts : (w : Signatures) (on : Bool) (at : ℕ) (ds : List Datum) (s
 switch_counts w on at [] s h = refl
 switch_counts w on at (a ∷ []) s h = absurd (h refl)
 switch_counts w on at (a ∷ b ∷ ds) s h = refl
+
+pub open_dialog_counts : (w : Signatures) (at : ℕ) (ds : List Datum) (s : Notes) → (length ds ≡ 1 → ⊥)
+    → parse_open_dialog w at (subs w (datums_of (map datum_of ds))) s ≡ Err (6, at)
+open_dialog_counts w at [] s h = refl
+open_dialog_counts w at (a ∷ []) s h = absurd (h refl)
+open_dialog_counts w at (a ∷ b ∷ ds) s h = refl

@@ -7,12 +7,11 @@ use Rattle.cl_syntax.specs.ActTree.{ActTree, act_trees_of}
 use Rattle.cl_forms.specs.Datum.{Datum, Datums, offset, parts_of}
 use Rattle.cl_expressions.specs.Load.{Load, ◌>>=◌, give, refuse, noted}
 use Rattle.cl_expressions.specs.Scopes.{Names}
-use Rattle.cl_words.specs.Signatures.{slot_in, command_in}
+use Rattle.cl_words.specs.Signatures.{slot_in, command_in, dialog_in}
 use Rattle.cl_forms.specs.Naming.{symbol_of}
 use Rattle.cl_expressions.specs.Expressions.{Sub, named_part}
 use Rattle.cl_words.specs.declared.heads.Head.{Head}
 use Rattle.cl_words.specs.declared.heads.Head.TheVariants as head
-use Rattle.cl_words.specs.declared.heads.Planned.TheVariants as planned
 use Rattle.cl_words.specs.declared.heads.Change.{Change}
 use Rattle.cl_words.specs.declared.heads.Change.TheVariants as change
 use Rattle.cl_words.specs.declared.signatures.Signatures.{Signatures}
@@ -48,17 +47,26 @@ abbrev pub parse_switch : Signatures → Bool → ℕ → List Sub → Load ActT
 parse_switch w on at (a ∷ []) = parse_command_name w at a.shape >>= λ x. give (act.Switch x on)
 parse_switch w on at subs = refuse 6 at
 
+-- the name of a dialog, which is noted where no such dialog is declared
+abbrev pub parse_dialog_name : Signatures → ℕ → Datum → Load (List ℕ)
+parse_dialog_name w at d = named_part at d >>= λ x. noted (dialog_in w x) (offset d) >>= λ u. give x
+
+-- `(open-dialog DIALOG)`
+abbrev pub parse_open_dialog : Signatures → ℕ → List Sub → Load ActTree
+parse_open_dialog w at (a ∷ []) = parse_dialog_name w at a.shape >>= λ x. give (act.OpenDialog x)
+parse_open_dialog w at subs = refuse 6 at
+
 -- the statements that change or answer something
 abbrev pub parse_change : Signatures → Change → ℕ → List Sub → Names → Load ActTree
 parse_change w change.Setf at subs env = parse_setf w at subs env
 parse_change w change.Reply at subs env = parse_reply at subs env
 parse_change w change.Enable at subs env = parse_switch w true at subs
 parse_change w change.Disable at subs env = parse_switch w false at subs
+parse_change w change.OpenDialog at subs env = parse_open_dialog w at subs
 
--- a statement that is not built yet is refused as such; what heads no statement, as a word that is not known
+-- what heads no statement is refused as a word that is not known
 abbrev pub parse_own : Signatures → Head → ℕ → ℕ → List Sub → Names → Load (Own ActTree (Unit {0}) (Unit {0}))
 parse_own w (head.Change k) head_at at subs env = parse_change w k at subs env >>= λ s. give (Whole s)
-parse_own w (head.Planned planned.Statement) head_at at subs env = refuse 0 head_at
 parse_own w other head_at at subs env = refuse 5 head_at
 
 -- no statement has a body of its own, so nothing stands before one

@@ -5,7 +5,7 @@ ghost use Rattle.cl_forms.specs.DatumView.{datum_of};
 ghost use Rattle.cl_expressions.specs.Load.{Gives, itself};
 ghost use Rattle.cl_expressions.specs.Scopes.{variables_of};
 ghost use Rattle.cl_expressions.specs.Expressions.{subs};
-ghost use Rattle.cl_bodies.specs.Statements.{parse_act, parse_acts, parse_own, parse_change, parse_setf, parse_place, parse_place_name, parse_reply, parse_switch, parse_command_name};
+ghost use Rattle.cl_bodies.specs.Statements.{parse_act, parse_acts, parse_own, parse_change, parse_setf, parse_place, parse_place_name, parse_reply, parse_switch, parse_command_name, parse_open_dialog, parse_dialog_name};
 
 use crate::bodies::{parse_body, parse_form};
 use crate::languages::Language;
@@ -14,7 +14,7 @@ use cl_expressions::{Notes, Reader, parse_expression};
 use cl_forms::{Datum, FormRefusal, named_part, symbol_of};
 use cl_syntax::{Act, Acts, Binding, Expr};
 use cl_value::Text;
-use cl_words::{Change, Head, Planned};
+use cl_words::{Change, Head};
 use std::alloc::{AllocError, Global};
 
 /// The statement that a datum is. Where a name in it is not declared, the first such is noted.
@@ -119,7 +119,6 @@ fn parse_own(
 {
     match head {
         Head::Change(change) => Ok(Own::Whole(parse_change(reader, change, at, parts, notes)?)),
-        Head::Planned(Planned::Statement) => Err(FormRefusal::Refused(0, head_at)),
         _ => Err(FormRefusal::Refused(5, head_at)),
     }
 }
@@ -141,6 +140,7 @@ fn parse_change(
         Change::Reply => parse_reply(reader, at, parts, notes),
         Change::Enable => parse_switch(reader, true, at, parts, notes),
         Change::Disable => parse_switch(reader, false, at, parts, notes),
+        Change::OpenDialog => parse_open_dialog(reader, at, parts, notes),
     }
 }
 
@@ -259,6 +259,43 @@ fn parse_command_name(
     let name = named_part(at, datum)?;
     notes.note(
         reader.signatures.has_command(name.as_slice()),
+        datum.offset(),
+    );
+    Ok(name)
+}
+
+/// `(open-dialog DIALOG)`
+#[tactic(auto, using(crate::proofs::StatementCounts::open_dialog_counts))]
+fn parse_open_dialog(
+    reader: &Reader,
+    at: u32,
+    parts: &[Datum],
+    notes: &mut Notes,
+) -> Result<Act, FormRefusal>
+    ensures { Gives itself result notes.new
+        (parse_open_dialog reader.now.signatures.now at (subs reader.now.signatures.now (datums_of (map datum_of parts.now)))
+        notes.old) }
+{
+    match parts {
+        [dialog] => Ok(Act::open_dialog(parse_dialog_name(reader, at, dialog, notes)?)),
+        [] => Err(FormRefusal::Refused(6, at)),
+        [_, _, ..] => Err(FormRefusal::Refused(6, at)),
+    }
+}
+
+/// The name of a dialog. Where no such dialog is declared, it is noted.
+fn parse_dialog_name(
+    reader: &Reader,
+    at: u32,
+    datum: &Datum,
+    notes: &mut Notes,
+) -> Result<Text, FormRefusal>
+    ensures { Gives itself result notes.new
+        (parse_dialog_name reader.now.signatures.now at (datum_of datum.now) notes.old) }
+{
+    let name = named_part(at, datum)?;
+    notes.note(
+        reader.signatures.has_dialog(name.as_slice()),
         datum.offset(),
     );
     Ok(name)

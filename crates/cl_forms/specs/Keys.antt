@@ -6,7 +6,9 @@ use denote.Enum.Bare.{sameb}
 use Rattle.cl_forms.specs.Datum.{Datum, offset, parts_of}
 use Rattle.cl_forms.specs.Naming.{symbol_of}
 use Rattle.cl_forms.specs.declared.keys.Key.{Key}
-use Rattle.cl_forms.specs.declared.keys.Key.TheVariants.{Size, Slots, Panes, CommandTable, Name, Keystroke, InheritFrom, Satisfies, Description, Separator, SingleBox, Default, Prompt, Gesture, Priority, Documentation, Tester, UniqueId, CacheValue}
+use Rattle.cl_forms.specs.declared.keys.Key.TheVariants.{Size, Slots, Panes, CommandTable, Name, Keystroke, InheritFrom, Satisfies, Description, Separator}
+use Rattle.cl_forms.specs.declared.keys.Key.TheVariants.{SingleBox, Default, Prompt, Gesture, Priority, Documentation, Tester, UniqueId, CacheValue}
+use Rattle.cl_forms.specs.declared.keys.Key.TheVariants.{Command, Pane, When, Else}
 use Rattle.cl_forms.specs.contracts.keys.Key.{the_type}
 
 -- a key with its offset and what stands behind it
@@ -50,12 +52,20 @@ update_key word =
     if bytes_eq word (codes ":unique-id") then Some UniqueId
     else (if bytes_eq word (codes ":cache-value") then Some CacheValue else None)
 
+-- the keys of dialogs and of their queries alone
+abbrev pub dialog_key : List ℕ → Option Key
+dialog_key word =
+    if bytes_eq word (codes ":command") then Some Command
+    else (if bytes_eq word (codes ":pane") then Some Pane
+    else (if bytes_eq word (codes ":when") then Some When
+    else (if bytes_eq word (codes ":else") then Some Else else None)))
+
 abbrev pub key_or : Option Key → Option Key → Option Key
 key_or (Some key) other = Some key
 key_or None other = other
 
 abbrev pub key_named : List ℕ → Option Key
-key_named word = key_or (section_key word) (key_or (value_key word) (key_or (translator_key word) (update_key word)))
+key_named word = key_or (section_key word) (key_or (value_key word) (key_or (translator_key word) (key_or (update_key word) (dialog_key word))))
 
 abbrev pub same_key : Key → Key → Bool
 same_key a b = sameb the_type a b

@@ -1,10 +1,10 @@
 -- The outermost forms of a text, by their heads.
-use Rattle.std.specs.Prelude.{ℕ, Bool, ◌||◌, if◌then◌else◌, List, [], ◌∷◌, map, Option, Some, None, option_and_then, codes}
+use Rattle.std.specs.Prelude.{ℕ, Bool, if◌then◌else◌, List, [], ◌∷◌, map, Option, Some, None, option_and_then, codes}
 use Rattle.std.specs.Str.{bytes_eq}
 use Rattle.cl_forms.specs.Datum.{Datum, number, literal, word, quoted, stray, list, in_order, offset, parts_of}
 use Rattle.cl_forms.specs.Naming.{name_in}
 use Rattle.cl_forms.specs.declared.outer.DeclarationKind.{DeclarationKind}
-use Rattle.cl_forms.specs.declared.outer.DeclarationKind.TheVariants.{Record, PresentationType, HostType, PresentMethod, AcceptMethod, Function, Display, CommandTable, Command, Translator, CommandTranslator, Frame}
+use Rattle.cl_forms.specs.declared.outer.DeclarationKind.TheVariants.{Record, PresentationType, HostType, PresentMethod, AcceptMethod, Function, Display, CommandTable, Command, Translator, CommandTranslator, Dialog, Frame}
 use Rattle.cl_forms.specs.declared.outer.OuterKind.{OuterKind}
 use Rattle.cl_forms.specs.declared.outer.OuterKind.TheVariants.{Declared, Planned, Unknown, Headless}
 
@@ -34,7 +34,8 @@ declared_by x =
     else (if bytes_eq x (codes "define-command") then Some Command
     else (if bytes_eq x (codes "define-presentation-translator") then Some Translator
     else (if bytes_eq x (codes "define-presentation-to-command-translator") then Some CommandTranslator
-    else (if bytes_eq x (codes "define-application-frame") then Some Frame else None))))))
+    else (if bytes_eq x (codes "define-dialog") then Some Dialog
+    else (if bytes_eq x (codes "define-application-frame") then Some Frame else None)))))))
 
 abbrev pub declared_or : Option DeclarationKind → Option DeclarationKind → Option DeclarationKind
 declared_or (Some kind) other = Some kind
@@ -43,9 +44,9 @@ declared_or None other = other
 abbrev pub declaration_named : List ℕ → Option DeclarationKind
 declaration_named x = declared_or (type_declared x) (declared_by x)
 
--- declarations that are not built yet
+-- a declaration that is not built yet
 abbrev pub is_planned : List ℕ → Bool
-is_planned x = bytes_eq x (codes "define-drag-and-drop-translator") || bytes_eq x (codes "define-dialog")
+is_planned x = bytes_eq x (codes "define-drag-and-drop-translator")
 
 abbrev pub kind_or : Option DeclarationKind → OuterKind → OuterKind
 kind_or (Some kind) other = Declared kind
@@ -91,6 +92,7 @@ outer_name (Declared Display) ds = first_of ds
 outer_name (Declared CommandTable) ds = first_of ds
 outer_name (Declared Translator) ds = first_of ds
 outer_name (Declared CommandTranslator) ds = first_of ds
+outer_name (Declared Dialog) ds = first_of ds
 outer_name (Declared Frame) ds = first_of ds
 outer_name (Planned at) ds = first_of ds
 outer_name (Unknown at) ds = first_of ds

@@ -3,13 +3,14 @@ ghost use Rattle.std.specs.Prelude.{◌≡◌, ◌++◌, ◌∷◌, [], IfOk, ma
 ghost use Rattle.std.specs.List.{list_any};
 ghost use Rattle.cl_forms.specs.DatumView.{datum_of};
 ghost use Rattle.cl_forms.specs.KeyedView.{keyed_of};
-ghost use Rattle.cl_forms.specs.Keys.{key_named, section_key, value_key, translator_key, update_key, same_key, is_among, key_in, has_key, is_key, values_behind, section_values, section_of, section_in, pair_in, keyed_sections, keyed_pairs, values_of};
+ghost use Rattle.cl_forms.specs.Keys.{key_named, section_key, value_key, translator_key, update_key, dialog_key, same_key, is_among, key_in, has_key, is_key, values_behind, section_values, section_of, section_in, pair_in, keyed_sections, keyed_pairs, values_of};
 
 use crate::datum::Datum;
 use crate::naming::symbol_of;
 use std::alloc::{AllocError, Global};
 
-/// The keys of declarations, of arguments, of types, of presentations, of translators and of updates.
+/// The keys of declarations, of arguments, of types, of presentations, of translators, of updates and of
+/// dialogs.
 #[derive(Clone, Copy, PartialEq, Eq)]
 pub enum Key {
     Size,
@@ -31,6 +32,10 @@ pub enum Key {
     Tester,
     UniqueId,
     CacheValue,
+    Command,
+    Pane,
+    When,
+    Else,
 }
 
 /// A key with what stands behind it.
@@ -55,7 +60,10 @@ pub fn key_named(word: &[u8]) -> Option<Key>
     if let Some(key) = translator_key(word) {
         return Some(key);
     }
-    update_key(word)
+    if let Some(key) = update_key(word) {
+        return Some(key);
+    }
+    dialog_key(word)
 }
 
 /// The key that a word is, if it begins a section of a frame.
@@ -127,6 +135,23 @@ fn update_key(word: &[u8]) -> Option<Key>
         Some(Key::UniqueId)
     } else if word == b":cache-value".as_slice() {
         Some(Key::CacheValue)
+    } else {
+        None
+    }
+}
+
+/// The key that a word is, if a dialog or a query of one alone may have it.
+fn dialog_key(word: &[u8]) -> Option<Key>
+    ensures { result ≡ dialog_key word.now }
+{
+    if word == b":command".as_slice() {
+        Some(Key::Command)
+    } else if word == b":pane".as_slice() {
+        Some(Key::Pane)
+    } else if word == b":when".as_slice() {
+        Some(Key::When)
+    } else if word == b":else".as_slice() {
+        Some(Key::Else)
     } else {
         None
     }

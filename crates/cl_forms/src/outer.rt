@@ -23,6 +23,7 @@ pub enum DeclarationKind {
     Command,
     Translator,
     CommandTranslator,
+    Dialog,
     Frame,
 }
 
@@ -188,6 +189,8 @@ fn declared_by(word: &[u8]) -> Option<DeclarationKind>
         Some(DeclarationKind::Translator)
     } else if word == b"define-presentation-to-command-translator".as_slice() {
         Some(DeclarationKind::CommandTranslator)
+    } else if word == b"define-dialog".as_slice() {
+        Some(DeclarationKind::Dialog)
     } else if word == b"define-application-frame".as_slice() {
         Some(DeclarationKind::Frame)
     } else {
@@ -198,7 +201,7 @@ fn declared_by(word: &[u8]) -> Option<DeclarationKind>
 fn is_planned(word: &[u8]) -> bool
     ensures { result ≡ is_planned word.now }
 {
-    word == b"define-drag-and-drop-translator".as_slice() || word == b"define-dialog".as_slice()
+    word == b"define-drag-and-drop-translator".as_slice()
 }
 
 /// What stands where the name of such a form is.
@@ -217,6 +220,7 @@ fn outer_name(kind: OuterKind, parts: &[Datum]) -> Option<&Datum>
         OuterKind::Declared(DeclarationKind::CommandTable) => first_of(parts),
         OuterKind::Declared(DeclarationKind::Translator) => first_of(parts),
         OuterKind::Declared(DeclarationKind::CommandTranslator) => first_of(parts),
+        OuterKind::Declared(DeclarationKind::Dialog) => first_of(parts),
         OuterKind::Declared(DeclarationKind::Frame) => first_of(parts),
         OuterKind::Planned(_) => first_of(parts),
         OuterKind::Unknown(_) => first_of(parts),

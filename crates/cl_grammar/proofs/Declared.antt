@@ -8,16 +8,18 @@ use Rattle.cl_forms.specs.Datum.{Datum, number, literal, word, quoted, stray, li
 use Rattle.cl_forms.specs.Naming.{name_in, some_if, names_counted}
 use Rattle.cl_forms.specs.Words.{is_name}
 use Rattle.cl_forms.specs.Keys.{section_values}
-use Rattle.cl_forms.specs.declared.keys.Key.TheVariants.{Slots}
+use Rattle.cl_forms.specs.declared.keys.Key.TheVariants.{Slots, Panes}
 use Rattle.cl_forms.specs.Outer.{Outer, declared_name, behind_name}
 use Rattle.cl_forms.specs.declared.outer.DeclarationKind.{DeclarationKind}
-use Rattle.cl_forms.specs.declared.outer.DeclarationKind.TheVariants.{Record, PresentationType, HostType, PresentMethod, AcceptMethod, Command, Translator, CommandTranslator, Frame}
+use Rattle.cl_forms.specs.declared.outer.DeclarationKind.TheVariants.{Record, PresentationType, HostType, PresentMethod, AcceptMethod, Command, Translator, CommandTranslator, Dialog, Frame}
 use Rattle.cl_forms.specs.declared.outer.DeclarationKind.TheVariants as kind
 use Rattle.cl_forms.specs.declared.outer.OuterKind.{OuterKind}
 use Rattle.cl_forms.specs.declared.outer.OuterKind.TheVariants.{Declared, Planned, Unknown, Headless}
 use Rattle.cl_words.specs.Heads.{is_operator}
 use Rattle.cl_words.specs.TypeNames.{is_standard_type}
-use Rattle.cl_words.specs.Signatures.{parameters_counted, with_callee, with_type, with_slot, with_slot_of, with_slots, with_sections, is_global_table, with_command, with_table}
+use Rattle.cl_words.specs.Arguments.{arguments_behind}
+use Rattle.cl_words.specs.Signatures.{parameters_counted, part_name, with_callee, with_type, with_slot, with_slots, with_pane, with_panes, with_sections}
+use Rattle.cl_words.specs.Signatures.{is_global_table, with_command, with_dialog, with_table}
 use Rattle.cl_words.specs.Signatures.{with_declaration, with_outer_kind, with_outer, with_outers, signatures_of, nothing_declared, function_count}
 use Rattle.cl_words.specs.declared.signatures.Signatures.{Signatures}
 use Rattle.cl_words.specs.declared.signatures.Callee.{Callee}
@@ -86,21 +88,31 @@ table_named : (w : Signatures) (name : Option (List ℕ)) → DeclaresNamed w �
 table_named w None h = h
 table_named w (Some x) h = either_named (is_global_table x) w _ h h
 
-command_named : (w : Signatures) (name : Option (List ℕ)) → DeclaresNamed w → DeclaresNamed (with_command w name)
-command_named w None h = h
-command_named w (Some x) h = h
+command_named : (w : Signatures) (name : Option (List ℕ)) (arguments : Option (List (List ℕ))) → DeclaresNamed w → DeclaresNamed (with_command w name arguments)
+command_named w None arguments h = h
+command_named w (Some x) arguments h = h
 
-slot_of_named : (w : Signatures) (ds : List Datum) → DeclaresNamed w → DeclaresNamed (with_slot_of w ds)
-slot_of_named w [] h = h
-slot_of_named w (n ∷ more) h = slot_named w (name_in n) h
+dialog_named : (w : Signatures) (name : Option (List ℕ)) → DeclaresNamed w → DeclaresNamed (with_dialog w name)
+dialog_named w None h = h
+dialog_named w (Some x) h = h
+
+pane_named : (w : Signatures) (name : Option (List ℕ)) → DeclaresNamed w → DeclaresNamed (with_pane w name)
+pane_named w None h = h
+pane_named w (Some x) h = h
 
 slots_named : (w : Signatures) (ds : List Datum) → DeclaresNamed w → DeclaresNamed (with_slots w ds)
 slots_named w [] h = h
-slots_named w (d ∷ ds) h = slots_named (with_slot_of w (parts_of d)) ds (slot_of_named w (parts_of d) h)
+slots_named w (d ∷ ds) h = slots_named (with_slot w (part_name (parts_of d))) ds (slot_named w (part_name (parts_of d)) h)
+
+panes_named : (w : Signatures) (ds : List Datum) → DeclaresNamed w → DeclaresNamed (with_panes w ds)
+panes_named w [] h = h
+panes_named w (d ∷ ds) h = panes_named (with_pane w (part_name (parts_of d))) ds (pane_named w (part_name (parts_of d)) h)
 
 sections_named : (w : Signatures) (ds : List Datum) → DeclaresNamed w → DeclaresNamed (with_sections w ds)
 sections_named w [] h = h
-sections_named w (d ∷ ds) h = sections_named (with_slots w (section_values Slots d)) ds (slots_named w (section_values Slots d) h)
+sections_named w (d ∷ ds) h =
+    let slots : Signatures = with_slots w (section_values Slots d) in
+    sections_named (with_panes slots (section_values Panes d)) ds (panes_named slots (section_values Panes d) (slots_named w (section_values Slots d) h))
 
 outer_named : (d : Option Datum) → IfSome (option_and_then name_in d) (λ x. is_name x ≡ true)
 outer_named (Some d) = name_named d
@@ -115,9 +127,10 @@ declaration_named w AcceptMethod o h = h
 declaration_named w kind.Function o h = callee_named w Function (declared_name o) (parameters_counted (behind_name o)) h (outer_named o.name)
 declaration_named w kind.Display o h = callee_named w Display (declared_name o) (parameters_counted (behind_name o)) h (outer_named o.name)
 declaration_named w kind.CommandTable o h = table_named w (declared_name o) h
-declaration_named w Command o h = command_named w (declared_name o) h
+declaration_named w Command o h = command_named w (declared_name o) (arguments_behind (behind_name o)) h
 declaration_named w Translator o h = h
 declaration_named w CommandTranslator o h = h
+declaration_named w Dialog o h = dialog_named w (declared_name o) h
 declaration_named w Frame o h = sections_named w (behind_name o) h
 
 kind_named : (w : Signatures) (k : OuterKind) (o : Outer) → DeclaresNamed w → DeclaresNamed (with_outer_kind w k o)

@@ -232,15 +232,16 @@ module _ (w : Signatures) (x : List ℕ) where
   change_word : Finds (λ c. Stands w x (head.Change c)) (change_named x)
   change_word =
       word_is _ x (codes "setf") (λ e. stands e (λ k env ds. refl) tt) (word_is _ x (codes "reply") (λ e. stands e (λ k env ds. refl) tt)
-      (word_is _ x (codes "enable") (λ e. stands e (λ k env ds. refl) tt) (word_is _ x (codes "disable") (λ e. stands e (λ k env ds. refl) tt) nothing)))
+      (word_is _ x (codes "enable") (λ e. stands e (λ k env ds. refl) tt) (word_is _ x (codes "disable") (λ e. stands e (λ k env ds. refl) tt)
+      (word_is _ x (codes "open-dialog") (λ e. stands e (λ k env ds. refl) tt) nothing))))
 
   planned_display_word : Finds (λ p. Stands w x (head.Planned p)) (planned_display x)
   planned_display_word = word_is _ x (codes "formatting-table") (λ e. stands e (λ k env ds. refl) tt) nothing
 
   planned_other_word : Finds (λ p. Stands w x (head.Planned p)) (planned_other x)
   planned_other_word =
-      word_is _ x (codes "open-dialog") (λ e. stands e (λ k env ds. refl) tt) (word_is _ x (codes "formatting-row") (λ e. stands e (λ k env ds. refl) tt)
-      (word_is _ x (codes "formatting-cell") (λ e. stands e (λ k env ds. refl) tt) nothing))
+      word_is _ x (codes "formatting-row") (λ e. stands e (λ k env ds. refl) tt)
+      (word_is _ x (codes "formatting-cell") (λ e. stands e (λ k env ds. refl) tt) nothing)
 
   operator_word : Finds (λ o. Stands w x (head.Operator o)) (operator_named x)
   operator_word =

@@ -179,7 +179,8 @@ change_named word =
     if bytes_eq word (codes "setf") then Some change.Setf
     else (if bytes_eq word (codes "reply") then Some change.Reply
     else (if bytes_eq word (codes "enable") then Some change.Enable
-    else (if bytes_eq word (codes "disable") then Some change.Disable else None)))
+    else (if bytes_eq word (codes "disable") then Some change.Disable
+    else (if bytes_eq word (codes "open-dialog") then Some change.OpenDialog else None))))
 
 -- what is not built yet
 abbrev pub planned_display : List ℕ → Option Planned
@@ -188,9 +189,8 @@ planned_display word =
 
 abbrev pub planned_other : List ℕ → Option Planned
 planned_other word =
-    if bytes_eq word (codes "open-dialog") then Some planned.Statement
-    else (if bytes_eq word (codes "formatting-row") then Some planned.Part
-    else (if bytes_eq word (codes "formatting-cell") then Some planned.Part else None))
+    if bytes_eq word (codes "formatting-row") then Some planned.Part
+    else (if bytes_eq word (codes "formatting-cell") then Some planned.Part else None)
 
 abbrev pub planned_named : List ℕ → Option Planned
 planned_named word = named_or (λ p. p) (planned_display word) (planned_other word)

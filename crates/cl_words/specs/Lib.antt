@@ -1,3 +1,4 @@
+pub mod Arguments
 pub mod Heads
 pub mod TypeNames
 pub mod Signatures

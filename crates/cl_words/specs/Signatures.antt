@@ -1,24 +1,26 @@
--- What the outermost forms of a text declare: functions, displays, types, slots, command tables and commands by name, whether their forms are right or
--- not. Of two of one name in one space the first counts, and a name that is reserved is none.
-use Rattle.std.specs.Prelude.{ℕ, Bool, ◌||◌, is_some, if◌then◌else◌, List, [], ◌∷◌, Option, Some, None, codes}
+-- What the outermost forms of a text declare: functions, displays, types, slots, panes, command tables, commands and dialogs by name, whether their forms
+-- are right or not. Of two of one name in one space the first counts, and a name that is reserved is none.
+use Rattle.std.specs.Prelude.{ℕ, Bool, ◌||◌, is_some, if◌then◌else◌, List, [], ◌∷◌, Option, Some, None, option_and_then, codes}
 use Rattle.std.specs.Str.{bytes_eq}
 use Rattle.cl_table.specs.Names.{named, with_first}
 use Rattle.cl_forms.specs.Datum.{Datum, parts_of}
 use Rattle.cl_forms.specs.Naming.{name_in, names_counted, list_counted}
 use Rattle.cl_forms.specs.Keys.{section_values}
-use Rattle.cl_forms.specs.declared.keys.Key.TheVariants.{Slots}
+use Rattle.cl_forms.specs.declared.keys.Key.TheVariants.{Slots, Panes}
 use Rattle.cl_forms.specs.Outer.{Outer, declared_name, behind_name}
 use Rattle.cl_forms.specs.declared.outer.DeclarationKind.{DeclarationKind}
-use Rattle.cl_forms.specs.declared.outer.DeclarationKind.TheVariants.{Record, PresentationType, HostType, PresentMethod, AcceptMethod, CommandTable, Command, Translator, CommandTranslator, Frame}
+use Rattle.cl_forms.specs.declared.outer.DeclarationKind.TheVariants.{Record, PresentationType, HostType, PresentMethod, AcceptMethod, CommandTable, Command, Translator, CommandTranslator, Dialog, Frame}
 use Rattle.cl_forms.specs.declared.outer.DeclarationKind.TheVariants as kind
 use Rattle.cl_forms.specs.declared.outer.OuterKind.{OuterKind}
 use Rattle.cl_forms.specs.declared.outer.OuterKind.TheVariants.{Declared, Planned, Unknown, Headless}
+use Rattle.cl_words.specs.Arguments.{arguments_behind}
 use Rattle.cl_words.specs.Heads.{is_operator}
 use Rattle.cl_words.specs.TypeNames.{is_standard_type}
 use Rattle.cl_words.specs.declared.signatures.Signatures.{Signatures}
 use Rattle.cl_words.specs.declared.signatures.Callee.{Callee}
 use Rattle.cl_words.specs.declared.signatures.CalleeKind.{CalleeKind}
 use Rattle.cl_words.specs.declared.signatures.CalleeKind.TheVariants.{Function, Display}
+use Rattle.cl_words.specs.declared.signatures.CommandHead.{CommandHead}
 use Rattle.cl_words.specs.declared.signatures.TypeHead.{TypeHead}
 use Rattle.cl_words.specs.declared.signatures.TypeKind.{TypeKind}
 use Rattle.cl_words.specs.declared.signatures.TypeKind.TheVariants as type
@@ -44,19 +46,27 @@ abbrev pub with_slot : Signatures → Option (List ℕ) → Signatures
 with_slot w None = w
 with_slot w (Some x) = record w { slots = with_first (λ s. s.name) w.slots (record { name = x }) }
 
--- the slot of a part of `(:slots ..)`, which is a list that begins with its name
-abbrev pub with_slot_of : Signatures → List Datum → Signatures
-with_slot_of w [] = w
-with_slot_of w (n ∷ more) = with_slot w (name_in n)
+abbrev pub with_pane : Signatures → Option (List ℕ) → Signatures
+with_pane w None = w
+with_pane w (Some x) = record w { panes = with_first (λ p. p.name) w.panes (record { name = x }) }
+
+-- the name of a part of `(:slots ..)` or `(:panes ..)`, which is a list that begins with it
+abbrev pub part_name : List Datum → Option (List ℕ)
+part_name [] = None
+part_name (n ∷ more) = name_in n
 
 abbrev pub with_slots : Signatures → List Datum → Signatures
 with_slots w [] = w
-with_slots w (d ∷ ds) = with_slots (with_slot_of w (parts_of d)) ds
+with_slots w (d ∷ ds) = with_slots (with_slot w (part_name (parts_of d))) ds
 
--- the slots of the sections of a frame
+abbrev pub with_panes : Signatures → List Datum → Signatures
+with_panes w [] = w
+with_panes w (d ∷ ds) = with_panes (with_pane w (part_name (parts_of d))) ds
+
+-- the slots and the panes of the sections of a frame
 abbrev pub with_sections : Signatures → List Datum → Signatures
 with_sections w [] = w
-with_sections w (d ∷ ds) = with_sections (with_slots w (section_values Slots d)) ds
+with_sections w (d ∷ ds) = with_sections (with_panes (with_slots w (section_values Slots d)) (section_values Panes d)) ds
 
 -- the command table that each text has
 abbrev pub global_table : List ℕ
@@ -70,9 +80,14 @@ abbrev pub with_table : Signatures → Option (List ℕ) → Signatures
 with_table w None = w
 with_table w (Some x) = if is_global_table x then w else record w { tables = with_first (λ t. t.name) w.tables (record { name = x }) }
 
-abbrev pub with_command : Signatures → Option (List ℕ) → Signatures
-with_command w None = w
-with_command w (Some x) = record w { commands = with_first (λ c. c.name) w.commands (record { name = x }) }
+-- a command, with the names of its arguments where they can be told
+abbrev pub with_command : Signatures → Option (List ℕ) → Option (List (List ℕ)) → Signatures
+with_command w None arguments = w
+with_command w (Some x) arguments = record w { commands = with_first (λ c. c.name) w.commands (record { name = x; arguments = arguments }) }
+
+abbrev pub with_dialog : Signatures → Option (List ℕ) → Signatures
+with_dialog w None = w
+with_dialog w (Some x) = record w { dialogs = with_first (λ d. d.name) w.dialogs (record { name = x }) }
 
 abbrev pub with_declaration : Signatures → DeclarationKind → Outer → Signatures
 with_declaration w Record o = with_type w type.Record (declared_name o) (names_counted (behind_name o))
@@ -83,9 +98,10 @@ with_declaration w AcceptMethod o = w
 with_declaration w kind.Function o = with_callee w Function (declared_name o) (parameters_counted (behind_name o))
 with_declaration w kind.Display o = with_callee w Display (declared_name o) (parameters_counted (behind_name o))
 with_declaration w CommandTable o = with_table w (declared_name o)
-with_declaration w Command o = with_command w (declared_name o)
+with_declaration w Command o = with_command w (declared_name o) (arguments_behind (behind_name o))
 with_declaration w Translator o = w
 with_declaration w CommandTranslator o = w
+with_declaration w Dialog o = with_dialog w (declared_name o)
 with_declaration w Frame o = with_sections w (behind_name o)
 
 abbrev pub with_outer_kind : Signatures → OuterKind → Outer → Signatures
@@ -102,7 +118,7 @@ with_outers w [] = w
 with_outers w (o ∷ os) = with_outers (with_outer w o) os
 
 abbrev pub nothing_declared : Signatures
-nothing_declared = record { callees = []; types = []; slots = []; tables = []; commands = [] }
+nothing_declared = record { callees = []; types = []; slots = []; panes = []; tables = []; commands = []; dialogs = [] }
 
 abbrev pub signatures_of : List Outer → Signatures
 signatures_of os = with_outers nothing_declared os
@@ -139,8 +155,22 @@ record_in w x = record_count (type_in w x)
 abbrev pub slot_in : Signatures → List ℕ → Bool
 slot_in w x = is_some (named x w.slots)
 
+-- a pane of some frame
+abbrev pub pane_in : Signatures → List ℕ → Bool
+pane_in w x = is_some (named x w.panes)
+
 abbrev pub table_in : Signatures → List ℕ → Bool
 table_in w x = is_global_table x || is_some (named x w.tables)
 
 abbrev pub command_in : Signatures → List ℕ → Bool
 command_in w x = is_some (named x w.commands)
+
+abbrev pub arguments_known : CommandHead → Option (List (List ℕ))
+arguments_known c = c.arguments
+
+-- the names of a command's arguments, in their order; None where there is no such command, or they cannot be told
+abbrev pub arguments_of : Signatures → List ℕ → Option (List (List ℕ))
+arguments_of w x = option_and_then arguments_known (named x w.commands)
+
+abbrev pub dialog_in : Signatures → List ℕ → Bool
+dialog_in w x = is_some (named x w.dialogs)

@@ -64,13 +64,14 @@ pub enum Change {
     Enable,
     /// `(disable COMMAND)`
     Disable,
+    /// `(open-dialog DIALOG)`
+    OpenDialog,
 }
 
 /// What a head that is not built yet heads.
 #[derive(Clone, Copy)]
 pub enum Planned {
     Display,
-    Statement,
     /// A part of a table, which stands in a display form.
     Part,
 }
@@ -221,6 +222,8 @@ fn change_named(word: &[u8]) -> Option<Change>
         Some(Change::Enable)
     } else if word == b"disable".as_slice() {
         Some(Change::Disable)
+    } else if word == b"open-dialog".as_slice() {
+        Some(Change::OpenDialog)
     } else {
         None
     }
@@ -239,9 +242,7 @@ fn planned_display(word: &[u8]) -> Option<Planned>
 fn planned_other(word: &[u8]) -> Option<Planned>
     ensures { result ≡ planned_other word.now }
 {
-    if word == b"open-dialog".as_slice() {
-        Some(Planned::Statement)
-    } else if word == b"formatting-row".as_slice() {
+    if word == b"formatting-row".as_slice() {
         Some(Planned::Part)
     } else if word == b"formatting-cell".as_slice() {
         Some(Planned::Part)

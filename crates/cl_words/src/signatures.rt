@@ -1,19 +1,9 @@
-//! What the outermost forms of a text declare, whether they are right or not.
-ghost use Rattle.std.specs.Prelude.{◌≡◌, ◌∷◌, [], IfOk, OnOk, map, option_map};
-ghost use Rattle.cl_forms.specs.DatumView.{datum_of};
-ghost use Rattle.cl_forms.specs.OuterView.{outer_of};
-ghost use Rattle.cl_forms.specs.Naming.{name_in};
-ghost use Rattle.cl_words.specs.Signatures.{parameters_counted, with_callee, with_type, with_slot, with_slot_of, with_slots, with_sections, with_table, with_command, with_declaration, with_outer, with_outers, signatures_of, nothing_declared, function_in, display_in, function_count, display_count, type_in, record_in, record_count, slot_in, is_global_table, table_in, command_in};
+//! What the forms of a text may name.
+ghost use Rattle.std.specs.Prelude.{◌≡◌, option_map};
+ghost use Rattle.cl_words.specs.Signatures.{function_in, display_in, function_count, display_count, type_in, record_in, record_count, slot_in, pane_in, is_global_table, table_in, command_in, arguments_of, dialog_in};
 
-use crate::heads::is_operator;
-use crate::type_names::is_standard_type;
-use cl_forms::{
-    Datum, DeclarationKind, Key, Outer, OuterKind, list_counted, name_in, names_counted,
-    section_values,
-};
-use cl_table::{Declared, Table};
+use cl_table::{Declared, Names, Table};
 use cl_value::Text;
-use std::alloc::{AllocError, Global};
 
 /// What the forms of a text may name.
 #[derive(Drop)]
@@ -21,8 +11,10 @@ pub struct Signatures {
     pub callees: Table<Callee>,
     pub types: Table<TypeHead>,
     pub slots: Table<SlotHead>,
+    pub panes: Table<PaneHead>,
     pub tables: Table<TableHead>,
     pub commands: Table<CommandHead>,
+    pub dialogs: Table<DialogHead>,
 }
 
 #[derive(Clone, Copy)]
@@ -61,14 +53,26 @@ pub struct SlotHead {
     pub name: Text,
 }
 
+#[derive(Drop)]
+pub struct PaneHead {
+    pub name: Text,
+}
+
 /// A command table.
 #[derive(Drop)]
 pub struct TableHead {
     pub name: Text,
 }
 
+/// A command, with the names of its arguments where they can be told.
 #[derive(Drop)]
 pub struct CommandHead {
+    pub name: Text,
+    pub arguments: Option<Names>,
+}
+
+#[derive(Drop)]
+pub struct DialogHead {
     pub name: Text,
 }
 
@@ -96,6 +100,14 @@ impl Declared for SlotHead {
     }
 }
 
+impl Declared for PaneHead {
+    ghost own_name = { λ p. p.name };
+
+    fn name(&self) -> &Text {
+        &self.name
+    }
+}
+
 impl Declared for TableHead {
     ghost own_name = { λ t. t.name };
 
@@ -112,179 +124,11 @@ impl Declared for CommandHead {
     }
 }
 
-/// What the outermost forms declare.
-pub fn signatures_of(alloc: Global, outers: &[Outer<'_>]) -> Result<Signatures, AllocError>
-    ensures { IfOk result (λ w. w ≡ signatures_of (map outer_of outers.now)) }
-{
-    let mut signatures = Signatures {
-        callees: Table::new(alloc),
-        types: Table::new(alloc),
-        slots: Table::new(alloc),
-        tables: Table::new(alloc),
-        commands: Table::new(alloc),
-    };
-    for outer in outers {
-        add_outer(&mut signatures, outer)?;
-    }
-    Ok(signatures)
-}
+impl Declared for DialogHead {
+    ghost own_name = { λ d. d.name };
 
-fn add_outer(signatures: &mut Signatures, outer: &Outer<'_>) -> Result<(), AllocError>
-    ensures { OnOk result (signatures.new ≡ with_outer signatures.old (outer_of outer.now)) }
-{
-    match outer.kind {
-        OuterKind::Declared(kind) => add_declaration(signatures, kind, outer),
-        OuterKind::Planned(_) => Ok(()),
-        OuterKind::Unknown(_) => Ok(()),
-        OuterKind::Headless => Ok(()),
-    }
-}
-
-fn add_declaration(
-    signatures: &mut Signatures,
-    kind: DeclarationKind,
-    outer: &Outer<'_>,
-) -> Result<(), AllocError>
-    ensures { OnOk result (signatures.new ≡ with_declaration signatures.old kind (outer_of outer.now)) }
-{
-    let name = outer.declared_name();
-    let more = outer.behind_name();
-    match kind {
-        DeclarationKind::Record => {
-            add_type(signatures, TypeKind::Record, name, names_counted(more))
-        }
-        DeclarationKind::PresentationType => {
-            add_type(signatures, TypeKind::User, name, parameters_counted(more))
-        }
-        DeclarationKind::HostType => add_type(signatures, TypeKind::Host, name, None),
-        DeclarationKind::PresentMethod => Ok(()),
-        DeclarationKind::AcceptMethod => Ok(()),
-        DeclarationKind::Function => add_callee(
-            signatures,
-            CalleeKind::Function,
-            name,
-            parameters_counted(more),
-        ),
-        DeclarationKind::Display => add_callee(
-            signatures,
-            CalleeKind::Display,
-            name,
-            parameters_counted(more),
-        ),
-        DeclarationKind::CommandTable => add_table(signatures, name),
-        DeclarationKind::Command => add_command(signatures, name),
-        DeclarationKind::Translator => Ok(()),
-        DeclarationKind::CommandTranslator => Ok(()),
-        DeclarationKind::Frame => add_sections(signatures, more),
-    }
-}
-
-fn add_type(
-    signatures: &mut Signatures,
-    kind: TypeKind,
-    name: Option<&Text>,
-    count: Option<usize>,
-) -> Result<(), AllocError>
-    ensures { OnOk result
-        (signatures.new ≡ with_type signatures.old kind (option_map (λ n. n.now) name.entry) count) }
-{
-    let Some(name) = name else {
-        return Ok(());
-    };
-    if is_standard_type(name.as_slice()) {
-        return Ok(());
-    }
-    let name = name.copy()?;
-    signatures.types.add_first(TypeHead { name, kind, count })
-}
-
-fn add_callee(
-    signatures: &mut Signatures,
-    kind: CalleeKind,
-    name: Option<&Text>,
-    count: Option<usize>,
-) -> Result<(), AllocError>
-    ensures { OnOk result
-        (signatures.new ≡ with_callee signatures.old kind (option_map (λ n. n.now) name.entry) count) }
-{
-    let Some(name) = name else {
-        return Ok(());
-    };
-    if is_operator(name.as_slice()) {
-        return Ok(());
-    }
-    let name = name.copy()?;
-    signatures.callees.add_first(Callee { name, kind, count })
-}
-
-fn add_table(signatures: &mut Signatures, name: Option<&Text>) -> Result<(), AllocError>
-    ensures { OnOk result
-        (signatures.new ≡ with_table signatures.old (option_map (λ n. n.now) name.entry)) }
-{
-    let Some(name) = name else {
-        return Ok(());
-    };
-    if is_global_table(name.as_slice()) {
-        return Ok(());
-    }
-    let name = name.copy()?;
-    signatures.tables.add_first(TableHead { name })
-}
-
-fn add_command(signatures: &mut Signatures, name: Option<&Text>) -> Result<(), AllocError>
-    ensures { OnOk result
-        (signatures.new ≡ with_command signatures.old (option_map (λ n. n.now) name.entry)) }
-{
-    let Some(name) = name else {
-        return Ok(());
-    };
-    let name = name.copy()?;
-    signatures.commands.add_first(CommandHead { name })
-}
-
-fn add_slot(signatures: &mut Signatures, parts: &[Datum]) -> Result<(), AllocError>
-    ensures { OnOk result (signatures.new ≡ with_slot_of signatures.old (map datum_of parts.now)) }
-{
-    match parts {
-        [] => Ok(()),
-        [name, ..] => add_slot_named(signatures, name),
-    }
-}
-
-fn add_slot_named(signatures: &mut Signatures, name: &Datum) -> Result<(), AllocError>
-    ensures { OnOk result (signatures.new ≡ with_slot signatures.old (name_in (datum_of name.now))) }
-{
-    let Some(name) = name_in(name) else {
-        return Ok(());
-    };
-    let name = name.copy()?;
-    signatures.slots.add_first(SlotHead { name })
-}
-
-fn add_slots(signatures: &mut Signatures, slots: &[Datum]) -> Result<(), AllocError>
-    ensures { OnOk result (signatures.new ≡ with_slots signatures.old (map datum_of slots.now)) }
-{
-    for slot in slots {
-        add_slot(signatures, slot.parts())?;
-    }
-    Ok(())
-}
-
-fn add_sections(signatures: &mut Signatures, sections: &[Datum]) -> Result<(), AllocError>
-    ensures { OnOk result (signatures.new ≡ with_sections signatures.old (map datum_of sections.now)) }
-{
-    for section in sections {
-        add_slots(signatures, section_values(Key::Slots, section))?;
-    }
-    Ok(())
-}
-
-fn parameters_counted(parts: &[Datum]) -> Option<usize>
-    ensures { result ≡ parameters_counted (map datum_of parts.now) }
-{
-    match parts {
-        [] => None,
-        [parameters, ..] => list_counted(parameters),
+    fn name(&self) -> &Text {
+        &self.name
     }
 }
 
@@ -351,6 +195,13 @@ impl Signatures {
         self.slots.get(name).is_some()
     }
 
+    /// Whether a frame has a pane of this name.
+    pub fn has_pane(&self, name: &[u8]) -> bool
+        ensures { result ≡ pane_in self.now name.now }
+    {
+        self.panes.get(name).is_some()
+    }
+
     /// Whether there is a command table of this name.
     pub fn has_table(&self, name: &[u8]) -> bool
         ensures { result ≡ table_in self.now name.now }
@@ -363,5 +214,23 @@ impl Signatures {
         ensures { result ≡ command_in self.now name.now }
     {
         self.commands.get(name).is_some()
+    }
+
+    /// The names of a command's arguments, in their order; None where there is no such command, or they
+    /// cannot be told.
+    pub fn command_arguments(&self, name: &[u8]) -> Option<&Names>
+        ensures { option_map (λ names. names.now) result ≡ arguments_of self.now name.now }
+    {
+        match self.commands.get(name) {
+            Some(command) => command.arguments.as_ref(),
+            None => None,
+        }
+    }
+
+    /// Whether there is a dialog of this name.
+    pub fn has_dialog(&self, name: &[u8]) -> bool
+        ensures { result ≡ dialog_in self.now name.now }
+    {
+        self.dialogs.get(name).is_some()
     }
 }
