@@ -6,5 +6,6 @@ mod defaults;
 mod laws;
 mod parsing;
 
+pub use defaults::{closed_value, default_value};
 pub use laws::arguments_are_members;
 pub use parsing::{Parsed, Parser};
