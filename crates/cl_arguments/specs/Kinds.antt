@@ -60,3 +60,4 @@ takes standard.NullOrType k = true
 takes standard.TokenOrType k = true
 takes standard.BlankArea k = true
 takes standard.Command k = true
+takes standard.DialogChoice k = true

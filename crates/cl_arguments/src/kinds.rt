@@ -64,6 +64,7 @@ pub(crate) fn takes(standard: StandardType, kind: ArgumentKind) -> bool
         StandardType::TokenOrType => true,
         StandardType::BlankArea => true,
         StandardType::Command => true,
+        StandardType::DialogChoice => true,
     }
 }
 

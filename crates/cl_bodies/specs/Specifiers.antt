@@ -27,31 +27,32 @@ pub record TypeSub : Type 0 where
 
 -- ---- what stands behind the name of a type
 
--- the table of the standard types
-abbrev pub takes_of : StandardType → Takes
-takes_of standard.T = takes.Nothing
-takes_of standard.Nil = takes.Nothing
-takes_of standard.Boolean = takes.Nothing
-takes_of standard.Integer = takes.Bounds
-takes_of standard.String = takes.Length
-takes_of standard.Symbol = takes.Nothing
-takes_of standard.Member = takes.Constants
-takes_of standard.Subset = takes.Constants
-takes_of standard.Sequence = takes.OneType
-takes_of standard.Or = takes.SomeTypes
-takes_of standard.And = takes.SomeTypes
-takes_of standard.NullOrType = takes.OneType
-takes_of standard.TokenOrType = takes.TokensAndType
-takes_of standard.BlankArea = takes.Nothing
-takes_of standard.Command = takes.Nothing
+-- the table of the standard types; None where no text may name the type
+abbrev pub takes_of : StandardType → Option Takes
+takes_of standard.T = Some takes.Nothing
+takes_of standard.Nil = Some takes.Nothing
+takes_of standard.Boolean = Some takes.Nothing
+takes_of standard.Integer = Some takes.Bounds
+takes_of standard.String = Some takes.Length
+takes_of standard.Symbol = Some takes.Nothing
+takes_of standard.Member = Some takes.Constants
+takes_of standard.Subset = Some takes.Constants
+takes_of standard.Sequence = Some takes.OneType
+takes_of standard.Or = Some takes.SomeTypes
+takes_of standard.And = Some takes.SomeTypes
+takes_of standard.NullOrType = Some takes.OneType
+takes_of standard.TokenOrType = Some takes.TokensAndType
+takes_of standard.BlankArea = Some takes.Nothing
+takes_of standard.Command = Some takes.Nothing
+takes_of standard.DialogChoice = None
 
 -- a record and a host type take nothing, a user type what is given for its parameters
 abbrev pub takes_declared : TypeHead → Takes
 takes_declared t = elim t.kind [ type.Record ↦ takes.Nothing | type.Host ↦ takes.Nothing | type.User ↦ takes.Given t.count ]
 
--- None where no type has the name
+-- None where no type has the name that a text may name
 abbrev pub takes_named : Signatures → List ℕ → Option Takes
-takes_named w x = elim (standard_named x) [ None ↦ option_map takes_declared (type_in w x) | Some t ↦ Some (takes_of t) ]
+takes_named w x = elim (standard_named x) [ None ↦ option_map takes_declared (type_in w x) | Some t ↦ takes_of t ]
 
 -- ---- rows
 

@@ -37,25 +37,27 @@ pub enum Takes {
     TokensAndType,
 }
 
-fn takes_of(standard: StandardType) -> Takes
+// What a standard type takes; `None` where no text may name it.
+fn takes_of(standard: StandardType) -> Option<Takes>
     ensures { result ≡ takes_of standard }
 {
     match standard {
-        StandardType::T => Takes::Nothing,
-        StandardType::Nil => Takes::Nothing,
-        StandardType::Boolean => Takes::Nothing,
-        StandardType::Integer => Takes::Bounds,
-        StandardType::String => Takes::Length,
-        StandardType::Symbol => Takes::Nothing,
-        StandardType::Member => Takes::Constants,
-        StandardType::Subset => Takes::Constants,
-        StandardType::Sequence => Takes::OneType,
-        StandardType::Or => Takes::SomeTypes,
-        StandardType::And => Takes::SomeTypes,
-        StandardType::NullOrType => Takes::OneType,
-        StandardType::TokenOrType => Takes::TokensAndType,
-        StandardType::BlankArea => Takes::Nothing,
-        StandardType::Command => Takes::Nothing,
+        StandardType::T => Some(Takes::Nothing),
+        StandardType::Nil => Some(Takes::Nothing),
+        StandardType::Boolean => Some(Takes::Nothing),
+        StandardType::Integer => Some(Takes::Bounds),
+        StandardType::String => Some(Takes::Length),
+        StandardType::Symbol => Some(Takes::Nothing),
+        StandardType::Member => Some(Takes::Constants),
+        StandardType::Subset => Some(Takes::Constants),
+        StandardType::Sequence => Some(Takes::OneType),
+        StandardType::Or => Some(Takes::SomeTypes),
+        StandardType::And => Some(Takes::SomeTypes),
+        StandardType::NullOrType => Some(Takes::OneType),
+        StandardType::TokenOrType => Some(Takes::TokensAndType),
+        StandardType::BlankArea => Some(Takes::Nothing),
+        StandardType::Command => Some(Takes::Nothing),
+        StandardType::DialogChoice => None,
     }
 }
 
@@ -70,12 +72,12 @@ fn takes_declared(head: &TypeHead) -> Takes
     }
 }
 
-// What the type of a name takes; `None` where no type has it.
+// What the type of a name takes; `None` where no type has it that a text may name.
 fn takes_named(reader: &Reader, name: &[u8]) -> Option<Takes>
     ensures { result ≡ takes_named reader.now.signatures.now name.now }
 {
     match standard_named(name) {
-        Some(standard) => Some(takes_of(standard)),
+        Some(standard) => takes_of(standard),
         None => match reader.signatures.type_head(name) {
             Some(head) => Some(takes_declared(head)),
             None => None,

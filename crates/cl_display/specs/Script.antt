@@ -1,15 +1,12 @@
--- The script of a pane: the marks of its history when its display is evaluated once, from nothing, on the present slots.
+-- The script of display forms: the marks of the history that they leave when they are evaluated once, from nothing.
 use Rattle.std.specs.Prelude.{ℕ, List, [], ◌∷◌, ◌++◌, codes}
 use Rattle.std.specs.Fmt.{decimal}
 use Rattle.cl_syntax.specs.ShapeTree.{ShapeTree, shape_trees_of}
-use Rattle.cl_application.specs.App.{forms_of}
-use Rattle.cl_application.specs.declared.applications.App.{App}
-use Rattle.cl_application.specs.declared.declarations.PaneDecl.{PaneDecl}
 use Rattle.cl_eval.specs.declared.metering.Limits.{Limits}
 use Rattle.cl_eval.specs.Outcome.{Outcome, Gives, Traps}
 use Rattle.cl_eval.specs.Slots.{Slots, Env}
 use Rattle.cl_eval.specs.Statements.{Member}
-use Rattle.cl_eval.specs.TypeMeanings.{Presents, TypeMeanings}
+use Rattle.cl_eval.specs.TypeMeanings.{Presents}
 use Rattle.cl_eval.specs.declared.programs.Program.{Program}
 use Rattle.cl_medium.specs.Ambients.{ambient_start}
 use Rattle.cl_medium.specs.Drawing.{text_leaf}
@@ -49,13 +46,3 @@ history_of (Traps kind cost deepest) = trap_history kind
 -- the marks of these forms
 abbrev pub script : Limits → Scene → List ShapeTree → Env → List (Mark Item)
 script limits scene forms env = history_of (fresh limits scene forms env).outcome
-
--- ---- a pane of a frame: the forms of its display, with no variables
-
--- what the display of a pane comes to
-abbrev pub pane_fresh : Limits → App → TypeMeanings → PaneDecl → Slots → Outcome DrawingAt
-pane_fresh limits app types pane slots = (fresh limits (record { app = app; slots = slots; types = types }) (forms_of pane app) []).outcome
-
--- its marks
-abbrev pub pane_script : Limits → App → TypeMeanings → PaneDecl → Slots → List (Mark Item)
-pane_script limits app types pane slots = history_of (pane_fresh limits app types pane slots)

@@ -7,11 +7,10 @@ use Rattle.std.proofs.lemmas.Int.{ints}
 use Rattle.std.proofs.lemmas.List.{set-get_or}
 use Rattle.std.proofs.lemmas.List.Elements.{All-get_or, All-set}
 use Rattle.std.proofs.lemmas.Option.{get_or_from_slice_get, slice_get-map, slice_get_within}
-use Rattle.cl_application.specs.App.{forms_of}
 use Rattle.cl_application.specs.declared.applications.App.{App}
 use Rattle.cl_application.specs.declared.declarations.PaneDecl.{PaneDecl}
 use Rattle.cl_eval.specs.Outcome.{RisesBy}
-use Rattle.cl_eval.specs.Slots.{Slots}
+use Rattle.cl_frame.specs.States.{StateAt, shown_env, shown_forms}
 use Rattle.cl_eval.specs.TypeMeanings.{TypeMeanings}
 use Rattle.cl_eval.specs.declared.metering.Limits.{Limits}
 use Rattle.cl_damage.specs.Keeps.{Keeps}
@@ -31,7 +30,7 @@ use Rattle.cl_redisplay.specs.declared.areas.Area.{Area}
 use Rattle.cl_redisplay.proofs.ShownLemmas.{shown_at-set}
 use Rattle.cl_reuse.specs.Once.{IsNamedOnce}
 use Rattle.cl_reuse.specs.Recorded.{IsFaithfulHistory}
-use Rattle.cl_reuse.proofs.DisplayNames.{pane-own}
+use Rattle.cl_frame.proofs.ShownForms.{shown-own}
 use Rattle.cl_spans.specs.SpanRows.{SpanRows, spans_hold}
 use Rattle.cl_untouched.specs.Among.{keeps_among, touched_between}
 use Rattle.cl_untouched.proofs.PaneLemmas.{pane-cells}
@@ -132,9 +131,9 @@ shown-told area drawn old new ks met damage e f h x y here =
 
 -- ---- what is not touched
 
-module _ (limits : Limits) (app : App) (types : TypeMeanings) (slots : Slots) (d : PaneDecl) (can : CanReuse app types) where
+module _ (limits : Limits) (app : App) (types : TypeMeanings) (state : StateAt) (d : PaneDecl) (can : CanReuse app types) where
   abbrev drawn : DrawOutcome
-  drawn = pane_draw limits app types d slots
+  drawn = pane_draw limits app types d state
 
   -- a place that is not touched has the same cell before and after
   cells-stay : (before : Option (List (Tree Item))) (new : PaneMarks) (met : Bool) → IfSome before (IsFaithfulHistory app types) → IfSome before IsNamedOnce
@@ -144,7 +143,7 @@ module _ (limits : Limits) (app : App) (types : TypeMeanings) (slots : Slots) (d
   cells-stay (Some old) None met faithful once e x y outside under = cc
   cells-stay (Some old) (Some n) true faithful once e x y outside under = cc
   cells-stay (Some old) (Some n) false faithful once e x y outside under =
-      pane-cells limits app types slots (forms_of d app) [] can.texts can.sees can.covered can.apart (pane-own app d) old faithful once x y outside under
+      pane-cells limits app types state.slots (shown_forms app d state) (shown_env d state) can.texts can.sees can.covered can.apart (shown-own app d state) old faithful once x y outside under
       ∙ ap (λ (m : PaneMarks). cell_after item_cell (items_drawn (marks_in m)) x y under) (sym e)
 
 -- the cells of a pane among those that a screen shows
@@ -179,21 +178,21 @@ none-holds : (P : SpanRows → Type 0) (damage : Option SpanRows) → damage ≡
 none-holds P None e = tt
 none-holds P (Some s) e = cc
 
-module _ (limits : Limits) (app : App) (types : TypeMeanings) (slots : Slots) (d : PaneDecl) (can : CanReuse app types)
+module _ (limits : Limits) (app : App) (types : TypeMeanings) (state : StateAt) (d : PaneDecl) (can : CanReuse app types)
     (panes : List Pane) (raster : Picture) (k : ℕ) (o p : Pane) (stands : slice_get panes k ≡ Some o) (shown : AreShown panes raster) (area : p.area ≡ o.area)
     (faithful : IsPaneFaithful app types o) (ks : Keeps)
-    (marks : marks_of_pane p ≡ marks_settled (pane_draw limits app types d slots).outcome (met_memory p.report))
-    (kept : met_memory p.report ≡ false → ks ≡ keeps_among (marks_in (marks_of_pane o)) (pane_draw limits app types d slots)) where
+    (marks : marks_of_pane p ≡ marks_settled (pane_draw limits app types d state).outcome (met_memory p.report))
+    (kept : met_memory p.report ≡ false → ks ≡ keeps_among (marks_in (marks_of_pane o)) (pane_draw limits app types d state)) where
   -- all places that are not touched show the new pane already
   others-show : (s : SpanRows) → IsDamage p.area (touched_with (marks_of_pane o) (marks_of_pane p) ks) (Some s)
       → ShowsOthers raster p.area (marks_in (marks_of_pane p)) (spans_hold s)
   others-show s h = record {
     cells = λ x y hx hy here outside.
-        let untouched = sym (shown-told p.area (pane_draw limits app types d slots) (marks_of_pane o) (marks_of_pane p) ks (met_memory p.report) (Some s) marks kept h x y here) ∙ outside in
+        let untouched = sym (shown-told p.area (pane_draw limits app types d state) (marks_of_pane o) (marks_of_pane p) ks (met_memory p.report) (Some s) marks kept h x y here) ∙ outside in
         let there = subst (λ (a : Area). covers a x y ≡ true) area here in
         pane-shown panes raster k o stands shown x y hx hy there
         ∙ (ap (λ (a : Area). pane_cell a (marks_in (marks_of_pane o)) x y) (sym area)
-        ∙ cells-stay limits app types slots d can o.history (marks_of_pane p) (met_memory p.report) faithful.faithful faithful.once marks
+        ∙ cells-stay limits app types state d can o.history (marks_of_pane p) (met_memory p.report) faithful.faithful faithful.once marks
         (pos (x - p.area.x)) (pos (y - p.area.y)) untouched blank_cell);
   }
 

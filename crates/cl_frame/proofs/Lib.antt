@@ -9,3 +9,4 @@ pub mod ShownFrames
 pub mod UpdatedFrames
 mod DamagedPanes
 mod KeptPanes
+mod ShownForms

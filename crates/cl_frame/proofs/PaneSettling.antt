@@ -6,7 +6,7 @@ use Rattle.cl_application.specs.Panes.{panes_of}
 use Rattle.cl_application.specs.declared.applications.App.{App}
 use Rattle.cl_application.specs.declared.declarations.PaneDecl.{PaneDecl}
 use Rattle.cl_eval.specs.Outcome.{RisesBy}
-use Rattle.cl_eval.specs.Slots.{Slots}
+use Rattle.cl_frame.specs.States.{StateAt}
 use Rattle.cl_raster.specs.Raster.{SameSize}
 use Rattle.cl_frame.specs.Frames.{AreShown, Evaluates, IsFrameOf, SettlesAt}
 use Rattle.cl_frame.specs.Ground.{Ground}
@@ -24,13 +24,13 @@ abbrev pub quiet : Pane → Pane
 quiet p = record { area = p.area; history = p.history; items = p.items; report = report.Quiet }
 
 -- a pane, whether it is settled or not
-abbrev step_if : Ground → Which → Slots → PaneDecl → Pane → (due met : Bool) → PaneStep
-step_if g w slots d o due met = settle_if due (pane_draw g.limits g.app g.types d slots) (reused w (marks_of_pane o)) (marks_of_pane o) met
+abbrev step_if : Ground → Which → StateAt → PaneDecl → Pane → (due met : Bool) → PaneStep
+step_if g w state d o due met = settle_if due (pane_draw g.limits g.app g.types d state) (reused w (marks_of_pane o)) (marks_of_pane o) met
 
-pub settles_quiet : (g : Ground) (w : Which) (slots : Slots) (k : ℕ) (panes : List Pane) (d : PaneDecl) (o : Pane) (steps : ℕ)
+pub settles_quiet : (g : Ground) (w : Which) (state : StateAt) (k : ℕ) (panes : List Pane) (d : PaneDecl) (o : Pane) (steps : ℕ)
     → slice_get (panes_of g.app) k ≡ Some d → slice_get panes k ≡ Some o → is_due w (marks_of_pane o) ≡ false
-    → SettlesAt g w slots k panes (slice_set panes k (quiet o)) steps steps
-settles_quiet g w slots k panes d o steps declares stands due = record {
+    → SettlesAt g w state k panes (slice_set panes k (quiet o)) steps steps
+settles_quiet g w state k panes d o steps declares stands due = record {
   declared = d;
   before = o;
   now = quiet o;
@@ -38,16 +38,16 @@ settles_quiet g w slots k panes d o steps declares stands due = record {
   stood = stands;
   stands = refl;
   settles = record {
-    marks = ap (λ (b : Bool). (step_if g w slots d o b false).marks) (sym due);
-    report = ap (λ (b : Bool). (step_if g w slots d o b false).report) (sym due);
+    marks = ap (λ (b : Bool). (step_if g w state d o b false).marks) (sym due);
+    report = ap (λ (b : Bool). (step_if g w state d o b false).report) (sym due);
   };
-  spends = subst (λ (b : Bool). RisesBy false steps steps (step_if g w slots d o b false).cost) (sym due) (omega arith);
+  spends = subst (λ (b : Bool). RisesBy false steps steps (step_if g w state d o b false).cost) (sym due) (omega arith);
 }
 
-pub settles_due : (g : Ground) (w : Which) (slots : Slots) (k : ℕ) (old new : List Pane) (d : PaneDecl) (o p : Pane) (from to : ℕ)
+pub settles_due : (g : Ground) (w : Which) (state : StateAt) (k : ℕ) (old new : List Pane) (d : PaneDecl) (o p : Pane) (from to : ℕ)
     → slice_get (panes_of g.app) k ≡ Some d → slice_get old k ≡ Some o → new ≡ slice_set old k p → is_due w (marks_of_pane o) ≡ true
-    → Evaluates (pane_draw g.limits g.app g.types d slots) (reused w (marks_of_pane o)) o p from to → SettlesAt g w slots k old new from to
-settles_due g w slots k old new d o p from to declares stood stands due e = record {
+    → Evaluates (pane_draw g.limits g.app g.types d state) (reused w (marks_of_pane o)) o p from to → SettlesAt g w state k old new from to
+settles_due g w state k old new d o p from to declares stood stands due e = record {
   declared = d;
   before = o;
   now = p;
@@ -55,10 +55,10 @@ settles_due g w slots k old new d o p from to declares stood stands due e = reco
   stood = stood;
   stands = stands;
   settles = record {
-    marks = subst (λ (b : Bool). marks_of_pane p ≡ (step_if g w slots d o b (met_memory p.report)).marks) (sym due) e.marks;
-    report = subst (λ (b : Bool). p.report ≡ (step_if g w slots d o b (met_memory p.report)).report) (sym due) e.report;
+    marks = subst (λ (b : Bool). marks_of_pane p ≡ (step_if g w state d o b (met_memory p.report)).marks) (sym due) e.marks;
+    report = subst (λ (b : Bool). p.report ≡ (step_if g w state d o b (met_memory p.report)).report) (sym due) e.report;
   };
-  spends = subst (λ (b : Bool). RisesBy (met_memory p.report) from to (step_if g w slots d o b (met_memory p.report)).cost) (sym due) e.spends;
+  spends = subst (λ (b : Bool). RisesBy (met_memory p.report) from to (step_if g w state d o b (met_memory p.report)).cost) (sym due) e.spends;
 }
 
 -- a frame of which one pane is put in the place of another

@@ -8,7 +8,7 @@ use Rattle.std.proofs.lemmas.Option.{slice_get-get_or, slice_get-map, slice_get_
 use Rattle.cl_application.specs.Panes.{panes_of}
 use Rattle.cl_application.specs.declared.applications.App.{App}
 use Rattle.cl_application.specs.declared.declarations.PaneDecl.{PaneDecl}
-use Rattle.cl_eval.specs.Slots.{Slots}
+use Rattle.cl_frame.specs.States.{StateAt}
 use Rattle.cl_outside.proofs.WritingLemmas.{CutShort-behind, Wrote-more}
 use Rattle.cl_outside.specs.Operations.{Op, ops_bytes}
 use Rattle.cl_outside.specs.Writing.{CutShort, Wrote}
@@ -78,26 +78,26 @@ sends_then false false a b c xs ys stays first after h p = Appends-trans a.bytes
 -- ---- the panes up to a place
 
 -- these operations were sent, and they are those of the panes before a place
-pub record SentSoFar (g : Ground) (which : Which) (slots : Slots) (ds : List PaneDecl) (olds now : List Pane) (k : ℕ) (is_stale : Bool) (old new : Wire) : Type 0 where
+pub record SentSoFar (g : Ground) (which : Which) (state : StateAt) (ds : List PaneDecl) (olds now : List Pane) (k : ℕ) (is_stale : Bool) (old new : Wire) : Type 0 where
   pub ops : List Op
   pub sent : SendsOn (not is_stale) old new (ops_bytes ops)
-  pub more : (ns : List PaneMarks) → settled_ops g which slots ds (map marks_of_pane olds) (map marks_of_pane (take k now) ++ ns)
-      ≡ ops ++ settled_ops g which slots (drop k ds) (map marks_of_pane (drop k olds)) ns
+  pub more : (ns : List PaneMarks) → settled_ops g which state ds (map marks_of_pane olds) (map marks_of_pane (take k now) ++ ns)
+      ≡ ops ++ settled_ops g which state (drop k ds) (map marks_of_pane (drop k olds)) ns
 
-pub sent_none : (g : Ground) (which : Which) (slots : Slots) (ds : List PaneDecl) (panes : List Pane) (is_stale : Bool) (w : Wire) → is_stale ≡ false
-    → SentSoFar g which slots ds panes panes 0 is_stale w w
-sent_none g which slots ds panes is_stale w fresh = record {
+pub sent_none : (g : Ground) (which : Which) (state : StateAt) (ds : List PaneDecl) (panes : List Pane) (is_stale : Bool) (w : Wire) → is_stale ≡ false
+    → SentSoFar g which state ds panes panes 0 is_stale w w
+sent_none g which state ds panes is_stale w fresh = record {
   ops = [];
   sent = rw fresh (Appends-nil w.bytes);
   more = λ ns. refl;
 }
 
 -- one pane more
-pub sent_next : (g : Ground) (which : Which) (slots : Slots) (olds now after : List Pane) (k : ℕ) (at next : ℕ) (was is : Bool) (a b c : Wire)
-    → drop k now ≡ drop k olds → SettlesAt g which slots k now after at next → SendsAt g which slots k now after was is b c
+pub sent_next : (g : Ground) (which : Which) (state : StateAt) (olds now after : List Pane) (k : ℕ) (at next : ℕ) (was is : Bool) (a b c : Wire)
+    → drop k now ≡ drop k olds → SettlesAt g which state k now after at next → SendsAt g which state k now after was is b c
     → (was ≡ true → is ≡ true) → a.faults ≤ b.faults → b.faults ≤ c.faults
-    → SentSoFar g which slots (panes_of g.app) olds now k was a b → SentSoFar g which slots (panes_of g.app) olds after (k + 1) is a c
-sent_next g which slots olds now after k at next was is a b c rest h sends stays first later far =
+    → SentSoFar g which state (panes_of g.app) olds now k was a b → SentSoFar g which state (panes_of g.app) olds after (k + 1) is a c
+sent_next g which state olds now after k at next was is a b c rest h sends stays first later far =
     let ds = panes_of g.app in
     let inside : k < length now = slice_get_within now k h.before h.stood in
     let declared : drop k ds ≡ h.declared ∷ drop (k + 1) ds = drop_at ds k h.declared h.declares in
@@ -106,29 +106,29 @@ sent_next g which slots olds now after k at next was is a b c rest h sends stays
     let taken : take (k + 1) after ≡ take k now ++ h.now ∷ [] =
     ap (take (k + 1)) h.stands ∙ take_more_set now k h.now inside in
     let stands : slice_get after k ≡ Some h.now = rw h.stands (slice_get-set_here now k h.now inside) in
-    let ops = step_ops g which slots h.declared (marks_of_pane h.before) (marks_of_pane h.now) in
+    let ops = step_ops g which state h.declared (marks_of_pane h.before) (marks_of_pane h.now) in
     record {
       ops = far.ops ++ ops;
       sent = rw (ops_bytes-append far.ops ops)
           (sends_then was is a b c (ops_bytes far.ops) (ops_bytes ops) stays first later far.sent (sends h.declared h.before h.now h.declares h.stood stands));
-      more = λ ns. ap (λ (xs : List Pane). settled_ops g which slots ds (map marks_of_pane olds) (map marks_of_pane xs ++ ns)) taken
-          ∙ (ap (λ (ms : List PaneMarks). settled_ops g which slots ds (map marks_of_pane olds) (ms ++ ns)) (map-append marks_of_pane (take k now) (h.now ∷ []))
-          ∙ (ap (λ (ms : List PaneMarks). settled_ops g which slots ds (map marks_of_pane olds) ms) (append_assoc (map marks_of_pane (take k now)) (marks_of_pane h.now ∷ []) ns)
+      more = λ ns. ap (λ (xs : List Pane). settled_ops g which state ds (map marks_of_pane olds) (map marks_of_pane xs ++ ns)) taken
+          ∙ (ap (λ (ms : List PaneMarks). settled_ops g which state ds (map marks_of_pane olds) (ms ++ ns)) (map-append marks_of_pane (take k now) (h.now ∷ []))
+          ∙ (ap (λ (ms : List PaneMarks). settled_ops g which state ds (map marks_of_pane olds) ms) (append_assoc (map marks_of_pane (take k now)) (marks_of_pane h.now ∷ []) ns)
           ∙ (far.more (marks_of_pane h.now ∷ ns)
-          ∙ (ap (λ (xs : List PaneDecl). far.ops ++ settled_ops g which slots xs (map marks_of_pane (drop k olds)) (marks_of_pane h.now ∷ ns)) declared
-          ∙ (ap (λ (xs : List Pane). far.ops ++ settled_ops g which slots (h.declared ∷ drop (k + 1) ds) (map marks_of_pane xs) (marks_of_pane h.now ∷ ns)) stood
-          ∙ sym (append_assoc far.ops ops (settled_ops g which slots (drop (k + 1) ds) (map marks_of_pane (drop (k + 1) olds)) ns)))))));
+          ∙ (ap (λ (xs : List PaneDecl). far.ops ++ settled_ops g which state xs (map marks_of_pane (drop k olds)) (marks_of_pane h.now ∷ ns)) declared
+          ∙ (ap (λ (xs : List Pane). far.ops ++ settled_ops g which state (h.declared ∷ drop (k + 1) ds) (map marks_of_pane xs) (marks_of_pane h.now ∷ ns)) stood
+          ∙ sym (append_assoc far.ops ops (settled_ops g which state (drop (k + 1) ds) (map marks_of_pane (drop (k + 1) olds)) ns)))))));
     }
 
 -- all panes
-pub sent_all : (g : Ground) (which : Which) (slots : Slots) (ds : List PaneDecl) (olds now : List Pane) (k : ℕ) (is_stale : Bool) (a b : Wire)
-    → length ds ≤ k → length olds ≤ k → length now ≤ k → SentSoFar g which slots ds olds now k is_stale a b
-    → SendsOn (not is_stale) a b (ops_bytes (settled_ops g which slots ds (map marks_of_pane olds) (map marks_of_pane now)))
-sent_all g which slots ds olds now k is_stale a b hd ho hn far =
+pub sent_all : (g : Ground) (which : Which) (state : StateAt) (ds : List PaneDecl) (olds now : List Pane) (k : ℕ) (is_stale : Bool) (a b : Wire)
+    → length ds ≤ k → length olds ≤ k → length now ≤ k → SentSoFar g which state ds olds now k is_stale a b
+    → SendsOn (not is_stale) a b (ops_bytes (settled_ops g which state ds (map marks_of_pane olds) (map marks_of_pane now)))
+sent_all g which state ds olds now k is_stale a b hd ho hn far =
     let taken : map marks_of_pane (take k now) ++ [] ≡ map marks_of_pane now = append-nil (map marks_of_pane (take k now)) ∙ ap (map marks_of_pane) (take_all k now hn) in
-    let none : settled_ops g which slots (drop k ds) (map marks_of_pane (drop k olds)) [] ≡ [] = rw (drop_all k ds hd) refl in
-    let all : settled_ops g which slots ds (map marks_of_pane olds) (map marks_of_pane now) ≡ far.ops =
-    ap (settled_ops g which slots ds (map marks_of_pane olds)) (sym taken) ∙ (far.more [] ∙ (ap (λ (xs : List Op). far.ops ++ xs) none ∙ append-nil far.ops)) in
+    let none : settled_ops g which state (drop k ds) (map marks_of_pane (drop k olds)) [] ≡ [] = rw (drop_all k ds hd) refl in
+    let all : settled_ops g which state ds (map marks_of_pane olds) (map marks_of_pane now) ≡ far.ops =
+    ap (settled_ops g which state ds (map marks_of_pane olds)) (sym taken) ∙ (far.more [] ∙ (ap (λ (xs : List Op). far.ops ++ xs) none ∙ append-nil far.ops)) in
     rw all far.sent
 
 -- ---- the pane in a place
@@ -145,11 +145,11 @@ area_declared app f k d p h declares stands =
     cc
 
 -- a pane that was not asked for
-pub sent_quiet : (g : Ground) (which : Which) (slots : Slots) (k : ℕ) (olds news : List Pane) (o : Pane) (is_stale : Bool) (w : Wire) → slice_get olds k ≡ Some o
-    → is_due which (marks_of_pane o) ≡ false → SendsAt g which slots k olds news is_stale is_stale w w
-sent_quiet g which slots k olds news o is_stale w stood due = λ d before n declares stands now.
+pub sent_quiet : (g : Ground) (which : Which) (state : StateAt) (k : ℕ) (olds news : List Pane) (o : Pane) (is_stale : Bool) (w : Wire) → slice_get olds k ≡ Some o
+    → is_due which (marks_of_pane o) ≡ false → SendsAt g which state k olds news is_stale is_stale w w
+sent_quiet g which state k olds news o is_stale w stood due = λ d before n declares stands now.
     let same : before ≡ o = let both : Some before ≡ Some o = sym stands ∙ stood in cc in
-    let none : step_ops g which slots d (marks_of_pane before) (marks_of_pane n) ≡ [] = rw (same, due) refl in
+    let none : step_ops g which state d (marks_of_pane before) (marks_of_pane n) ≡ [] = rw (same, due) refl in
     rw none (quiet_sends is_stale w)
 
 -- the same was sent, where it matters that it is the same
@@ -158,25 +158,25 @@ sends_same true is a b xs ys e h = h
 sends_same false is a b xs ys e h = subst (λ (os : List Op). SendsPane false is a b (ops_bytes os)) (e refl) h
 
 -- one that was settled
-pub sent_due : (g : Ground) (which : Which) (slots : Slots) (old : Frame) (k : ℕ) (news : List Pane) (d : PaneDecl) (o p : Pane) (was is : Bool) (a b : Wire)
+pub sent_due : (g : Ground) (which : Which) (state : StateAt) (old : Frame) (k : ℕ) (news : List Pane) (d : PaneDecl) (o p : Pane) (was is : Bool) (a b : Wire)
     (shown : ℤ → ℤ → Bool)
     → IsFrameOf g.app old → slice_get (panes_of g.app) k ≡ Some d → slice_get old.panes.items k ≡ Some o → p.area ≡ o.area → news ≡ slice_set old.panes.items k p
     → is_due which (marks_of_pane o) ≡ true
     → (was ≡ false → (x y : ℕ) → covers p.area x y ≡ true → on_screen shown p.area x y
-    ≡ on_screen (touched_in (pane_draw g.limits g.app g.types d slots) (marks_of_pane o) (marks_of_pane p)) p.area x y)
+    ≡ on_screen (touched_in (pane_draw g.limits g.app g.types d state) (marks_of_pane o) (marks_of_pane p)) p.area x y)
     → SendsPane was is a b (ops_bytes (touched_pane_ops p.area (marks_in (marks_of_pane p)) shown))
-    → SendsAt g which slots k old.panes.items news was is a b
-sent_due g which slots old k news d o p was is a b shown frame declares stood area stands due told sends = λ e before n declared there now.
+    → SendsAt g which state k old.panes.items news was is a b
+sent_due g which state old k news d o p was is a b shown frame declares stood area stands due told sends = λ e before n declared there now.
     let same : before ≡ o = let both : Some before ≡ Some o = sym there ∙ stood in cc in
     let this : e ≡ d = let both : Some e ≡ Some d = sym declared ∙ declares in cc in
     let inside : k < length old.panes.items = slice_get_within old.panes.items k o stood in
     let new : n ≡ p = let both : Some n ≡ Some p = sym now ∙ (ap (λ (xs : List Pane). slice_get xs k) stands ∙ slice_get-set_here old.panes.items k p inside) in cc in
     let lies : area_of d ≡ p.area = sym (area ∙ area_declared g.app old k d o frame declares stood) in
-    let touched = touched_in (pane_draw g.limits g.app g.types d slots) (marks_of_pane o) (marks_of_pane p) in
-    let ops : step_ops g which slots e (marks_of_pane before) (marks_of_pane n) ≡ touched_pane_ops p.area (marks_in (marks_of_pane p)) touched =
-    ap (λ (x : PaneDecl). step_ops g which slots x (marks_of_pane before) (marks_of_pane n)) this
-    ∙ (ap (λ (x : Pane). step_ops g which slots d (marks_of_pane x) (marks_of_pane n)) same
-    ∙ (ap (λ (x : Pane). step_ops g which slots d (marks_of_pane o) (marks_of_pane x)) new
+    let touched = touched_in (pane_draw g.limits g.app g.types d state) (marks_of_pane o) (marks_of_pane p) in
+    let ops : step_ops g which state e (marks_of_pane before) (marks_of_pane n) ≡ touched_pane_ops p.area (marks_in (marks_of_pane p)) touched =
+    ap (λ (x : PaneDecl). step_ops g which state x (marks_of_pane before) (marks_of_pane n)) this
+    ∙ (ap (λ (x : Pane). step_ops g which state d (marks_of_pane x) (marks_of_pane n)) same
+    ∙ (ap (λ (x : Pane). step_ops g which state d (marks_of_pane o) (marks_of_pane x)) new
     ∙ (ap (λ (b : Bool). if b then touched_pane_ops (area_of d) (marks_in (marks_of_pane p)) touched else []) due
     ∙ ap (λ (x : Area). touched_pane_ops x (marks_in (marks_of_pane p)) touched) lies))) in
     subst (λ (xs : List Op). SendsPane was is a b (ops_bytes xs)) (sym ops)

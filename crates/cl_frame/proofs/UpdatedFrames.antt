@@ -12,7 +12,7 @@ use Rattle.cl_redisplay.specs.declared.screens.Painted.{Painted}
 use Rattle.cl_redisplay.specs.declared.screens.Painted.TheVariants as painted
 use Rattle.cl_application.specs.Panes.{panes_of}
 use Rattle.cl_frame.specs.Frames.{IsFrameOf, is_stale_under, marks_of_frame}
-use Rattle.cl_eval.specs.Slots.{Slots}
+use Rattle.cl_frame.specs.States.{StateAt}
 use Rattle.cl_frame.specs.Ground.{Ground}
 use Rattle.cl_frame.specs.Panes.{PaneMarks, marks_of_pane}
 use Rattle.cl_frame.specs.Sending.{SendsOn, ShowsPanes, Wire, frame_ops, settled_ops, update_bytes}
@@ -31,15 +31,15 @@ stays-fresh s new painted.Done h whole e = h ∙ e
 stays-fresh s new painted.DeviceFault h whole e = cc
 
 -- the whole screen was sent
-pub sends-redraw : (g : Ground) (which : Which) (slots : Slots) (stale broken : Bool) (olds : List PaneMarks) (mid new : Frame) (whole : Bool) (a b : Wire)
+pub sends-redraw : (g : Ground) (which : Which) (state : StateAt) (stale broken : Bool) (olds : List PaneMarks) (mid new : Frame) (whole : Bool) (a b : Wire)
     → is_stale_under which stale ≡ true → IsFrameOf g.app mid → new.panes ≡ mid.panes
     → SendsOn whole a b (mended broken (ops_bytes (redraw_ops (cell_at mid.screen.raster) mid.screen.raster.width mid.screen.raster.height)))
-    → SendsOn whole a b (update_bytes g which slots stale broken olds (marks_of_frame new))
-sends-redraw g which slots stale broken olds mid new whole a b redraws frame panes sent =
+    → SendsOn whole a b (update_bytes g which state stale broken olds (marks_of_frame new))
+sends-redraw g which state stale broken olds mid new whole a b redraws frame panes sent =
     let marks : marks_of_frame new ≡ marks_of_frame mid = ap (λ ps. map marks_of_pane ps.items) panes in
-    let bytes : update_bytes g which slots stale broken olds (marks_of_frame new)
+    let bytes : update_bytes g which state stale broken olds (marks_of_frame new)
     ≡ mended broken (ops_bytes (redraw_ops (cell_at mid.screen.raster) mid.screen.raster.width mid.screen.raster.height)) =
-    ap (λ (c : Bool). if c then mended broken (ops_bytes (frame_ops g.app (marks_of_frame new))) else ops_bytes (settled_ops g which slots (panes_of g.app) olds (marks_of_frame new))) redraws
+    ap (λ (c : Bool). if c then mended broken (ops_bytes (frame_ops g.app (marks_of_frame new))) else ops_bytes (settled_ops g which state (panes_of g.app) olds (marks_of_frame new))) redraws
     ∙ (ap (λ (ms : List PaneMarks). mended broken (ops_bytes (frame_ops g.app ms))) marks
     ∙ ap (λ (ops : List Op). mended broken (ops_bytes ops)) (sym (redraw_shown g.app mid frame))) in
     subst (λ (bs : List ℕ). SendsOn whole a b bs) (sym bytes) sent

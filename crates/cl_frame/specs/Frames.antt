@@ -5,7 +5,7 @@ use Rattle.cl_application.specs.Panes.{panes_of}
 use Rattle.cl_application.specs.declared.applications.App.{App}
 use Rattle.cl_application.specs.declared.declarations.PaneDecl.{PaneDecl}
 use Rattle.cl_eval.specs.Outcome.{RisesBy}
-use Rattle.cl_eval.specs.Slots.{Slots}
+use Rattle.cl_frame.specs.States.{StateAt}
 use Rattle.cl_eval.specs.TypeMeanings.{TypeMeanings}
 use Rattle.cl_display.specs.Outcomes.{DrawOutcome}
 use Rattle.cl_medium.specs.Items.{Item}
@@ -81,40 +81,40 @@ pub record Evaluates (drawn : DrawOutcome) (over : List (Mark Item)) (old new : 
   pub spends : RisesBy (met_memory new.report) from to (work (records_of over) drawn)
 
 -- what became of one pane
-pub record SettlesPane (g : Ground) (which : Which) (slots : Slots) (d : PaneDecl) (old new : Pane) : Type 0 where
-  pub marks : marks_of_pane new ≡ (settle_pane g which slots d (marks_of_pane old) (met_memory new.report)).marks
-  pub report : new.report ≡ (settle_pane g which slots d (marks_of_pane old) (met_memory new.report)).report
+pub record SettlesPane (g : Ground) (which : Which) (state : StateAt) (d : PaneDecl) (old new : Pane) : Type 0 where
+  pub marks : marks_of_pane new ≡ (settle_pane g which state d (marks_of_pane old) (met_memory new.report)).marks
+  pub report : new.report ≡ (settle_pane g which state d (marks_of_pane old) (met_memory new.report)).report
 
 -- what a settling of one pane may cost
-abbrev pub pane_cost : Ground → Which → Slots → PaneDecl → (old new : Pane) → ℕ
-pane_cost g which slots d old new = (settle_pane g which slots d (marks_of_pane old) (met_memory new.report)).cost
+abbrev pub pane_cost : Ground → Which → StateAt → PaneDecl → (old new : Pane) → ℕ
+pane_cost g which state d old new = (settle_pane g which state d (marks_of_pane old) (met_memory new.report)).cost
 
 -- the pane in this place was settled, and all others are what they were
-pub record SettlesAt (g : Ground) (which : Which) (slots : Slots) (place : ℕ) (old new : List Pane) (from to : ℕ) : Type 0 where
+pub record SettlesAt (g : Ground) (which : Which) (state : StateAt) (place : ℕ) (old new : List Pane) (from to : ℕ) : Type 0 where
   pub declared : PaneDecl
   pub before : Pane
   pub now : Pane
   pub declares : slice_get (panes_of g.app) place ≡ Some declared
   pub stood : slice_get old place ≡ Some before
   pub stands : new ≡ slice_set old place now
-  pub settles : SettlesPane g which slots declared before now
-  pub spends : RisesBy (met_memory now.report) from to (pane_cost g which slots declared before now)
+  pub settles : SettlesPane g which state declared before now
+  pub spends : RisesBy (met_memory now.report) from to (pane_cost g which state declared before now)
 
 -- one pane after another was settled, and the ledger rose by what each of them may cost
-abbrev pub SettlesPanes : Ground → Which → Slots → List PaneDecl → (old new : List Pane) → (from to : ℕ) → Type 0
-SettlesPanes g which slots (d ∷ ds) (o ∷ os) (n ∷ ns) from to =
-    (between : ℕ) × SettlesPane g which slots d o n × RisesBy (met_memory n.report) from between (pane_cost g which slots d o n)
-    × SettlesPanes g which slots ds os ns between to
-SettlesPanes g which slots [] [] [] from to = to ≡ from
-SettlesPanes g which slots [] [] (n ∷ ns) from to = ⊥
-SettlesPanes g which slots [] (o ∷ os) ns from to = ⊥
-SettlesPanes g which slots (d ∷ ds) [] ns from to = ⊥
-SettlesPanes g which slots (d ∷ ds) (o ∷ os) [] from to = ⊥
+abbrev pub SettlesPanes : Ground → Which → StateAt → List PaneDecl → (old new : List Pane) → (from to : ℕ) → Type 0
+SettlesPanes g which state (d ∷ ds) (o ∷ os) (n ∷ ns) from to =
+    (between : ℕ) × SettlesPane g which state d o n × RisesBy (met_memory n.report) from between (pane_cost g which state d o n)
+    × SettlesPanes g which state ds os ns between to
+SettlesPanes g which state [] [] [] from to = to ≡ from
+SettlesPanes g which state [] [] (n ∷ ns) from to = ⊥
+SettlesPanes g which state [] (o ∷ os) ns from to = ⊥
+SettlesPanes g which state (d ∷ ds) [] ns from to = ⊥
+SettlesPanes g which state (d ∷ ds) (o ∷ os) [] from to = ⊥
 
 -- the marks and the reports of all panes, by what each of them met
-pub record Settles (g : Ground) (which : Which) (slots : Slots) (old new : Frame) : Type 0 where
-  pub marks : marks_of_frame new ≡ map marks_after (settle_panes g which slots (panes_of g.app) (marks_of_frame old) (map met_memory (reports_of_frame new)))
-  pub reports : reports_of_frame new ≡ map report_after (settle_panes g which slots (panes_of g.app) (marks_of_frame old) (map met_memory (reports_of_frame new)))
+pub record Settles (g : Ground) (which : Which) (state : StateAt) (old new : Frame) : Type 0 where
+  pub marks : marks_of_frame new ≡ map marks_after (settle_panes g which state (panes_of g.app) (marks_of_frame old) (map met_memory (reports_of_frame new)))
+  pub reports : reports_of_frame new ≡ map report_after (settle_panes g which state (panes_of g.app) (marks_of_frame old) (map met_memory (reports_of_frame new)))
 
 -- another pane may stand in this place: it has the same area, and its items are counted
 pub record Replaces (panes : List Pane) (place : ℕ) (pane : Pane) : Type 0 where

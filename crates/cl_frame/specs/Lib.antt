@@ -1,4 +1,5 @@
 pub mod Ground
+pub mod States
 pub mod Panes
 pub mod Settling
 pub mod Frames

@@ -4,7 +4,7 @@ use Rattle.cl_application.specs.Panes.{panes_of}
 use Rattle.cl_application.specs.declared.applications.App.{App}
 use Rattle.cl_application.specs.declared.declarations.PaneDecl.{PaneDecl}
 use Rattle.cl_display.specs.Outcomes.{DrawOutcome}
-use Rattle.cl_eval.specs.Slots.{Slots}
+use Rattle.cl_frame.specs.States.{StateAt}
 use Rattle.cl_outside.specs.Operations.{Op, mended, ops_bytes}
 use Rattle.cl_outside.specs.Writing.{Says}
 use Rattle.cl_redisplay.specs.Operations.{redraw_ops}
@@ -42,16 +42,16 @@ touched_in drawn (Some old) None = everywhere
 touched_in drawn (Some old) (Some new) = one_holds (touched_by old drawn)
 
 -- those of one pane: they show what is touched of it, where it is settled
-abbrev pub step_ops : Ground → Which → Slots → PaneDecl → (old new : PaneMarks) → List Op
-step_ops g which slots d old new =
-    if is_due which old then touched_pane_ops (area_of d) (marks_in new) (touched_in (pane_draw g.limits g.app g.types d slots) old new) else []
+abbrev pub step_ops : Ground → Which → StateAt → PaneDecl → (old new : PaneMarks) → List Op
+step_ops g which state d old new =
+    if is_due which old then touched_pane_ops (area_of d) (marks_in new) (touched_in (pane_draw g.limits g.app g.types d state) old new) else []
 
 -- those of all panes, one after another
-abbrev pub settled_ops : Ground → Which → Slots → List PaneDecl → (olds news : List PaneMarks) → List Op
-settled_ops g which slots [] olds news = []
-settled_ops g which slots (d ∷ ds) [] news = []
-settled_ops g which slots (d ∷ ds) (o ∷ os) [] = []
-settled_ops g which slots (d ∷ ds) (o ∷ os) (n ∷ ns) = step_ops g which slots d o n ++ settled_ops g which slots ds os ns
+abbrev pub settled_ops : Ground → Which → StateAt → List PaneDecl → (olds news : List PaneMarks) → List Op
+settled_ops g which state [] olds news = []
+settled_ops g which state (d ∷ ds) [] news = []
+settled_ops g which state (d ∷ ds) (o ∷ os) [] = []
+settled_ops g which state (d ∷ ds) (o ∷ os) (n ∷ ns) = step_ops g which state d o n ++ settled_ops g which state ds os ns
 
 -- those that redraw a frame in full
 abbrev pub frame_ops : App → List PaneMarks → List Op
@@ -59,9 +59,9 @@ frame_ops app panes = redraw_ops (shown_at (shown_panes (panes_of app) panes)) a
 
 -- The bytes of an update. A screen that was stale, or whose histories are discarded, is redrawn in full, after a line feed where the device
 -- is broken; else what is touched of each pane that is settled is sent, in order.
-abbrev pub update_bytes : Ground → Which → Slots → (stale broken : Bool) → (olds news : List PaneMarks) → List ℕ
-update_bytes g which slots stale broken olds news =
-    if is_stale_under which stale then mended broken (ops_bytes (frame_ops g.app news)) else ops_bytes (settled_ops g which slots (panes_of g.app) olds news)
+abbrev pub update_bytes : Ground → Which → StateAt → (stale broken : Bool) → (olds news : List PaneMarks) → List ℕ
+update_bytes g which state stale broken olds news =
+    if is_stale_under which stale then mended broken (ops_bytes (frame_ops g.app news)) else ops_bytes (settled_ops g which state (panes_of g.app) olds news)
 
 -- playback of the wire shows these panes, where its bytes are told at all times
 abbrev pub ShowsPanes : App → List PaneMarks → Wire → Type 0
@@ -75,7 +75,7 @@ SendsPane true is_stale old new bytes = new.bytes ≡ old.bytes
 SendsPane false is_stale old new bytes = SendsOn (not is_stale) old new bytes
 
 -- the pane in a place was sent, where it was settled
-abbrev pub SendsAt : Ground → Which → Slots → (place : ℕ) → (olds news : List Pane) → (was_stale is_stale : Bool) → (old new : Wire) → Type 0
-SendsAt g which slots place olds news was_stale is_stale old new = (d : PaneDecl) (o n : Pane)
+abbrev pub SendsAt : Ground → Which → StateAt → (place : ℕ) → (olds news : List Pane) → (was_stale is_stale : Bool) → (old new : Wire) → Type 0
+SendsAt g which state place olds news was_stale is_stale old new = (d : PaneDecl) (o n : Pane)
     → slice_get (panes_of g.app) place ≡ Some d → slice_get olds place ≡ Some o → slice_get news place ≡ Some n
-    → SendsPane was_stale is_stale old new (ops_bytes (step_ops g which slots d (marks_of_pane o) (marks_of_pane n)))
+    → SendsPane was_stale is_stale old new (ops_bytes (step_ops g which state d (marks_of_pane o) (marks_of_pane n)))

@@ -1,10 +1,9 @@
--- What becomes of panes that are settled: each shows its display, evaluated once on the present slots. What may be kept of its old history is kept.
+-- What becomes of panes that are settled: each shows its display, evaluated once on the present state. What may be kept of its old history is kept.
 use Rattle.std.specs.Prelude.{◌≡◌, ℕ, ◌+◌, ◌-◌, Bool, true, false, is_none, List, [], ◌∷◌, Some, None}
-use Rattle.cl_application.specs.App.{forms_of}
 use Rattle.cl_application.specs.declared.applications.App.{App}
 use Rattle.cl_application.specs.declared.declarations.PaneDecl.{PaneDecl}
 use Rattle.cl_eval.specs.Outcome.{Outcome, Gives, RisesBy, Traps}
-use Rattle.cl_eval.specs.Slots.{Slots}
+use Rattle.cl_frame.specs.States.{StateAt, shown_env, shown_forms}
 use Rattle.cl_eval.specs.TypeMeanings.{TypeMeanings}
 use Rattle.cl_eval.specs.declared.metering.Limits.{Limits}
 use Rattle.cl_display.specs.Drawings.{DrawingAt}
@@ -44,9 +43,10 @@ report_settled (Gives s cost deepest) ks erased false = report.Shown (record {
 })
 report_settled (Traps kind cost deepest) ks erased false = report.Trapped kind
 
--- what the display of a pane comes to, with the updates that it opens
-abbrev pub pane_draw : Limits → App → TypeMeanings → PaneDecl → Slots → DrawOutcome
-pane_draw limits app types pane slots = fresh limits (record { app = app; slots = slots; types = types }) (forms_of pane app) []
+-- what the display that a pane shows comes to, with the updates that it opens
+abbrev pub pane_draw : Limits → App → TypeMeanings → PaneDecl → StateAt → DrawOutcome
+pane_draw limits app types pane state =
+    fresh limits (record { app = app; slots = state.slots; types = types }) (shown_forms app pane state) (shown_env pane state)
 
 -- the old marks of which something may be kept: where all histories are discarded there are none
 abbrev pub reused : Which → PaneMarks → List (Mark Item)
@@ -70,15 +70,15 @@ is_due which.Blank marks = is_none marks
 is_due which.Force marks = true
 
 -- one pane
-abbrev pub settle_pane : Ground → Which → Slots → PaneDecl → PaneMarks → (met : Bool) → PaneStep
-settle_pane g which slots d old met = settle_if (is_due which old) (pane_draw g.limits g.app g.types d slots) (reused which old) old met
+abbrev pub settle_pane : Ground → Which → StateAt → PaneDecl → PaneMarks → (met : Bool) → PaneStep
+settle_pane g which state d old met = settle_if (is_due which old) (pane_draw g.limits g.app g.types d state) (reused which old) old met
 
 -- all panes, each with what it met; where that is not told, it met nothing
-abbrev pub settle_panes : Ground → Which → Slots → List PaneDecl → List PaneMarks → (mets : List Bool) → List PaneStep
-settle_panes g which slots [] olds mets = []
-settle_panes g which slots (d ∷ ds) [] mets = []
-settle_panes g which slots (d ∷ ds) (o ∷ os) [] = settle_pane g which slots d o false ∷ settle_panes g which slots ds os []
-settle_panes g which slots (d ∷ ds) (o ∷ os) (m ∷ ms) = settle_pane g which slots d o m ∷ settle_panes g which slots ds os ms
+abbrev pub settle_panes : Ground → Which → StateAt → List PaneDecl → List PaneMarks → (mets : List Bool) → List PaneStep
+settle_panes g which state [] olds mets = []
+settle_panes g which state (d ∷ ds) [] mets = []
+settle_panes g which state (d ∷ ds) (o ∷ os) [] = settle_pane g which state d o false ∷ settle_panes g which state ds os []
+settle_panes g which state (d ∷ ds) (o ∷ os) (m ∷ ms) = settle_pane g which state d o m ∷ settle_panes g which state ds os ms
 
 abbrev pub marks_after : PaneStep → PaneMarks
 marks_after s = s.marks

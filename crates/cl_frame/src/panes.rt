@@ -6,6 +6,7 @@ ghost use Rattle.cl_frame.specs.Damages.{IsDamage, blank_for_memory, touched_wit
 ghost use Rattle.cl_frame.specs.Frames.{Evaluates, IsPaneFaithful};
 ghost use Rattle.cl_frame.specs.Ground.{meanings_of};
 ghost use Rattle.cl_frame.specs.Panes.{IsCounted, area_of, marks_of_pane};
+ghost use Rattle.cl_frame.specs.States.{state_of};
 ghost use Rattle.cl_frame.specs.Settling.{met_memory, pane_draw, reused};
 ghost use Rattle.cl_medium.specs.Items.{move_item};
 ghost use Rattle.cl_record.specs.Counts.{count_of};
@@ -16,10 +17,11 @@ ghost use Rattle.cl_updating.specs.Redisplays.{CanReuse};
 
 use crate::reports::{PaneReport, Report};
 use crate::settling::Which;
+use crate::states::State;
 use cl_application::PaneDecl;
 use cl_damage::{Keeps, touched};
 use cl_display::History;
-use cl_eval::{Env, Program, Slots, Types};
+use cl_eval::{Env, Program, Types};
 use cl_outside::{Ledger, Steps};
 use cl_redisplay::Area;
 use cl_spans::Spans;
@@ -87,7 +89,7 @@ impl Pane {
         program: &Program<'_, T>,
         which: Which,
         declared: &PaneDecl,
-        slots: &Slots,
+        state: &State<'_>,
         steps: &mut Steps<L>,
     ) -> Evaluated
         requires depth { program.now.limits.depth ≤ 512 }
@@ -96,17 +98,18 @@ impl Pane {
         requires faithful { IsPaneFaithful program.now.app.now (meanings_of T.holds T.presents program.now.types.now) self.now }
         ensures evaluates { Evaluates
             (pane_draw program.now.limits program.now.app.now (meanings_of T.holds T.presents program.now.types.now)
-            declared.now slots.now) (reused which (marks_of_pane self.now)) self.now result.pane steps.old steps.new }
+            declared.now (state_of state.now)) (reused which (marks_of_pane self.now)) self.now result.pane steps.old steps.new }
         ensures keeps { met_memory result.pane.report ≡ false → result.keeps ≡ keeps_among (reused which (marks_of_pane self.now))
-            (pane_draw program.now.limits program.now.app.now (meanings_of T.holds T.presents program.now.types.now) declared.now slots.now) }
+            (pane_draw program.now.limits program.now.app.now (meanings_of T.holds T.presents program.now.types.now) declared.now (state_of state.now)) }
         ensures faithful { IsPaneFaithful program.now.app.now (meanings_of T.holds T.presents program.now.types.now) result.pane }
         ensures later { steps.old ≤ steps.new }
     {
-        let env = Env::new(program.alloc);
-        let forms = program.app.forms_of(declared);
+        let none = Env::new(program.alloc);
+        let env = state.env(declared, &none);
+        let forms = state.forms(program.app, declared);
         let blank = History::empty(program.alloc);
         let old = self.reused(which, &blank);
-        match redisplay(program, forms, &env, slots, old, steps) {
+        match redisplay(program, forms, env, state.slots, old, steps) {
             Redisplayed::Built(history, reuse, keeps) => {
                 let report = self.report_of(&history, reuse);
                 Evaluated {

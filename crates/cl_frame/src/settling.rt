@@ -7,6 +7,7 @@ ghost use Rattle.cl_frame.specs.Damages.{CanShow, IsDamage, Leaves, damage_holds
 ghost use Rattle.cl_frame.specs.Frames.{ArePanesFaithful, AreShown, GoesStale, IsFrameOf, Replaces, Settles, SettlesAt, fault_between, is_stale_under, marks_of_frame, reports_of_frame};
 ghost use Rattle.cl_frame.specs.Ground.{ground_of, meanings_of};
 ghost use Rattle.cl_frame.specs.Panes.{marks_in, marks_of_pane};
+ghost use Rattle.cl_frame.specs.States.{state_of};
 ghost use Rattle.cl_frame.specs.Settling.{SpendsPanes, is_due, met_memory, settle_panes};
 ghost use Rattle.cl_frame.specs.Sending.{SendsAt, SendsOn, SendsPane, ShowsPanes, settled_ops, update_bytes, wire_of};
 ghost use Rattle.cl_outside.specs.Operations.{ops_bytes};
@@ -18,7 +19,8 @@ ghost use Rattle.cl_updating.specs.Redisplays.{CanReuse};
 use crate::frames::Frame;
 use crate::panes::{Evaluated, Pane};
 use crate::reports::PaneReport;
-use cl_eval::{Program, Slots, Types};
+use crate::states::State;
+use cl_eval::{Program, Types};
 use cl_outside::{Device, Ledger, Steps};
 use cl_redisplay::{Painted, Screen, repaint, repaint_touched};
 use cl_spans::Spans;
@@ -90,7 +92,7 @@ impl Frame {
         &mut self,
         program: &Program<'_, T>,
         which: Which,
-        slots: &Slots,
+        state: &State<'_>,
         device: &mut D,
         steps: &mut Steps<L>,
     ) -> Painted
@@ -100,10 +102,10 @@ impl Frame {
         requires faithful { ArePanesFaithful program.now.app.now (meanings_of T.holds T.presents program.now.types.now) self.old.panes.items }
         requires agree { Agree self.old.screen.stale self.old.screen.raster (D.broken device.old)
             (D.cleared device.old) (D.picture device.old) }
-        ensures settles { Settles (ground_of T.holds T.presents T.reads T.hierarchy program.now) which slots.now
+        ensures settles { Settles (ground_of T.holds T.presents T.reads T.hierarchy program.now) which (state_of state.now)
             self.old self.new }
         ensures ledger { SpendsPanes (settle_panes (ground_of T.holds T.presents T.reads T.hierarchy program.now)
-            which slots.now (panes_of program.now.app.now) (marks_of_frame self.old)
+            which (state_of state.now) (panes_of program.now.app.now) (marks_of_frame self.old)
             (map met_memory (reports_of_frame self.new))) steps.old steps.new }
         ensures frame { IsFrameOf program.now.app.now self.new }
         ensures faithful { ArePanesFaithful program.now.app.now (meanings_of T.holds T.presents program.now.types.now) self.new.panes.items }
@@ -116,7 +118,7 @@ impl Frame {
         ensures breaks { BreaksAt result (D.broken device.new) }
         ensures bytes { is_stale_under which self.old.screen.stale ≡ false
             → SendsOn (not (is_fault result)) (wire_of (D.wire device.old) (D.faults device.old) (D.lent device.old).told) (wire_of (D.wire device.new) (D.faults device.new) (D.lent device.new).told)
-            (ops_bytes (settled_ops (ground_of T.holds T.presents T.reads T.hierarchy program.now) which slots.now
+            (ops_bytes (settled_ops (ground_of T.holds T.presents T.reads T.hierarchy program.now) which (state_of state.now)
             (panes_of program.now.app.now) (marks_of_frame self.old) (marks_of_frame self.new))) }
         ensures lent { D.lent device.new ≡ D.lent device.old }
         ensures cause { PaintedRose (D.faults device.old) (D.faults device.new) result }
@@ -125,7 +127,7 @@ impl Frame {
         which.start(&mut self.screen);
         let was_stale = self.screen.stale();
         'panes: for place in 0..self.panes.len() {
-            self.settle_at(place, program, which, slots, device, steps);
+            self.settle_at(place, program, which, state, device, steps);
         }
         fault_between(was_stale, self.screen.stale())
     }
@@ -136,7 +138,7 @@ impl Frame {
         &mut self,
         program: &Program<'_, T>,
         which: Which,
-        slots: &Slots,
+        state: &State<'_>,
         device: &mut D,
         steps: &mut Steps<L>,
     ) -> Painted
@@ -146,10 +148,10 @@ impl Frame {
         requires faithful { ArePanesFaithful program.now.app.now (meanings_of T.holds T.presents program.now.types.now) self.old.panes.items }
         requires agree { Agree self.old.screen.stale self.old.screen.raster (D.broken device.old)
             (D.cleared device.old) (D.picture device.old) }
-        ensures settles { Settles (ground_of T.holds T.presents T.reads T.hierarchy program.now) which slots.now
+        ensures settles { Settles (ground_of T.holds T.presents T.reads T.hierarchy program.now) which (state_of state.now)
             self.old self.new }
         ensures ledger { SpendsPanes (settle_panes (ground_of T.holds T.presents T.reads T.hierarchy program.now)
-            which slots.now (panes_of program.now.app.now) (marks_of_frame self.old)
+            which (state_of state.now) (panes_of program.now.app.now) (marks_of_frame self.old)
             (map met_memory (reports_of_frame self.new))) steps.old steps.new }
         ensures frame { IsFrameOf program.now.app.now self.new }
         ensures faithful { ArePanesFaithful program.now.app.now (meanings_of T.holds T.presents program.now.types.now) self.new.panes.items }
@@ -158,7 +160,7 @@ impl Frame {
         ensures stale { self.new.screen.stale ≡ is_fault result }
         ensures breaks { BreaksAt result (D.broken device.new) }
         ensures bytes { SendsOn (not (is_fault result)) (wire_of (D.wire device.old) (D.faults device.old) (D.lent device.old).told) (wire_of (D.wire device.new) (D.faults device.new) (D.lent device.new).told)
-            (update_bytes (ground_of T.holds T.presents T.reads T.hierarchy program.now) which slots.now self.old.screen.stale (D.broken device.old)
+            (update_bytes (ground_of T.holds T.presents T.reads T.hierarchy program.now) which (state_of state.now) self.old.screen.stale (D.broken device.old)
             (marks_of_frame self.old) (marks_of_frame self.new)) }
         ensures shows { is_fault result ≡ false
             → ShowsPanes program.now.app.now (marks_of_frame self.new) (wire_of (D.wire device.new) (D.faults device.new) (D.lent device.new).told) }
@@ -167,7 +169,7 @@ impl Frame {
         ensures later { steps.old ≤ steps.new }
     {
         let redraws = which.redraws(self.screen.stale());
-        let painted = self.settle(program, which, slots, device, steps);
+        let painted = self.settle(program, which, state, device, steps);
         if redraws {
             self.refresh(device)
         } else {
@@ -181,7 +183,7 @@ impl Frame {
         place: usize,
         program: &Program<'_, T>,
         which: Which,
-        slots: &Slots,
+        state: &State<'_>,
         device: &mut D,
         steps: &mut Steps<L>,
     )
@@ -193,12 +195,12 @@ impl Frame {
         requires faithful { ArePanesFaithful program.now.app.now (meanings_of T.holds T.presents program.now.types.now) self.old.panes.items }
         requires agree { Agree self.old.screen.stale self.old.screen.raster (D.broken device.old)
             (D.cleared device.old) (D.picture device.old) }
-        ensures settles { SettlesAt (ground_of T.holds T.presents T.reads T.hierarchy program.now) which slots.now
+        ensures settles { SettlesAt (ground_of T.holds T.presents T.reads T.hierarchy program.now) which (state_of state.now)
             place self.old.panes.items self.new.panes.items steps.old steps.new }
         ensures idle { self.old.screen.stale ≡ true → device.new ≡ device.old }
         ensures breaks { self.old.screen.stale ≡ false → self.new.screen.stale ≡ true
             → D.broken device.new ≡ true }
-        ensures bytes { SendsAt (ground_of T.holds T.presents T.reads T.hierarchy program.now) which slots.now place self.old.panes.items
+        ensures bytes { SendsAt (ground_of T.holds T.presents T.reads T.hierarchy program.now) which (state_of state.now) place self.old.panes.items
             self.new.panes.items self.old.screen.stale self.new.screen.stale (wire_of (D.wire device.old) (D.faults device.old) (D.lent device.old).told) (wire_of (D.wire device.new) (D.faults device.new) (D.lent device.new).told) }
         ensures frame { IsFrameOf program.now.app.now self.new }
         ensures faithful { ArePanesFaithful program.now.app.now (meanings_of T.holds T.presents program.now.types.now) self.new.panes.items }
@@ -216,7 +218,7 @@ impl Frame {
             self.panes[place].report = PaneReport::Quiet;
             return;
         }
-        let evaluated = self.panes[place].evaluated(program, which, declared, slots, steps);
+        let evaluated = self.panes[place].evaluated(program, which, declared, state, steps);
         let shown = self.damaged(program.alloc, place, evaluated);
         self.put(place, shown, device);
     }

@@ -10,7 +10,7 @@ use Rattle.cl_syntax.specs.declared.type_names.StandardType.{StandardType}
 use Rattle.cl_table.specs.Names.{named, declared_at}
 use Rattle.cl_lattice.proofs.BuildingEntries.{either, named_last, next_entry}
 use Rattle.cl_lattice.specs.Laws.{names_listed}
-use Rattle.cl_lattice.specs.Listing.{Lists, IsListed, with_names, with_list, with_lists, plain_names, built_names, or_names, declared_name}
+use Rattle.cl_lattice.specs.Listing.{Lists, IsListed, with_names, with_list, with_lists, interaction_names, plain_names, built_names, or_names, declared_name}
 use Rattle.cl_lattice.specs.Members.{is_token}
 use Rattle.cl_lattice.specs.Precedence.{precedence, precedence_by, precedence_within}
 use Rattle.cl_lattice.specs.World.{World, kind_named}
@@ -150,15 +150,16 @@ pick false x y s t o ys e more h = is_later_token (bytes_eq y x) x ys (more h)
 
 plain_listed : (x : List ℕ) (t : StandardType) → plain_named x ≡ Some t → is_token plain_names x ≡ true
 plain_listed x t =
-    pick _ x (codes "t") _ t _ (codes "nil" ∷ codes "boolean" ∷ codes "integer" ∷ codes "string" ∷ codes "symbol" ∷ codes "blank-area" ∷ codes "command" ∷ []) refl
-    (pick _ x (codes "nil") _ t _ (codes "boolean" ∷ codes "integer" ∷ codes "string" ∷ codes "symbol" ∷ codes "blank-area" ∷ codes "command" ∷ []) refl
-    (pick _ x (codes "boolean") _ t _ (codes "integer" ∷ codes "string" ∷ codes "symbol" ∷ codes "blank-area" ∷ codes "command" ∷ []) refl
-    (pick _ x (codes "integer") _ t _ (codes "string" ∷ codes "symbol" ∷ codes "blank-area" ∷ codes "command" ∷ []) refl
-    (pick _ x (codes "string") _ t _ (codes "symbol" ∷ codes "blank-area" ∷ codes "command" ∷ []) refl
-    (pick _ x (codes "symbol") _ t _ (codes "blank-area" ∷ codes "command" ∷ []) refl
-    (pick _ x (codes "blank-area") _ t _ (codes "command" ∷ []) refl
-    (pick _ x (codes "command") _ t _ [] refl
-    (λ h. cc))))))))
+    pick _ x (codes "t") _ t _ (codes "nil" ∷ codes "boolean" ∷ codes "integer" ∷ codes "string" ∷ codes "symbol" ∷ interaction_names) refl
+    (pick _ x (codes "nil") _ t _ (codes "boolean" ∷ codes "integer" ∷ codes "string" ∷ codes "symbol" ∷ interaction_names) refl
+    (pick _ x (codes "boolean") _ t _ (codes "integer" ∷ codes "string" ∷ codes "symbol" ∷ interaction_names) refl
+    (pick _ x (codes "integer") _ t _ (codes "string" ∷ codes "symbol" ∷ interaction_names) refl
+    (pick _ x (codes "string") _ t _ (codes "symbol" ∷ interaction_names) refl
+    (pick _ x (codes "symbol") _ t _ interaction_names refl
+    (pick _ x (codes "blank-area") _ t _ (codes "command" ∷ codes "dialog-choice" ∷ []) refl
+    (pick _ x (codes "command") _ t _ (codes "dialog-choice" ∷ []) refl
+    (pick _ x (codes "dialog-choice") _ t _ [] refl
+    (λ h. cc)))))))))
 
 built_listed : (x : List ℕ) (t : StandardType) → built_named x ≡ Some t → is_token (built_names ++ or_names) x ≡ true
 built_listed x t =

@@ -92,6 +92,7 @@ head_named w g head.Boolean y e = cc
 head_named w g head.Symbols y e = cc
 head_named w g head.BlankArea y e = cc
 head_named w g head.Command y e = cc
+head_named w g head.DialogChoice y e = cc
 head_named w g (head.Integer low high) y e = cc
 head_named w g (head.Text n) y e = cc
 head_named w g (head.Member ts) y e = cc

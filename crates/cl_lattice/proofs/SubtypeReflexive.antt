@@ -1,6 +1,6 @@
 -- Each type is a subtype of itself.
 use Rattle.std.proofs.Common.{refl}
-use Rattle.cl_lattice.specs.Expanded.{Expanded, everything, nothing, boolean, symbols, blank_area, command, integer, string, member, subset, sequence, some_of, each_of, null_or, token_or, record_type, host, user, unknown, ExpandedTypes, none, part}
+use Rattle.cl_lattice.specs.Expanded.{Expanded, everything, nothing, boolean, symbols, blank_area, command, dialog_choice, integer, string, member, subset, sequence, some_of, each_of, null_or, token_or, record_type, host, user, unknown, ExpandedTypes, none, part}
 use Rattle.cl_lattice.specs.Subtypes.{IsSubtype, EachIsSubtype, SomeIsSubtype, IsSubtypeOfEach, IsSubtypeOfSome}
 use Rattle.cl_lattice.specs.Subtypes as rule
 use Rattle.cl_lattice.proofs.SubtypeTests.{low_itself, high_itself, among_itself, tokens_itself}
@@ -13,6 +13,7 @@ mutual
   reflexive symbols = rule.itself symbols refl
   reflexive blank_area = rule.itself blank_area refl
   reflexive command = rule.itself command refl
+  reflexive dialog_choice = rule.itself dialog_choice refl
   reflexive (integer low high) = rule.of_integers low high low high (low_itself low) (high_itself high)
   reflexive (string n) = rule.itself (string n) refl
   reflexive (member cs) = rule.of_members cs cs (among_itself cs)

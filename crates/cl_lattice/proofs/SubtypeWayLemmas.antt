@@ -1,7 +1,7 @@
 -- One type is a subtype of another exactly in one of the ways.
 use Rattle.std.proofs.Common.{◌≡◌, ◌↔◌, ℕ, ℤ, true, List, refl, ap, subst, inl, inr}
 use Rattle.std.specs.Prelude.{◌⊎◌, Option, Some, None}
-use Rattle.cl_lattice.specs.Expanded.{Expanded, everything, nothing, boolean, symbols, blank_area, command, integer, string, member, subset, sequence, some_of, each_of, null_or, token_or, record_type, host, user, unknown, ExpandedTypes, none, part}
+use Rattle.cl_lattice.specs.Expanded.{Expanded, everything, nothing, boolean, symbols, blank_area, command, dialog_choice, integer, string, member, subset, sequence, some_of, each_of, null_or, token_or, record_type, host, user, unknown, ExpandedTypes, none, part}
 use Rattle.cl_lattice.specs.Subtypes.{IsSubtype, EachIsSubtype, SomeIsSubtype, IsSubtypeOfEach, IsSubtypeOfSome, is_whole}
 use Rattle.cl_lattice.specs.Subtypes as rule
 use Rattle.cl_lattice.specs.SubtypeWays.{IsLengthWithin, ByHeads, EachBelow, SomeBelow, BelowEach, ByFirst, BySecond, BySomeSecond}
@@ -48,6 +48,7 @@ by_heads_derived boolean boolean h = rule.itself boolean refl
 by_heads_derived symbols symbols h = rule.itself symbols refl
 by_heads_derived blank_area blank_area h = rule.itself blank_area refl
 by_heads_derived command command h = rule.itself command refl
+by_heads_derived dialog_choice dialog_choice h = rule.itself dialog_choice refl
 by_heads_derived (integer low high) (integer low' high') h = rule.of_integers low high low' high' h.0 h.1
 by_heads_derived (string n) (string m) h = strings_derived n m h
 by_heads_derived (member cs) (member ds) h = rule.of_members cs ds h
@@ -99,6 +100,7 @@ itself_by_heads boolean h = tt
 itself_by_heads symbols h = tt
 itself_by_heads blank_area h = tt
 itself_by_heads command h = tt
+itself_by_heads dialog_choice h = tt
 itself_by_heads (string None) h = tt
 itself_by_heads (string (Some n)) h = refl
 itself_by_heads (record_type x) h = refl
@@ -122,6 +124,7 @@ itself_by_second boolean h = tt
 itself_by_second symbols h = tt
 itself_by_second blank_area h = tt
 itself_by_second command h = tt
+itself_by_second dialog_choice h = tt
 itself_by_second (string n) h = itself_by_heads (string n) h
 itself_by_second (record_type x) h = refl
 itself_by_second (host x low high) h = (refl, refl, refl)

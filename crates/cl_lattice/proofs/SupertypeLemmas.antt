@@ -142,6 +142,7 @@ standard_below standard.NullOrType x vs xs ps h = cc
 standard_below standard.TokenOrType x vs xs ps h = cc
 standard_below standard.BlankArea x vs xs ps h = reflexive type.blank_area
 standard_below standard.Command x vs xs ps h = reflexive type.command
+standard_below standard.DialogChoice x vs xs ps h = reflexive type.dialog_choice
 
 user_below : (w : World) (u : UserType) (x : List ℕ) (ts : TypeArgTrees) (b : Bool) → is_none_given u.parameters ≡ b → b ≡ true → (if b then is_empty ts else true) ≡ true → (g : Given)
     → IsSubtype (own_type w u x (values_of g ts)) (own_type w u x [])

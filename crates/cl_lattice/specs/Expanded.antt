@@ -12,6 +12,7 @@ mutual
     symbols : Expanded
     blank_area : Expanded
     command : Expanded
+    dialog_choice : Expanded
     -- numbers, with their least and their greatest; None for no bound
     integer : Option ℤ → Option ℤ → Expanded
     -- texts, with their length in bytes; None for any
@@ -49,6 +50,7 @@ abbrev mutual
   weight symbols = 1
   weight blank_area = 1
   weight command = 1
+  weight dialog_choice = 1
   weight (integer low high) = 1
   weight (string n) = 1
   weight (member ds) = 1

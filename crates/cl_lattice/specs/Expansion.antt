@@ -39,6 +39,7 @@ standard_type standard.NullOrType x vs xs ts = of_first type.null_or x vs ts
 standard_type standard.TokenOrType x vs xs ts = of_first (type.token_or xs) x vs ts
 standard_type standard.BlankArea x vs xs ts = type.blank_area
 standard_type standard.Command x vs xs ts = type.command
+standard_type standard.DialogChoice x vs xs ts = type.dialog_choice
 
 -- a declared type by its kind
 abbrev pub declared_type : Own → Option TypeKind → List ℕ → List (Option Data) → Expanded

@@ -26,10 +26,13 @@ with_lists w (x ∷ xs) table = with_lists w xs (with_list w table x)
 abbrev pub IsListed : World → Lists → Type 0
 IsListed w table = (x : List ℕ) → names_listed (named x table) ≡ precedence w x
 
--- the names of the standard types without parts or constants
+-- the names of the standard types of what a user points at, asks for and chooses
+abbrev pub interaction_names : List (List ℕ)
+interaction_names = codes "blank-area" ∷ codes "command" ∷ codes "dialog-choice" ∷ []
+
+-- the names of all standard types without parts or constants
 abbrev pub plain_names : List (List ℕ)
-plain_names =
-    codes "t" ∷ codes "nil" ∷ codes "boolean" ∷ codes "integer" ∷ codes "string" ∷ codes "symbol" ∷ codes "blank-area" ∷ codes "command" ∷ []
+plain_names = codes "t" ∷ codes "nil" ∷ codes "boolean" ∷ codes "integer" ∷ codes "string" ∷ codes "symbol" ∷ interaction_names
 
 -- the names of those that are made of constants or of other types
 abbrev pub built_names : List (List ℕ)

@@ -233,6 +233,7 @@ abbrev mutual
   is_in w p d ms type.symbols = is_symbol d
   is_in w p d ms type.blank_area = is_blank_area d
   is_in w p d ms type.command = is_command w d ms
+  is_in w p d ms type.dialog_choice = is_symbol d
   is_in w p d ms (type.integer low high) = is_within low high d
   is_in w p d ms (type.string n) = is_text n d
   is_in w p d ms (type.member cs) = is_among d cs
@@ -297,6 +298,7 @@ abbrev mutual
   asks c type.symbols = false
   asks c type.blank_area = false
   asks c type.command = c
+  asks c type.dialog_choice = false
   asks c (type.integer low high) = false
   asks c (type.string n) = false
   asks c (type.member cs) = false

@@ -1,6 +1,6 @@
 -- The ways in which one type is a subtype of another, by cases on their heads.
 use Rattle.std.specs.Prelude.{◌≡◌, ℤ, true, ◌⊎◌, Option, Some, None}
-use Rattle.cl_lattice.specs.Expanded.{Expanded, everything, nothing, boolean, symbols, blank_area, command, integer, string, member, subset, sequence, some_of, each_of, null_or, token_or, record_type, host, user, unknown, ExpandedTypes, none, part}
+use Rattle.cl_lattice.specs.Expanded.{Expanded, everything, nothing, boolean, symbols, blank_area, command, dialog_choice, integer, string, member, subset, sequence, some_of, each_of, null_or, token_or, record_type, host, user, unknown, ExpandedTypes, none, part}
 use Rattle.cl_lattice.specs.Subtypes.{IsSubtype, is_low_within, is_high_within, all_among, all_tokens}
 
 -- texts of any length take those of one; None is any
@@ -15,6 +15,7 @@ ByHeads boolean boolean = Unit {0}
 ByHeads symbols symbols = Unit {0}
 ByHeads blank_area blank_area = Unit {0}
 ByHeads command command = Unit {0}
+ByHeads dialog_choice dialog_choice = Unit {0}
 ByHeads (integer low high) (integer low' high') = (is_low_within low low' ≡ true) × (is_high_within high high' ≡ true)
 ByHeads (string n) (string m) = IsLengthWithin n m
 ByHeads (member cs) (member ds) = all_among cs ds ≡ true

@@ -1,7 +1,7 @@
 -- Subtypes: the least relation with these rules.
 use Rattle.std.specs.Prelude.{◌≡◌, ℕ, ℤ, int_le, Bool, true, false, ◌&&◌, List, [], ◌∷◌, Option, Some, None}
 use Rattle.cl_value.specs.Data.{Data}
-use Rattle.cl_lattice.specs.Expanded.{Expanded, everything, nothing, boolean, symbols, blank_area, command, integer, string, member, subset, sequence, some_of, each_of, null_or, token_or, record_type, host, user, unknown, ExpandedTypes, none, part}
+use Rattle.cl_lattice.specs.Expanded.{Expanded, everything, nothing, boolean, symbols, blank_area, command, dialog_choice, integer, string, member, subset, sequence, some_of, each_of, null_or, token_or, record_type, host, user, unknown, ExpandedTypes, none, part}
 use Rattle.cl_lattice.specs.Members.{is_among, is_token}
 
 -- the first lower bound lies within the second; None is no bound
@@ -33,6 +33,7 @@ is_whole boolean = true
 is_whole symbols = true
 is_whole blank_area = true
 is_whole command = true
+is_whole dialog_choice = true
 is_whole (integer low high) = false
 is_whole (string n) = true
 is_whole (member cs) = false

@@ -32,6 +32,7 @@ standard_stands_alone standard.NullOrType = false
 standard_stands_alone standard.TokenOrType = false
 standard_stands_alone standard.BlankArea = true
 standard_stands_alone standard.Command = true
+standard_stands_alone standard.DialogChoice = true
 
 abbrev pub stands_alone_by : Option StandardType → Option TypeKind → Bool
 stands_alone_by (Some t) k = standard_stands_alone t

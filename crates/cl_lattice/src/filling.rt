@@ -104,6 +104,7 @@ impl Lattice {
             Head::Symbols => self.fill_alone(first, bound, second, known, out),
             Head::BlankArea => self.fill_alone(first, bound, second, known, out),
             Head::Command => self.fill_alone(first, bound, second, known, out),
+            Head::DialogChoice => self.fill_alone(first, bound, second, known, out),
             Head::Integer(_, _) => self.fill_alone(first, bound, second, known, out),
             Head::Text(_) => self.fill_alone(first, bound, second, known, out),
             Head::Member(_) => self.fill_alone(first, bound, second, known, out),

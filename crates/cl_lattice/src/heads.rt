@@ -25,6 +25,7 @@ pub(crate) enum Head<'a> {
     Symbols,
     BlankArea,
     Command,
+    DialogChoice,
     /// The least and the greatest number; `None` for no bound.
     Integer(Option<i64>, Option<i64>),
     /// The length in bytes; `None` for any.
@@ -91,6 +92,7 @@ fn standard_head<'a>(
         StandardType::TokenOrType => token_head(name, args),
         StandardType::BlankArea => Head::BlankArea,
         StandardType::Command => Head::Command,
+        StandardType::DialogChoice => Head::DialogChoice,
     }
 }
 

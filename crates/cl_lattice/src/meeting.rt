@@ -12,8 +12,8 @@ use crate::comparing::all_tokens;
 use crate::heads::Head;
 use crate::lattices::Lattice;
 use crate::plain_types::{
-    by_blank_areas, by_booleans, by_commands, by_hosts, by_integers, by_members, by_records,
-    by_subsets, by_symbols, by_texts, by_unknown,
+    by_blank_areas, by_booleans, by_commands, by_dialog_choices, by_hosts, by_integers, by_members,
+    by_records, by_subsets, by_symbols, by_texts, by_unknown,
 };
 use cl_syntax::TypeArg;
 
@@ -68,6 +68,7 @@ impl Lattice {
             Head::Symbols => by_symbols(second),
             Head::BlankArea => by_blank_areas(second),
             Head::Command => by_commands(second),
+            Head::DialogChoice => by_dialog_choices(second),
             Head::Integer(low, high) => by_integers(*low, *high, second),
             Head::Text(length) => by_texts(*length, second),
             Head::Member(args) => by_members(args, bound, second),

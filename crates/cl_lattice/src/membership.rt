@@ -99,6 +99,7 @@ impl Lattice {
             }
             StandardType::BlankArea => answer(is_blank_area(value)),
             StandardType::Command => self.command_holds(alloc, value, preds),
+            StandardType::DialogChoice => answer(is_symbol(value)),
         }
     }
 

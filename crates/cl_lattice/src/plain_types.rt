@@ -1,7 +1,7 @@
 //! Comparison of two types of one kind that have no parts.
 ghost use Rattle.std.specs.Prelude.{◌≡◌, ◌↔◌, [], IsTrue, Some};
 ghost use Rattle.cl_lattice.specs.Arguments.{constants, given_by, trees_of, values_of};
-ghost use Rattle.cl_lattice.specs.Expanded.{blank_area, boolean, command, host, integer, member, record_type, string, subset, symbols, unknown, user};
+ghost use Rattle.cl_lattice.specs.Expanded.{blank_area, boolean, command, dialog_choice, host, integer, member, record_type, string, subset, symbols, unknown, user};
 ghost use Rattle.cl_lattice.specs.SubtypeHeads.{IsDeclared, head_type, user_type};
 ghost use Rattle.cl_lattice.specs.SubtypeWays.{ByHeads};
 ghost use Rattle.cl_lattice.specs.World.{World, kind_named};
@@ -40,6 +40,13 @@ pub(crate) fn by_commands(second: &Head<'_>) -> bool
     ensures { (w : World) → IsTrue result ↔ ByHeads command (head_type w [] second.now) }
 {
     matches!(second, Head::Command)
+}
+
+/// Whether the second is `dialog-choice`.
+pub(crate) fn by_dialog_choices(second: &Head<'_>) -> bool
+    ensures { (w : World) → IsTrue result ↔ ByHeads dialog_choice (head_type w [] second.now) }
+{
+    matches!(second, Head::DialogChoice)
 }
 
 /// Two types of numbers, by their bounds.

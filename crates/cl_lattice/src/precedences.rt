@@ -1,7 +1,7 @@
 //! The precedence lists of types.
 ghost use Rattle.std.specs.Prelude.{◌≡◌, ◌++◌, ◌∷◌, [], codes, IfOk, OnOk, map};
 ghost use Rattle.cl_lattice.specs.Arguments.{trees_of};
-ghost use Rattle.cl_lattice.specs.Listing.{IsListed, built_names, declared_name, or_names, plain_names, with_list, with_lists};
+ghost use Rattle.cl_lattice.specs.Listing.{IsListed, built_names, declared_name, interaction_names, or_names, plain_names, with_list, with_lists};
 ghost use Rattle.cl_lattice.specs.Members.{is_token};
 ghost use Rattle.cl_lattice.specs.Precedence.{behind_own, last_kept, listed, part_name, part_names, precedence, precedence_by, precedence_within, standard_precedence, supertypes};
 ghost use Rattle.cl_lattice.specs.World.{kind_named};
@@ -240,8 +240,20 @@ fn add_plain<'a>(
     add_standard(alloc, known, b"integer".as_slice(), table)?;
     add_standard(alloc, known, b"string".as_slice(), table)?;
     add_standard(alloc, known, b"symbol".as_slice(), table)?;
+    add_interactions(alloc, known, table)
+}
+
+// Adds the lists of the standard types of what a user points at, asks for and chooses.
+fn add_interactions<'a>(
+    alloc: Global,
+    known: &KnownTypes<'a>,
+    table: &mut Precedences,
+) -> Result<(), AllocError>
+    ensures { OnOk result (table.new ≡ with_lists known.now interaction_names table.old) }
+{
     add_standard(alloc, known, b"blank-area".as_slice(), table)?;
-    add_standard(alloc, known, b"command".as_slice(), table)
+    add_standard(alloc, known, b"command".as_slice(), table)?;
+    add_standard(alloc, known, b"dialog-choice".as_slice(), table)
 }
 
 // Adds the lists of the standard types that are made of constants or of other types.

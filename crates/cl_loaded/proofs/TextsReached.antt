@@ -138,6 +138,7 @@ module _ (b : Book) (limits : Limits) (slots other : Slots) where
   standard-same standard.TokenOrType x vs xs es ts o a d out = token-same x vs xs es ts o a d out
   standard-same standard.BlankArea x vs xs es ts o a d out = refl
   standard-same standard.Command x vs xs es ts o a d out = refl
+  standard-same standard.DialogChoice x vs xs es ts o a d out = refl
 
   -- ---- specifiers
 

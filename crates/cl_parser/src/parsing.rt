@@ -96,7 +96,7 @@ impl<T: Types> Parser<'_, T> {
     }
 
     // What a token gives for a type, if anything.
-    fn token_value(
+    pub(crate) fn token_value(
         &self,
         line: &Line,
         token: Token,

@@ -94,6 +94,7 @@ mutual
   text-rises b go e level type.symbols s d out c l = omega arith
   text-rises b go e level type.blank_area s d out c l = omega arith
   text-rises b go e level type.command s d out c l = omega arith
+  text-rises b go e level type.dialog_choice s d out c l = omega arith
   text-rises b go e level (type.integer low high) s d out c l = omega arith
   text-rises b go e level (type.string n) s d out c l = string-rises d out c l
   text-rises b go e level (type.member cs) s d out c l = omega arith

@@ -7,7 +7,7 @@ use Rattle.std.specs.Str.{bytes_eq}
 use Rattle.std.proofs.lemmas.Bool.Decides.{Decides-int_eq}
 use Rattle.std.proofs.lemmas.Slice.Eq.{bytes_eq-Decides, slice_eq-Decides}
 use Rattle.cl_value.specs.Data.{Data}
-use Rattle.cl_lattice.specs.Expanded.{Expanded, everything, nothing, boolean, symbols, blank_area, command, integer, string, member, subset, sequence, some_of, each_of, null_or, token_or, record_type, host, user, unknown, ExpandedTypes, none, part}
+use Rattle.cl_lattice.specs.Expanded.{Expanded, everything, nothing, boolean, symbols, blank_area, command, dialog_choice, integer, string, member, subset, sequence, some_of, each_of, null_or, token_or, record_type, host, user, unknown, ExpandedTypes, none, part}
 use Rattle.cl_lattice.specs.Members.{is_same}
 use Rattle.cl_lattice.proofs.SubtypeConstantLemmas.{same_is, same_itself}
 use Rattle.cl_lattice.proofs.SubtypeTests.{both_are, first_of_both, second_of_both}
@@ -70,6 +70,7 @@ mutual
   same_to symbols symbols h = refl
   same_to blank_area blank_area h = refl
   same_to command command h = refl
+  same_to dialog_choice dialog_choice h = refl
   same_to (integer low high) (integer low' high') h =
       let lows : low ≡ low' = was (are_same int_eq) numbers_told low low' (first_of_both (are_same int_eq low low') (are_same int_eq high high') h) in
       let highs : high ≡ high' = was (are_same int_eq) numbers_told high high' (second_of_both (are_same int_eq low low') (are_same int_eq high high') h) in
@@ -123,6 +124,7 @@ mutual
   same_of symbols = refl
   same_of blank_area = refl
   same_of command = refl
+  same_of dialog_choice = refl
   same_of (integer low high) =
       both_are (are_same int_eq low low) (are_same int_eq high high) (itself (are_same int_eq) numbers_told low) (itself (are_same int_eq) numbers_told high)
   same_of (string n) = itself (are_same int_eq) numbers_told n

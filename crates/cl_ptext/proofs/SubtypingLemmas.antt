@@ -5,7 +5,7 @@ use Rattle.std.specs.Ordering.{int_eq}
 use Rattle.std.specs.Str.{bytes_eq}
 use Rattle.std.proofs.lemmas.Bool.Decides.{Decides-and, Decides-int_eq, Decides-like, Decides-or, same_from_decides}
 use Rattle.std.proofs.lemmas.Slice.Eq.{bytes_eq-Decides}
-use Rattle.cl_lattice.specs.Expanded.{Expanded, everything, nothing, boolean, symbols, blank_area, command, integer, string, member, subset, sequence, some_of, each_of, null_or, token_or, record_type, host, user, unknown, ExpandedTypes, none, part}
+use Rattle.cl_lattice.specs.Expanded.{Expanded, everything, nothing, boolean, symbols, blank_area, command, dialog_choice, integer, string, member, subset, sequence, some_of, each_of, null_or, token_or, record_type, host, user, unknown, ExpandedTypes, none, part}
 use Rattle.cl_lattice.specs.Expansion.{expansion}
 use Rattle.cl_lattice.specs.Subtypes.{IsSubtype, is_low_within, is_high_within, all_among, all_tokens}
 use Rattle.cl_lattice.specs.SubtypeWays.{IsLengthWithin, ByHeads, EachBelow, SomeBelow, BelowEach, ByFirst, BySecond, BySomeSecond}
@@ -59,6 +59,7 @@ module _ (a : Expanded) (kind first : Expanded → Bool) (k : (b : Expanded) →
     second_decided symbols = k symbols
     second_decided blank_area = k blank_area
     second_decided command = k command
+    second_decided dialog_choice = k dialog_choice
     second_decided (integer low high) = k (integer low high)
     second_decided (string n) = k (string n)
     second_decided (member cs) = k (member cs)
@@ -100,6 +101,7 @@ mutual
   kind_decided symbols symbols = yes
   kind_decided blank_area blank_area = yes
   kind_decided command command = yes
+  kind_decided dialog_choice dialog_choice = yes
   kind_decided (integer low high) b = numbers_of low high b
   kind_decided (string n) (string m) = length_decided n m
   kind_decided (member cs) (member ds) = plainly (all_among cs ds)

@@ -100,6 +100,7 @@ abbrev mutual
   row_read b slots type.symbols s x = found (symbol_in x)
   row_read b slots type.blank_area s x = Nothing
   row_read b slots type.command s x = Nothing
+  row_read b slots type.dialog_choice s x = Nothing
   row_read b slots (type.integer low high) s x = found (number_in x)
   row_read b slots (type.string n) s x = Object (text x)
   row_read b slots (type.member cs) s x = constant_read cs x

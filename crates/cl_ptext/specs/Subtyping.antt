@@ -5,7 +5,7 @@ use Rattle.std.specs.Ordering.{int_eq}
 use Rattle.std.specs.Str.{bytes_eq}
 use Rattle.cl_eval.specs.TypeMeanings.{Hierarchy}
 use Rattle.cl_value.specs.Data.{Data}
-use Rattle.cl_lattice.specs.Expanded.{Expanded, everything, nothing, boolean, symbols, blank_area, command, integer, string, member, subset, sequence, some_of, each_of, null_or, token_or, record_type, host, user, unknown, ExpandedTypes, none, part}
+use Rattle.cl_lattice.specs.Expanded.{Expanded, everything, nothing, boolean, symbols, blank_area, command, dialog_choice, integer, string, member, subset, sequence, some_of, each_of, null_or, token_or, record_type, host, user, unknown, ExpandedTypes, none, part}
 use Rattle.cl_lattice.specs.Expansion.{expansion}
 use Rattle.cl_lattice.specs.Members.{is_same}
 use Rattle.cl_lattice.specs.Precedence.{listed, precedence}
@@ -32,6 +32,7 @@ abbrev mutual
   is_same_type symbols symbols = true
   is_same_type blank_area blank_area = true
   is_same_type command command = true
+  is_same_type dialog_choice dialog_choice = true
   is_same_type (integer low high) (integer low' high') = are_same int_eq low low' && are_same int_eq high high'
   is_same_type (string n) (string m) = are_same int_eq n m
   is_same_type (member cs) (member ds) = pointwise is_same cs ds
@@ -95,6 +96,7 @@ abbrev mutual
   is_by_kind symbols symbols = true
   is_by_kind blank_area blank_area = true
   is_by_kind command command = true
+  is_by_kind dialog_choice dialog_choice = true
   is_by_kind (integer low high) b = are_numbers_of low high b
   is_by_kind (string n) (string m) = is_length_within n m
   is_by_kind (member cs) (member ds) = all_among cs ds

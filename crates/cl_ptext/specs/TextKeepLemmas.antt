@@ -78,6 +78,7 @@ mutual
   text-keeps budget depth b go level g type.symbols s d out = plain-keeps budget depth d out
   text-keeps budget depth b go level g type.blank_area s d out = plain-keeps budget depth d out
   text-keeps budget depth b go level g type.command s d out = plain-keeps budget depth d out
+  text-keeps budget depth b go level g type.dialog_choice s d out = plain-keeps budget depth d out
   text-keeps budget depth b go level g (type.integer low high) s d out = plain-keeps budget depth d out
   text-keeps budget depth b go level g (type.string n) s d out = string-keeps budget depth d out
   text-keeps budget depth b go level g (type.member cs) s d out = plain-keeps budget depth d out

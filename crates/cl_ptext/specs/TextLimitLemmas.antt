@@ -82,6 +82,7 @@ mutual
   text-goes budget depth b go go' level g type.symbols s d out = plain-goes budget depth d out
   text-goes budget depth b go go' level g type.blank_area s d out = plain-goes budget depth d out
   text-goes budget depth b go go' level g type.command s d out = plain-goes budget depth d out
+  text-goes budget depth b go go' level g type.dialog_choice s d out = plain-goes budget depth d out
   text-goes budget depth b go go' level g (type.integer low high) s d out = plain-goes budget depth d out
   text-goes budget depth b go go' level g (type.string n) s d out = string-goes budget depth d out
   text-goes budget depth b go go' level g (type.member cs) s d out = plain-goes budget depth d out

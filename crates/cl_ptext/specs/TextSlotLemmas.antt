@@ -51,6 +51,7 @@ mutual
   text-same b go go' level g type.symbols s d out = refl
   text-same b go go' level g type.blank_area s d out = refl
   text-same b go go' level g type.command s d out = refl
+  text-same b go go' level g type.dialog_choice s d out = refl
   text-same b go go' level g (type.integer low high) s d out = refl
   text-same b go go' level g (type.string n) s d out = refl
   text-same b go go' level g (type.member cs) s d out = refl

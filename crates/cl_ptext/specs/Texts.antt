@@ -89,6 +89,7 @@ abbrev mutual
   text_of b go level type.symbols s d out = plain d out
   text_of b go level type.blank_area s d out = plain d out
   text_of b go level type.command s d out = plain d out
+  text_of b go level type.dialog_choice s d out = plain d out
   text_of b go level (type.integer low high) s d out = plain d out
   text_of b go level (type.string n) s d out = string_text d out
   text_of b go level (type.member cs) s d out = plain d out

@@ -123,6 +123,7 @@ impl<H: Hosts> Reader<'_, H> {
             }
             StandardType::BlankArea => Ok(None),
             StandardType::Command => Ok(None),
+            StandardType::DialogChoice => Ok(None),
         }
     }
 

@@ -95,6 +95,7 @@ impl<H: Hosts> Presenter<'_, H> {
             }
             StandardType::BlankArea => put(value, writing),
             StandardType::Command => put(value, writing),
+            StandardType::DialogChoice => put(value, writing),
         }
     }
 

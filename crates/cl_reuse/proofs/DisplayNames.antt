@@ -26,7 +26,7 @@ pub display-declared : (app : App) (x : List ℕ) (f : DisplayDecl) → display_
     → IsUpdateOf app u
 display-declared app x f e u h = declared-in x app.displays f e u h
 
-forms-own : (app : App) (x : List ℕ) (f : Option DisplayDecl) → display_named x app ≡ f → AreOwn app (shape_trees_of (body_of f))
+pub forms-own : (app : App) (x : List ℕ) (f : Option DisplayDecl) → display_named x app ≡ f → AreOwn app (shape_trees_of (body_of f))
 forms-own app x None e u h = absurd h
 forms-own app x (Some f) e u h = display-declared app x f e u h
 

@@ -3,7 +3,7 @@ use Rattle.std.proofs.Common.{◌≡◌, ℕ, zero, suc, drop, length, get_or, �
 use Rattle.std.specs.Prelude.{Some, None, map}
 use Rattle.cl_application.specs.declared.declarations.ArgumentDecl.{ArgumentDecl}
 use Rattle.cl_eval.specs.Slots.{Env}
-use Rattle.cl_session.specs.Step.{bound}
+use Rattle.cl_session.specs.Runs.{bound}
 use Rattle.cl_table.specs.Names.{declared_at}
 use Rattle.cl_value.specs.Data.{Data}
 use Rattle.cl_value.specs.Value.{data_of}

@@ -6,7 +6,7 @@ use Rattle.cl_application.specs.declared.declarations.PaneDecl.{PaneDecl}
 use Rattle.cl_display.specs.Drawings.{DrawingAt}
 use Rattle.cl_display.specs.Outcomes.{DrawOutcome}
 use Rattle.cl_eval.specs.Outcome.{Gives, Outcome, RisesBy, Traps}
-use Rattle.cl_eval.specs.Slots.{Slots}
+use Rattle.cl_frame.specs.States.{StateAt}
 use Rattle.cl_frame.specs.Ground.{Ground}
 use Rattle.cl_frame.specs.Panes.{PaneMarks, marks_in}
 use Rattle.cl_frame.specs.Settling.{PaneStep, SpendsPanes, costs, is_due, met_memory, pane_draw, report_settled, reused, settle_if, settle_pane, settle_panes}
@@ -23,29 +23,29 @@ use Rattle.cl_session.specs.Laws.{AllFalse, AreDetermined, MetNothing, worlds_of
 use Rattle.cl_session.specs.Step.{Met, Next, Spends, handled, next, next_behind, which_after}
 use Rattle.cl_session.specs.Streams.{SpendsAll, transcript}
 use Rattle.cl_session.specs.Transcript.{Meters, Spent, SpentOfPiece, Went, line_bytes, lost, said_of, said_of_piece, stepped, world_after, world_after_piece}
-use Rattle.cl_session.specs.World.{World}
+use Rattle.cl_session.specs.World.{World, state_in}
 
 -- nothing is met
 abbrev nothing : Met
 nothing = record { handling = false; panes = []; wire = false }
 
 -- panes that met nothing, told or not
-pub settle_nothing : (g : Ground) (w : Which) (slots : Slots) (ds : List PaneDecl) (os : List PaneMarks) (mets : List Bool) → AllFalse mets
-    → settle_panes g w slots ds os mets ≡ settle_panes g w slots ds os []
-settle_nothing g w slots [] os mets h = refl
-settle_nothing g w slots (d ∷ ds) [] mets h = refl
-settle_nothing g w slots (d ∷ ds) (o ∷ os) [] h = refl
-settle_nothing g w slots (d ∷ ds) (o ∷ os) (m ∷ ms) h =
+pub settle_nothing : (g : Ground) (w : Which) (state : StateAt) (ds : List PaneDecl) (os : List PaneMarks) (mets : List Bool) → AllFalse mets
+    → settle_panes g w state ds os mets ≡ settle_panes g w state ds os []
+settle_nothing g w state [] os mets h = refl
+settle_nothing g w state (d ∷ ds) [] mets h = refl
+settle_nothing g w state (d ∷ ds) (o ∷ os) [] h = refl
+settle_nothing g w state (d ∷ ds) (o ∷ os) (m ∷ ms) h =
     let one : m ≡ false = All-head (λ x. x ≡ false) m ms h in
-    let rest = settle_nothing g w slots ds os ms (All-tail (λ x. x ≡ false) m ms h) in
-    ap (λ (x : Bool). settle_pane g w slots d o x ∷ settle_panes g w slots ds os ms) one
-    ∙ ap (λ (ss : List PaneStep). settle_pane g w slots d o false ∷ ss) rest
+    let rest = settle_nothing g w state ds os ms (All-tail (λ x. x ≡ false) m ms h) in
+    ap (λ (x : Bool). settle_pane g w state d o x ∷ settle_panes g w state ds os ms) one
+    ∙ ap (λ (ss : List PaneStep). settle_pane g w state d o false ∷ ss) rest
 
 next_by : (g : Ground) (w : World) (act : Gesture) (handling wire : Bool) (mets : List Bool) → handling ≡ false → wire ≡ false → AllFalse mets
     → next g w act (record { handling = handling; panes = mets; wire = wire }) ≡ next g w act nothing
 next_by g w act false false mets e f h =
     let hd = handled g w act in
-    ap (λ (ss : List PaneStep). next_behind g hd ss false) (settle_nothing g (which_after hd.after) hd.world.slots (panes_of g.app) hd.world.panes mets h)
+    ap (λ (ss : List PaneStep). next_behind g hd ss false) (settle_nothing g (which_after hd.after) (state_in g.app hd.world) (panes_of g.app) hd.world.panes mets h)
 next_by g w act false true mets e f h = cc
 next_by g w act true wire mets e f h = cc
 
@@ -81,12 +81,12 @@ paid_if true drawn over old from to h =
 paid_if false drawn over old from to h = h
 
 -- panes that met nothing cost just what they cost
-pub paid_panes : (g : Ground) (w : Which) (slots : Slots) (ds : List PaneDecl) (os : List PaneMarks) (from to : ℕ)
-    → SpendsPanes (settle_panes g w slots ds os []) from to → to ≡ from + costs (settle_panes g w slots ds os [])
-paid_panes g w slots [] os from to h = omega (arith, h)
-paid_panes g w slots (d ∷ ds) [] from to h = omega (arith, h)
-paid_panes g w slots (d ∷ ds) (o ∷ os) from to h =
-    omega (arith, paid_if (is_due w o) (pane_draw g.limits g.app g.types d slots) (reused w o) o from h.0 h.1, paid_panes g w slots ds os h.0 to h.2)
+pub paid_panes : (g : Ground) (w : Which) (state : StateAt) (ds : List PaneDecl) (os : List PaneMarks) (from to : ℕ)
+    → SpendsPanes (settle_panes g w state ds os []) from to → to ≡ from + costs (settle_panes g w state ds os [])
+paid_panes g w state [] os from to h = omega (arith, h)
+paid_panes g w state (d ∷ ds) [] from to h = omega (arith, h)
+paid_panes g w state (d ∷ ds) (o ∷ os) from to h =
+    omega (arith, paid_if (is_due w o) (pane_draw g.limits g.app g.types d state) (reused w o) o from h.0 h.1, paid_panes g w state ds os h.0 to h.2)
 
 -- what a line costs
 abbrev line_cost : Ground → World → LineKind → ℕ
@@ -99,10 +99,10 @@ paid_step : (g : Ground) (w : World) (act : Gesture) (handling wire : Bool) (met
 paid_step g w act true wire mets from to e h s = cc
 paid_step g w act false wire mets from to e h s =
     let hd = handled g w act in
-    let same = settle_nothing g (which_after hd.after) hd.world.slots (panes_of g.app) hd.world.panes mets h in
-    let settled : SpendsPanes (settle_panes g (which_after hd.after) hd.world.slots (panes_of g.app) hd.world.panes []) s.handled_at to =
+    let same = settle_nothing g (which_after hd.after) (state_in g.app hd.world) (panes_of g.app) hd.world.panes mets h in
+    let settled : SpendsPanes (settle_panes g (which_after hd.after) (state_in g.app hd.world) (panes_of g.app) hd.world.panes []) s.handled_at to =
     subst (λ (ss : List PaneStep). SpendsPanes ss s.handled_at to) same s.settling in
-    omega (arith, s.handling, paid_panes g (which_after hd.after) hd.world.slots (panes_of g.app) hd.world.panes s.handled_at to settled)
+    omega (arith, s.handling, paid_panes g (which_after hd.after) (state_in g.app hd.world) (panes_of g.app) hd.world.panes s.handled_at to settled)
 
 paid_line : (g : Ground) (w : World) (kind : LineKind) (c : Went) (from to : Meters) → MetNothing c → Spent g w kind c from to
     → to.spent ≡ from.spent + line_cost g w kind

@@ -9,7 +9,7 @@ use Rattle.cl_application.specs.declared.applications.App.{App}
 use Rattle.cl_application.specs.declared.declarations.CommandDecl.{CommandDecl}
 use Rattle.cl_session.specs.Handling.{enabled_in}
 use Rattle.cl_session.specs.Naming.{place_of, places_of}
-use Rattle.cl_session.specs.Step.{all_switched, switched}
+use Rattle.cl_session.specs.Runs.{all_switched, switched}
 use Rattle.cl_session.specs.World.{Enabled, all_enabled}
 use Rattle.cl_table.specs.Names.{named}
 use Rattle.cl_tables.specs.Enabled.{AreAllEnabled, States, with_switch, with_switches}

@@ -8,7 +8,8 @@ use Rattle.cl_frame.specs.Frames.{marks_of_frame}
 use Rattle.cl_frame.specs.Panes.{PaneMarks}
 use Rattle.cl_frame.specs.declared.frames.Frame.{Frame}
 use Rattle.cl_session.specs.Handling.{HandlesTo, IsReply, KeepsSlots, ToldOf, world_at}
-use Rattle.cl_session.specs.Step.{Handled, history_rows, refuse, tell, tell_history, with_pane}
+use Rattle.cl_session.specs.Runs.{Handled, refuse, tell}
+use Rattle.cl_session.specs.Step.{history_rows, tell_history, with_pane}
 use Rattle.cl_session.specs.Telling.{TellsPane, is_pane_named, place_of_pane}
 use Rattle.cl_session.specs.World.{World}
 use Rattle.cl_session.specs.declared.handling.After.{After}

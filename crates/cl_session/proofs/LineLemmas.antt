@@ -8,7 +8,8 @@ use Rattle.cl_line.specs.declared.elements.Element.{Element}
 use Rattle.cl_line.specs.declared.elements.Element.TheVariants.{Char}
 use Rattle.cl_line.specs.declared.lines.TheConstants.{MAX_ELEMENTS}
 use Rattle.cl_session.specs.Laws.{IsTakenBack}
-use Rattle.cl_session.specs.Step.{refuse, rub_out, tell}
+use Rattle.cl_session.specs.Runs.{refuse, tell}
+use Rattle.cl_session.specs.Step.{rub_out}
 use Rattle.cl_session.specs.World.{World}
 
 without_pushed : (line : List Element) (e : Element) → without_last (line ++ e ∷ []) ≡ line
@@ -19,7 +20,7 @@ without_pushed line e =
 taken_by : (w : World) (byte : ℕ) (fits : Bool) → fits ≡ true
     → (rub_out (if fits then tell (record w { line = w.line ++ Char byte ∷ [] }) 0 [] else refuse w 0 (codes "! full")).world).world ≡ w
 taken_by w byte true h =
-    let of : List Element → World = λ line. record { slots = w.slots; line = line; enabled = w.enabled; panes = w.panes; stale = w.stale } in
+    let of : List Element → World = λ line. record { slots = w.slots; line = line; enabled = w.enabled; dialog = w.dialog; panes = w.panes; stale = w.stale } in
     ap of (without_pushed w.line (Char byte))
 taken_by w byte false h = absurd (cc)
 

@@ -1,11 +1,12 @@
 -- The opening of a session: each pane is settled, and shows its display.
-use Rattle.std.proofs.Common.{◌≡◌, ℕ, ◌+◌, ◌≤◌, Bool, true, false, All, List, [], ◌∷◌, None, Some, length, map, refl, sym, ◌∙◌, ap, subst, arith}
+use Rattle.std.proofs.Common.{◌≡◌, ℕ, ◌+◌, ◌≤◌, Bool, true, false, All, List, [], ◌∷◌, None, Option, Some, length, map, refl, sym, ◌∙◌, ap, subst, arith}
 use Rattle.std.specs.Prelude.{◌||◌}
 use Rattle.std.specs.List.{list_any}
 use Rattle.std.proofs.lemmas.List.{length-map}
 use Rattle.std.proofs.lemmas.List.Elements.{All-cons, All-head, All-nil, All-tail}
 use Rattle.cl_application.specs.Panes.{panes_of}
 use Rattle.cl_application.specs.declared.declarations.PaneDecl.{PaneDecl}
+use Rattle.cl_dialog.specs.OpenDialog.{OpenDialog}
 use Rattle.cl_display.specs.Outcomes.{DrawOutcome}
 use Rattle.cl_eval.specs.Outcome.{RisesBy, cost_of}
 use Rattle.cl_eval.specs.Slots.{Slots}
@@ -26,7 +27,7 @@ use Rattle.cl_session.specs.Handling.{enabled_in, world_at}
 use Rattle.cl_session.specs.Laws.{AllFalse}
 use Rattle.cl_session.specs.Session.{cost_of_panes, costs_of_panes}
 use Rattle.cl_session.specs.Naming.{places_of}
-use Rattle.cl_session.specs.World.{Enabled, World, all_enabled, cost_of_pane, opening, script_of}
+use Rattle.cl_session.specs.World.{Enabled, World, all_enabled, cost_of_pane, opening, script_of, state_without}
 use Rattle.cl_tables.specs.Enabled.{AreAllEnabled}
 use Rattle.cl_session.specs.declared.handling.Desk.{Desk}
 use Rattle.cl_session.proofs.CurrentLemmas.{AreAsMany, current_always}
@@ -81,48 +82,50 @@ work_whole o =
 
 module _ (g : Ground) (slots : Slots) where
   scripts_shown : (ds : List PaneDecl) (os : List PaneMarks) → AreAsMany ds os
-      → map marks_after (settle_panes g which.All slots ds os []) ≡ map (script_of g slots) ds
+      → map marks_after (settle_panes g which.All (state_without slots) ds os []) ≡ map (script_of g (state_without slots)) ds
   scripts_shown [] [] n = refl
   scripts_shown [] (o ∷ os) n = absurd n
   scripts_shown (d ∷ ds) [] n = absurd n
-  scripts_shown (d ∷ ds) (o ∷ os) n = ap (λ (ms : List PaneMarks). script_of g slots d ∷ ms) (scripts_shown ds os n)
+  scripts_shown (d ∷ ds) (o ∷ os) n = ap (λ (ms : List PaneMarks). script_of g (state_without slots) d ∷ ms) (scripts_shown ds os n)
 
   -- what a blank pane costs
-  cost_blank : (d : PaneDecl) (o : PaneMarks) (met : Bool) → o ≡ None → (settle_pane g which.All slots d o met).cost ≡ cost_of_pane g slots d
-  cost_blank d None met e = work_whole (pane_draw g.limits g.app g.types d slots)
+  cost_blank : (d : PaneDecl) (o : PaneMarks) (met : Bool) → o ≡ None → (settle_pane g which.All (state_without slots) d o met).cost ≡ cost_of_pane g slots d
+  cost_blank d None met e = work_whole (pane_draw g.limits g.app g.types d (state_without slots))
   cost_blank d (Some marks) met e = cc
 
   -- what all blank panes cost, whatever they met
   costs_all : (ds : List PaneDecl) (os : List PaneMarks) (mets : List Bool) → AreAsMany ds os → AreBlank os
-      → costs (settle_panes g which.All slots ds os mets) ≡ costs_of_panes g slots ds
+      → costs (settle_panes g which.All (state_without slots) ds os mets) ≡ costs_of_panes g slots ds
   costs_all [] [] mets n b = refl
   costs_all [] (o ∷ os) mets n b = absurd n
   costs_all (d ∷ ds) [] mets n b = absurd n
   costs_all (d ∷ ds) (o ∷ os) [] n b =
-      ap (λ (x : ℕ). x + costs (settle_panes g which.All slots ds os [])) (cost_blank d o false (All-head (λ m. m ≡ None) o os b))
+      ap (λ (x : ℕ). x + costs (settle_panes g which.All (state_without slots) ds os [])) (cost_blank d o false (All-head (λ m. m ≡ None) o os b))
       ∙ ap (λ (x : ℕ). cost_of_pane g slots d + x) (costs_all ds os [] n (All-tail (λ m. m ≡ None) o os b))
   costs_all (d ∷ ds) (o ∷ os) (m ∷ ms) n b =
-      ap (λ (x : ℕ). x + costs (settle_panes g which.All slots ds os ms)) (cost_blank d o m (All-head (λ m. m ≡ None) o os b))
+      ap (λ (x : ℕ). x + costs (settle_panes g which.All (state_without slots) ds os ms)) (cost_blank d o m (All-head (λ m. m ≡ None) o os b))
       ∙ ap (λ (x : ℕ). cost_of_pane g slots d + x) (costs_all ds os ms n (All-tail (λ m. m ≡ None) o os b))
 
-  pub opening_world : (desk : Desk) (old new : Frame) → desk.line ≡ [] → AreAllEnabled (places_of g.app.commands) desk.enabled → AreAsMany (panes_of g.app) (marks_of_frame old)
-      → Settles g which.All slots old new → list_any met_memory (reports_of_frame new) ≡ false
+  pub opening_world : (desk : Desk) (old new : Frame) → desk.line ≡ [] → desk.dialog ≡ None → AreAllEnabled (places_of g.app.commands) desk.enabled → AreAsMany (panes_of g.app) (marks_of_frame old)
+      → Settles g which.All (state_without slots) old new → list_any met_memory (reports_of_frame new) ≡ false
       → world_at slots desk new ≡ opening g slots new.screen.stale
-  opening_world desk old new line on n s none =
-      let nothing = settle_nothing g which.All slots (panes_of g.app) (marks_of_frame old) (map met_memory (reports_of_frame new)) (none_met (reports_of_frame new) none) in
-      let marks : marks_of_frame new ≡ map (script_of g slots) (panes_of g.app) =
+  opening_world desk old new line closed on n s none =
+      let nothing = settle_nothing g which.All (state_without slots) (panes_of g.app) (marks_of_frame old) (map met_memory (reports_of_frame new)) (none_met (reports_of_frame new) none) in
+      let marks : marks_of_frame new ≡ map (script_of g (state_without slots)) (panes_of g.app) =
       s.marks ∙ (ap (λ (ss : List PaneStep). map marks_after ss) nothing ∙ scripts_shown (panes_of g.app) (marks_of_frame old) n) in
-      let world_by : List Element → Enabled → List PaneMarks → World = λ l e ms. record { slots = slots; line = l; enabled = e; panes = ms; stale = new.screen.stale } in
-      ap (λ (l : List Element). world_by l (enabled_in desk.enabled) (marks_of_frame new)) line
-      ∙ ap (λ (e : Enabled). world_by [] e (marks_of_frame new)) (opens_enabled g.app desk.enabled on)
-      ∙ ap (λ (ms : List PaneMarks). world_by [] (all_enabled g.app) ms) marks
+      let world_by : List Element → Enabled → Option OpenDialog → List PaneMarks → World =
+      λ l e d ms. record { slots = slots; line = l; enabled = e; dialog = d; panes = ms; stale = new.screen.stale } in
+      ap (λ (l : List Element). world_by l (enabled_in desk.enabled) desk.dialog (marks_of_frame new)) line
+      ∙ ap (λ (e : Enabled). world_by [] e desk.dialog (marks_of_frame new)) (opens_enabled g.app desk.enabled on)
+      ∙ ap (λ (d : Option OpenDialog). world_by [] (all_enabled g.app) d (marks_of_frame new)) closed
+      ∙ ap (λ (ms : List PaneMarks). world_by [] (all_enabled g.app) None ms) marks
 
   pub opening_paid : (old new : Frame) (from to : ℕ) → AreAsMany (panes_of g.app) (marks_of_frame old) → AreBlank (marks_of_frame old)
-      → SpendsPanes (settle_panes g which.All slots (panes_of g.app) (marks_of_frame old) (map met_memory (reports_of_frame new))) from to
+      → SpendsPanes (settle_panes g which.All (state_without slots) (panes_of g.app) (marks_of_frame old) (map met_memory (reports_of_frame new))) from to
       → list_any met_memory (reports_of_frame new) ≡ false → to ≡ from + cost_of_panes g slots
   opening_paid old new from to n b spends none =
-      let nothing = settle_nothing g which.All slots (panes_of g.app) (marks_of_frame old) (map met_memory (reports_of_frame new)) (none_met (reports_of_frame new) none) in
-      let paid = paid_panes g which.All slots (panes_of g.app) (marks_of_frame old) from to (subst (λ (ss : List PaneStep). SpendsPanes ss from to) nothing spends) in
+      let nothing = settle_nothing g which.All (state_without slots) (panes_of g.app) (marks_of_frame old) (map met_memory (reports_of_frame new)) (none_met (reports_of_frame new) none) in
+      let paid = paid_panes g which.All (state_without slots) (panes_of g.app) (marks_of_frame old) from to (subst (λ (ss : List PaneStep). SpendsPanes ss from to) nothing spends) in
       omega (arith, paid, costs_all (panes_of g.app) (marks_of_frame old) [] n b)
 
   rises_most : (met : Bool) (from to cost : ℕ) → RisesBy met from to cost → to ≤ from + cost
@@ -134,11 +137,11 @@ module _ (g : Ground) (slots : Slots) where
   spends_most (s ∷ ss) from to h = omega (arith, rises_most (met_memory s.report) from h.0 s.cost h.1, spends_most ss h.0 to h.2)
 
   pub opening_most : (old : Frame) (mets : List Bool) (from to : ℕ) → AreAsMany (panes_of g.app) (marks_of_frame old) → AreBlank (marks_of_frame old)
-      → SpendsPanes (settle_panes g which.All slots (panes_of g.app) (marks_of_frame old) mets) from to → to ≤ from + cost_of_panes g slots
+      → SpendsPanes (settle_panes g which.All (state_without slots) (panes_of g.app) (marks_of_frame old) mets) from to → to ≤ from + cost_of_panes g slots
   opening_most old mets from to n b spends =
       omega (
         arith,
-        spends_most (settle_panes g which.All slots (panes_of g.app) (marks_of_frame old) mets) from to spends,
+        spends_most (settle_panes g which.All (state_without slots) (panes_of g.app) (marks_of_frame old) mets) from to spends,
         costs_all (panes_of g.app) (marks_of_frame old) mets n b,
       )
 

@@ -1,10 +1,15 @@
 -- The own replies of a gesture do not begin with that of want of memory.
 use Rattle.std.proofs.Common.{◌≡◌, ◌==◌, ℕ, zero, suc, ◌+◌, Bool, true, false, List, [], ◌∷◌, ◌++◌, length, get_or, Option, Some, None, sym, ap, arith}
 use Rattle.std.specs.Prelude.{codes, nat_le, if◌then◌else◌}
-use Rattle.std.specs.Str.{str_eq_ignore_ascii_case}
-use Rattle.cl_application.specs.App.{command_named}
+use Rattle.std.specs.Str.{bytes_eq, str_eq_ignore_ascii_case}
+use Rattle.cl_application.specs.App.{command_named, dialog_named}
+use Rattle.cl_application.specs.declared.applications.App.{App}
 use Rattle.cl_application.specs.declared.declarations.CommandDecl.{CommandDecl}
+use Rattle.cl_application.specs.declared.declarations.DialogDecl.{DialogDecl}
 use Rattle.cl_application.specs.declared.declarations.PaneDecl.{PaneDecl}
+use Rattle.cl_dialog.specs.OpenDialog.{OpenDialog}
+use Rattle.cl_dialog.specs.Exits.{ExitAt, exit_of}
+use Rattle.cl_dialog.specs.Exits as exit
 use Rattle.cl_eval.specs.Outcome.{Gives, Outcome, Traps}
 use Rattle.cl_eval.specs.declared.effects.Effects.{Effects}
 use Rattle.cl_frame.specs.Ground.{Ground}
@@ -12,13 +17,20 @@ use Rattle.cl_frame.specs.Panes.{PaneMarks}
 use Rattle.cl_gesture.specs.declared.answers.PointAt.{PointAt}
 use Rattle.cl_line.specs.declared.lines.TheConstants.{MAX_ELEMENTS}
 use Rattle.cl_redisplay.specs.Shown.{Shown, digit_in, row_from, rows_from, shown_at}
+use Rattle.cl_parser.specs.One.{OneAt}
+use Rattle.cl_parser.specs.One as one
 use Rattle.cl_parser.specs.Parses.{decls_of, without_tokens}
 use Rattle.cl_parser.specs.declared.parsing.Parsed.{Parsed}
 use Rattle.cl_parser.specs.declared.parsing.Parsed.TheVariants as parsed
-use Rattle.cl_session.specs.Pointing.{TypedArgument, chosen_at, is_within, line_with, typed_in, values_in}
-use Rattle.cl_session.specs.Step.{act_on, got_line, point_at, run_chosen, run_named, take_object, with_pane}
-use Rattle.cl_session.specs.Step.{Handled, bad_line, command_outcome, command_trap_line, finish_by, finish_parsed, is_on, need_line, parsed_line}
-use Rattle.cl_session.specs.Step.{stroke_by, stroke_parsed, history_rows, refuse, run_command, tell, tell_history}
+use Rattle.cl_session.specs.Dialogs.{abort, answer, choose, choose_named, dialog_contexts, exit_command, exit_declared, exit_dialog, exit_with}
+use Rattle.cl_session.specs.Dialogs.{read_line, return_read, select_query, set_query, set_selected}
+use Rattle.cl_session.specs.Naming.{command_of_line, command_of_stroke}
+use Rattle.cl_session.specs.Pointing.{TypedArgument, chosen_at, contexts_of, is_within, line_with, typed_in, values_in}
+use Rattle.cl_session.specs.Step.{act_on, got_line, point_at, point_within, press_by, return_by, run_chosen, run_named, take_object, with_pane}
+use Rattle.cl_session.specs.Runs.{Handled, bad_line, command_outcome, command_trap_line, is_on}
+use Rattle.cl_session.specs.Step.{finish_by, finish_parsed, need_line, parsed_line}
+use Rattle.cl_session.specs.Runs.{refuse, run_command, tell}
+use Rattle.cl_session.specs.Step.{stroke_by, stroke_parsed, history_rows, tell_history}
 use Rattle.cl_session.specs.World.{World}
 use Rattle.cl_translate.specs.Choices.{Given}
 use Rattle.cl_value.specs.Data.{Data, symbol, list, item}
@@ -57,9 +69,9 @@ not_surplus = differ_at 2 memory_said (codes "! surplus") (λ no. omega (arith, 
 not_pane : IsNotMemory (codes "! pane" ∷ [])
 not_pane = differ_at 2 memory_said (codes "! pane") (λ no. omega (arith, no))
 
-not_run : (name : List ℕ) (w : World) (o : Outcome Effects) → IsNotMemory (run_command name w o).replies
-not_run name w (Gives effects cost deepest) = differ_at 0 memory_said (codes "ok " ++ name) (λ no. omega (arith, no))
-not_run name w (Traps kind cost deepest) = differ_at 2 memory_said (command_trap_line kind) (λ no. omega (arith, no))
+not_run : (app : App) (name : List ℕ) (w : World) (o : Outcome Effects) → IsNotMemory (run_command app name w o).replies
+not_run app name w (Gives effects cost deepest) = differ_at 0 memory_said (codes "ok " ++ name) (λ no. omega (arith, no))
+not_run app name w (Traps kind cost deepest) = differ_at 2 memory_said (command_trap_line kind) (λ no. omega (arith, no))
 
 not_need : (command : CommandDecl) (place : ℕ) → IsNotMemory (need_line command place ∷ [])
 not_need command place = differ_at 2 memory_said (need_line command place) (λ no. omega (arith, no))
@@ -68,7 +80,7 @@ not_disabled : IsNotMemory (codes "! disabled" ∷ [])
 not_disabled = differ_at 2 memory_said (codes "! disabled") (λ no. omega (arith, no))
 
 not_parsed : (g : Ground) (w : World) (command : CommandDecl) (p : Parsed) → IsNotMemory (finish_parsed g w command p).replies
-not_parsed g w command (parsed.Arguments ds) = not_run command.line_name w (command_outcome g command ds w.slots)
+not_parsed g w command (parsed.Arguments ds) = not_run g.app command.line_name w (command_outcome g command ds w.slots)
 not_parsed g w command (parsed.Need place) = not_need command place
 not_parsed g w command (parsed.BadArg number) = differ_at 2 memory_said (bad_line number) (λ no. omega (arith, no))
 not_parsed g w command parsed.Surplus = not_surplus
@@ -114,7 +126,7 @@ not_taken w t d =
 
 not_run_named : (g : Ground) (w : World) (ds : List Data) (c : Option CommandDecl) → IsNotMemory (run_named g w ds c).replies
 not_run_named g w ds None = not_none
-not_run_named g w ds (Some command) = not_run command.line_name w (command_outcome g command ds w.slots)
+not_run_named g w ds (Some command) = not_run g.app command.line_name w (command_outcome g command ds w.slots)
 
 not_chosen : (g : Ground) (w : World) (d : Data) → IsNotMemory (run_chosen g w d).replies
 not_chosen g w (list (item (symbol x) ds)) = not_run_named g w (values_in ds) (command_named x g.app)
@@ -127,10 +139,78 @@ not_acted g w None (Some r) = not_chosen g w r.value
 not_acted g w (Some t) (Some r) =
     not_memory_if (r.number == 0) (take_object w t r.value) (run_chosen g w r.value) (not_taken w t r.value) (not_chosen g w r.value)
 
+-- ---- dialogs
+
+not_query : IsNotMemory (codes "! query" ∷ [])
+not_query = differ_at 2 memory_said (codes "! query") (λ no. omega (arith, no))
+
+not_set : (w : World) (o : OpenDialog) (selected : Option (List ℕ)) (d : Data) → IsNotMemory (set_query w o selected d).replies
+not_set w o None d = not_query
+not_set w o (Some x) d = differ_at 0 memory_said (codes "ok " ++ x) (λ no. omega (arith, no))
+
+not_set_selected : (w : World) (o : Option OpenDialog) (d : Data) → IsNotMemory (set_selected w o d).replies
+not_set_selected w None d = not_none
+not_set_selected w (Some o) d = not_set w o o.selected d
+
+not_read : (w : World) (o : Option OpenDialog) (r : Option OneAt) → IsNotMemory (return_read w o r).replies
+not_read w o None = not_query
+not_read w o (Some (one.Object d)) = not_set_selected w o d
+not_read w o (Some one.Bad) = differ_at 2 memory_said (codes "! bad 1") (λ no. omega (arith, no))
+not_read w o (Some one.Surplus) = not_surplus
+
+not_selected : (w : World) (o : Option OpenDialog) (x : List ℕ) → IsNotMemory (select_query w o x).replies
+not_selected w None x = not_none
+not_selected w (Some o) x = differ_at 0 memory_said (codes "query " ++ x) (λ no. omega (arith, no))
+
+not_exit_command : (g : Ground) (w : World) (ds : List Data) (c : Option CommandDecl) → IsNotMemory (exit_command g w ds c).replies
+not_exit_command g w ds None = not_none
+not_exit_command g w ds (Some command) =
+    not_memory_if (is_on w command) (run_command g.app command.line_name w (command_outcome g command ds w.slots)) (refuse w 0 (codes "! disabled"))
+    (not_run g.app command.line_name w (command_outcome g command ds w.slots)) not_disabled
+
+not_exit_with : (g : Ground) (w : World) (d : DialogDecl) (x : ExitAt) → IsNotMemory (exit_with g w d x).replies
+not_exit_with g w d (exit.Unset q) = differ_at 2 memory_said (codes "! unset " ++ q) (λ no. omega (arith, no))
+not_exit_with g w d (exit.Runs ds) = not_exit_command g w ds (command_named d.command g.app)
+
+not_exit_declared : (g : Ground) (w : World) (o : OpenDialog) (d : Option DialogDecl) → IsNotMemory (exit_declared g w o d).replies
+not_exit_declared g w o None = not_none
+not_exit_declared g w o (Some d) = not_exit_with g w d (exit_of g.app d w.slots o)
+
+not_exit : (g : Ground) (w : World) (o : Option OpenDialog) → IsNotMemory (exit_dialog g w o).replies
+not_exit g w None = not_none
+not_exit g w (Some o) = not_exit_declared g w o (dialog_named o.name g.app)
+
+not_named_choice : (g : Ground) (w : World) (o : Option OpenDialog) (x : List ℕ) → IsNotMemory (choose_named g w o x).replies
+not_named_choice g w o x =
+    not_memory_if (bytes_eq x (codes "abort")) (abort w) (if bytes_eq x (codes "exit") then exit_dialog g w o else select_query w o x)
+    (differ_at 0 memory_said (codes "aborted") (λ no. omega (arith, no)))
+    (not_memory_if (bytes_eq x (codes "exit")) (exit_dialog g w o) (select_query w o x) (not_exit g w o) (not_selected w o x))
+
+not_choice : (g : Ground) (w : World) (o : Option OpenDialog) (d : Data) → IsNotMemory (choose g w o d).replies
+not_choice g w o (symbol x) = not_named_choice g w o x
+not_choice g w o d = not_none
+
+not_answered : (g : Ground) (w : World) (o : Option OpenDialog) (r : Option Given) → IsNotMemory (answer g w o r).replies
+not_answered g w o None = not_none
+not_answered g w o (Some r) =
+    not_memory_if (r.number == 0) (choose g w o r.value) (set_selected w o r.value) (not_choice g w o r.value) (not_set_selected w o r.value)
+
+not_within : (g : Ground) (w : World) (p : PointAt) (d : PaneDecl) (m : PaneMarks) (o : Option OpenDialog) → IsNotMemory (point_within g w p d m o).replies
+not_within g w p d m None = not_acted g w (typed_in g.app w.line) (chosen_at g w (contexts_of (typed_in g.app w.line)) p d m)
+not_within g w p d m (Some o) = not_answered g w (Some o) (chosen_at g w (dialog_contexts g.app o) p d m)
+
+pub not_returned : (g : Ground) (w : World) (o : Option OpenDialog) → IsNotMemory (return_by g w o).replies
+not_returned g w None = not_finished g w (command_of_line g.app w.line)
+not_returned g w (Some o) = not_read w (Some o) (read_line g w.slots w.line o)
+
+pub not_pressed_by : (g : Ground) (w : World) (name : List ℕ) (o : Option OpenDialog) → IsNotMemory (press_by g w name o).replies
+not_pressed_by g w name None = not_pressed g w (command_of_stroke g.app name)
+not_pressed_by g w name (Some o) = differ_at 2 memory_said (codes "! dialog") (λ no. omega (arith, no))
+
 pub not_pointed : (g : Ground) (w : World) (p : PointAt) (d : PaneDecl) (m : PaneMarks) → IsNotMemory (point_at g w p d m).replies
 not_pointed g w p d m =
-    not_memory_if (is_within d p.x p.y) (act_on g w (typed_in g.app w.line) (chosen_at g w p d m)) (refuse w 0 (codes "! outside"))
-    (not_acted g w (typed_in g.app w.line) (chosen_at g w p d m)) (differ_at 2 memory_said (codes "! outside") (λ no. omega (arith, no)))
+    not_memory_if (is_within d p.x p.y) (point_within g w p d m w.dialog) (refuse w 0 (codes "! outside"))
+    (not_within g w p d m w.dialog) (differ_at 2 memory_said (codes "! outside") (λ no. omega (arith, no)))
 
 not_digits : (panes : List Shown) (y x count : ℕ) → memory_said ≡ row_from digit_in panes y x count → ⊥
 not_digits panes y x zero e = no_first 33 _ (sym e)

@@ -1,5 +1,5 @@
 -- What is pointed at, by the program's parts.
-use Rattle.std.proofs.Common.{◌≡◌, ℕ, ℤ, ◌+◌, ◌≤◌, true, List, [], ◌∷◌, length, map, nat_le, Option, Some, Result, Ok, Err, IfOk, refl, sym, ◌∙◌, ap, subst}
+use Rattle.std.proofs.Common.{◌≡◌, ℕ, ℤ, ◌+◌, ◌≤◌, true, List, [], ◌∷◌, length, map, nat_le, Option, None, Some, Result, Ok, Err, IfOk, refl, sym, ◌∙◌, ap, subst}
 use Rattle.std.proofs.lemmas.Bool.{le-leb}
 use Rattle.cl_application.specs.App.{command_named}
 use Rattle.cl_application.specs.declared.declarations.CommandDecl.{CommandDecl}
@@ -17,8 +17,11 @@ use Rattle.cl_record.specs.Touches.{touched}
 use Rattle.cl_session.specs.Accessible.{IsAccessible}
 use Rattle.cl_session.specs.Handling.{enabled_in}
 use Rattle.cl_session.specs.declared.accessible.Accessible.{Accessible}
+use Rattle.cl_dialog.specs.OpenDialog.{OpenDialog}
+use Rattle.cl_session.specs.Dialogs.{answer, dialog_contexts}
 use Rattle.cl_session.specs.Pointing.{TypedArgument, chosen_by, contexts_of, is_within, line_with, scene_by, typed_in, value_of, values_in}
-use Rattle.cl_session.specs.Step.{Handled, act_on, command_outcome, got_line, point_at, run_chosen, run_command, run_named, take_object, tell}
+use Rattle.cl_session.specs.Runs.{Handled, command_outcome, run_command, tell}
+use Rattle.cl_session.specs.Step.{act_on, got_line, point_within, run_chosen, run_named, take_object}
 use Rattle.cl_session.specs.World.{Enabled, World}
 use Rattle.cl_syntax.specs.TypeSpecTree.{TypeSpecTree}
 use Rattle.cl_tables.specs.Enabled.{States, is_enabled}
@@ -89,25 +92,35 @@ same_scene g slots states a is = λ i. record {
 }
 
 -- a choice by the same scene, contexts and marks, at the same place
-pub same_choice : (g : Ground) (slots : Slots) (enabled : Enabled) (t : Option TypedArgument) (p : PointAt) (d : PaneDecl) (m : PaneMarks)
+pub same_choice : (g : Ground) (slots : Slots) (enabled : Enabled) (types : List TypeSpecTree) (p : PointAt) (d : PaneDecl) (m : PaneMarks)
     (s : Scene) (contexts : List TypeSpecTree) (marks : List (Mark Item)) (x y : ℤ) (o : Option Given)
-    → s ≡ scene_by g slots enabled → contexts ≡ contexts_of t → marks ≡ marks_in m → x ≡ p.x → y ≡ p.y
-    → o ≡ chosen s p.gesture contexts (candidates (touched item_bounds x y marks) (blank_area d.name x y)) → o ≡ chosen_by g slots enabled t p d m
-same_choice g slots enabled t p d m s contexts marks x y o scenes types shown across down is =
-    is ∙ (λ i. chosen (scenes i) p.gesture (types i) (candidates (touched item_bounds (across i) (down i) (shown i)) (blank_area d.name (across i) (down i))))
+    → s ≡ scene_by g slots enabled → contexts ≡ types → marks ≡ marks_in m → x ≡ p.x → y ≡ p.y
+    → o ≡ chosen s p.gesture contexts (candidates (touched item_bounds x y marks) (blank_area d.name x y)) → o ≡ chosen_by g slots enabled types p d m
+same_choice g slots enabled types p d m s contexts marks x y o scenes same shown across down is =
+    is ∙ (λ i. chosen (scenes i) p.gesture (same i) (candidates (touched item_bounds (across i) (down i) (shown i)) (blank_area d.name (across i) (down i))))
 
 -- what is typed and what is chosen decide
-pub acted_on : (g : Ground) (w : World) (p : PointAt) (d : PaneDecl) (m : PaneMarks) (t : Option TypedArgument) (r : Option Given)
-    → is_within d p.x p.y ≡ true → t ≡ typed_in g.app w.line → r ≡ chosen_by g w.slots w.enabled t p d m → point_at g w p d m ≡ act_on g w t r
-acted_on g w p d m t r within typed is =
-    let here : point_at g w p d m ≡ act_on g w (typed_in g.app w.line) (chosen_by g w.slots w.enabled (typed_in g.app w.line) p d m) = rw within refl in
-    let both : r ≡ chosen_by g w.slots w.enabled (typed_in g.app w.line) p d m = is ∙ ap (λ u. chosen_by g w.slots w.enabled u p d m) typed in
-    here ∙ sym (λ i. act_on g w (typed i) (both i))
+pub acted_on : (g : Ground) (w : World) (p : PointAt) (d : PaneDecl) (m : PaneMarks) (t : Option TypedArgument) (contexts : List TypeSpecTree) (r : Option Given)
+    → t ≡ typed_in g.app w.line → contexts ≡ contexts_of t → r ≡ chosen_by g w.slots w.enabled contexts p d m
+    → point_within g w p d m None ≡ act_on g w t r
+acted_on g w p d m t contexts r typed types is =
+    let both : r ≡ chosen_by g w.slots w.enabled (contexts_of (typed_in g.app w.line)) p d m =
+    is ∙ ap (λ ts. chosen_by g w.slots w.enabled ts p d m) (types ∙ ap contexts_of typed) in
+    sym (λ i. act_on g w (typed i) (both i))
+
+-- in a dialog what is chosen decides
+pub answered_on : (g : Ground) (w : World) (p : PointAt) (d : PaneDecl) (m : PaneMarks) (dialog : Option OpenDialog) (o : OpenDialog) (contexts : List TypeSpecTree)
+    (r : Option Given) → dialog ≡ Some o → contexts ≡ dialog_contexts g.app o → r ≡ chosen_by g w.slots w.enabled contexts p d m
+    → point_within g w p d m dialog ≡ answer g w dialog r
+answered_on g w p d m dialog o contexts r opens types is =
+    let chosen : r ≡ chosen_by g w.slots w.enabled (dialog_contexts g.app o) p d m =
+    is ∙ ap (λ ts. chosen_by g w.slots w.enabled ts p d m) types in
+    ap (point_within g w p d m) opens ∙ (ap (answer g w (Some o)) (sym chosen) ∙ ap (λ u. answer g w u r) (sym opens))
 
 -- a command with its arguments is run
 pub chosen_run : (g : Ground) (w : World) (slice : List Value) (parts : List Data) (v first : Value) (rest : List Value) (x : List ℕ) (command : CommandDecl)
     → v ≡ value.List parts → map data_of slice ≡ parts → slice ≡ first ∷ rest → first ≡ value.Symbol x → command_named x g.app ≡ Some command
-    → run_chosen g w (data_of v) ≡ run_command command.line_name w (command_outcome g command (map data_of rest) w.slots)
+    → run_chosen g w (data_of v) ≡ run_command g.app command.line_name w (command_outcome g command (map data_of rest) w.slots)
 chosen_run g w slice parts v first rest x command is all begins named found =
     let each : parts ≡ map data_of (first ∷ rest) = sym all ∙ ap (λ (vs : List Value). map data_of vs) begins in
     let whole : data_of v ≡ list (item (symbol x) (items_of (map data_of rest))) =

@@ -3,7 +3,8 @@ use Rattle.std.proofs.Common.{◌≡◌, true, refl}
 use Rattle.cl_application.specs.declared.declarations.CommandDecl.{CommandDecl}
 use Rattle.cl_frame.specs.Ground.{Ground}
 use Rattle.cl_parser.specs.declared.parsing.Parsed.{Parsed}
-use Rattle.cl_session.specs.Step.{finish_named, finish_parsed, is_on, parsed_line}
+use Rattle.cl_session.specs.Runs.{is_on}
+use Rattle.cl_session.specs.Step.{finish_named, finish_parsed, parsed_line}
 use Rattle.cl_session.specs.World.{World}
 
 -- what its tokens are read as decides

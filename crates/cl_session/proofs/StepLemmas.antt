@@ -2,12 +2,15 @@
 use Rattle.std.proofs.Common.{◌≡◌, ◌≤◌, ℕ, Bool, true, false, not, Option, List, [], ◌∷◌, ◌++◌, map, refl, sym, ◌∙◌, ap, subst}
 use Rattle.std.specs.Prelude.{codes}
 use Rattle.cl_application.specs.Panes.{panes_of}
+use Rattle.cl_application.specs.declared.applications.App.{App}
+use Rattle.cl_dialog.specs.OpenDialog.{OpenDialog}
 use Rattle.cl_eval.specs.Outcome.{RisesBy}
 use Rattle.cl_eval.specs.Slots.{Slots}
 use Rattle.cl_frame.specs.Frames.{Settles, marks_of_frame, reports_of_frame}
 use Rattle.cl_frame.specs.Ground.{Ground}
 use Rattle.cl_frame.specs.Panes.{PaneMarks}
 use Rattle.cl_frame.specs.Sending.{SendsOn, Wire, update_bytes}
+use Rattle.cl_frame.specs.States.{StateAt}
 use Rattle.cl_frame.specs.Settling.{PaneStep, SpendsPanes, marks_after, met_memory, report_after, settle_panes}
 use Rattle.cl_frame.specs.declared.frames.Frame.{Frame}
 use Rattle.cl_frame.specs.declared.reports.PaneReport.{PaneReport}
@@ -21,9 +24,10 @@ use Rattle.cl_redisplay.specs.declared.screens.Painted.TheVariants as painted
 use Rattle.cl_session.specs.Handling.{AreRepliesOf, HandlesTo, after_of, enabled_in, handling_met, world_at}
 use Rattle.cl_session.specs.Replies.{lines_of, met_of, own_lines}
 use Rattle.cl_session.specs.Session.{StepsTo, world_of}
-use Rattle.cl_session.specs.Step.{Handled, Spends, gesture_bytes, handled, handled_or_not, next, next_behind, pane_lines, sent_behind, settled_behind, wire_lines, which_after}
+use Rattle.cl_session.specs.Runs.{Handled}
+use Rattle.cl_session.specs.Step.{Spends, gesture_bytes, handled, handled_or_not, next, next_behind, pane_lines, sent_behind, settled_behind, wire_lines, which_after}
 use Rattle.cl_session.specs.Transcript.{RoseIf}
-use Rattle.cl_session.specs.World.{Enabled, World}
+use Rattle.cl_session.specs.World.{Enabled, World, filling_by, state_in}
 use Rattle.cl_session.specs.declared.answers.Replies.{Replies}
 use Rattle.cl_session.specs.declared.handling.After.{After}
 use Rattle.cl_session.specs.declared.handling.Desk.{Desk}
@@ -32,8 +36,13 @@ use Rattle.cl_session.specs.declared.handling.Handling.TheVariants as handling
 use Rattle.cl_session.specs.declared.sessions.Session.{Session}
 
 -- a world by its parts
-abbrev world_by : Slots → List Element → Enabled → List PaneMarks → Bool → World
-world_by slots line enabled panes stale = record { slots = slots; line = line; enabled = enabled; panes = panes; stale = stale }
+abbrev world_by : Slots → List Element → Enabled → Option OpenDialog → List PaneMarks → Bool → World
+world_by slots line enabled dialog panes stale =
+    record { slots = slots; line = line; enabled = enabled; dialog = dialog; panes = panes; stale = stale }
+
+-- what panes show on these slots, with what lies on the desk
+abbrev pub shown_by : App → Slots → Desk → StateAt
+shown_by app slots desk = record { slots = slots; filling = filling_by app desk.dialog }
 
 -- what each pane of a frame met
 abbrev mets_of : Frame → List Bool
@@ -67,19 +76,19 @@ leaves g w act frame handling.Memory slots_old slots_new desk_old desk_new e h =
 -- what becomes of the panes behind it
 steps-same : (g : Ground) (h : Handled) (slots : Slots) (desk : Desk) (frame : Frame) (follows : After) (lines : List (List ℕ)) (mets : List Bool)
     → Leaves h slots desk frame follows lines
-    → settled_behind g h mets ≡ settle_panes g (which_after follows) slots (panes_of g.app) (marks_of_frame frame) mets
+    → settled_behind g h mets ≡ settle_panes g (which_after follows) (shown_by g.app slots desk) (panes_of g.app) (marks_of_frame frame) mets
 steps-same g h slots desk frame follows lines mets l =
-    ap (λ (a : After). settle_panes g (which_after a) h.world.slots (panes_of g.app) h.world.panes mets) l.after
-    ∙ ap (λ (w : World). settle_panes g (which_after follows) w.slots (panes_of g.app) w.panes mets) l.world
+    ap (λ (a : After). settle_panes g (which_after a) (state_in g.app h.world) (panes_of g.app) h.world.panes mets) l.after
+    ∙ ap (λ (w : World). settle_panes g (which_after follows) (state_in g.app w) (panes_of g.app) w.panes mets) l.world
 
 world-same : (g : Ground) (h : Handled) (slots : Slots) (desk : Desk) (old new : Frame) (follows : After) (lines : List (List ℕ)) (wire : Bool)
-    → Leaves h slots desk old follows lines → Settles g (which_after follows) slots old new → new.screen.stale ≡ wire
+    → Leaves h slots desk old follows lines → Settles g (which_after follows) (shown_by g.app slots desk) old new → new.screen.stale ≡ wire
     → world_at slots desk new ≡ (next_behind g h (settled_behind g h (mets_of new)) wire).world
 world-same g h slots desk old new follows lines wire l s e =
-    let steps = settle_panes g (which_after follows) slots (panes_of g.app) (marks_of_frame old) (mets_of new) in
-    ap (λ (ps : List PaneMarks). world_by slots desk.line (enabled_in desk.enabled) ps new.screen.stale) (s.marks ∙ ap (λ (ss : List PaneStep). map marks_after ss) (sym (steps-same g h slots desk old follows lines (mets_of new) l)))
-    ∙ (ap (λ (b : Bool). world_by slots desk.line (enabled_in desk.enabled) (map marks_after (settled_behind g h (mets_of new))) b) e
-    ∙ ap (λ (w : World). world_by w.slots w.line w.enabled (map marks_after (settled_behind g h (mets_of new))) wire) (sym l.world))
+    let steps = settle_panes g (which_after follows) (shown_by g.app slots desk) (panes_of g.app) (marks_of_frame old) (mets_of new) in
+    ap (λ (ps : List PaneMarks). world_by slots desk.line (enabled_in desk.enabled) desk.dialog ps new.screen.stale) (s.marks ∙ ap (λ (ss : List PaneStep). map marks_after ss) (sym (steps-same g h slots desk old follows lines (mets_of new) l)))
+    ∙ (ap (λ (b : Bool). world_by slots desk.line (enabled_in desk.enabled) desk.dialog (map marks_after (settled_behind g h (mets_of new))) b) e
+    ∙ ap (λ (w : World). world_by w.slots w.line w.enabled w.dialog (map marks_after (settled_behind g h (mets_of new))) wire) (sym l.world))
 
 memory_of : (h : Handling) (p : Painted) (r : Replies) → AreRepliesOf h p r → r.memory ≡ handling_met h
 memory_of (handling.Replied replies follows) p r a = a.1
@@ -108,7 +117,7 @@ rose_if painted.DeviceFault x y h = h
 
 module _ (g : Ground) (old new : Session) (slots_old slots_new : Slots) (act : Gesture) (h : Handling) (p : Painted) (r : Replies)
     (handles : HandlesTo (handled g (world_of old slots_old) act) old.frame h slots_old slots_new old.desk new.desk)
-    (settles : Settles g (which_after (after_of h)) slots_new old.frame new.frame)
+    (settles : Settles g (which_after (after_of h)) (shown_by g.app slots_new new.desk) old.frame new.frame)
     (stale : new.frame.screen.stale ≡ is_fault p) (are : AreRepliesOf h p r) where
   left : Leaves (handled_or_not g (world_of old slots_old) act (handling_met h)) slots_new new.desk old.frame (after_of h) (lines_by h)
   left = leaves g (world_of old slots_old) act old.frame h slots_old slots_new old.desk new.desk refl handles
@@ -130,7 +139,7 @@ module _ (g : Ground) (old new : Session) (slots_old slots_new : Slots) (act : G
       }
 
   pub spends-to : (from at to : ℕ) → RisesBy (handling_met h) from at (handled g (world_of old slots_old) act).cost
-      → SpendsPanes (settle_panes g (which_after (after_of h)) slots_new (panes_of g.app) (marks_of_frame old.frame) (mets_of new.frame)) at to
+      → SpendsPanes (settle_panes g (which_after (after_of h)) (shown_by g.app slots_new new.desk) (panes_of g.app) (marks_of_frame old.frame) (mets_of new.frame)) at to
       → Spends g (world_of old slots_old) act (met_of new.frame r) from to
   spends-to from at to rises spends =
       let w = world_of old slots_old in
@@ -147,7 +156,7 @@ module _ (g : Ground) (old new : Session) (slots_old slots_new : Slots) (act : G
 
   -- what was sent, and what the wire shows
   pub sent-to : (a b : Wire) (broken : Bool) → broken ≡ old.frame.screen.stale
-      → SendsOn (not (is_fault p)) a b (update_bytes g (which_after (after_of h)) slots_new old.frame.screen.stale broken (marks_of_frame old.frame) (marks_of_frame new.frame))
+      → SendsOn (not (is_fault p)) a b (update_bytes g (which_after (after_of h)) (shown_by g.app slots_new new.desk) old.frame.screen.stale broken (marks_of_frame old.frame) (marks_of_frame new.frame))
       → SendsOn (not r.wire) a b (gesture_bytes g (world_of old slots_old) act (met_of new.frame r))
   sent-to a b broken e sends =
       let w = world_of old slots_old in
@@ -156,11 +165,11 @@ module _ (g : Ground) (old new : Session) (slots_old slots_new : Slots) (act : G
       let marks : map marks_after (settled_behind g hd (mets_of new.frame)) ≡ marks_of_frame new.frame =
       ap (λ (ss : List PaneStep). map marks_after ss) steps ∙ sym settles.marks in
       let bytes : sent_behind g hd (settled_behind g hd (mets_of new.frame))
-      ≡ update_bytes g (which_after (after_of h)) slots_new old.frame.screen.stale broken (marks_of_frame old.frame) (marks_of_frame new.frame) =
-      ap (λ (ms : List PaneMarks). update_bytes g (which_after hd.after) hd.world.slots hd.world.stale hd.world.stale hd.world.panes ms) marks
-      ∙ (ap (λ (x : After). update_bytes g (which_after x) hd.world.slots hd.world.stale hd.world.stale hd.world.panes (marks_of_frame new.frame)) left.after
-      ∙ (ap (λ (x : World). update_bytes g (which_after (after_of h)) x.slots x.stale x.stale x.panes (marks_of_frame new.frame)) left.world
-      ∙ ap (λ (b : Bool). update_bytes g (which_after (after_of h)) slots_new old.frame.screen.stale b (marks_of_frame old.frame) (marks_of_frame new.frame)) (sym e))) in
+      ≡ update_bytes g (which_after (after_of h)) (shown_by g.app slots_new new.desk) old.frame.screen.stale broken (marks_of_frame old.frame) (marks_of_frame new.frame) =
+      ap (λ (ms : List PaneMarks). update_bytes g (which_after hd.after) (state_in g.app hd.world) hd.world.stale hd.world.stale hd.world.panes ms) marks
+      ∙ (ap (λ (x : After). update_bytes g (which_after x) (state_in g.app hd.world) hd.world.stale hd.world.stale hd.world.panes (marks_of_frame new.frame)) left.after
+      ∙ (ap (λ (x : World). update_bytes g (which_after (after_of h)) (state_in g.app x) x.stale x.stale x.panes (marks_of_frame new.frame)) left.world
+      ∙ ap (λ (b : Bool). update_bytes g (which_after (after_of h)) (shown_by g.app slots_new new.desk) old.frame.screen.stale b (marks_of_frame old.frame) (marks_of_frame new.frame)) (sym e))) in
       subst (λ (m : Bool). SendsOn (not r.wire) a b (sent_behind g (handled_or_not g w act m) (settled_behind g (handled_or_not g w act m) (mets_of new.frame)))) (sym memory)
       (subst (λ (f : Bool). SendsOn (not f) a b (sent_behind g hd (settled_behind g hd (mets_of new.frame)))) (sym (fault_of h p r are))
       (subst (λ (bs : List ℕ). SendsOn (not (is_fault p)) a b bs) (sym bytes) sends))

@@ -7,7 +7,7 @@ use Rattle.cl_application.specs.declared.declarations.PaneDecl.{PaneDecl}
 use Rattle.cl_display.specs.Drawings.{DrawingAt}
 use Rattle.cl_display.specs.Outcomes.{DrawOutcome}
 use Rattle.cl_eval.specs.Outcome.{Gives, Outcome, Traps}
-use Rattle.cl_eval.specs.Slots.{Slots}
+use Rattle.cl_frame.specs.States.{StateAt}
 use Rattle.cl_frame.specs.Ground.{Ground}
 use Rattle.cl_frame.specs.Panes.{PaneMarks, marks_in}
 use Rattle.cl_frame.specs.Settling.{PaneStep, is_due, marks_after, pane_draw, report_after, report_settled, reused, settle_if, settle_pane, settle_panes}
@@ -25,11 +25,13 @@ use Rattle.cl_redisplay.specs.Shown.{Shown, glyph_in, row_from, rows_from, told_
 use Rattle.cl_session.specs.Laws.{IsToldByLines}
 use Rattle.cl_session.specs.Naming.{command_of_line, command_of_stroke}
 use Rattle.cl_session.specs.Step.{point_at}
-use Rattle.cl_session.specs.Step.{Handled, handled, handled_or_not, memory_line, next_behind, pane_lines, refuse, report_line, report_lines}
-use Rattle.cl_session.specs.Step.{report_tail, settled_behind, shown_in, tell, trap_line, which_after, wire_lines}
-use Rattle.cl_session.specs.World.{World}
-use Rattle.cl_session.proofs.OwnReplies.{IsNotMemory, first_of, memory_said, no_first, not_finished, not_full, not_history, not_inks, not_memory_if}
-use Rattle.cl_session.proofs.OwnReplies.{not_pointed, not_pressed, not_with}
+use Rattle.cl_session.specs.Runs.{Handled, refuse}
+use Rattle.cl_session.specs.Step.{handled, handled_or_not, memory_line, next_behind, pane_lines, report_line, report_lines}
+use Rattle.cl_session.specs.Runs.{tell}
+use Rattle.cl_session.specs.Step.{report_tail, settled_behind, shown_in, trap_line, which_after, wire_lines}
+use Rattle.cl_session.specs.World.{World, state_in}
+use Rattle.cl_session.proofs.OwnReplies.{IsNotMemory, first_of, memory_said, no_first, not_returned, not_full, not_history, not_inks, not_memory_if}
+use Rattle.cl_session.proofs.OwnReplies.{not_pointed, not_pressed_by, not_with}
 
 -- ---- lists
 
@@ -102,20 +104,20 @@ pane_told true name drawn over old false true more rest e =
 pane_told true name drawn over old false false more rest e =
     (refl, rest_told name drawn.outcome (kept_among over drawn) (count_of (marks_in old)) more rest e)
 
-module _ (g : Ground) (w : Which) (slots : Slots) where
+module _ (g : Ground) (w : Which) (state : StateAt) where
   -- the lines of all panes, and what comes behind them
   abbrev lines_then : List PaneDecl → List PaneStep → List (List ℕ) → List (List ℕ)
   lines_then ds steps rest = pane_lines ds (map report_after steps) ++ rest
 
   one_told : (d : PaneDecl) (o : PaneMarks) (m n : Bool) (ds : List PaneDecl) (ss ts : List PaneStep) (xs ys : List (List ℕ))
-      → lines_then (d ∷ ds) (settle_pane g w slots d o m ∷ ss) xs ≡ lines_then (d ∷ ds) (settle_pane g w slots d o n ∷ ts) ys
-      → ((settle_pane g w slots d o m).marks ≡ (settle_pane g w slots d o n).marks) × (lines_then ds ss xs ≡ lines_then ds ts ys)
+      → lines_then (d ∷ ds) (settle_pane g w state d o m ∷ ss) xs ≡ lines_then (d ∷ ds) (settle_pane g w state d o n ∷ ts) ys
+      → ((settle_pane g w state d o m).marks ≡ (settle_pane g w state d o n).marks) × (lines_then ds ss xs ≡ lines_then ds ts ys)
   one_told d o m n ds ss ts xs ys e =
-      let mine = report_lines d.name (settle_pane g w slots d o m).report in
-      let its = report_lines d.name (settle_pane g w slots d o n).report in
+      let mine = report_lines d.name (settle_pane g w state d o m).report in
+      let its = report_lines d.name (settle_pane g w state d o n).report in
       let here : mine ++ lines_then ds ss xs ≡ its ++ lines_then ds ts ys =
       sym (append_assoc mine (pane_lines ds (map report_after ss)) xs) ∙ (e ∙ append_assoc its (pane_lines ds (map report_after ts)) ys) in
-      pane_told (is_due w o) d.name (pane_draw g.limits g.app g.types d slots) (reused w o) o m n (lines_then ds ss xs) (lines_then ds ts ys) here
+      pane_told (is_due w o) d.name (pane_draw g.limits g.app g.types d state) (reused w o) o m n (lines_then ds ss xs) (lines_then ds ts ys) here
 
   cons_marks : (s t : PaneStep) (ss ts : List PaneStep) → s.marks ≡ t.marks → map marks_after ss ≡ map marks_after ts
       → map marks_after (s ∷ ss) ≡ map marks_after (t ∷ ts)
@@ -123,26 +125,26 @@ module _ (g : Ground) (w : Which) (slots : Slots) where
 
   -- equal lines mean equal marks, and the same lines behind them
   panes_told : (ds : List PaneDecl) (os : List PaneMarks) (ms ns : List Bool) (xs ys : List (List ℕ))
-      → lines_then ds (settle_panes g w slots ds os ms) xs ≡ lines_then ds (settle_panes g w slots ds os ns) ys
-      → (map marks_after (settle_panes g w slots ds os ms) ≡ map marks_after (settle_panes g w slots ds os ns)) × (xs ≡ ys)
+      → lines_then ds (settle_panes g w state ds os ms) xs ≡ lines_then ds (settle_panes g w state ds os ns) ys
+      → (map marks_after (settle_panes g w state ds os ms) ≡ map marks_after (settle_panes g w state ds os ns)) × (xs ≡ ys)
   panes_told [] os ms ns xs ys e = (refl, e)
   panes_told (d ∷ ds) [] ms ns xs ys e = (refl, e)
   panes_told (d ∷ ds) (o ∷ os) [] [] xs ys e =
-      let one = one_told d o false false ds (settle_panes g w slots ds os []) (settle_panes g w slots ds os []) xs ys e in
+      let one = one_told d o false false ds (settle_panes g w state ds os []) (settle_panes g w state ds os []) xs ys e in
       let rest = panes_told ds os [] [] xs ys one.1 in
-      (cons_marks (settle_pane g w slots d o false) (settle_pane g w slots d o false) (settle_panes g w slots ds os []) (settle_panes g w slots ds os []) one.0 rest.0, rest.1)
+      (cons_marks (settle_pane g w state d o false) (settle_pane g w state d o false) (settle_panes g w state ds os []) (settle_panes g w state ds os []) one.0 rest.0, rest.1)
   panes_told (d ∷ ds) (o ∷ os) (m ∷ ms) [] xs ys e =
-      let one = one_told d o m false ds (settle_panes g w slots ds os ms) (settle_panes g w slots ds os []) xs ys e in
+      let one = one_told d o m false ds (settle_panes g w state ds os ms) (settle_panes g w state ds os []) xs ys e in
       let rest = panes_told ds os ms [] xs ys one.1 in
-      (cons_marks (settle_pane g w slots d o m) (settle_pane g w slots d o false) (settle_panes g w slots ds os ms) (settle_panes g w slots ds os []) one.0 rest.0, rest.1)
+      (cons_marks (settle_pane g w state d o m) (settle_pane g w state d o false) (settle_panes g w state ds os ms) (settle_panes g w state ds os []) one.0 rest.0, rest.1)
   panes_told (d ∷ ds) (o ∷ os) [] (n ∷ ns) xs ys e =
-      let one = one_told d o false n ds (settle_panes g w slots ds os []) (settle_panes g w slots ds os ns) xs ys e in
+      let one = one_told d o false n ds (settle_panes g w state ds os []) (settle_panes g w state ds os ns) xs ys e in
       let rest = panes_told ds os [] ns xs ys one.1 in
-      (cons_marks (settle_pane g w slots d o false) (settle_pane g w slots d o n) (settle_panes g w slots ds os []) (settle_panes g w slots ds os ns) one.0 rest.0, rest.1)
+      (cons_marks (settle_pane g w state d o false) (settle_pane g w state d o n) (settle_panes g w state ds os []) (settle_panes g w state ds os ns) one.0 rest.0, rest.1)
   panes_told (d ∷ ds) (o ∷ os) (m ∷ ms) (n ∷ ns) xs ys e =
-      let one = one_told d o m n ds (settle_panes g w slots ds os ms) (settle_panes g w slots ds os ns) xs ys e in
+      let one = one_told d o m n ds (settle_panes g w state ds os ms) (settle_panes g w state ds os ns) xs ys e in
       let rest = panes_told ds os ms ns xs ys one.1 in
-      (cons_marks (settle_pane g w slots d o m) (settle_pane g w slots d o n) (settle_panes g w slots ds os ms) (settle_panes g w slots ds os ns) one.0 rest.0, rest.1)
+      (cons_marks (settle_pane g w state d o m) (settle_pane g w state d o n) (settle_panes g w state ds os ms) (settle_panes g w state ds os ns) one.0 rest.0, rest.1)
 
   -- ---- no line of a pane and not that of the wire has eight bytes, as the line of want of memory has
 
@@ -180,18 +182,18 @@ module _ (g : Ground) (w : Which) (slots : Slots) where
 
   -- what is said behind the own replies does not begin with a line of eight bytes
   behind_not_eight : (ds : List PaneDecl) (os : List PaneMarks) (ms : List Bool) (wire : Bool) (rest : List (List ℕ)) (x : List ℕ) → length x ≡ 8
-      → lines_then ds (settle_panes g w slots ds os ms) (wire_lines wire) ≡ x ∷ rest → ⊥
+      → lines_then ds (settle_panes g w state ds os ms) (wire_lines wire) ≡ x ∷ rest → ⊥
   behind_not_eight [] os ms wire rest x eight e = wire_not_eight wire rest x e eight
   behind_not_eight (d ∷ ds) [] ms wire rest x eight e = wire_not_eight wire rest x e eight
   behind_not_eight (d ∷ ds) (o ∷ os) [] wire rest x eight e =
-      let ss = settle_panes g w slots ds os [] in
-      let mine = report_lines d.name (settle_pane g w slots d o false).report in
-      pane_not_eight (is_due w o) d.name (pane_draw g.limits g.app g.types d slots) (reused w o) o false (lines_then ds ss (wire_lines wire)) rest x
+      let ss = settle_panes g w state ds os [] in
+      let mine = report_lines d.name (settle_pane g w state d o false).report in
+      pane_not_eight (is_due w o) d.name (pane_draw g.limits g.app g.types d state) (reused w o) o false (lines_then ds ss (wire_lines wire)) rest x
       (behind_not_eight ds os [] wire rest x eight) eight (sym (append_assoc mine (pane_lines ds (map report_after ss)) (wire_lines wire)) ∙ e)
   behind_not_eight (d ∷ ds) (o ∷ os) (m ∷ ms) wire rest x eight e =
-      let ss = settle_panes g w slots ds os ms in
-      let mine = report_lines d.name (settle_pane g w slots d o m).report in
-      pane_not_eight (is_due w o) d.name (pane_draw g.limits g.app g.types d slots) (reused w o) o m (lines_then ds ss (wire_lines wire)) rest x
+      let ss = settle_panes g w state ds os ms in
+      let mine = report_lines d.name (settle_pane g w state d o m).report in
+      pane_not_eight (is_due w o) d.name (pane_draw g.limits g.app g.types d state) (reused w o) o m (lines_then ds ss (wire_lines wire)) rest x
       (behind_not_eight ds os ms wire rest x eight) eight (sym (append_assoc mine (pane_lines ds (map report_after ss)) (wire_lines wire)) ∙ e)
 
 length_row : (panes : List Shown) (y x count : ℕ) → length (row_from glyph_in panes y x count) ≡ count
@@ -209,7 +211,7 @@ wire_same false true e = absurd (no_first (codes "! wire") [] e)
 world_told : (w : World) (ps qs : List PaneMarks) (x y : Bool) → ps ≡ qs → x ≡ y
     → ◌≡◌ {A = World} (record w { panes = ps; stale = x }) (record w { panes = qs; stale = y })
 world_told w ps qs x y e f =
-    let of : List PaneMarks → Bool → World = λ ms b. record { slots = w.slots; line = w.line; enabled = w.enabled; panes = ms; stale = b } in
+    let of : List PaneMarks → Bool → World = λ ms b. record { slots = w.slots; line = w.line; enabled = w.enabled; dialog = w.dialog; panes = ms; stale = b } in
     ap (λ (ms : List PaneMarks). of ms x) e ∙ ap (λ (b : Bool). of qs b) f
 
 -- what is said behind the own replies
@@ -222,14 +224,14 @@ behind g h mets wire = (next_behind g h (settled_behind g h mets) wire).world
 -- behind one handling
 handled_once : (g : Ground) (h : Handled) (ms ns : List Bool) (x y : Bool) → behind_lines g h ms x ≡ behind_lines g h ns y → behind g h ms x ≡ behind g h ns y
 handled_once g h ms ns x y e =
-    let told = panes_told g (which_after h.after) h.world.slots (panes_of g.app) h.world.panes ms ns (wire_lines x) (wire_lines y) e in
+    let told = panes_told g (which_after h.after) (state_in g.app h.world) (panes_of g.app) h.world.panes ms ns (wire_lines x) (wire_lines y) e in
     world_told h.world (map marks_after (settled_behind g h ms)) (map marks_after (settled_behind g h ns)) x y told.0 (wire_same x y told.1)
 
 -- replies that do not begin with want of memory are told from it
 told_apart : (g : Ground) (h : Handled) (ns : List Bool) (y : Bool) (replies more : List (List ℕ)) → IsNotMemory replies
     → memory_said ∷ more ≡ replies ++ behind_lines g h ns y → ⊥
 told_apart g h ns y [] more not e =
-    behind_not_eight g (which_after h.after) h.world.slots (panes_of g.app) h.world.panes ns y more memory_said refl (sym e)
+    behind_not_eight g (which_after h.after) (state_in g.app h.world) (panes_of g.app) h.world.panes ns y more memory_said refl (sym e)
 told_apart g h ns y (r ∷ rs) more not e = not (first_of memory_said r more (rs ++ behind_lines g h ns y) e)
 
 -- a frame may show the very words
@@ -248,7 +250,7 @@ frame_told g w ms ns x y panes width from (suc (suc more)) e =
     let others = rows_from glyph_in panes width (from + 1 + 1) more ++ behind_lines g h ns y in
     let wide : 8 ≡ width = ap length (first_of memory_said row (behind_lines g h ms x) (second ∷ others) e) ∙ length_row panes from 0 width in
     let eight : length second ≡ 8 = length_row panes (from + 1) 0 width ∙ sym wide in
-    absurd (behind_not_eight g (which_after h.after) h.world.slots (panes_of g.app) h.world.panes ms x others second eight
+    absurd (behind_not_eight g (which_after h.after) (state_in g.app h.world) (panes_of g.app) h.world.panes ms x others second eight
     (behind_of memory_said row (behind_lines g h ms x) (second ∷ others) e))
 
 -- a handling that met want of memory, and one that did not
@@ -261,7 +263,7 @@ apart_told g w (gesture.«Type» text) ms ns x y e =
     (not_memory_if (nat_le (length (w.line ++ typed text)) MAX_ELEMENTS) (tell (record w { line = w.line ++ typed text }) 0 []) (refuse w 0 (codes "! full")) tt not_full) e)
 apart_told g w gesture.Return ms ns x y e =
     let h = handled g w gesture.Return in
-    absurd (told_apart g h ns y h.replies _ (not_finished g w (command_of_line g.app w.line)) e)
+    absurd (told_apart g h ns y h.replies _ (not_returned g w w.dialog) e)
 apart_told g w gesture.Rubout ms ns x y e =
     let h = handled g w gesture.Rubout in
     absurd (told_apart g h ns y h.replies _ tt e)
@@ -274,7 +276,7 @@ apart_told g w gesture.Inks ms ns x y e =
     absurd (told_apart g h ns y h.replies _ (not_inks (shown_in g w) g.app.frame.width 0 g.app.frame.height) e)
 apart_told g w (gesture.Stroke name) ms ns x y e =
     let h = handled g w (gesture.Stroke name) in
-    absurd (told_apart g h ns y h.replies _ (not_pressed g w (command_of_stroke g.app name)) e)
+    absurd (told_apart g h ns y h.replies _ (not_pressed_by g w name w.dialog) e)
 apart_told g w (gesture.History name) ms ns x y e =
     let h = handled g w (gesture.History name) in
     absurd (told_apart g h ns y h.replies _ (not_history w (panes_of g.app) w.panes name) e)

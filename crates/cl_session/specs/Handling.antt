@@ -13,7 +13,7 @@ use Rattle.cl_session.specs.declared.handling.After.TheVariants as after
 use Rattle.cl_session.specs.declared.handling.Desk.{Desk}
 use Rattle.cl_session.specs.declared.handling.Handling.{Handling}
 use Rattle.cl_session.specs.declared.handling.Handling.TheVariants as handling
-use Rattle.cl_session.specs.Step.{Handled}
+use Rattle.cl_session.specs.Runs.{Handled}
 use Rattle.cl_session.specs.World.{Enabled, World}
 use Rattle.cl_tables.specs.Enabled.{States}
 
@@ -27,6 +27,7 @@ world_at slots desk frame = record {
   slots = slots;
   line = desk.line;
   enabled = enabled_in desk.enabled;
+  dialog = desk.dialog;
   panes = marks_of_frame frame;
   stale = frame.screen.stale;
 }

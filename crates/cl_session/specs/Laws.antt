@@ -8,7 +8,8 @@ use Rattle.cl_gesture.specs.declared.answers.Gesture.{Gesture}
 use Rattle.cl_gesture.specs.declared.answers.Gesture.TheVariants as gesture
 use Rattle.cl_line.specs.declared.lines.TheConstants.{MAX_ELEMENTS}
 use Rattle.cl_session.specs.Current.{IsCurrent}
-use Rattle.cl_session.specs.Step.{Met, command_trap_line, handled, next}
+use Rattle.cl_session.specs.Runs.{command_trap_line}
+use Rattle.cl_session.specs.Step.{Met, handled, next}
 use Rattle.cl_session.specs.Streams.{SpendsAll, transcript, worlds}
 use Rattle.cl_session.specs.Transcript.{Meters, SpentOfPiece, Went, lost, said_of_piece, stepped, world_after_piece}
 use Rattle.cl_session.specs.World.{World, opening}
@@ -67,10 +68,11 @@ IsToldByLines = (g : Ground) (w : World) (act : Gesture) (first second : Met) �
 abbrev pub Fails : Ground → World → Gesture → Met → Type 0
 Fails g w act met = (met.handling ≡ true) ⊎ ((kind : ℕ) × ((handled g w act).replies ≡ command_trap_line kind ∷ []))
 
--- slots, line and what is enabled are as before
+-- slots, line, what is enabled and the dialog are as before
 abbrev pub IsUnchangedByFailure : Type 0
 IsUnchangedByFailure = (g : Ground) (w : World) (act : Gesture) (met : Met) → Fails g w act met
     → ((next g w act met).world.slots ≡ w.slots) × ((next g w act met).world.line ≡ w.line) × ((next g w act met).world.enabled ≡ w.enabled)
+    × ((next g w act met).world.dialog ≡ w.dialog)
 
 -- ---- a rubout takes back what was typed
 

@@ -4,6 +4,8 @@ pub mod Naming
 pub mod TranslatorPlaces
 pub mod Accessible
 pub mod Pointing
+pub mod Runs
+pub mod Dialogs
 pub mod Step
 pub mod Targets
 pub mod Replies

@@ -105,10 +105,10 @@ is_within d x y = (int_le (pos 0) x && int_lt x (pos d.width)) && (int_le (pos 0
 abbrev pub candidates_at : PaneDecl → PaneMarks → (x y : ℤ) → List TouchAt
 candidates_at d marks x y = candidates (touched item_bounds x y (marks_in marks)) (blank_area d.name x y)
 
--- what is chosen at a place of a pane, where this argument is typed next
-abbrev pub chosen_by : Ground → Slots → Enabled → Option TypedArgument → PointAt → PaneDecl → PaneMarks → Option Given
-chosen_by g slots enabled t p d marks = chosen (scene_by g slots enabled) p.gesture (contexts_of t) (candidates_at d marks p.x p.y)
+-- what is chosen at a place of a pane in these contexts
+abbrev pub chosen_by : Ground → Slots → Enabled → List TypeSpecTree → PointAt → PaneDecl → PaneMarks → Option Given
+chosen_by g slots enabled contexts p d marks = chosen (scene_by g slots enabled) p.gesture contexts (candidates_at d marks p.x p.y)
 
 -- what is chosen in a world
-abbrev pub chosen_at : Ground → World → PointAt → PaneDecl → PaneMarks → Option Given
-chosen_at g w p d marks = chosen_by g w.slots w.enabled (typed_in g.app w.line) p d marks
+abbrev pub chosen_at : Ground → World → List TypeSpecTree → PointAt → PaneDecl → PaneMarks → Option Given
+chosen_at g w contexts p d marks = chosen_by g w.slots w.enabled contexts p d marks

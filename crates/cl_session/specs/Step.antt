@@ -7,6 +7,7 @@ use Rattle.cl_application.specs.Panes.{panes_of}
 use Rattle.cl_application.specs.declared.declarations.ArgumentDecl.{ArgumentDecl}
 use Rattle.cl_application.specs.declared.declarations.CommandDecl.{CommandDecl}
 use Rattle.cl_application.specs.declared.declarations.PaneDecl.{PaneDecl}
+use Rattle.cl_dialog.specs.OpenDialog.{OpenDialog}
 use Rattle.cl_eval.specs.Outcome.{Outcome, Gives, RisesBy, Traps}
 use Rattle.cl_eval.specs.Slots.{Env, Slots}
 use Rattle.cl_eval.specs.Executed.{outcome_of_exec}
@@ -35,8 +36,10 @@ use Rattle.cl_parser.specs.declared.parsing.Parsed.TheVariants as parsed
 use Rattle.cl_session.specs.declared.handling.After.{After}
 use Rattle.cl_session.specs.declared.handling.After.TheVariants as after
 use Rattle.cl_session.specs.Naming.{command_of_line, command_of_stroke, tokens_of_line}
-use Rattle.cl_session.specs.Pointing.{TypedArgument, chosen_at, is_within, line_with, typed_in, values_in}
-use Rattle.cl_session.specs.World.{Enabled, World}
+use Rattle.cl_session.specs.Dialogs.{answer, dialog_contexts, return_in_dialog}
+use Rattle.cl_session.specs.Pointing.{TypedArgument, chosen_at, contexts_of, is_within, line_with, typed_in, values_in}
+use Rattle.cl_session.specs.Runs.{Handled, bad_line, command_outcome, is_on, refuse, run_command, scene_at, tell}
+use Rattle.cl_session.specs.World.{World, state_in}
 use Rattle.cl_table.specs.Names.{declared_at}
 use Rattle.cl_translate.specs.Choices.{Given}
 use Rattle.cl_value.specs.Data.{Data, symbol, list, item}
@@ -48,21 +51,6 @@ pub record Met : Type 0 where
   pub wire : Bool
 
 -- ---- the handling
-
--- what the handling of a gesture comes to: its own replies, the world then, what follows it, and its cost
-pub record Handled : Type 0 where
-  pub replies : List (List ℕ)
-  pub world : World
-  pub after : After
-  pub cost : ℕ
-
--- these replies, and nothing changes
-abbrev pub tell : World → (cost : ℕ) → List (List ℕ) → Handled
-tell w cost replies = record { replies = replies; world = w; after = after.Nothing; cost = cost }
-
--- one reply, and nothing changes
-abbrev pub refuse : World → (cost : ℕ) → List ℕ → Handled
-refuse w cost reply = tell w cost (reply ∷ [])
 
 -- the characters stand behind the line, where that has room for them
 abbrev pub type_text : World → List ℕ → Handled
@@ -79,48 +67,6 @@ rub_out w = tell (record w { line = without_last w.line }) 0 []
 abbrev pub clear_line : World → Handled
 clear_line w = tell (record w { line = [] }) 0 []
 
--- `= TEXT` for each text that the command replied
-abbrev pub text_lines : List (List ℕ) → List (List ℕ)
-text_lines [] = []
-text_lines (t ∷ ts) = (codes "= " ++ t) ∷ text_lines ts
-
-abbrev pub ok_lines : List ℕ → List (List ℕ) → List (List ℕ)
-ok_lines name replies = (codes "ok " ++ name) ∷ text_lines replies
-
--- the line of a command that trapped
-abbrev pub command_trap_line : ℕ → List ℕ
-command_trap_line kind = codes "! trap " ++ decimal kind
-
--- with one command switched on or off, if there is such a command
-abbrev pub switched : List ℕ × Bool → Enabled → Enabled
-switched s enabled x = if bytes_eq x s.0 then option_map (λ on. s.1) (enabled x) else enabled x
-
--- with commands switched on or off, one after another
-abbrev pub all_switched : List (List ℕ × Bool) → Enabled → Enabled
-all_switched [] enabled = enabled
-all_switched (s ∷ ss) enabled = all_switched ss (switched s enabled)
-
--- the run of a command of this command-line name: an end without a trap commits the slots and what was switched on and off, and empties the
--- line; a trap leaves all of it
-abbrev pub run_command : List ℕ → World → Outcome Effects → Handled
-run_command name w (Gives effects cost deepest) = record {
-  replies = ok_lines name effects.replies;
-  world = record w { slots = effects.slots; line = []; enabled = all_switched effects.switches w.enabled };
-  after = after.Commit;
-  cost = cost;
-}
-run_command name w (Traps kind cost deepest) = refuse w cost (command_trap_line kind)
-
--- the arguments with their values, in front of others; the last is the nearest
-abbrev pub bound : List (List ℕ × ArgumentDecl) → List Data → Env → Env
-bound arguments [] env = env
-bound [] (d ∷ ds) env = env
-bound (a ∷ arguments) (d ∷ ds) env = bound arguments ds ((a.1.name, d) ∷ env)
-
--- what a command's statements come to with these arguments
-abbrev pub command_outcome : Ground → CommandDecl → List Data → Slots → Outcome Effects
-command_outcome g command ds slots = outcome_of_exec g.limits g.app g.types.holds command.body (bound command.arguments ds []) slots
-
 abbrev pub name_of : Option ArgumentDecl → List ℕ
 name_of None = []
 name_of (Some a) = a.name
@@ -129,28 +75,16 @@ name_of (Some a) = a.name
 abbrev pub need_line : CommandDecl → ℕ → List ℕ
 need_line command place = codes "! need " ++ name_of (declared_at place command.arguments)
 
--- a token that gives no value for its argument
-abbrev pub bad_line : ℕ → List ℕ
-bad_line number = codes "! bad " ++ decimal number
-
 -- a command by what its tokens are read as
 abbrev pub finish_parsed : Ground → World → CommandDecl → Parsed → Handled
-finish_parsed g w command (parsed.Arguments ds) = run_command command.line_name w (command_outcome g command ds w.slots)
+finish_parsed g w command (parsed.Arguments ds) = run_command g.app command.line_name w (command_outcome g command ds w.slots)
 finish_parsed g w command (parsed.Need place) = refuse w 0 (need_line command place)
 finish_parsed g w command (parsed.BadArg number) = refuse w 0 (bad_line number)
 finish_parsed g w command parsed.Surplus = refuse w 0 (codes "! surplus")
 
--- what arguments are read by
-abbrev pub scene_at : Ground → Slots → Scene
-scene_at g slots = record { app = g.app; holds = g.types.holds; reads = g.reads; slots = slots }
-
 -- what the tokens of a line are read as, for a command
 abbrev pub parsed_line : Ground → Slots → List Element → CommandDecl → Parsed
 parsed_line g slots line command = parse (scene_at g slots) line (tokens_of_line command line) (decls_of command.arguments)
-
--- whether a command is enabled
-abbrev pub is_on : World → CommandDecl → Bool
-is_on w command = unwrap_or (w.enabled command.name) false
 
 abbrev pub finish_named : Ground → World → CommandDecl → Handled
 finish_named g w command =
@@ -235,7 +169,7 @@ take_object w t d =
 
 abbrev pub run_named : Ground → World → List Data → Option CommandDecl → Handled
 run_named g w ds None = refuse w 0 (codes "! none")
-run_named g w ds (Some command) = run_command command.line_name w (command_outcome g command ds w.slots)
+run_named g w ds (Some command) = run_command g.app command.line_name w (command_outcome g command ds w.slots)
 
 -- a command with all its arguments is run; what is none is not
 abbrev pub run_chosen : Ground → World → Data → Handled
@@ -248,22 +182,36 @@ act_on g w t None = refuse w 0 (codes "! none")
 act_on g w None (Some r) = run_chosen g w r.value
 act_on g w (Some t) (Some r) = if r.number == 0 then take_object w t r.value else run_chosen g w r.value
 
+-- a place within a pane is pointed at, while a dialog is open or not
+abbrev pub point_within : Ground → World → PointAt → PaneDecl → PaneMarks → Option OpenDialog → Handled
+point_within g w p d m None = act_on g w (typed_in g.app w.line) (chosen_at g w (contexts_of (typed_in g.app w.line)) p d m)
+point_within g w p d m (Some o) = answer g w (Some o) (chosen_at g w (dialog_contexts g.app o) p d m)
+
 abbrev pub point_at : Ground → World → PointAt → PaneDecl → PaneMarks → Handled
-point_at g w p d m =
-    if is_within d p.x p.y then act_on g w (typed_in g.app w.line) (chosen_at g w p d m) else refuse w 0 (codes "! outside")
+point_at g w p d m = if is_within d p.x p.y then point_within g w p d m w.dialog else refuse w 0 (codes "! outside")
 
 -- a place of the pane of this name is pointed at
 abbrev pub point : Ground → World → PointAt → Handled
 point g w p = with_pane (point_at g w p) w (panes_of g.app) w.panes p.pane
 
+-- the line is a command, or the value of a query of the open dialog
+abbrev pub return_by : Ground → World → Option OpenDialog → Handled
+return_by g w None = finish_line g w
+return_by g w (Some o) = return_in_dialog g w o
+
+-- while a dialog is open no keystroke runs a command
+abbrev pub press_by : Ground → World → List ℕ → Option OpenDialog → Handled
+press_by g w name None = press g w name
+press_by g w name (Some o) = refuse w 0 (codes "! dialog")
+
 abbrev pub handled : Ground → World → Gesture → Handled
 handled g w (gesture.«Type» text) = type_text w text
-handled g w gesture.Return = finish_line g w
+handled g w gesture.Return = return_by g w w.dialog
 handled g w gesture.Rubout = rub_out w
 handled g w gesture.Clear = clear_line w
 handled g w gesture.Frame = tell w 0 (glyph_rows g w)
 handled g w gesture.Inks = tell w 0 (ink_rows g w)
-handled g w (gesture.Stroke name) = press g w name
+handled g w (gesture.Stroke name) = press_by g w name w.dialog
 handled g w (gesture.History name) = tell_history w (panes_of g.app) w.panes name
 handled g w (gesture.Point p) = point g w p
 handled g w gesture.Force = record { replies = []; world = w; after = after.Force; cost = 0 }
@@ -275,7 +223,7 @@ handled_or_not g w act false = handled g w act
 
 -- ---- the panes behind it
 
--- all panes are settled where a command committed, all anew at `force`, and else those that are blank for want of memory
+-- all panes are settled where a command committed or a dialog was set or closed, all anew at `force`, and else those that are blank for want of memory
 abbrev pub which_after : After → Which
 which_after after.Nothing = which.Blank
 which_after after.Commit = which.All
@@ -283,7 +231,7 @@ which_after after.Force = which.Force
 
 -- what becomes of the panes behind a handling
 abbrev pub settled_behind : Ground → Handled → (mets : List Bool) → List PaneStep
-settled_behind g h mets = settle_panes g (which_after h.after) h.world.slots (panes_of g.app) h.world.panes mets
+settled_behind g h mets = settle_panes g (which_after h.after) (state_in g.app h.world) (panes_of g.app) h.world.panes mets
 
 -- `pane NAME kept K moved M`
 abbrev pub report_head : List ℕ → (kept moved : ℕ) → List ℕ
@@ -344,7 +292,7 @@ next g w act met =
 -- what is sent to the device after a handling: what is touched of the panes that were settled, or the whole screen after a line feed where it was
 -- stale, since its device is broken then
 abbrev pub sent_behind : Ground → Handled → List PaneStep → List ℕ
-sent_behind g h steps = update_bytes g (which_after h.after) h.world.slots h.world.stale h.world.stale h.world.panes (map marks_after steps)
+sent_behind g h steps = update_bytes g (which_after h.after) (state_in g.app h.world) h.world.stale h.world.stale h.world.panes (map marks_after steps)
 
 -- what is sent in a gesture
 abbrev pub gesture_bytes : Ground → World → Gesture → Met → List ℕ

@@ -5,14 +5,16 @@ ghost use Rattle.cl_application.specs.Panes.{panes_of};
 ghost use Rattle.cl_frame.specs.Frames.{IsFrameOf, marks_of_frame};
 ghost use Rattle.cl_frame.specs.Ground.{ground_of};
 ghost use Rattle.cl_session.specs.Accessible.{IsAccessible};
-ghost use Rattle.cl_session.specs.Step.{clear_line, handled, rub_out, tell_history, type_text, which_after};
+ghost use Rattle.cl_session.specs.Step.{clear_line, handled, press_by, return_by, rub_out, tell_history, type_text, which_after};
 ghost use Rattle.cl_session.specs.Handling.{HandlesTo, IsReply, ToldOf, after_of, handling_met, world_at};
 
 use crate::accessible::Accessible;
+use crate::dialogs::return_in_dialog;
 use crate::pointing::point;
 use crate::running::{finish_line, press};
 use crate::telling::{frame_lines, history_lines, ink_lines, place_of_pane};
 use cl_application::App;
+use cl_dialog::Dialog;
 use cl_eval::{Lines, Program, Slots, Types};
 use cl_frame::{Frame, Which};
 use cl_gesture::Gesture;
@@ -22,11 +24,13 @@ use cl_tables::Enabled;
 use cl_value::Text;
 use std::alloc::{AllocError, Global};
 
-/// What lies on a session's desk, beside the slots: the command line, and which commands are enabled.
+/// What lies on a session's desk, beside the slots: the command line, which commands are enabled, and the dialog that is open, if
+/// one is.
 #[derive(Drop)]
 pub struct Desk {
     pub line: Line,
     pub enabled: Enabled,
+    pub dialog: Option<Dialog>,
 }
 
 /// What follows a handling.
@@ -34,7 +38,7 @@ pub struct Desk {
 pub enum After {
     /// Nothing.
     Nothing,
-    /// A command committed: all panes are settled.
+    /// A command committed, or a dialog was set or closed: all panes are settled.
     Commit,
     /// All panes are settled from nothing, and the screen is redrawn in full.
     Force,
@@ -86,18 +90,67 @@ pub fn handle<T: Types, L: Ledger>(
     let (alloc, app) = (program.alloc, program.app);
     match gesture {
         Gesture::Type(text) => type_text(alloc, text.as_slice(), frame, slots, desk),
-        Gesture::Return => finish_line(program, &accessible.tables, frame, slots, desk, steps),
+        Gesture::Return => return_line(program, accessible, frame, slots, desk, steps),
         Gesture::Rubout => rub_out(alloc, frame, slots, desk),
         Gesture::Clear => clear_line(alloc, frame, slots, desk),
         Gesture::Frame => told(frame_lines(alloc, app, frame)),
         Gesture::Inks => told(ink_lines(alloc, app, frame)),
         Gesture::Stroke(name) => {
-            let tables = &accessible.tables;
-            press(program, tables, name.as_slice(), frame, slots, desk, steps)
+            let name = name.as_slice();
+            press_key(program, accessible, name, frame, slots, desk, steps)
         }
         Gesture::Point(at) => point(program, at, accessible, frame, slots, desk, steps),
         Gesture::History(name) => tell_history(alloc, app, frame, name.as_slice(), slots, desk),
         Gesture::Force => Handling::Replied(Lines::new(alloc), After::Force),
+    }
+}
+
+// The line is a command, or the value of a query of the open dialog.
+fn return_line<T: Types, L: Ledger>(
+    program: &Program<'_, T>,
+    accessible: &Accessible,
+    frame: &Frame,
+    slots: &mut Slots,
+    desk: &mut Desk,
+    steps: &mut Steps<L>,
+) -> Handling
+    requires depth { program.now.limits.depth ≤ 512 }
+    requires accessible { IsAccessible program.now.app.now accessible.now }
+    ensures handles { HandlesTo (return_by (ground_of T.holds T.presents T.reads T.hierarchy program.now)
+        (world_at slots.old desk.old frame.now) desk.old.dialog) frame.now result slots.old slots.new
+        desk.old desk.new }
+    ensures ledger { RisesBy (handling_met result) steps.old steps.new
+        (return_by (ground_of T.holds T.presents T.reads T.hierarchy program.now)
+        (world_at slots.old desk.old frame.now) desk.old.dialog).cost }
+{
+    if desk.dialog.is_some() {
+        return return_in_dialog(program, frame, slots, desk);
+    }
+    finish_line(program, &accessible.tables, frame, slots, desk, steps)
+}
+
+// The command of a keystroke is run, where no dialog is open.
+fn press_key<T: Types, L: Ledger>(
+    program: &Program<'_, T>,
+    accessible: &Accessible,
+    name: &[u8],
+    frame: &Frame,
+    slots: &mut Slots,
+    desk: &mut Desk,
+    steps: &mut Steps<L>,
+) -> Handling
+    requires depth { program.now.limits.depth ≤ 512 }
+    requires accessible { IsAccessible program.now.app.now accessible.now }
+    ensures handles { HandlesTo (press_by (ground_of T.holds T.presents T.reads T.hierarchy program.now)
+        (world_at slots.old desk.old frame.now) name.now desk.old.dialog) frame.now result slots.old slots.new
+        desk.old desk.new }
+    ensures ledger { RisesBy (handling_met result) steps.old steps.new
+        (press_by (ground_of T.holds T.presents T.reads T.hierarchy program.now)
+        (world_at slots.old desk.old frame.now) name.now desk.old.dialog).cost }
+{
+    match &desk.dialog {
+        Some(_) => reply(program.alloc, b"! dialog"),
+        None => press(program, &accessible.tables, name, frame, slots, desk, steps),
     }
 }
 

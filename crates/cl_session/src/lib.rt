@@ -3,6 +3,7 @@
 
 mod accessible;
 mod answers;
+mod dialogs;
 mod handling;
 mod laws;
 mod naming;

@@ -1,6 +1,6 @@
 //! What pointing at a place of a pane does, after the CLIM II specification's chapters on presentation translators and on the
 //! input editor.
-ghost use Rattle.std.specs.Prelude.{◌≡◌, ◌≤◌, ◌<◌, ◌∷◌, [], IfOk, Some, length, option_map, slice_get};
+ghost use Rattle.std.specs.Prelude.{◌≡◌, ◌≤◌, ◌<◌, ◌∷◌, [], IfOk, None, Some, true, is_some, length, option_map, slice_get};
 ghost use Rattle.cl_application.specs.Panes.{panes_of};
 ghost use Rattle.cl_eval.specs.Outcome.{RisesBy};
 ghost use Rattle.cl_frame.specs.Frames.{IsFrameOf, marks_of_frame};
@@ -12,12 +12,13 @@ ghost use Rattle.cl_session.specs.Accessible.{IsAccessible};
 ghost use Rattle.cl_session.specs.Handling.{HandlesTo, enabled_in, handling_met, world_at};
 ghost use Rattle.cl_session.specs.Naming.{sight_in};
 ghost use Rattle.cl_session.specs.Pointing.{argument_numbered, chosen_by, contexts_of, is_within, named_in, typed_in};
-ghost use Rattle.cl_session.specs.Step.{act_on, got_line, point, point_at, run_chosen, take_object};
+ghost use Rattle.cl_session.specs.Step.{act_on, got_line, point, point_at, point_within, run_chosen, take_object};
 ghost use Rattle.cl_session.specs.Targets.{typed_of};
 ghost use Rattle.cl_translate.specs.Choices.{given_of};
 ghost use Rattle.cl_value.specs.Value.{data_of};
 
 use crate::accessible::Accessible;
+use crate::dialogs::{answer, dialog_contexts};
 use crate::handling::{After, Desk, Handling, one_line, reply};
 use crate::naming::{command_of_line, name_end};
 use crate::running::run_command;
@@ -132,9 +133,71 @@ fn point_at<T: Types, L: Ledger>(
     if !target.is_within() {
         return reply(program.alloc, b"! outside");
     }
+    match &desk.dialog {
+        Some(_) => point_in_dialog(program, target, accessible, frame, slots, desk, steps),
+        None => point_in_line(program, target, accessible, frame, slots, desk, steps),
+    }
+}
+
+// A place within a pane is pointed at while no dialog is open.
+fn point_in_line<T: Types, L: Ledger>(
+    program: &Program<'_, T>,
+    target: Target<'_>,
+    accessible: &Accessible,
+    frame: &Frame,
+    slots: &mut Slots,
+    desk: &mut Desk,
+    steps: &mut Steps<L>,
+) -> Handling
+    requires depth { program.now.limits.depth ≤ 512 }
+    requires accessible { IsAccessible program.now.app.now accessible.now }
+    ensures handles { HandlesTo (point_within (ground_of T.holds T.presents T.reads T.hierarchy program.now)
+        (world_at slots.old desk.old frame.now) target.entry.at.now target.entry.declared.now (marks_of_pane target.entry.shown.now) None)
+        frame.now result slots.old slots.new desk.old desk.new }
+    ensures ledger { RisesBy (handling_met result) steps.old steps.new
+        (point_within (ground_of T.holds T.presents T.reads T.hierarchy program.now) (world_at slots.old desk.old frame.now)
+        target.entry.at.now target.entry.declared.now (marks_of_pane target.entry.shown.now) None).cost }
+{
     let typed = typed_argument(program.app, &accessible.tables, &desk.line);
-    match choice_at(program, target, accessible, slots, &desk.enabled, typed) {
+    let Ok(contexts) = contexts_of(program.alloc, typed) else {
+        return Handling::Memory;
+    };
+    let contexts = contexts.as_slice();
+    match choice_at(program, target, accessible, slots, &desk.enabled, contexts) {
         Ok(choice) => act_on(program, typed, choice, frame, slots, desk, steps),
+        Err(_) => Handling::Memory,
+    }
+}
+
+// A place within a pane is pointed at while a dialog is open.
+fn point_in_dialog<T: Types, L: Ledger>(
+    program: &Program<'_, T>,
+    target: Target<'_>,
+    accessible: &Accessible,
+    frame: &Frame,
+    slots: &mut Slots,
+    desk: &mut Desk,
+    steps: &mut Steps<L>,
+) -> Handling
+    requires depth { program.now.limits.depth ≤ 512 }
+    requires accessible { IsAccessible program.now.app.now accessible.now }
+    requires dialog { is_some desk.old.dialog ≡ true }
+    ensures handles { HandlesTo (point_within (ground_of T.holds T.presents T.reads T.hierarchy program.now)
+        (world_at slots.old desk.old frame.now) target.entry.at.now target.entry.declared.now (marks_of_pane target.entry.shown.now)
+        desk.old.dialog) frame.now result slots.old slots.new desk.old desk.new }
+    ensures ledger { RisesBy (handling_met result) steps.old steps.new
+        (point_within (ground_of T.holds T.presents T.reads T.hierarchy program.now) (world_at slots.old desk.old frame.now)
+        target.entry.at.now target.entry.declared.now (marks_of_pane target.entry.shown.now) desk.old.dialog).cost }
+{
+    let Some(dialog) = &desk.dialog else {
+        unreachable!()
+    };
+    let Ok(contexts) = dialog_contexts(program.alloc, program.app, dialog) else {
+        return Handling::Memory;
+    };
+    let contexts = contexts.as_slice();
+    match choice_at(program, target, accessible, slots, &desk.enabled, contexts) {
+        Ok(choice) => answer(program, choice, frame, slots, desk, steps),
         Err(_) => Handling::Memory,
     }
 }
@@ -181,13 +244,12 @@ fn choice_at<T: Types>(
     accessible: &Accessible,
     slots: &Slots,
     enabled: &Enabled,
-    typed: Option<TypedArgument<'_>>,
+    contexts: &[TypeSpec],
 ) -> Result<Option<Choice>, AllocError>
     requires { IsAccessible program.now.app.now accessible.now }
     ensures { IfOk result (λ o. option_map given_of o ≡ chosen_by (ground_of T.holds T.presents T.reads T.hierarchy program.now) slots.now (enabled_in enabled.now)
-        (option_map typed_of typed.entry) target.entry.at.now target.entry.declared.now (marks_of_pane target.entry.shown.now)) }
+        contexts.now target.entry.at.now target.entry.declared.now (marks_of_pane target.entry.shown.now)) }
 {
-    let contexts = contexts_of(program.alloc, typed)?;
     let chooser = Chooser {
         alloc: program.alloc,
         app: program.app,
@@ -204,7 +266,7 @@ fn choice_at<T: Types>(
     };
     let blank = History::empty(program.alloc);
     let history = history_shown(target.shown, &blank);
-    chooser.choose(history, &point, contexts.as_slice(), target.at.gesture)
+    chooser.choose(history, &point, contexts, target.at.gesture)
 }
 
 // What a pane shows; a blank one shows nothing.

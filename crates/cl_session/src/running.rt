@@ -5,13 +5,15 @@ ghost use Rattle.cl_frame.specs.Ground.{ground_of};
 ghost use Rattle.cl_parser.specs.Parses.{decls_of, without_tokens};
 ghost use Rattle.cl_session.specs.Handling.{HandlesTo, handling_met, world_at};
 ghost use Rattle.cl_session.specs.Naming.{sight_in};
-ghost use Rattle.cl_session.specs.Step.{bad_line, bound, command_outcome, command_trap_line, finish_line, finish_named, finish_parsed, line_of, need_line, ok_lines, parsed_line, press, run_command, stroke_named, stroke_parsed};
+ghost use Rattle.cl_session.specs.Runs.{opened_by, bad_line, bound, command_outcome, command_trap_line, ok_lines, run_command};
+ghost use Rattle.cl_session.specs.Step.{finish_line, finish_named, finish_parsed, line_of, need_line, parsed_line, press, stroke_named, stroke_parsed};
 ghost use Rattle.cl_value.specs.Value.{data_of};
 
 use crate::handling::{After, Desk, Handling, joined, one_line, reply, told};
 use crate::naming::{command_of_line, command_of_stroke, name_end};
-use cl_application::{ArgumentDecls, CommandDecl};
-use cl_eval::{Env, Executed, Lines, Program, Slots, Types, exec};
+use cl_application::{App, ArgumentDecls, CommandDecl};
+use cl_dialog::Dialog;
+use cl_eval::{Effects, Env, Executed, Lines, Program, Slots, Types, exec};
 use cl_frame::Frame;
 use cl_line::Line;
 use cl_outside::{Ledger, Steps};
@@ -275,12 +277,12 @@ pub(crate) fn run_command<T: Types, L: Ledger>(
     steps: &mut Steps<L>,
 ) -> Handling
     requires { program.now.limits.depth ≤ 512 }
-    ensures handles { HandlesTo (run_command command.now.line_name
+    ensures handles { HandlesTo (run_command program.now.app.now command.now.line_name
         (world_at slots.old desk.old frame.now)
         (command_outcome (ground_of T.holds T.presents T.reads T.hierarchy program.now) command.now (map data_of values.now) slots.old))
         frame.now result slots.old slots.new desk.old desk.new }
     ensures ledger { RisesBy (handling_met result) steps.old steps.new
-        (run_command command.now.line_name (world_at slots.old desk.old frame.now)
+        (run_command program.now.app.now command.now.line_name (world_at slots.old desk.old frame.now)
         (command_outcome (ground_of T.holds T.presents T.reads T.hierarchy program.now) command.now (map data_of values.now) slots.old)).cost }
 {
     let env = match bound(program.alloc, &command.arguments, values) {
@@ -288,21 +290,44 @@ pub(crate) fn run_command<T: Types, L: Ledger>(
         Err(_) => return Handling::Memory,
     };
     match exec(program, &command.body, &env, slots, steps) {
-        Executed::Done(effects, _) => match ok_lines(
-            program.alloc,
-            command.line_name.as_slice(),
-            effects.replies.as_slice(),
-        ) {
-            Ok(lines) => {
-                *slots = effects.slots;
-                desk.line.clear();
-                desk.enabled.apply(effects.switches.as_slice());
-                Handling::Replied(lines, After::Commit)
+        Executed::Done(effects, _) => {
+            match outcome_of(program.alloc, program.app, command, &effects) {
+                Ok((lines, dialog)) => {
+                    *slots = effects.slots;
+                    desk.line.clear();
+                    desk.enabled.apply(effects.switches.as_slice());
+                    desk.dialog = dialog;
+                    Handling::Replied(lines, After::Commit)
+                }
+                Err(_) => Handling::Memory,
             }
-            Err(_) => Handling::Memory,
-        },
+        }
         Executed::Trap(kind, _) => told(trap_line(program.alloc, kind)),
         Executed::Memory => Handling::Memory,
+    }
+}
+
+// The replies of a command that ended, and the dialog that it opened last as it opens.
+fn outcome_of(
+    alloc: Global,
+    app: &App,
+    command: &CommandDecl,
+    effects: &Effects,
+) -> Result<(Lines, Option<Dialog>), AllocError>
+    ensures { IfOk result (λ o. (o.0 ≡ ok_lines command.now.line_name effects.now.replies)
+        × (o.1 ≡ opened_by app.now effects.now.dialog)) }
+{
+    let lines = ok_lines(
+        alloc,
+        command.line_name.as_slice(),
+        effects.replies.as_slice(),
+    )?;
+    let Some(name) = &effects.dialog else {
+        return Ok((lines, None));
+    };
+    match app.dialog(name.as_slice()) {
+        Some(declared) => Ok((lines, Some(Dialog::open(alloc, app, declared)?))),
+        None => Ok((lines, None)),
     }
 }
 

@@ -19,7 +19,7 @@ use crate::answers::Replies;
 use crate::handling::{Desk, Handling, handle};
 use crate::naming::enabled_of;
 use cl_eval::{Lines, Program, Slots, Types};
-use cl_frame::{Frame, Which};
+use cl_frame::{Frame, State, Which};
 use cl_gesture::Gesture;
 use cl_line::Line;
 use cl_outside::{Device, Ledger, Steps};
@@ -79,9 +79,14 @@ impl Session {
         let desk = Desk {
             line: Line::new(program.alloc)?,
             enabled: enabled_of(program.alloc, program.app)?,
+            dialog: None,
         };
         let mut frame = Frame::open(program.alloc, program.app)?;
-        let _ = frame.update(program, Which::All, slots, device, steps);
+        let state = State {
+            slots,
+            filling: None,
+        };
+        let _ = frame.update(program, Which::All, &state, device, steps);
         if frame.met_memory() {
             return Err(AllocError);
         }
@@ -92,7 +97,7 @@ impl Session {
         })
     }
 
-    /// Handles one gesture, and settles all panes where a command committed or where it is `force`,
+    /// Handles one gesture, and settles all panes where a command committed, a dialog was set or closed, or where it is `force`,
     /// and else those that are blank for want of memory. A screen that was stale before is redrawn in
     /// full at the end. The own replies are made before anything changes.
     pub fn step<T: Types, D: Device, L: Ledger>(
@@ -136,7 +141,11 @@ impl Session {
             steps,
         );
         let which = handling.which();
-        let painted = self.frame.update(program, which, slots, device, steps);
+        let state = State {
+            slots,
+            filling: self.desk.filling(program.app),
+        };
+        let painted = self.frame.update(program, which, &state, device, steps);
         replies_of(program.alloc, handling, painted)
     }
 }

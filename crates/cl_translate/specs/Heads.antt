@@ -26,6 +26,7 @@ heads_by (Some t) x all first = elim t [
   | standard.TokenOrType ↦ x ∷ first
   | standard.BlankArea ↦ x ∷ []
   | standard.Command ↦ x ∷ []
+  | standard.DialogChoice ↦ x ∷ []
 ]
 
 -- its name; for `or` the heads of its parts; for `and` those of its first part; for `null-or-type` and `token-or-type` its name and the

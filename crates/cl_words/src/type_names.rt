@@ -4,9 +4,9 @@ ghost use Rattle.cl_words.specs.TypeNames.{is_standard_type};
 
 use cl_syntax::standard_named;
 
-/// Whether no declaration may have a name: a standard type has it, or it is `dialog-choice`, which no text may name.
+/// Whether no declaration may have a name, since a standard type has it.
 pub fn is_standard_type(name: &[u8]) -> bool
     ensures { result ≡ is_standard_type name.now }
 {
-    standard_named(name).is_some() || name == b"dialog-choice".as_slice()
+    standard_named(name).is_some()
 }

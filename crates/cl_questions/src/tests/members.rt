@@ -36,7 +36,7 @@ const NUMBERS: [(&str, &str); 23] = [
 ];
 
 /// Members of types of texts, symbols, places, records and host types.
-const ATOMS: [(&str, &str); 33] = [
+const ATOMS: [(&str, &str); 37] = [
     ("member \"\" string", "yes"),
     ("member 'abc string", "no"),
     ("member \"\" (string 0)", "yes"),
@@ -58,6 +58,10 @@ const ATOMS: [(&str, &str); 33] = [
     ("member (list 'p 1 null) blank-area", "no"),
     ("member (list) blank-area", "no"),
     ("member null blank-area", "no"),
+    ("member 'exit dialog-choice", "yes"),
+    ("member \"exit\" dialog-choice", "no"),
+    ("member (list 'exit) dialog-choice", "no"),
+    ("member null dialog-choice", "no"),
     ("member (make point 1 2) point", "yes"),
     ("member (make point \"a\" null) point", "yes"),
     ("member (make point 1 2) span", "no"),

@@ -34,7 +34,7 @@ const KINDS: &str = "(define-record point x y)
 ";
 
 /// Each type with its precedence list.
-const LISTS: [(&str, &str); 31] = [
+const LISTS: [(&str, &str); 32] = [
     ("precedence t", "t"),
     ("precedence nil", "nil t"),
     ("precedence integer", "integer t"),
@@ -44,6 +44,7 @@ const LISTS: [(&str, &str); 31] = [
     ("precedence and", "and t"),
     ("precedence null-or-type", "null-or-type t"),
     ("precedence command", "command t"),
+    ("precedence dialog-choice", "dialog-choice t"),
     ("precedence point", "point t"),
     ("precedence weekday", "weekday integer t"),
     ("precedence digit", "digit integer t"),

@@ -50,12 +50,18 @@ const EDGES: [(&str, &str); 37] = [
 ];
 
 /// A type without parts, a declared type with equal arguments, and constants that are all among others.
-const WHOLES: [(&str, &str); 41] = [
+const WHOLES: [(&str, &str); 47] = [
     ("subtype boolean boolean", "yes"),
     ("subtype symbol symbol", "yes"),
     ("subtype symbol boolean", "no"),
     ("subtype blank-area blank-area", "yes"),
     ("subtype command command", "yes"),
+    ("subtype dialog-choice dialog-choice", "yes"),
+    ("subtype dialog-choice t", "yes"),
+    ("subtype dialog-choice symbol", "no"),
+    ("subtype symbol dialog-choice", "no"),
+    ("subtype (member exit) dialog-choice", "no"),
+    ("subtype dialog-choice (or symbol dialog-choice)", "yes"),
     ("subtype command (sequence t)", "no"),
     ("subtype blank-area (sequence t)", "no"),
     ("subtype point point", "yes"),

@@ -92,7 +92,7 @@ const SYMBOLS: [(&str, &str); 36] = [
 ];
 
 /// Types that read nothing, and texts by types of which the values are no members.
-const OTHERS: [(&str, &str); 30] = [
+const OTHERS: [(&str, &str); 33] = [
     (r#"accept t """#, "refused"),
     (r#"accept t "5""#, "refused"),
     (r#"accept t "x""#, "refused"),
@@ -101,6 +101,7 @@ const OTHERS: [(&str, &str); 30] = [
     (r#"accept blank-area "(p 1 2)""#, "refused"),
     (r#"accept command "Clear""#, "refused"),
     (r#"accept command "(com-clear)""#, "refused"),
+    (r#"accept dialog-choice "exit""#, "refused"),
     ("text 5 t", "5"),
     (r#"text "a b" t"#, "a b"),
     ("text 'red t", "red"),
@@ -116,6 +117,8 @@ const OTHERS: [(&str, &str); 30] = [
     (r#"text "a b" nil"#, "a b"),
     ("text (list 'p 1 2) blank-area", "(p 1 2)"),
     ("text (list 'com-clear) command", "(com-clear)"),
+    ("text 'exit dialog-choice", "exit"),
+    (r#"text "a b" dialog-choice"#, "a b"),
     (r#"text "x" command"#, "x"),
     (r#"text "a b" integer"#, "a b"),
     ("text null integer", "None"),

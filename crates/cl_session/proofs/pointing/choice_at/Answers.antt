@@ -1,4 +1,4 @@
-use Rattle.std.proofs.Common.{◌∙◌, rules}
+use Rattle.std.proofs.Common.{refl, rules}
 use Rattle.std.proofs.lemmas.Int.{to_z-of_z}
 use mir.Syntax.{w64}
 use mir.Val.{SFits}
@@ -8,7 +8,6 @@ use Rattle.cl_frame.specs.Panes.{marks_of_pane}
 use Rattle.cl_medium.specs.Items.{move_item}
 use Rattle.cl_record.specs.Marks.{history_marks}
 use Rattle.cl_session.specs.Handling.{enabled_in}
-use Rattle.cl_session.specs.Targets.{typed_of}
 use Rattle.cl_translate.specs.Choices.{given_of}
 use Rattle.cl_session.proofs.PointingLemmas.{each_ok, same_choice, same_scene}
 use Rattle.cl_session.proofs.pointing.choice_at.Goals as goal
@@ -19,8 +18,8 @@ returns g c =
     let across : SFits w64 c.args.target.at.now.x = search rules in
     let down : SFits w64 c.args.target.at.now.y = search rules in
     each_ok _ _ c.choose.result
-    (λ o h. same_choice own c.args.slots.now (enabled_in c.args.enabled.now) (option_map typed_of c.args.typed) c.args.target.at.now c.args.target.declared.now
+    (λ o h. same_choice own c.args.slots.now (enabled_in c.args.enabled.now) c.args.contexts.now c.args.target.at.now c.args.target.declared.now
     (marks_of_pane c.args.target.shown.now) _ _ (history_marks move_item c.history_shown-history.result.now) _ _ (option_map given_of o)
     (same_scene own c.args.slots.now c.args.enabled.now c.args.accessible.now c.requires)
-    (c.as_slice.ensures.value ∙ c.in_ok-contexts.ensures) c.history_shown-history.ensures
+    refl c.history_shown-history.ensures
     (to_z-of_z w64 _ across) (to_z-of_z w64 _ down) h) c.choose.ensures

@@ -7,7 +7,8 @@ use Rattle.cl_frame.specs.Ground.{ground_of}
 use Rattle.cl_frame.specs.Panes.{marks_of_pane}
 use Rattle.cl_gesture.specs.declared.answers.PointAt.{PointAt}
 use Rattle.cl_session.specs.Handling.{HandlesTo, handling_met, world_at}
-use Rattle.cl_session.specs.Step.{Handled, point, point_at}
+use Rattle.cl_session.specs.Runs.{Handled}
+use Rattle.cl_session.specs.Step.{point, point_at}
 use Rattle.cl_session.specs.Telling.{place_of_pane}
 use Rattle.cl_session.proofs.HistoryLemmas.{handles_reply, pane_found, pane_missing, place_within}
 use Rattle.cl_session.proofs.pointing.point.Goals as goal

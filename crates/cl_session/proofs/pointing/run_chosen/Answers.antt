@@ -3,7 +3,7 @@ use Rattle.cl_application.specs.App.{command_named}
 use Rattle.cl_eval.specs.Outcome.{RisesBy}
 use Rattle.cl_frame.specs.Ground.{ground_of}
 use Rattle.cl_session.specs.Handling.{HandlesTo, handling_met, world_at}
-use Rattle.cl_session.specs.Step.{Handled}
+use Rattle.cl_session.specs.Runs.{Handled}
 use Rattle.cl_session.proofs.PointingLemmas.{chosen_run}
 use Rattle.cl_session.proofs.pointing.run_chosen.Goals as goal
 

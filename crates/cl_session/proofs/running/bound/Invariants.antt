@@ -1,5 +1,5 @@
 use Rattle.std.proofs.Common.{◌≡◌, [], drop, map}
-use Rattle.cl_session.specs.Step.{bound}
+use Rattle.cl_session.specs.Runs.{bound}
 use Rattle.cl_value.specs.Value.{data_of}
 use Rattle.cl_session.proofs.running.bound.Given as goal
 

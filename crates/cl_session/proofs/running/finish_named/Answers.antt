@@ -2,7 +2,7 @@ use Rattle.std.proofs.Common.{sym, subst, ◌∙◌}
 use Rattle.cl_eval.specs.Outcome.{RisesBy}
 use Rattle.cl_frame.specs.Ground.{ground_of}
 use Rattle.cl_session.specs.Handling.{HandlesTo, handling_met, world_at}
-use Rattle.cl_session.specs.Step.{Handled}
+use Rattle.cl_session.specs.Runs.{Handled}
 use Rattle.cl_session.proofs.RunLemmas.{finished_on}
 use Rattle.cl_session.proofs.running.finish_named.Goals as goal
 

@@ -1,5 +1,5 @@
 use Rattle.std.proofs.Common.{◌≡◌, ◌++◌, drop}
-use Rattle.cl_session.specs.Step.{ok_lines, text_lines}
+use Rattle.cl_session.specs.Runs.{ok_lines, text_lines}
 use Rattle.cl_session.proofs.running.ok_lines.Given as goal
 
 abbrev pub invariant-loop-reply : goal.invariant-loop-reply

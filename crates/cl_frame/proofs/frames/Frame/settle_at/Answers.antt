@@ -5,6 +5,7 @@ use Rattle.cl_untouched.specs.Among.{keeps_among}
 use Rattle.cl_frame.specs.Damages.{damage_holds, touched_with}
 use Rattle.cl_frame.specs.Frames.{IsPaneFaithful}
 use Rattle.cl_frame.specs.Ground.{ground_of}
+use Rattle.cl_frame.specs.States.{state_of}
 use Rattle.cl_frame.specs.Panes.{marks_of_pane}
 use Rattle.cl_frame.specs.Settling.{met_memory, pane_draw, reused}
 use Rattle.cl_frame.proofs.DamagedPanes.{all-at, can-show, evaluates-left, keeps-left, others-shown, reused-fresh, shown-told}
@@ -15,7 +16,7 @@ use Rattle.cl_frame.proofs.frames.Frame.settle_at.Goals as goal
 
 pub returns-then-not-is_due-clause-settles : goal.returns-then-not-is_due-clause-settles
 returns-then-not-is_due-clause-settles g c =
-    settles_quiet (ground_of g.T.Types.holds g.T.Types.presents g.T.Types.reads g.T.Types.hierarchy c.args.program.now) c.args.which c.args.slots.now c.args.place c.args.self.now.panes.items
+    settles_quiet (ground_of g.T.Types.holds g.T.Types.presents g.T.Types.reads g.T.Types.hierarchy c.args.program.now) c.args.which (state_of c.args.state.now) c.args.place c.args.self.now.panes.items
     c.in-Some.declared.now c.index_mut.result.now c.args.steps.now
     (declared_pane c.args.program.now.app.now.frame.panes c.args.place c.in-Some.declared.now c.in-Some.ensures)
     (stands_at c.args.self.now.panes.items c.args.place c.index_mut.result.now c.requires.place c.index_mut.ensures.value)
@@ -29,7 +30,7 @@ returns-then-not-is_due-clause-frame g c =
 
 pub returns-then-not-is_due-clause-bytes : goal.returns-then-not-is_due-clause-bytes
 returns-then-not-is_due-clause-bytes g c =
-    sent_quiet (ground_of g.T.Types.holds g.T.Types.presents g.T.Types.reads g.T.Types.hierarchy c.args.program.now) c.args.which c.args.slots.now c.args.place c.args.self.now.panes.items _ c.index_mut.result.now c.args.self.now.screen.stale _
+    sent_quiet (ground_of g.T.Types.holds g.T.Types.presents g.T.Types.reads g.T.Types.hierarchy c.args.program.now) c.args.which (state_of c.args.state.now) c.args.place c.args.self.now.panes.items _ c.index_mut.result.now c.args.self.now.screen.stale _
     (stands_at c.args.self.now.panes.items c.args.place c.index_mut.result.now c.requires.place c.index_mut.ensures.value)
     (due_same c.args.which c.args.self.now.panes.items c.args.place c.index.result.now c.index_mut.result.now c.requires.place c.index.ensures c.index_mut.ensures.value false
     (sym c.is_due.ensures ∙ c.if-not-is_due.true))
@@ -37,7 +38,7 @@ returns-then-not-is_due-clause-bytes g c =
 pub put-requires-clause-replaces : goal.put-requires-clause-replaces
 put-requires-clause-replaces g c =
     let gr = ground_of g.T.Types.holds g.T.Types.presents g.T.Types.reads g.T.Types.hierarchy c.args.program.now in
-    let draw = pane_draw gr.limits gr.app gr.types c.in-Some.declared.now c.args.slots.now in
+    let draw = pane_draw gr.limits gr.app gr.types c.in-Some.declared.now (state_of c.args.state.now) in
     let stood = stands_at c.args.self.now.panes.items c.args.place c.index-2.result.now c.requires.place c.index-2.ensures in
     let evaluates = evaluates-left draw (reused c.args.which (marks_of_pane c.index-2.result.now)) c.index-2.result.now c.evaluated-evaluated.result.pane
     c.damaged-shown.result.pane c.args.steps.now c.evaluated-evaluated.new.steps c.damaged-shown.ensures.leaves c.evaluated-evaluated.ensures.evaluates in
@@ -46,7 +47,7 @@ put-requires-clause-replaces g c =
 pub put-requires-clause-can_show : goal.put-requires-clause-can_show
 put-requires-clause-can_show g c =
     let gr = ground_of g.T.Types.holds g.T.Types.presents g.T.Types.reads g.T.Types.hierarchy c.args.program.now in
-    let draw = pane_draw gr.limits gr.app gr.types c.in-Some.declared.now c.args.slots.now in
+    let draw = pane_draw gr.limits gr.app gr.types c.in-Some.declared.now (state_of c.args.state.now) in
     let stood = stands_at c.args.self.now.panes.items c.args.place c.index-2.result.now c.requires.place c.index-2.ensures in
     let evaluates = evaluates-left draw (reused c.args.which (marks_of_pane c.index-2.result.now)) c.index-2.result.now c.evaluated-evaluated.result.pane
     c.damaged-shown.result.pane c.args.steps.now c.evaluated-evaluated.new.steps c.damaged-shown.ensures.leaves c.evaluated-evaluated.ensures.evaluates in
@@ -59,18 +60,18 @@ put-requires-clause-can_show g c =
     let is = λ (fresh : c.args.self.now.screen.stale ≡ false). c.damaged-shown.ensures.damage fresh o stood in
     can-show c.args.self.now.screen.raster p c.damaged-shown.result.damage (touched_with (marks_of_pane o) (marks_of_pane p) ks) c.args.self.now.screen.stale
     c.damaged-shown.ensures.whole c.damaged-shown.ensures.stale is
-    (λ fresh. others-shown gr.limits gr.app gr.types c.args.slots.now c.in-Some.declared.now c.requires.reuse c.args.self.now.panes.items
+    (λ fresh. others-shown gr.limits gr.app gr.types (state_of c.args.state.now) c.in-Some.declared.now c.requires.reuse c.args.self.now.panes.items
     c.args.self.now.screen.raster c.args.place o p stood c.requires.frame.shown evaluates.area
     (all-at (IsPaneFaithful gr.app gr.types) c.args.self.now.panes.items c.args.place o stood c.requires.faithful.all) ks evaluates.marks (kept fresh) c.damaged-shown.result.damage (is fresh))
 
 pub returns-clause-settles : goal.returns-clause-settles
 returns-clause-settles g c =
     let gr = ground_of g.T.Types.holds g.T.Types.presents g.T.Types.reads g.T.Types.hierarchy c.args.program.now in
-    let draw = pane_draw gr.limits gr.app gr.types c.in-Some.declared.now c.args.slots.now in
+    let draw = pane_draw gr.limits gr.app gr.types c.in-Some.declared.now (state_of c.args.state.now) in
     let stood = stands_at c.args.self.now.panes.items c.args.place c.index-2.result.now c.requires.place c.index-2.ensures in
     let evaluates = evaluates-left draw (reused c.args.which (marks_of_pane c.index-2.result.now)) c.index-2.result.now c.evaluated-evaluated.result.pane
     c.damaged-shown.result.pane c.args.steps.now c.evaluated-evaluated.new.steps c.damaged-shown.ensures.leaves c.evaluated-evaluated.ensures.evaluates in
-    settles_due gr c.args.which c.args.slots.now c.args.place c.args.self.now.panes.items
+    settles_due gr c.args.which (state_of c.args.state.now) c.args.place c.args.self.now.panes.items
     c.put.new.self.panes.items c.in-Some.declared.now c.index-2.result.now c.damaged-shown.result.pane c.args.steps.now c.evaluated-evaluated.new.steps
     (declared_pane c.args.program.now.app.now.frame.panes c.args.place c.in-Some.declared.now c.in-Some.ensures)
     stood
@@ -82,7 +83,7 @@ returns-clause-settles g c =
 pub returns-clause-frame : goal.returns-clause-frame
 returns-clause-frame g c =
     let gr = ground_of g.T.Types.holds g.T.Types.presents g.T.Types.reads g.T.Types.hierarchy c.args.program.now in
-    let draw = pane_draw gr.limits gr.app gr.types c.in-Some.declared.now c.args.slots.now in
+    let draw = pane_draw gr.limits gr.app gr.types c.in-Some.declared.now (state_of c.args.state.now) in
     let stood = stands_at c.args.self.now.panes.items c.args.place c.index-2.result.now c.requires.place c.index-2.ensures in
     let evaluates = evaluates-left draw (reused c.args.which (marks_of_pane c.index-2.result.now)) c.index-2.result.now c.evaluated-evaluated.result.pane
     c.damaged-shown.result.pane c.args.steps.now c.evaluated-evaluated.new.steps c.damaged-shown.ensures.leaves c.evaluated-evaluated.ensures.evaluates in
@@ -92,7 +93,7 @@ returns-clause-frame g c =
 pub returns-clause-bytes : goal.returns-clause-bytes
 returns-clause-bytes g c =
     let gr = ground_of g.T.Types.holds g.T.Types.presents g.T.Types.reads g.T.Types.hierarchy c.args.program.now in
-    let draw = pane_draw gr.limits gr.app gr.types c.in-Some.declared.now c.args.slots.now in
+    let draw = pane_draw gr.limits gr.app gr.types c.in-Some.declared.now (state_of c.args.state.now) in
     let stood = stands_at c.args.self.now.panes.items c.args.place c.index-2.result.now c.requires.place c.index-2.ensures in
     let evaluates = evaluates-left draw (reused c.args.which (marks_of_pane c.index-2.result.now)) c.index-2.result.now c.evaluated-evaluated.result.pane
     c.damaged-shown.result.pane c.args.steps.now c.evaluated-evaluated.new.steps c.damaged-shown.ensures.leaves c.evaluated-evaluated.ensures.evaluates in
@@ -102,7 +103,7 @@ returns-clause-bytes g c =
     let kept = λ (fresh : c.args.self.now.screen.stale ≡ false) (no : met_memory p.report ≡ false).
     keeps-left c.evaluated-evaluated.result.pane p ks _ c.damaged-shown.ensures.leaves c.evaluated-evaluated.ensures.keeps no
     ∙ ap (λ (ms : List (Mark Item)). keeps_among ms draw) (reused-fresh c.args.which c.args.self.now.screen.stale (marks_of_pane o) c.requires.stale fresh) in
-    sent_due gr c.args.which c.args.slots.now c.args.self.now c.args.place c.put.new.self.panes.items c.in-Some.declared.now o p
+    sent_due gr c.args.which (state_of c.args.state.now) c.args.self.now c.args.place c.put.new.self.panes.items c.in-Some.declared.now o p
     c.args.self.now.screen.stale c.put.new.self.screen.stale _ _ (damage_holds c.damaged-shown.result.damage) c.requires.frame
     (declared_pane c.args.program.now.app.now.frame.panes c.args.place c.in-Some.declared.now c.in-Some.ensures)
     stood evaluates.area c.put.ensures.panes

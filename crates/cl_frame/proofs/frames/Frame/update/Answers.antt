@@ -5,6 +5,7 @@ use Rattle.cl_redisplay.specs.Paint.{cell_at}
 use Rattle.cl_redisplay.specs.Screens.{is_fault}
 use Rattle.cl_frame.specs.Frames.{is_stale_under, marks_of_frame}
 use Rattle.cl_frame.specs.Ground.{ground_of}
+use Rattle.cl_frame.specs.States.{state_of}
 use Rattle.cl_frame.specs.Sending.{SendsOn, wire_of}
 use Rattle.cl_frame.proofs.UpdatedFrames.{sends-redraw, shows-frame, shows-same, stays-fresh, stays-stale}
 use Rattle.cl_frame.proofs.frames.Frame.update.Goals as goal
@@ -16,7 +17,7 @@ returns-then-redraws-clause-bytes g c =
     let stale = stays-stale _ mid.screen.stale c.settle-painted.result c.settle-painted.ensures.stale redraws in
     let from = wire_of (g.D.Device.wire c.args.device.now) (g.D.Device.faults c.args.device.now) (g.D.Device.lent c.args.device.now).told in
     let to = wire_of (g.D.Device.wire c.refresh.new.device) (g.D.Device.faults c.refresh.new.device) (g.D.Device.lent c.refresh.new.device).told in
-    sends-redraw (ground_of g.T.Types.holds g.T.Types.presents g.T.Types.reads g.T.Types.hierarchy c.args.program.now) c.args.which c.args.slots.now c.args.self.now.screen.stale
+    sends-redraw (ground_of g.T.Types.holds g.T.Types.presents g.T.Types.reads g.T.Types.hierarchy c.args.program.now) c.args.which (state_of c.args.state.now) c.args.self.now.screen.stale
     (g.D.Device.broken c.args.device.now) (marks_of_frame c.args.self.now)
     mid c.refresh.new.self (not (is_fault c.refresh.result)) from to redraws c.settle-painted.ensures.frame c.refresh.ensures.panes
     (subst (λ (d : g.row.D.Denot). SendsOn (not (is_fault c.refresh.result)) (wire_of (g.D.Device.wire d) (g.D.Device.faults d) (g.D.Device.lent d).told)

@@ -1,4 +1,4 @@
-use Rattle.std.proofs.Common.{sym, ◌∙◌}
+use Rattle.std.proofs.Common.{None, refl, sym, ◌∙◌}
 use Rattle.cl_frame.specs.Ground.{ground_of}
 use Rattle.cl_session.proofs.OpeningLemmas.{blank_marks, frame_as_many, none_told, opening_fits, opening_most, opening_paid, opening_world}
 use Rattle.cl_session.proofs.StepLemmas.{broken_after, never_less}
@@ -17,7 +17,7 @@ returns-then-met_memory-clause-device_later g c =
 pub returns-clause-world : goal.returns-clause-world
 returns-clause-world g c =
     let own = ground_of g.T.Types.holds g.T.Types.presents g.T.Types.reads g.T.Types.hierarchy c.args.program.now in
-    opening_world own c.args.slots.now record { line = c.in_ok-new.field-0; enabled = c.in_ok-enabled_of.field-0 } c.in_ok-frame.frame c.update.new.self c.in_ok-new.ensures c.in_ok-enabled_of.ensures
+    opening_world own c.args.slots.now record { line = c.in_ok-new.field-0; enabled = c.in_ok-enabled_of.field-0; dialog = None } c.in_ok-frame.frame c.update.new.self c.in_ok-new.ensures refl c.in_ok-enabled_of.ensures
     (frame_as_many own c.in_ok-frame.frame c.in_ok-frame.ensures.frame) c.update.ensures.settles
     (none_told c.update.new.self.panes.items (sym c.met_memory.ensures ∙ c.if-met_memory.false))
 
@@ -43,7 +43,7 @@ returns-clause-fits g c =
       frame = c.update.ensures.frame;
       faithful = c.update.ensures.faithful;
       current = opening_fits own c.args.slots.now c.update.new.self.screen.stale _
-          (opening_world own c.args.slots.now record { line = c.in_ok-new.field-0; enabled = c.in_ok-enabled_of.field-0 } c.in_ok-frame.frame c.update.new.self c.in_ok-new.ensures c.in_ok-enabled_of.ensures
+          (opening_world own c.args.slots.now record { line = c.in_ok-new.field-0; enabled = c.in_ok-enabled_of.field-0; dialog = None } c.in_ok-frame.frame c.update.new.self c.in_ok-new.ensures refl c.in_ok-enabled_of.ensures
           (frame_as_many own c.in_ok-frame.frame c.in_ok-frame.ensures.frame) c.update.ensures.settles
           (none_told c.update.new.self.panes.items (sym c.met_memory.ensures ∙ c.if-met_memory.false)));
     }

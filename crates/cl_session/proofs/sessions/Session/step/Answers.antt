@@ -12,32 +12,32 @@ pub returns-clause-steps : goal.returns-clause-steps
 returns-clause-steps g c =
     steps-to (ground_of g.T.Types.holds g.T.Types.presents g.T.Types.reads g.T.Types.hierarchy c.args.program.now) c.args.self.now record { accessible = c.args.self.now.accessible; desk = c.handle-handling.new.desk; frame = c.update-painted.new.self }
     c.args.slots.now c.handle-handling.new.slots c.args.gesture.now c.handle-handling.result c.update-painted.result c.replies_of.result
-    c.handle-handling.ensures.handles (rw c.which-which.ensures at c.update-painted.ensures.settles) c.update-painted.ensures.stale c.replies_of.ensures
+    c.handle-handling.ensures.handles (rw (c.which-which.ensures, c.filling.ensures) at c.update-painted.ensures.settles) c.update-painted.ensures.stale c.replies_of.ensures
 
 pub returns-clause-ledger : goal.returns-clause-ledger
 returns-clause-ledger g c =
     spends-to (ground_of g.T.Types.holds g.T.Types.presents g.T.Types.reads g.T.Types.hierarchy c.args.program.now) c.args.self.now record { accessible = c.args.self.now.accessible; desk = c.handle-handling.new.desk; frame = c.update-painted.new.self }
     c.args.slots.now c.handle-handling.new.slots c.args.gesture.now c.handle-handling.result c.update-painted.result c.replies_of.result
-    c.handle-handling.ensures.handles (rw c.which-which.ensures at c.update-painted.ensures.settles) c.update-painted.ensures.stale c.replies_of.ensures
-    c.args.steps.now c.handle-handling.new.steps c.update-painted.new.steps c.handle-handling.ensures.ledger (rw c.which-which.ensures at c.update-painted.ensures.ledger)
+    c.handle-handling.ensures.handles (rw (c.which-which.ensures, c.filling.ensures) at c.update-painted.ensures.settles) c.update-painted.ensures.stale c.replies_of.ensures
+    c.args.steps.now c.handle-handling.new.steps c.update-painted.new.steps c.handle-handling.ensures.ledger (rw (c.which-which.ensures, c.filling.ensures) at c.update-painted.ensures.ledger)
 
 pub returns-clause-failed : goal.returns-clause-failed
 returns-clause-failed g c =
     wire-to (ground_of g.T.Types.holds g.T.Types.presents g.T.Types.reads g.T.Types.hierarchy c.args.program.now) c.args.self.now record { accessible = c.args.self.now.accessible; desk = c.handle-handling.new.desk; frame = c.update-painted.new.self }
     c.args.slots.now c.handle-handling.new.slots c.args.gesture.now c.handle-handling.result c.update-painted.result c.replies_of.result
-    c.handle-handling.ensures.handles (rw c.which-which.ensures at c.update-painted.ensures.settles) c.update-painted.ensures.stale c.replies_of.ensures
+    c.handle-handling.ensures.handles (rw (c.which-which.ensures, c.filling.ensures) at c.update-painted.ensures.settles) c.update-painted.ensures.stale c.replies_of.ensures
     (g.D.Device.faults c.args.device.now) (g.D.Device.faults c.update-painted.new.device) c.update-painted.ensures.cause
 
 pub returns-clause-sent : goal.returns-clause-sent
 returns-clause-sent g c =
     sent-to (ground_of g.T.Types.holds g.T.Types.presents g.T.Types.reads g.T.Types.hierarchy c.args.program.now) c.args.self.now record { accessible = c.args.self.now.accessible; desk = c.handle-handling.new.desk; frame = c.update-painted.new.self }
     c.args.slots.now c.handle-handling.new.slots c.args.gesture.now c.handle-handling.result c.update-painted.result c.replies_of.result
-    c.handle-handling.ensures.handles (rw c.which-which.ensures at c.update-painted.ensures.settles) c.update-painted.ensures.stale c.replies_of.ensures
+    c.handle-handling.ensures.handles (rw (c.which-which.ensures, c.filling.ensures) at c.update-painted.ensures.settles) c.update-painted.ensures.stale c.replies_of.ensures
     (wire_of (g.D.Device.wire c.args.device.now) (g.D.Device.faults c.args.device.now) (g.D.Device.lent c.args.device.now).told)
     (wire_of (g.D.Device.wire c.update-painted.new.device) (g.D.Device.faults c.update-painted.new.device) (g.D.Device.lent c.update-painted.new.device).told)
     (g.D.Device.broken c.args.device.now)
     (broken_is c.args.self.now.frame.screen.stale (g.D.Device.broken c.args.device.now) _ _ _ c.requires.agree c.requires.breaks)
-    (rw c.which-which.ensures at c.update-painted.ensures.bytes)
+    (rw (c.which-which.ensures, c.filling.ensures) at c.update-painted.ensures.bytes)
 
 pub returns-clause-shows : goal.returns-clause-shows
 returns-clause-shows g c = λ whole.
@@ -52,7 +52,7 @@ returns-clause-fits g c =
     let own = ground_of g.T.Types.holds g.T.Types.presents g.T.Types.reads g.T.Types.hierarchy c.args.program.now in
     let steps = steps-to (ground_of g.T.Types.holds g.T.Types.presents g.T.Types.reads g.T.Types.hierarchy c.args.program.now) c.args.self.now record { accessible = c.args.self.now.accessible; desk = c.handle-handling.new.desk; frame = c.update-painted.new.self }
     c.args.slots.now c.handle-handling.new.slots c.args.gesture.now c.handle-handling.result c.update-painted.result c.replies_of.result
-    c.handle-handling.ensures.handles (rw c.which-which.ensures at c.update-painted.ensures.settles) c.update-painted.ensures.stale c.replies_of.ensures in
+    c.handle-handling.ensures.handles (rw (c.which-which.ensures, c.filling.ensures) at c.update-painted.ensures.settles) c.update-painted.ensures.stale c.replies_of.ensures in
     record {
       reuse = c.requires.fits.reuse;
       accessible = c.requires.fits.accessible;

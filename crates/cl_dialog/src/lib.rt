@@ -1,0 +1,8 @@
+//! Dialogs: the arguments of a command as a form with values that are set one at a time.
+#![tactic(auto)]
+
+mod dialogs;
+mod exits;
+
+pub use dialogs::Dialog;
+pub use exits::Exit;
