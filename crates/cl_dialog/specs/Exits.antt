@@ -1,56 +1,73 @@
--- What the exit of a dialog comes to.
-use Rattle.std.specs.Prelude.{ℕ, Bool, true, false, if◌then◌else◌, List, [], ◌∷◌, ◌++◌, Option, Some, None, unwrap_or}
+-- What the exit from a dialog comes to.
+use Rattle.std.specs.Prelude.{ℕ, Bool, true, false, List, [], ◌∷◌, ◌++◌, Option, Some, None}
 use Rattle.cl_application.specs.declared.applications.App.{App}
 use Rattle.cl_application.specs.declared.declarations.ConditionDecl.{ConditionDecl}
 use Rattle.cl_application.specs.declared.declarations.DialogDecl.{DialogDecl}
 use Rattle.cl_application.specs.declared.declarations.QueryDecl.{QueryDecl}
-use Rattle.cl_dialog.specs.Dialogs.{OpenDialog, Queries}
+use Rattle.cl_dialog.specs.OpenDialog.{OpenDialog, Queries}
+use Rattle.cl_dialog.specs.Variables.{values_env}
+use Rattle.cl_dialog_forms.specs.Forms.{queries_of}
 use Rattle.cl_eval.specs.Evaluated.{outcome_of_eval}
-use Rattle.cl_eval.specs.Outcome.{Outcome, Gives, Traps}
-use Rattle.cl_eval.specs.Slots.{Env, Slots}
-use Rattle.cl_parser.specs.Defaults.{default_limits, value_in}
-use Rattle.cl_syntax.specs.ExprTree.{ExprTree}
+use Rattle.cl_eval.specs.Slots.{Slots}
+use Rattle.cl_parser.specs.Defaults.{closed_value, default_limits, value_in}
 use Rattle.cl_table.specs.Names.{named}
-use Rattle.cl_value.specs.Data.{Data, bool, null}
+use Rattle.cl_value.specs.Data.{Data, bool}
 
--- the values of all arguments; or the first query that is shown and has no value
+-- ---- which queries are shown
+
+abbrev pub is_true : Option Data → Bool
+is_true (Some (bool b)) = b
+is_true o = false
+
+-- a condition ends with true; one that is not there does
+abbrev pub holds : App → Slots → Queries → Option ConditionDecl → Bool
+holds app slots queries None = true
+holds app slots queries (Some c) = is_true (value_in (outcome_of_eval default_limits app slots (values_env queries) c.when))
+
+-- whether a query is shown on these slots and beside queries with these values
+abbrev pub shown : App → Slots → Queries → QueryDecl → Bool
+shown app slots queries query = holds app slots queries query.condition
+
+-- ---- the values at an exit
+
+abbrev pub value_held : Option (Option Data) → Option Data
+value_held None = None
+value_held (Some o) = o
+
+-- the value of the query of that name, if it is set
+abbrev pub value_of : List ℕ → Queries → Option Data
+value_of x queries = value_held (named x queries)
+
+-- the value that stands for a query that is not shown
+abbrev pub else_value : App → Option ConditionDecl → Option Data
+else_value app None = None
+else_value app (Some c) = closed_value app c.otherwise
+
+abbrev pub value_by : Bool → (held otherwise : Option Data) → Option Data
+value_by true held otherwise = held
+value_by false held otherwise = otherwise
+
+-- what a query gives: its value, or what stands for it where it is not shown
+abbrev pub given : App → Slots → Queries → QueryDecl → Option Data
+given app slots queries q = value_by (shown app slots queries q) (value_of q.name queries) (else_value app q.condition)
+
+-- ---- the exit
+
+-- the command runs with these arguments, or this query is unset
 pub data ExitAt : Type 0 where
-  Arguments : List Data → ExitAt
+  Runs : List Data → ExitAt
   Unset : List ℕ → ExitAt
 
--- the queries' names with their values, null while they are unset, in front of others
-abbrev pub names_from : Queries → Env → Env
-names_from [] env = env
-names_from (q ∷ qs) env = names_from qs ((q.0, unwrap_or q.1 null) ∷ env)
-
-abbrev pub is_true : Outcome Data → Bool
-is_true (Gives (bool b) cost deepest) = b
-is_true (Gives d cost deepest) = false
-is_true (Traps kind cost deepest) = false
-
--- whether a condition ends with true; a trap means no
-abbrev pub is_shown : App → Slots → Queries → ExprTree → Bool
-is_shown app slots qs when = is_true (outcome_of_eval default_limits app (names_from qs []) slots when)
-
--- a value in the place of that of a query which is not shown
-abbrev pub value_by : App → Slots → Queries → Option ConditionDecl → Option Data → Option Data
-value_by app slots qs None v = v
-value_by app slots qs (Some c) v = if is_shown app slots qs c.when then v else value_in (outcome_of_eval default_limits app [] [] c.otherwise)
-
-abbrev pub condition_in : Option QueryDecl → Option ConditionDecl
-condition_in None = None
-condition_in (Some q) = q.condition
-
--- what follows the value of a query, behind these values
+-- what follows a value, or else this query is unset
 abbrev pub behind : List ℕ → Option Data → (Data → ExitAt) → ExitAt
-behind x None more = Unset x
-behind x (Some d) more = more d
+behind x None next = Unset x
+behind x (Some d) next = next d
 
--- the queries from one on, behind these values
-abbrev pub exit_from : App → DialogDecl → Slots → Queries → List Data → Queries → ExitAt
-exit_from app d slots all ds [] = Arguments ds
-exit_from app d slots all ds (q ∷ qs) =
-    behind q.0 (value_by app slots all (condition_in (named q.0 d.queries)) q.1) (λ v. exit_from app d slots all (ds ++ v ∷ []) qs)
+-- the values of queries in turn, behind those that are there; the first that gives none is unset
+abbrev pub exit_behind : App → Slots → Queries → List Data → List QueryDecl → ExitAt
+exit_behind app slots queries ds [] = Runs ds
+exit_behind app slots queries ds (q ∷ qs) = behind q.name (given app slots queries q) (λ d. exit_behind app slots queries (ds ++ d ∷ []) qs)
 
+-- the exit from a dialog that was declared so
 abbrev pub exit_of : App → DialogDecl → Slots → OpenDialog → ExitAt
-exit_of app d slots o = exit_from app d slots o.queries [] o.queries
+exit_of app d slots dialog = exit_behind app slots dialog.queries [] (queries_of d)

@@ -1,3 +1,6 @@
-pub mod Dialogs
+pub mod OpenDialog
+pub mod Opened
+pub mod Variables
+pub mod Selected
 pub mod Exits
-pub mod Answers
+pub mod Held

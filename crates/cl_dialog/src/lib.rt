@@ -1,4 +1,8 @@
-//! Stand-in.
+//! Dialogs: the arguments of a command as a form with values that are set one at a time.
 #![tactic(auto)]
+
 mod dialogs;
-pub use dialogs::{Dialog, Exit};
+mod exits;
+
+pub use dialogs::Dialog;
+pub use exits::Exit;

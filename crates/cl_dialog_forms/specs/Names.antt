@@ -1,10 +1,10 @@
--- Names that no text can have.
+-- Names that stand in no text, since they have spaces.
 use Rattle.std.specs.Prelude.{ℕ, List, ◌++◌, codes}
 
--- the display of a dialog's form
-abbrev pub form_name : List ℕ → List ℕ
-form_name x = codes "dialog " ++ x
-
--- whether a query has a value
+-- the variable that tells whether a query is set
 abbrev pub set_name : List ℕ → List ℕ
-set_name x = x ++ codes " is set"
+set_name query = query ++ codes " is set"
+
+-- the display that the form of a dialog is kept as
+abbrev pub form_name : List ℕ → List ℕ
+form_name dialog = codes "dialog " ++ dialog

@@ -1,13 +1,6 @@
-//! Stand-in.
+//! The display forms of dialogs: each query of a dialog with its value, and the choices to exit and to abort.
 #![tactic(auto)]
-ghost use Rattle.std.specs.Prelude.{◌≡◌, IfOk};
-ghost use Rattle.cl_dialog_forms.specs.Names.{form_name};
-use cl_value::Text;
-use std::alloc::{AllocError, Global};
 
-/// The name.
-pub fn form_name(alloc: Global, name: &[u8]) -> Result<Text, AllocError>
-    ensures { IfOk result (λ t. t ≡ form_name name.now) }
-{
-    Err(AllocError)
-}
+mod names;
+
+pub use names::{form_name, set_name};

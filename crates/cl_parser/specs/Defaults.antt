@@ -6,6 +6,7 @@ use Rattle.cl_application.specs.declared.declarations.DefaultDecl.{DefaultDecl}
 use Rattle.cl_eval.specs.Evaluated.{outcome_of_eval}
 use Rattle.cl_eval.specs.Outcome.{Outcome, Gives, Traps}
 use Rattle.cl_eval.specs.declared.metering.Limits.{Limits}
+use Rattle.cl_syntax.specs.ExprTree.{ExprTree}
 use Rattle.cl_value.specs.Data.{Data}
 
 -- the limits of a default
@@ -16,10 +17,14 @@ abbrev pub value_in : Outcome Data → Option Data
 value_in (Gives d cost deepest) = Some d
 value_in (Traps kind cost deepest) = None
 
--- the value of a default, on no slots and no variables; none where there is no default, or where it traps
+-- the value of an expression on no slots and no variables; none where it traps
+abbrev pub closed_value : App → ExprTree → Option Data
+closed_value app t = value_in (outcome_of_eval default_limits app [] [] t)
+
+-- the value of a default; none where there is no default, or where it traps
 abbrev pub value_if : App → Option DefaultDecl → Option Data
 value_if app None = None
-value_if app (Some d) = value_in (outcome_of_eval default_limits app [] [] d.value)
+value_if app (Some d) = closed_value app d.value
 
 -- the value of an argument's default, if it has one
 abbrev pub default_value : App → ArgumentDecl → Option Data

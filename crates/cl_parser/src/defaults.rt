@@ -1,11 +1,12 @@
 //! What an argument of a command is where a line has no token for it.
 ghost use Rattle.std.specs.Prelude.{◌≡◌, IfOk, option_map};
-ghost use Rattle.cl_parser.specs.Defaults.{default_value};
+ghost use Rattle.cl_parser.specs.Defaults.{closed_value, default_value};
 ghost use Rattle.cl_value.specs.Value.{data_of};
 
 use cl_application::{App, ArgumentDecl};
 use cl_eval::{Env, Evaluated, Limits, Slots, eval};
 use cl_outside::own_steps;
+use cl_syntax::Expr;
 use cl_value::Value;
 use std::alloc::{AllocError, Global};
 
@@ -16,27 +17,26 @@ const LIMITS: Limits = Limits {
 };
 
 /// The value of an argument's default, evaluated anew, if it has one that does not trap.
-pub(crate) fn default_value(
+pub fn default_value(
     alloc: Global,
     app: &App,
     argument: &ArgumentDecl,
 ) -> Result<Option<Value>, AllocError>
     ensures { IfOk result (λ o. option_map data_of o ≡ default_value app.now argument.now) }
 {
-    let Some(default) = &argument.default else {
-        return Ok(None);
-    };
+    match &argument.default {
+        Some(default) => closed_value(alloc, app, &default.value),
+        None => Ok(None),
+    }
+}
+
+/// The value of an expression on no slots and no variables, on a counter of its own, unless it traps.
+pub fn closed_value(alloc: Global, app: &App, expr: &Expr) -> Result<Option<Value>, AllocError>
+    ensures { IfOk result (λ o. option_map data_of o ≡ closed_value app.now expr.now) }
+{
     let env = Env::new(alloc);
     let slots = Slots::new(alloc);
-    match eval(
-        alloc,
-        app,
-        &default.value,
-        &env,
-        &slots,
-        LIMITS,
-        &mut own_steps(),
-    ) {
+    match eval(alloc, app, expr, &env, &slots, LIMITS, &mut own_steps()) {
         Evaluated::Value(value, _, _) => Ok(Some(value)),
         Evaluated::Trap(_, _) => Ok(None),
         Evaluated::Memory => Err(AllocError),

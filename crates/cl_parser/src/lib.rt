@@ -7,6 +7,7 @@ mod laws;
 mod one;
 mod parsing;
 
+pub use defaults::{closed_value, default_value};
 pub use laws::arguments_are_members;
 pub use one::One;
 pub use parsing::{Parsed, Parser};

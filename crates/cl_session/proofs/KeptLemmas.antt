@@ -8,7 +8,8 @@ use Rattle.cl_application.specs.declared.applications.App.{App}
 use Rattle.cl_application.specs.declared.declarations.CommandDecl.{CommandDecl}
 use Rattle.cl_application.specs.declared.declarations.DialogDecl.{DialogDecl}
 use Rattle.cl_application.specs.declared.declarations.PaneDecl.{PaneDecl}
-use Rattle.cl_dialog.specs.Dialogs.{OpenDialog, with_selected}
+use Rattle.cl_dialog.specs.OpenDialog.{OpenDialog}
+use Rattle.cl_dialog.specs.Selected.{with_selected}
 use Rattle.cl_dialog.specs.Exits.{ExitAt, exit_of}
 use Rattle.cl_dialog.specs.Exits as exit
 use Rattle.cl_eval.specs.Outcome.{Outcome, Gives, Traps}
@@ -209,7 +210,7 @@ keeps_exit_command g w ds (Some command) =
 -- that a query has no value is not the line of a trap
 keeps_exit_with : (g : Ground) (w : World) (d : DialogDecl) (x : ExitAt) → Keeps w (exit_with g w d x)
 keeps_exit_with g w d (exit.Unset q) = keeps_told w 0 ((codes "! unset " ++ q) ∷ [])
-keeps_exit_with g w d (exit.Arguments ds) = keeps_exit_command g w ds (command_named d.command g.app)
+keeps_exit_with g w d (exit.Runs ds) = keeps_exit_command g w ds (command_named d.command g.app)
 
 keeps_exit_declared : (g : Ground) (w : World) (o : OpenDialog) (d : Option DialogDecl) → Keeps w (exit_declared g w o d)
 keeps_exit_declared g w o None = keeps_none w

@@ -6,7 +6,7 @@ use Rattle.std.proofs.lemmas.List.{length-map}
 use Rattle.std.proofs.lemmas.List.Elements.{All-cons, All-head, All-nil, All-tail}
 use Rattle.cl_application.specs.Panes.{panes_of}
 use Rattle.cl_application.specs.declared.declarations.PaneDecl.{PaneDecl}
-use Rattle.cl_dialog.specs.Dialogs.{OpenDialog}
+use Rattle.cl_dialog.specs.OpenDialog.{OpenDialog}
 use Rattle.cl_display.specs.Outcomes.{DrawOutcome}
 use Rattle.cl_eval.specs.Outcome.{RisesBy, cost_of}
 use Rattle.cl_eval.specs.Slots.{Slots}

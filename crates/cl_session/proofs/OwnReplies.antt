@@ -7,7 +7,7 @@ use Rattle.cl_application.specs.declared.applications.App.{App}
 use Rattle.cl_application.specs.declared.declarations.CommandDecl.{CommandDecl}
 use Rattle.cl_application.specs.declared.declarations.DialogDecl.{DialogDecl}
 use Rattle.cl_application.specs.declared.declarations.PaneDecl.{PaneDecl}
-use Rattle.cl_dialog.specs.Dialogs.{OpenDialog}
+use Rattle.cl_dialog.specs.OpenDialog.{OpenDialog}
 use Rattle.cl_dialog.specs.Exits.{ExitAt, exit_of}
 use Rattle.cl_dialog.specs.Exits as exit
 use Rattle.cl_eval.specs.Outcome.{Gives, Outcome, Traps}
@@ -170,7 +170,7 @@ not_exit_command g w ds (Some command) =
 
 not_exit_with : (g : Ground) (w : World) (d : DialogDecl) (x : ExitAt) → IsNotMemory (exit_with g w d x).replies
 not_exit_with g w d (exit.Unset q) = differ_at 2 memory_said (codes "! unset " ++ q) (λ no. omega (arith, no))
-not_exit_with g w d (exit.Arguments ds) = not_exit_command g w ds (command_named d.command g.app)
+not_exit_with g w d (exit.Runs ds) = not_exit_command g w ds (command_named d.command g.app)
 
 not_exit_declared : (g : Ground) (w : World) (o : OpenDialog) (d : Option DialogDecl) → IsNotMemory (exit_declared g w o d).replies
 not_exit_declared g w o None = not_none

@@ -3,7 +3,7 @@ use Rattle.std.proofs.Common.{◌≡◌, ◌≤◌, ℕ, Bool, true, false, not,
 use Rattle.std.specs.Prelude.{codes}
 use Rattle.cl_application.specs.Panes.{panes_of}
 use Rattle.cl_application.specs.declared.applications.App.{App}
-use Rattle.cl_dialog.specs.Dialogs.{OpenDialog}
+use Rattle.cl_dialog.specs.OpenDialog.{OpenDialog}
 use Rattle.cl_eval.specs.Outcome.{RisesBy}
 use Rattle.cl_eval.specs.Slots.{Slots}
 use Rattle.cl_frame.specs.Frames.{Settles, marks_of_frame, reports_of_frame}

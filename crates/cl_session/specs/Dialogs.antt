@@ -5,7 +5,8 @@ use Rattle.cl_application.specs.App.{command_named, dialog_named}
 use Rattle.cl_application.specs.declared.applications.App.{App}
 use Rattle.cl_application.specs.declared.declarations.CommandDecl.{CommandDecl}
 use Rattle.cl_application.specs.declared.declarations.DialogDecl.{DialogDecl}
-use Rattle.cl_dialog.specs.Dialogs.{OpenDialog, selected_type, with_selected, with_value}
+use Rattle.cl_dialog.specs.OpenDialog.{OpenDialog}
+use Rattle.cl_dialog.specs.Selected.{selected_type, with_selected, with_value}
 use Rattle.cl_dialog.specs.Exits.{ExitAt, exit_of}
 use Rattle.cl_dialog.specs.Exits as exit
 use Rattle.cl_eval.specs.Slots.{Slots}
@@ -88,7 +89,7 @@ exit_command g w ds (Some command) =
 -- the dialog's command is run with the values of the queries: refused first where a query that is shown has none, then where the command is disabled
 abbrev pub exit_with : Ground → World → DialogDecl → ExitAt → Handled
 exit_with g w d (exit.Unset x) = refuse w 0 (codes "! unset " ++ x)
-exit_with g w d (exit.Arguments ds) = exit_command g w ds (command_named d.command g.app)
+exit_with g w d (exit.Runs ds) = exit_command g w ds (command_named d.command g.app)
 
 abbrev pub exit_declared : Ground → World → OpenDialog → Option DialogDecl → Handled
 exit_declared g w o None = refuse w 0 (codes "! none")

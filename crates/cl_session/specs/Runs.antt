@@ -6,7 +6,8 @@ use Rattle.cl_application.specs.App.{dialog_named}
 use Rattle.cl_application.specs.declared.applications.App.{App}
 use Rattle.cl_application.specs.declared.declarations.ArgumentDecl.{ArgumentDecl}
 use Rattle.cl_application.specs.declared.declarations.CommandDecl.{CommandDecl}
-use Rattle.cl_dialog.specs.Dialogs.{OpenDialog, opened}
+use Rattle.cl_dialog.specs.OpenDialog.{OpenDialog}
+use Rattle.cl_dialog.specs.Opened.{opened}
 use Rattle.cl_eval.specs.Outcome.{Outcome, Gives, Traps}
 use Rattle.cl_eval.specs.Slots.{Env, Slots}
 use Rattle.cl_eval.specs.Executed.{outcome_of_exec}

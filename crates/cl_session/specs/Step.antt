@@ -7,7 +7,7 @@ use Rattle.cl_application.specs.Panes.{panes_of}
 use Rattle.cl_application.specs.declared.declarations.ArgumentDecl.{ArgumentDecl}
 use Rattle.cl_application.specs.declared.declarations.CommandDecl.{CommandDecl}
 use Rattle.cl_application.specs.declared.declarations.PaneDecl.{PaneDecl}
-use Rattle.cl_dialog.specs.Dialogs.{OpenDialog}
+use Rattle.cl_dialog.specs.OpenDialog.{OpenDialog}
 use Rattle.cl_eval.specs.Outcome.{Outcome, Gives, RisesBy, Traps}
 use Rattle.cl_eval.specs.Slots.{Env, Slots}
 use Rattle.cl_eval.specs.Executed.{outcome_of_exec}

@@ -5,7 +5,8 @@ use Rattle.cl_application.specs.Panes.{panes_of}
 use Rattle.cl_application.specs.declared.applications.App.{App}
 use Rattle.cl_application.specs.declared.declarations.DialogDecl.{DialogDecl}
 use Rattle.cl_application.specs.declared.declarations.PaneDecl.{PaneDecl}
-use Rattle.cl_dialog.specs.Dialogs.{OpenDialog, env_of}
+use Rattle.cl_dialog.specs.OpenDialog.{OpenDialog}
+use Rattle.cl_dialog.specs.Variables.{form_env}
 use Rattle.cl_dialog_forms.specs.Names.{form_name}
 use Rattle.cl_display.specs.Script.{history_of}
 use Rattle.cl_eval.specs.Outcome.{cost_of}
@@ -40,7 +41,7 @@ filling_with name env (Some d) = Some (record { pane = d.pane; display = form_na
 -- an open dialog fills its pane
 abbrev pub filling_by : App → Option OpenDialog → Option FillingAt
 filling_by app None = None
-filling_by app (Some o) = filling_with o.name (env_of o.queries) (dialog_named o.name app)
+filling_by app (Some o) = filling_with o.name (form_env o.queries) (dialog_named o.name app)
 
 -- what panes show in a world: its slots, and the dialog that is open
 abbrev pub state_in : App → World → StateAt
