@@ -3,6 +3,8 @@
 
 mod dialogs;
 mod exits;
+mod openings;
+mod variables;
 
 pub use dialogs::Dialog;
 pub use exits::Exit;

@@ -10,7 +10,7 @@ ghost use Rattle.cl_updating.specs.Redisplays.{CanReuse};
 use super::showing::shows;
 use cl_application::App;
 use cl_eval::{Limits, Program, Slots, Types};
-use cl_frame::{Frame, PaneReport, Which};
+use cl_frame::{Frame, PaneReport, State, Which};
 use cl_gesture::Gesture;
 use cl_load::{Loaded, load};
 use cl_outside::{MemDevice, own_steps};
@@ -97,7 +97,11 @@ fn frame_states<T: Types>(
     let mut steps = own_steps();
     let mut device = MemDevice::new(alloc, [8].to_vec(alloc)?)?;
     let mut frame = Frame::open(alloc, app)?;
-    let painted = frame.settle(&program, Which::All, slots, &mut device, &mut steps);
+    let state = State {
+        slots,
+        filling: None,
+    };
+    let painted = frame.settle(&program, Which::All, &state, &mut device, &mut steps);
     put_state(
         &mut said,
         painted == Painted::DeviceFault,
@@ -111,21 +115,21 @@ fn frame_states<T: Types>(
         shows(&device, &frame.screen),
         &frame,
     )?;
-    let painted = frame.update(&program, Which::All, slots, &mut device, &mut steps);
+    let painted = frame.update(&program, Which::All, &state, &mut device, &mut steps);
     put_state(
         &mut said,
         painted == Painted::DeviceFault,
         shows(&device, &frame.screen),
         &frame,
     )?;
-    let painted = frame.update(&program, Which::Force, slots, &mut device, &mut steps);
+    let painted = frame.update(&program, Which::Force, &state, &mut device, &mut steps);
     put_state(
         &mut said,
         painted == Painted::DeviceFault,
         shows(&device, &frame.screen),
         &frame,
     )?;
-    let painted = frame.update(&program, Which::Blank, slots, &mut device, &mut steps);
+    let painted = frame.update(&program, Which::Blank, &state, &mut device, &mut steps);
     put_state(
         &mut said,
         painted == Painted::DeviceFault,

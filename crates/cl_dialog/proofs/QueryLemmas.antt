@@ -1,0 +1,27 @@
+-- The query in a place.
+use Rattle.std.proofs.Common.{◌≡◌, ◌<◌, ◌+◌, ℕ, zero, suc, List, [], ◌∷◌, drop, length, map, refl, sym, ap, Option, Some, None, arith}
+use Rattle.cl_application.specs.Panes.{declared_by}
+use Rattle.cl_application.specs.declared.declarations.QueryDecl.{QueryDecl}
+use Rattle.cl_table.specs.Names.{declared_at}
+
+some_is : (c d : QueryDecl) → ◌≡◌ {A = Option QueryDecl} (Some c) (Some d) → c ≡ d
+some_is c d h = cc
+
+before_rest : (table : List (List ℕ × QueryDecl)) (place : ℕ) (d : QueryDecl) → Some d ≡ declared_at place table
+    → map declared_by (drop place table) ≡ d ∷ map declared_by (drop (suc place) table)
+before_rest [] place d h = cc
+before_rest (e ∷ table) zero d h = ap (λ (c : QueryDecl). c ∷ map declared_by table) (sym (some_is d e.1 h))
+before_rest (e ∷ table) (suc place) d h = before_rest table place d h
+
+-- it stands before the queries behind it
+pub query_here : (table : List (List ℕ × QueryDecl)) (place : ℕ) (d : QueryDecl) → Some d ≡ declared_at place table
+    → map declared_by (drop place table) ≡ d ∷ map declared_by (drop (place + 1) table)
+query_here table place d h =
+    let next : place + 1 ≡ suc place = omega arith in
+    rw next (before_rest table place d h)
+
+-- there is one in each place within the table
+pub query_there : (table : List (List ℕ × QueryDecl)) (place : ℕ) → place < length table → None ≡ declared_at place table → ⊥
+query_there [] place l h = omega (arith, l)
+query_there (e ∷ table) zero l h = cc
+query_there (e ∷ table) (suc place) l h = query_there table place (omega (arith, l)) h
