@@ -1,5 +1,5 @@
 -- The readings of declarations answer to what is looked at of them.
-use Rattle.std.proofs.Common.{ℕ, Bool, true, false, ◌&&◌, ◌||◌, is_some, if◌then◌else◌, List, [], ◌∷◌}
+use Rattle.std.proofs.Common.{ℕ, Bool, true, false, ◌&&◌, is_some, if◌then◌else◌, List, [], ◌∷◌}
 use Rattle.std.specs.Prelude.{Option, Some, None, map, codes}
 use Rattle.std.specs.Str.{bytes_eq}
 use Rattle.cl_table.specs.Names.{named}
@@ -8,7 +8,7 @@ use Rattle.cl_forms.specs.Naming.{are_names, name_in}
 use Rattle.cl_forms.specs.Outer.{declared_or, kind_or, kind_named, outer_listed, outer_in}
 use Rattle.cl_forms.specs.declared.outer.DeclarationKind.{DeclarationKind}
 use Rattle.cl_forms.specs.declared.outer.DeclarationKind.TheVariants.{Record, PresentationType, HostType, PresentMethod, AcceptMethod, Function, Display, CommandTable, Command}
-use Rattle.cl_forms.specs.declared.outer.DeclarationKind.TheVariants.{Translator, CommandTranslator, Frame}
+use Rattle.cl_forms.specs.declared.outer.DeclarationKind.TheVariants.{Translator, CommandTranslator, Dialog, Frame}
 use Rattle.cl_forms.specs.declared.outer.OuterKind.{OuterKind}
 use Rattle.cl_forms.specs.declared.outer.OuterKind.TheVariants.{Planned, Unknown}
 use Rattle.cl_words.specs.declared.signatures.Signatures.{Signatures}
@@ -32,6 +32,7 @@ use Rattle.cl_declaration_grammar.specs.Declarations.{Row, record_seen, host_typ
 use Rattle.cl_declaration_grammar.specs.Declarations.{planned_seen, rows, row_seen, listed_seen, declaration_seen}
 use Rattle.cl_declaration_grammar.specs.UserTypes.{user_type_seen}
 use Rattle.cl_declaration_grammar.specs.Translators.{translator_seen}
+use Rattle.cl_declaration_grammar.specs.Dialogs.{dialog_seen}
 use Rattle.cl_declaration_grammar.specs.Frames.{frame_seen}
 use Rattle.cl_declaration_grammar.specs.Texts.{text_seen}
 use Rattle.cl_declaration_grammar.proofs.Judging.{Judges, joined, then_given, ended, refused_first}
@@ -39,6 +40,7 @@ use Rattle.cl_declaration_grammar.proofs.PartsJudged.{expression_part, chosen, i
 use Rattle.cl_declaration_grammar.proofs.CommandsJudged.{command_judged, command_table_judged}
 use Rattle.cl_declaration_grammar.proofs.FramesJudged.{frame_judged}
 use Rattle.cl_declaration_grammar.proofs.TranslatorsJudged.{translator_judged}
+use Rattle.cl_declaration_grammar.proofs.DialogsJudged.{dialog_judged}
 use Rattle.cl_declaration_grammar.proofs.UserTypesJudged.{user_type_judged}
 
 module _ (w : Signatures) where
@@ -92,29 +94,29 @@ module _ (w : Signatures) where
     abbrev Answers : Option Row → OuterKind → Type 0
     Answers row kind = Judges w (row_seen row at h ds) Any (parse_kind w kind at ds s)
 
-    -- heads of declarations that are not built yet, or of none
-    planned_answers : (a b : Bool)
-        → Answers (if a then Some planned_seen else (if b then Some planned_seen else None)) (if a || b then Planned h else Unknown h)
-    planned_answers true b = refused_first w 0 h []
-    planned_answers false true = refused_first w 0 h []
-    planned_answers false false = refused_first w 5 h []
+    -- the head of a declaration that is not built yet, or of none
+    planned_answers : (b : Bool) → Answers (if b then Some planned_seen else None) (if b then Planned h else Unknown h)
+    planned_answers true = refused_first w 0 h []
+    planned_answers false = refused_first w 5 h []
 
-    declared_answers : (a b c d e f g : Bool) (row : Option Row) (kind : OuterKind) → Answers row kind
+    declared_answers : (a b c d e f i g : Bool) (row : Option Row) (kind : OuterKind) → Answers row kind
         → Answers
         (if a then Some function_seen else (if b then Some display_seen else (if c then Some (λ at h parts. command_table_seen at parts)
         else (if d then Some (λ at h parts. command_seen w at parts) else (if e then Some (λ at h parts. translator_seen w translator.Object at parts)
-        else (if f then Some (λ at h parts. translator_seen w translator.Command at parts)
-        else (if g then Some (λ at h parts. frame_seen w at parts) else row)))))))
+        else (if f then Some (λ at h parts. translator_seen w translator.Command at parts) else (if i then Some (λ at h parts. dialog_seen w at parts)
+        else (if g then Some (λ at h parts. frame_seen w at parts) else row))))))))
         (kind_or (if a then Some Function else (if b then Some Display else (if c then Some CommandTable
-        else (if d then Some Command else (if e then Some Translator else (if f then Some CommandTranslator else (if g then Some Frame else None))))))) kind)
-    declared_answers true b c d e f g row kind k = then_given w _ (function_judged at h ds)
-    declared_answers false true c d e f g row kind k = then_given w _ (display_judged at h ds)
-    declared_answers false false true d e f g row kind k = then_given w _ (command_table_judged w at ds)
-    declared_answers false false false true e f g row kind k = then_given w _ (command_judged w at ds)
-    declared_answers false false false false true f g row kind k = then_given w _ (translator_judged w translator.Object at ds)
-    declared_answers false false false false false true g row kind k = then_given w _ (translator_judged w translator.Command at ds)
-    declared_answers false false false false false false true row kind k = then_given w _ (frame_judged w at ds)
-    declared_answers false false false false false false false row kind k = k
+        else (if d then Some Command else (if e then Some Translator else (if f then Some CommandTranslator
+        else (if i then Some Dialog else (if g then Some Frame else None)))))))) kind)
+    declared_answers true b c d e f i g row kind k = then_given w _ (function_judged at h ds)
+    declared_answers false true c d e f i g row kind k = then_given w _ (display_judged at h ds)
+    declared_answers false false true d e f i g row kind k = then_given w _ (command_table_judged w at ds)
+    declared_answers false false false true e f i g row kind k = then_given w _ (command_judged w at ds)
+    declared_answers false false false false true f i g row kind k = then_given w _ (translator_judged w translator.Object at ds)
+    declared_answers false false false false false true i g row kind k = then_given w _ (translator_judged w translator.Command at ds)
+    declared_answers false false false false false false true g row kind k = then_given w _ (dialog_judged w at ds)
+    declared_answers false false false false false false false true row kind k = then_given w _ (frame_judged w at ds)
+    declared_answers false false false false false false false false row kind k = k
 
     -- heads of declarations of types and of their methods
     type_answers : (a b c d e : Bool) (row : Option Row) (declared : Option DeclarationKind) (kind : OuterKind) → Answers row (kind_or declared kind)
@@ -136,8 +138,8 @@ module _ (w : Signatures) where
         (bytes_eq x (codes "define-present-method")) (bytes_eq x (codes "define-accept-method")) _ _ _
         (declared_answers (bytes_eq x (codes "define-function")) (bytes_eq x (codes "define-display"))
         (bytes_eq x (codes "define-command-table")) (bytes_eq x (codes "define-command")) (bytes_eq x (codes "define-presentation-translator"))
-        (bytes_eq x (codes "define-presentation-to-command-translator")) (bytes_eq x (codes "define-application-frame")) _ _
-        (planned_answers (bytes_eq x (codes "define-drag-and-drop-translator")) (bytes_eq x (codes "define-dialog"))))
+        (bytes_eq x (codes "define-presentation-to-command-translator")) (bytes_eq x (codes "define-dialog"))
+        (bytes_eq x (codes "define-application-frame")) _ _ (planned_answers (bytes_eq x (codes "define-drag-and-drop-translator"))))
 
   listed_judged : (at : ℕ) (ds : List Datum) (s : Declarations) → Judges w (listed_seen w at ds) Any (parse_declaration w (outer_listed at ds) s)
   listed_judged at [] s = is_wrong w at

@@ -29,11 +29,13 @@ use Rattle.cl_declaration_grammar.specs.Declarations.{Row, record_seen, host_typ
 use Rattle.cl_declaration_grammar.specs.Declarations.{planned_seen, rows, row_seen, listed_seen, declaration_seen}
 use Rattle.cl_declaration_grammar.specs.UserTypes.{user_type_seen}
 use Rattle.cl_declaration_grammar.specs.Translators.{translator_seen}
+use Rattle.cl_declaration_grammar.specs.Dialogs.{dialog_seen}
 use Rattle.cl_declaration_grammar.specs.Texts.{text_seen}
 use Rattle.cl_declaration_grammar.proofs.PartsLie.{LieParts, parts_earlier, parts_joined, one_lies, when_lies, list_rises}
 use Rattle.cl_declaration_grammar.proofs.CommandsLie.{tables_lie, command_table_lies, command_lies}
 use Rattle.cl_declaration_grammar.proofs.UserTypesLie.{user_type_lies}
 use Rattle.cl_declaration_grammar.proofs.TranslatorsLie.{translator_lies}
+use Rattle.cl_declaration_grammar.proofs.DialogsLie.{dialog_lies}
 use Rattle.cl_declaration_grammar.proofs.KeysLie.{LieKey, LieKeys, list_earlier, sections_lie, inside}
 
 -- ---- frames
@@ -103,6 +105,10 @@ module _ (w : Signatures) where
   section_lies key.Tester at ds from to h = omega (arith, h.0.0, h.0.1)
   section_lies key.UniqueId at ds from to h = omega (arith, h.0.0, h.0.1)
   section_lies key.CacheValue at ds from to h = omega (arith, h.0.0, h.0.1)
+  section_lies key.Command at ds from to h = omega (arith, h.0.0, h.0.1)
+  section_lies key.Pane at ds from to h = omega (arith, h.0.0, h.0.1)
+  section_lies key.When at ds from to h = omega (arith, h.0.0, h.0.1)
+  section_lies key.Else at ds from to h = omega (arith, h.0.0, h.0.1)
 
   pub frame_sections_lie : (ks : List Keyed) (from to : ℕ) → LieKeys from ks to → LieParts from (sections_seen w ks) to
   frame_sections_lie [] from to h = h
@@ -186,6 +192,9 @@ module _ (w : Signatures) where
   command_translator_row_lies : LieRow (λ at h ds. translator_seen w kind.Command at ds)
   command_translator_row_lies at h ds from to a b k = translator_lies w kind.Command at ds from to a k
 
+  dialog_row_lies : LieRow (λ at h ds. dialog_seen w at ds)
+  dialog_row_lies at h ds from to a b k = dialog_lies w at ds from to a k
+
   planned_row_lies : LieRow planned_seen
   planned_row_lies at h ds from to a b k = one_lies (planned h) from to b
 
@@ -224,7 +233,7 @@ module _ (w : Signatures) where
                     display_lies,
                     (
                       command_table_row_lies,
-                      (command_row_lies, (translator_row_lies, (command_translator_row_lies, (frame_lies, (planned_row_lies, (planned_row_lies, tt)))))),
+                      (command_row_lies, (translator_row_lies, (command_translator_row_lies, (dialog_row_lies, (frame_lies, (planned_row_lies, tt)))))),
                     ),
                   ),
                 ),

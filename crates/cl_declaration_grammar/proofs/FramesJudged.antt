@@ -74,6 +74,10 @@ module _ (w : Signatures) where
   section_judged key.Tester at ds slots = ended w
   section_judged key.UniqueId at ds slots = ended w
   section_judged key.CacheValue at ds slots = ended w
+  section_judged key.Command at ds slots = ended w
+  section_judged key.Pane at ds slots = ended w
+  section_judged key.When at ds slots = ended w
+  section_judged key.Else at ds slots = ended w
 
   sections_judged : (ks : List Keyed) (slots : SlotTable) → Judges w (sections_seen w ks) Any (parse_sections w ks slots)
   sections_judged [] slots = ended w

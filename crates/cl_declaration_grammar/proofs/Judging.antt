@@ -8,7 +8,7 @@ use Rattle.cl_text_grammar.specs.FormSights.{shape_seen, act_seen}
 use Rattle.cl_text_grammar.proofs.TypePartsLie.{type_within, type_missing_within, type_number}
 use Rattle.cl_text_grammar.proofs.FormsLie.{shapes_lie, acts_lie}
 use Rattle.cl_text_grammar.proofs.FormBounds.{any_within, any_unnamed_within, any_number}
-use Rattle.cl_declaration_grammar.specs.Parts.{Part, refused, specifier, method_name, function_name, display_name, table_name, command_name}
+use Rattle.cl_declaration_grammar.specs.Parts.{Part, refused, specifier, method_name, function_name, display_name, table_name, command_name, pane_name}
 use Rattle.cl_declaration_grammar.specs.Parts.{expressions, shapes, acts, SomeOf, PartBlames, PartUnnamed}
 use Rattle.cl_declaration_grammar.proofs.PartsLie.{LiePart, LieParts, LieApart, part_rises, parts_rise, parts_split}
 
@@ -53,6 +53,7 @@ module _ (w : Signatures) where
   part_blamed_within (display_name x at) n o from to h b = absurd b
   part_blamed_within (table_name x at) n o from to h b = absurd b
   part_blamed_within (command_name x at) n o from to h b = absurd b
+  part_blamed_within (pane_name x at) n o from to h b = absurd b
   part_blamed_within (expressions qs) n o from to h b = blames_any_within b from to h
   part_blamed_within (shapes fs) n o from to h b = any_within (shape_seen w) w (shapes_lie w) b from to h
   part_blamed_within (acts fs) n o from to h b = any_within act_seen w acts_lie b from to h
@@ -65,6 +66,7 @@ module _ (w : Signatures) where
   part_missing_within (display_name x at) o from to h b = there from at to o h b.1
   part_missing_within (table_name x at) o from to h b = there from at to o h b.1
   part_missing_within (command_name x at) o from to h b = there from at to o h b.1
+  part_missing_within (pane_name x at) o from to h b = there from at to o h b.1
   part_missing_within (expressions qs) o from to h b = unnamed_any_within b from to h
   part_missing_within (shapes fs) o from to h b = any_unnamed_within (shape_seen w) w (shapes_lie w) b from to h
   part_missing_within (acts fs) o from to h b = any_unnamed_within act_seen w acts_lie b from to h
@@ -93,6 +95,7 @@ module _ (w : Signatures) where
   part_number (display_name x at) n k o from to h a b = absurd a
   part_number (table_name x at) n k o from to h a b = absurd a
   part_number (command_name x at) n k o from to h a b = absurd a
+  part_number (pane_name x at) n k o from to h a b = absurd a
   part_number (expressions qs) n k o from to h a b = any_one_number a k from to h b
   part_number (shapes fs) n k o from to h a b = any_number (shape_seen w) w (shapes_lie w) a k from to h b
   part_number (acts fs) n k o from to h a b = any_number act_seen w acts_lie a k from to h b

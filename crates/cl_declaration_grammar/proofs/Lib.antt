@@ -5,10 +5,12 @@ pub mod PartsJudged
 pub mod UserTypesLie
 pub mod CommandsLie
 pub mod TranslatorsLie
+pub mod DialogsLie
 pub mod DeclarationsLie
 pub mod UserTypesJudged
 pub mod CommandsJudged
 pub mod TranslatorsJudged
+pub mod DialogsJudged
 pub mod FramesJudged
 pub mod DeclarationsJudged
 pub mod TextVerdicts

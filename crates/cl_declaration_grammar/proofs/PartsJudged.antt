@@ -4,7 +4,7 @@ use Rattle.std.specs.Prelude.{Result, Option, Some, None, is_some}
 use Rattle.std.proofs.Math.Path.{subst}
 use Rattle.cl_forms.specs.Datum.{Datum, datums_of, in_order}
 use Rattle.cl_forms.proofs.Data.{data_in_order}
-use Rattle.cl_words.specs.Signatures.{command_in, display_in, function_in, table_in, type_in}
+use Rattle.cl_words.specs.Signatures.{command_in, display_in, function_in, pane_in, table_in, type_in}
 use Rattle.cl_words.specs.declared.signatures.Signatures.{Signatures}
 use Rattle.cl_expressions.specs.Load.{Load, Notes, Fault, refuse, noted}
 use Rattle.cl_expressions.specs.Scopes.{Names}
@@ -21,7 +21,7 @@ use Rattle.cl_text_grammar.specs.FormSights.{forms_seen}
 use Rattle.cl_text_grammar.proofs.ActsJudged.{acts_judged}
 use Rattle.cl_text_grammar.proofs.ShapesJudged.{shapes_judged}
 use Rattle.cl_text_grammar.proofs.TypesJudged.{type_judged}
-use Rattle.cl_declaration_grammar.specs.Parts.{Part, specifier, method_name, function_name, display_name, table_name, command_name, expressions, shapes}
+use Rattle.cl_declaration_grammar.specs.Parts.{Part, specifier, method_name, function_name, display_name, table_name, command_name, pane_name, expressions, shapes}
 use Rattle.cl_declaration_grammar.specs.Parts.{acts, wrong, PartBlames, PartUnnamed}
 use Rattle.cl_declaration_grammar.proofs.PartsLie.{LiePart}
 use Rattle.cl_declaration_grammar.proofs.Judging.{Judges, Blamed, Missing, refused_first}
@@ -115,6 +115,14 @@ module _ (w : Signatures) where
 
   pub command_name_judged : (x : List ℕ) (at : ℕ) → Judges w (command_name x at ∷ []) Any (noted (command_in w x) at)
   command_name_judged x at = part_judged (command_name x at) Any (noted (command_in w x) at) λ from to lie u. command_known (command_in w x) x at refl u
+
+  pane_known : (b : Bool) (x : List ℕ) (at : ℕ) → pane_in w x ≡ b → (u : Notes)
+      → Verdict {A = Unit {0}} (λ n o. PartBlames w n o (pane_name x at)) (λ o. PartUnnamed w o (pane_name x at)) Any u (noted b at u)
+  pane_known false x at e u = (tt, λ n o b. b, noted_one (λ o. PartUnnamed w o (pane_name x at)) u.unknown at (e, refl) (λ o b. b.1))
+  pane_known true x at e u = (tt, λ n o b. b, noted_none (λ o. PartUnnamed w o (pane_name x at)) u.unknown (λ o b. true_false (sym e ∙ b.0)))
+
+  pub pane_name_judged : (x : List ℕ) (at : ℕ) → Judges w (pane_name x at ∷ []) Any (noted (pane_in w x) at)
+  pane_name_judged x at = part_judged (pane_name x at) Any (noted (pane_in w x) at) λ from to lie u. pane_known (pane_in w x) x at refl u
 
   -- ---- bodies
 

@@ -5,7 +5,7 @@ use Rattle.cl_grammar.proofs.Bounds.{Within}
 use Rattle.cl_grammar.proofs.Lying.{LieSeen, LieList, own_lies, seen_rises, seen_earlier}
 use Rattle.cl_text_grammar.proofs.TypePartsLie.{LieType, type_rises, type_earlier}
 use Rattle.cl_text_grammar.proofs.FormsLie.{LieForms, forms_rise, forms_earlier}
-use Rattle.cl_declaration_grammar.specs.Parts.{Part, refused, specifier, method_name, function_name, display_name, table_name, command_name, expressions, shapes, acts}
+use Rattle.cl_declaration_grammar.specs.Parts.{Part, refused, specifier, method_name, function_name, display_name, table_name, command_name, pane_name, expressions, shapes, acts}
 
 -- the part stands from one place up to another
 abbrev pub LiePart : ℕ → Part → ℕ → Type 0
@@ -16,6 +16,7 @@ LiePart from (function_name x at) to = Within from at to
 LiePart from (display_name x at) to = Within from at to
 LiePart from (table_name x at) to = Within from at to
 LiePart from (command_name x at) to = Within from at to
+LiePart from (pane_name x at) to = Within from at to
 LiePart from (expressions qs) to = LieSeen from qs to
 LiePart from (shapes fs) to = LieForms from fs to
 LiePart from (acts fs) to = LieForms from fs to
@@ -33,6 +34,7 @@ part_rises (function_name x at) from to h = omega (arith, h.0, h.1)
 part_rises (display_name x at) from to h = omega (arith, h.0, h.1)
 part_rises (table_name x at) from to h = omega (arith, h.0, h.1)
 part_rises (command_name x at) from to h = omega (arith, h.0, h.1)
+part_rises (pane_name x at) from to h = omega (arith, h.0, h.1)
 part_rises (expressions qs) from to h = seen_rises qs from to h
 part_rises (shapes fs) from to h = forms_rise fs from to h
 part_rises (acts fs) from to h = forms_rise fs from to h
@@ -49,6 +51,7 @@ part_earlier (function_name x at) before from to e h = (omega (arith, e, h.0), h
 part_earlier (display_name x at) before from to e h = (omega (arith, e, h.0), h.1)
 part_earlier (table_name x at) before from to e h = (omega (arith, e, h.0), h.1)
 part_earlier (command_name x at) before from to e h = (omega (arith, e, h.0), h.1)
+part_earlier (pane_name x at) before from to e h = (omega (arith, e, h.0), h.1)
 part_earlier (expressions qs) before from to e h = seen_earlier qs before from to e h
 part_earlier (shapes fs) before from to e h = forms_earlier fs before from to e h
 part_earlier (acts fs) before from to e h = forms_earlier fs before from to e h

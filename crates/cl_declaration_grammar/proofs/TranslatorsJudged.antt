@@ -27,7 +27,7 @@ use Rattle.cl_declaration_grammar.proofs.Judging.{Judges, joined, then_given, en
 use Rattle.cl_declaration_grammar.proofs.PartsJudged.{expression_part, type_part, is_wrong, command_name_judged}
 
 module _ (w : Signatures) where
-  named_judged : (at : ℕ) (o : Option (List ℕ)) → Judges w (command_name_seen at o) Any (note_command w at o)
+  pub named_judged : (at : ℕ) (o : Option (List ℕ)) → Judges w (command_name_seen at o) Any (note_command w at o)
   named_judged at None = ended w
   named_judged at (Some x) = command_name_judged w x at
 
@@ -64,6 +64,10 @@ module _ (w : Signatures) where
     key_judged key.Documentation at ds t = ended w
     key_judged key.UniqueId at ds t = ended w
     key_judged key.CacheValue at ds t = ended w
+    key_judged key.Command at ds t = ended w
+    key_judged key.Pane at ds t = ended w
+    key_judged key.When at ds t = ended w
+    key_judged key.Else at ds t = ended w
 
     keys_judged : (ks : List Keyed) (t : Tester) → Judges w (translator_keys_seen xs ks) Any (parse_translator_keys w xs ks t)
     keys_judged [] t = ended w

@@ -27,7 +27,7 @@ use Rattle.cl_declaration_grammar.proofs.CommandsLie.{tables_lie}
 use Rattle.cl_declaration_grammar.proofs.KeysLie.{LieKey, LieKeys, pairs_lie, inside}
 use Rattle.cl_declaration_grammar.proofs.PartsLie.{LieParts, parts_earlier, parts_joined, one_lies, list_rises}
 
-named_lies : (at : ℕ) (o : Option (List ℕ)) (from to : ℕ) → Within from at to → LieParts from (command_name_seen at o) to
+pub named_lies : (at : ℕ) (o : Option (List ℕ)) (from to : ℕ) → Within from at to → LieParts from (command_name_seen at o) to
 named_lies at None from to h = omega (arith, h.0, h.1)
 named_lies at (Some x) from to h = one_lies (command_name x at) from to h
 
@@ -59,6 +59,10 @@ module _ (xs : Names) where
   key_lies key.Documentation at ds from to h = omega (arith, h.0.0, h.0.1)
   key_lies key.UniqueId at ds from to h = omega (arith, h.0.0, h.0.1)
   key_lies key.CacheValue at ds from to h = omega (arith, h.0.0, h.0.1)
+  key_lies key.Command at ds from to h = omega (arith, h.0.0, h.0.1)
+  key_lies key.Pane at ds from to h = omega (arith, h.0.0, h.0.1)
+  key_lies key.When at ds from to h = omega (arith, h.0.0, h.0.1)
+  key_lies key.Else at ds from to h = omega (arith, h.0.0, h.0.1)
 
   keys_lie : (ks : List Keyed) (from to : ℕ) → LieKeys from ks to → LieParts from (translator_keys_seen xs ks) to
   keys_lie [] from to h = h

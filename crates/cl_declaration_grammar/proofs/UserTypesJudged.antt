@@ -55,6 +55,10 @@ module _ (w : Signatures) where
     type_key_judged key.Tester at ds i = ended w
     type_key_judged key.UniqueId at ds i = ended w
     type_key_judged key.CacheValue at ds i = ended w
+    type_key_judged key.Command at ds i = ended w
+    type_key_judged key.Pane at ds i = ended w
+    type_key_judged key.When at ds i = ended w
+    type_key_judged key.Else at ds i = ended w
 
     type_keys_judged : (ks : List Keyed) (i : Inherited) → Judges w (type_keys_seen w ps ks) Any (parse_type_keys w ps ks i)
     type_keys_judged [] i = ended w

@@ -58,6 +58,10 @@ module _ (w : Signatures) where
     type_key_lies key.Tester at ds from to h = omega (arith, h.0.0, h.0.1)
     type_key_lies key.UniqueId at ds from to h = omega (arith, h.0.0, h.0.1)
     type_key_lies key.CacheValue at ds from to h = omega (arith, h.0.0, h.0.1)
+    type_key_lies key.Command at ds from to h = omega (arith, h.0.0, h.0.1)
+    type_key_lies key.Pane at ds from to h = omega (arith, h.0.0, h.0.1)
+    type_key_lies key.When at ds from to h = omega (arith, h.0.0, h.0.1)
+    type_key_lies key.Else at ds from to h = omega (arith, h.0.0, h.0.1)
 
     type_keys_lie : (ks : List Keyed) (from to : ℕ) → LieKeys from ks to → LieParts from (type_keys_seen w ps ks) to
     type_keys_lie [] from to h = h

@@ -14,6 +14,7 @@ use Rattle.cl_declaration_grammar.specs.Commands.{command_seen, command_table_se
 use Rattle.cl_declaration_grammar.specs.Frames.{frame_seen}
 use Rattle.cl_declaration_grammar.specs.UserTypes.{user_type_seen}
 use Rattle.cl_declaration_grammar.specs.Translators.{translator_seen}
+use Rattle.cl_declaration_grammar.specs.Dialogs.{dialog_seen}
 
 -- what is looked at of a declaration, by its offset, the offset of its head, and its parts
 abbrev pub Row : Type 0
@@ -69,9 +70,9 @@ rows w =
     ∷ (codes "define-command", λ at h parts. command_seen w at parts)
     ∷ (codes "define-presentation-translator", λ at h parts. translator_seen w Object at parts)
     ∷ (codes "define-presentation-to-command-translator", λ at h parts. translator_seen w Command at parts)
+    ∷ (codes "define-dialog", λ at h parts. dialog_seen w at parts)
     ∷ (codes "define-application-frame", λ at h parts. frame_seen w at parts)
     ∷ (codes "define-drag-and-drop-translator", planned_seen)
-    ∷ (codes "define-dialog", planned_seen)
     ∷ []
 
 -- one of the rows: no other word heads a declaration

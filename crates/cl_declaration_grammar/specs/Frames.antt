@@ -56,6 +56,10 @@ section_seen w k = elim k.key [
   | key.Tester ↦ []
   | key.UniqueId ↦ []
   | key.CacheValue ↦ []
+  | key.Command ↦ []
+  | key.Pane ↦ []
+  | key.When ↦ []
+  | key.Else ↦ []
 ]
 
 abbrev pub sections_seen : Signatures → List Keyed → List Part

@@ -3,5 +3,6 @@ pub mod Commands
 pub mod Frames
 pub mod UserTypes
 pub mod Translators
+pub mod Dialogs
 pub mod Declarations
 pub mod Texts

@@ -1,6 +1,6 @@
 -- The parts of a text that are looked at, in the order of the text: which of them is to blame, and which name is not declared.
 use Rattle.std.specs.Prelude.{◌≡◌, ◌⊎◌, ℕ, false, List, [], ◌∷◌, None}
-use Rattle.cl_words.specs.Signatures.{command_in, display_in, function_in, table_in, type_in}
+use Rattle.cl_words.specs.Signatures.{command_in, display_in, function_in, pane_in, table_in, type_in}
 use Rattle.cl_words.specs.declared.signatures.Signatures.{Signatures}
 use Rattle.cl_declare.specs.Methods.{may_have_methods}
 use Rattle.cl_grammar.specs.Sights.{Seen}
@@ -27,6 +27,8 @@ pub data Part : Type 0 where
   table_name : List ℕ → ℕ → Part
   -- the name of a command, with its offset
   command_name : List ℕ → ℕ → Part
+  -- the name of a pane, with its offset
+  pane_name : List ℕ → ℕ → Part
   -- expressions
   expressions : List Seen → Part
   -- display forms
@@ -48,6 +50,7 @@ PartBlames w n o (function_name x at) = ⊥
 PartBlames w n o (display_name x at) = ⊥
 PartBlames w n o (table_name x at) = ⊥
 PartBlames w n o (command_name x at) = ⊥
+PartBlames w n o (pane_name x at) = ⊥
 PartBlames w n o (expressions qs) = BlamesAny w qs n o
 PartBlames w n o (shapes fs) = FormBlamesAny (shape_seen w) w fs n o
 PartBlames w n o (acts fs) = FormBlamesAny act_seen w fs n o
@@ -61,6 +64,7 @@ PartUnnamed w o (function_name x at) = (function_in w x ≡ None) × (o ≡ at)
 PartUnnamed w o (display_name x at) = (display_in w x ≡ None) × (o ≡ at)
 PartUnnamed w o (table_name x at) = (table_in w x ≡ false) × (o ≡ at)
 PartUnnamed w o (command_name x at) = (command_in w x ≡ false) × (o ≡ at)
+PartUnnamed w o (pane_name x at) = (pane_in w x ≡ false) × (o ≡ at)
 PartUnnamed w o (expressions qs) = UnnamedAny w qs o
 PartUnnamed w o (shapes fs) = FormUnnamedAny (shape_seen w) w fs o
 PartUnnamed w o (acts fs) = FormUnnamedAny act_seen w fs o

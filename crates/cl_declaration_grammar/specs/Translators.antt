@@ -53,6 +53,10 @@ translator_key_seen xs k = elim k.key [
   | key.Documentation ↦ []
   | key.UniqueId ↦ []
   | key.CacheValue ↦ []
+  | key.Command ↦ []
+  | key.Pane ↦ []
+  | key.When ↦ []
+  | key.Else ↦ []
 ]
 
 abbrev pub translator_keys_seen : Names → List Keyed → List Part

@@ -47,6 +47,10 @@ type_key_seen w ps k = elim k.key [
   | key.Tester ↦ []
   | key.UniqueId ↦ []
   | key.CacheValue ↦ []
+  | key.Command ↦ []
+  | key.Pane ↦ []
+  | key.When ↦ []
+  | key.Else ↦ []
 ]
 
 abbrev pub type_keys_seen : Signatures → Names → List Keyed → List Part
