@@ -3,6 +3,12 @@
 
 mod caches;
 mod copies;
+mod dialog_forms;
+mod displays;
+mod lines;
 mod names;
+mod places;
 
+pub use dialog_forms::argument_of;
+pub use displays::with_dialog_displays;
 pub use names::{form_name, set_name};
