@@ -8,10 +8,9 @@ use Rattle.cl_syntax.specs.ActTree as act
 use Rattle.cl_table.specs.Names.{named}
 use Rattle.cl_forms.specs.Datum.{Datum, Datums, in_order, offset, parts_of}
 use Rattle.cl_forms.specs.Naming.{name_in, symbol_of}
-use Rattle.cl_words.specs.Signatures.{slot_in, command_in}
+use Rattle.cl_words.specs.Signatures.{slot_in}
 use Rattle.cl_words.specs.declared.heads.Head.{Head}
 use Rattle.cl_words.specs.declared.heads.Head.TheVariants as head
-use Rattle.cl_words.specs.declared.heads.Planned.TheVariants as planned
 use Rattle.cl_words.specs.declared.heads.Change.{Change}
 use Rattle.cl_words.specs.declared.heads.Change.TheVariants as change
 use Rattle.cl_words.specs.declared.signatures.Signatures.{Signatures}
@@ -25,13 +24,15 @@ use Rattle.cl_grammar.specs.Sights.{expression, slot_name}
 use Rattle.cl_grammar.proofs.Judging.{Any, Judges, then_part, then_given, slot_judged}
 use Rattle.cl_grammar.proofs.Rows.{JudgedPart, JudgedParts}
 use Rattle.cl_grammar.proofs.Written.{shapes}
-use Rattle.cl_text_grammar.specs.FormSights.{expressions, command_name, FormSight, Misshapen, Sees, forms_seen, place_seen, act_rows, act_row_seen, act_seen}
+use Rattle.cl_text_grammar.specs.FormSights.{NameSpace, commands, dialogs, expressions, name_among, FormSight, Misshapen, Sees, forms_seen, place_seen}
+use Rattle.cl_text_grammar.specs.FormSights.{act_rows, act_row_seen, act_seen}
+use Rattle.cl_text_grammar.specs.FormUnnamed.{is_declared}
 use Rattle.cl_text_grammar.proofs.FormsLie.{acts_lie}
 use Rattle.cl_text_grammar.proofs.FormStands.{change_seen, act_under, act_stands, act_called}
 use Rattle.cl_text_grammar.proofs.FormJudging.{FormJudged, FormJudges, Answers}
-use Rattle.cl_text_grammar.proofs.CommandJudging.{command_judged}
-use Rattle.cl_text_grammar.proofs.CommandJudging as commands
-use Rattle.cl_text_grammar.proofs.FormsJudged.{RestIs, in_front, command_in_front, OwnAnswers, IsOwn, SightRules, form_judged, data_judged}
+use Rattle.cl_text_grammar.proofs.NameJudging.{name_judged}
+use Rattle.cl_text_grammar.proofs.NameJudging as names
+use Rattle.cl_text_grammar.proofs.FormsJudged.{RestIs, in_front, name_in_front, OwnAnswers, IsOwn, SightRules, form_judged, data_judged}
 
 module _ (w : Signatures) where
   -- what is read of a statement's own answers to what it sees
@@ -68,15 +69,16 @@ module _ (w : Signatures) where
   place_row (s ∷ []) e es at env k = λ u. refl
   place_row (s ∷ n ∷ d ∷ ds) e es at env k = λ u. refl
 
-  switch_row : (o : Option (List ℕ)) (n : Datum) (on : Bool) (es : List Datum) (at : ℕ) (env : Names)
-      → OwnTells env es at (elim o [ None ↦ Misshapen | Some x ↦ Sees (command_name x (offset n) ∷ []) ])
-      (((elim o [ None ↦ refuse 6 at | Some x ↦ give x ] >>= λ x. noted (command_in w x) (offset n) >>= λ u. give x) >>= λ x. give (act.Switch x on))
+  -- a statement of a name alone
+  name_row : (k : NameSpace) (o : Option (List ℕ)) (n : Datum) (f : List ℕ → ActTree) (es : List Datum) (at : ℕ) (env : Names)
+      → OwnTells env es at (elim o [ None ↦ Misshapen | Some x ↦ Sees (name_among k x (offset n) ∷ []) ])
+      (((elim o [ None ↦ refuse 6 at | Some x ↦ give x ] >>= λ x. noted (is_declared w k x) (offset n) >>= λ u. give x) >>= λ x. give (f x))
       >>= λ s. give (Whole s))
-  switch_row None n on es at env = λ u. refl
-  switch_row (Some x) n on es at env =
-      command_in_front (record {
-        judged = (commands.then_given w x (offset n) Any (RestIs {F = ActTree} {O = Unit {0}} {C = Unit {0}} env es []) (λ u. Whole (act.Switch x on))
-            (command_judged w x (offset n)) λ u i. refl).judged;
+  name_row k None n f es at env = λ u. refl
+  name_row k (Some x) n f es at env =
+      name_in_front (record {
+        judged = (names.then_given w k x (offset n) Any (RestIs {F = ActTree} {O = Unit {0}} {C = Unit {0}} env es []) (λ u. Whole (f x))
+            (name_judged w k x (offset n)) λ u i. refl).judged;
       })
 
   change_row : (c : Change) (h at : ℕ) (ps : List Sub) (env : Names) → JudgedParts w ps
@@ -89,19 +91,20 @@ module _ (w : Signatures) where
       in_front (then_given (λ s. Whole s) (then_given {Q = Any} (λ t. act.Reply t) (k.0.expr env) λ t i. tt) λ s i. refl)
   change_row change.Reply h at [] env k = λ u. refl
   change_row change.Reply h at (a ∷ b ∷ ps) env k = λ u. refl
-  change_row change.Enable h at (n ∷ []) env k = switch_row (name_in n.shape) n.shape true (n.shape ∷ []) at env
+  change_row change.Enable h at (n ∷ []) env k = name_row commands (name_in n.shape) n.shape (λ x. act.Switch x true) (n.shape ∷ []) at env
   change_row change.Enable h at [] env k = λ u. refl
   change_row change.Enable h at (n ∷ b ∷ ps) env k = λ u. refl
-  change_row change.Disable h at (n ∷ []) env k = switch_row (name_in n.shape) n.shape false (n.shape ∷ []) at env
+  change_row change.Disable h at (n ∷ []) env k = name_row commands (name_in n.shape) n.shape (λ x. act.Switch x false) (n.shape ∷ []) at env
   change_row change.Disable h at [] env k = λ u. refl
   change_row change.Disable h at (n ∷ b ∷ ps) env k = λ u. refl
+  change_row change.OpenDialog h at (n ∷ []) env k = name_row dialogs (name_in n.shape) n.shape (λ x. act.OpenDialog x) (n.shape ∷ []) at env
+  change_row change.OpenDialog h at [] env k = λ u. refl
+  change_row change.OpenDialog h at (n ∷ b ∷ ps) env k = λ u. refl
 
   own_row : (c : Unit {0}) (j : Head) → IsOwn j → (h at : ℕ) (ps : List Sub) (env : Names) → JudgedParts w ps
       → OwnTells env (shapes ps) at (act_under j h env (shapes ps)) (parse_own w j h at ps env)
   own_row c (head.Change o) i h at ps env k = change_row o h at ps env k
-  own_row c (head.Planned planned.Statement) i h at ps env k = λ u. refl
-  own_row c (head.Planned planned.Display) i h at ps env k = λ u. refl
-  own_row c (head.Planned planned.Part) i h at ps env k = λ u. refl
+  own_row c (head.Planned p) i h at ps env k = λ u. refl
   own_row c (head.Special s) i h at ps env k = λ u. refl
   own_row c (head.Operator o) i h at ps env k = λ u. refl
   own_row c (head.Figure f) i h at ps env k = λ u. refl

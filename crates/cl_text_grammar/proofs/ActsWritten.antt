@@ -10,10 +10,9 @@ use Rattle.cl_syntax.specs.ActTree as act
 use Rattle.cl_syntax.specs.declared.expressions.Binding.{Binding}
 use Rattle.cl_forms.specs.Datum.{Datum, Datums, number, literal, word, quoted, stray, list, none, item, in_order, parts_of, offset}
 use Rattle.cl_forms.specs.Naming.{name_in}
-use Rattle.cl_words.specs.Signatures.{slot_in, command_in}
+use Rattle.cl_words.specs.Signatures.{slot_in, command_in, dialog_in}
 use Rattle.cl_words.specs.declared.heads.Head.{Head}
 use Rattle.cl_words.specs.declared.heads.Head.TheVariants as head
-use Rattle.cl_words.specs.declared.heads.Planned.TheVariants as planned
 use Rattle.cl_words.specs.declared.heads.Change.{Change}
 use Rattle.cl_words.specs.declared.heads.Change.TheVariants as change
 use Rattle.cl_words.specs.declared.signatures.Signatures.{Signatures}
@@ -21,14 +20,15 @@ use Rattle.cl_expressions.specs.Load.{Load, Notes}
 use Rattle.cl_expressions.specs.Scopes.{Names}
 use Rattle.cl_expressions.specs.Expressions.{Sub}
 use Rattle.cl_bodies.specs.declared.own.Own.{Own}
-use Rattle.cl_bodies.specs.Statements.{parse_place, parse_setf, parse_reply, parse_switch, parse_change, parse_own, statements, parse_act, parse_acts}
+use Rattle.cl_bodies.specs.Statements.{parse_place, parse_setf, parse_reply, parse_switch, parse_open_dialog, parse_change, parse_own, statements}
+use Rattle.cl_bodies.specs.Statements.{parse_act, parse_acts}
 use Rattle.cl_grammar.specs.Heads.{CallsNames}
 use Rattle.cl_grammar.specs.Writes.{Writes}
 use Rattle.cl_grammar.proofs.Endings.{Ends, gives, refuses, chooses, notes_then, binds, asks_name}
 use Rattle.cl_grammar.proofs.Spelled.{same_word}
 use Rattle.cl_grammar.proofs.Written.{shapes, WrittenParts}
-use Rattle.cl_text_grammar.specs.WritesActs.{WritesAct, WritesActForm, WritesActs, a_form, a_setf, a_reply, an_enable, a_disable, an_if, a_when, a_let}
-use Rattle.cl_text_grammar.specs.WritesActs.{a_dolist, a_progn, no_more, one_more}
+use Rattle.cl_text_grammar.specs.WritesActs.{WritesAct, WritesActForm, WritesActs, a_form, a_setf, a_reply, an_enable, a_disable, an_open_dialog}
+use Rattle.cl_text_grammar.specs.WritesActs.{an_if, a_when, a_let, a_dolist, a_progn, no_more, one_more}
 use Rattle.cl_text_grammar.proofs.FormWords.{change_word, Spells}
 use Rattle.cl_text_grammar.proofs.Bindings.{WritesBinding, a_binding}
 use Rattle.cl_text_grammar.proofs.FormsWritten.{OwnWrites, Rules, form_ends, body_ends}
@@ -101,12 +101,20 @@ switch_ends w on h at (a ∷ []) =
 switch_ends w on h at [] = refuses
 switch_ends w on h at (a ∷ b ∷ ps) = refuses
 
+open_dialog_ends : (w : Signatures) (h at : ℕ) (ps : List Sub) → Ends (RowEnds (codes "open-dialog") h ps) (parse_open_dialog w at ps)
+open_dialog_ends w h at (a ∷ []) =
+    binds {P = λ x. name_in a.shape ≡ Some x} (asks_name at a.shape λ x i. notes_then (dialog_in w x) (offset a.shape) (gives i)) λ x i.
+    gives (an_open_dialog i)
+open_dialog_ends w h at [] = refuses
+open_dialog_ends w h at (a ∷ b ∷ ps) = refuses
+
 change_ends : (w : Signatures) (c : Change) (h at : ℕ) (ps : List Sub) (env : Names) → WrittenParts ps
     → Ends (RowEnds (change_word c) h ps) (parse_change w c at ps env)
 change_ends w change.Setf h at ps env k = setf_ends w h at ps env k
 change_ends w change.Reply h at ps env k = reply_ends h at ps env k
 change_ends w change.Enable h at ps env k = switch_ends w true h at ps
 change_ends w change.Disable h at ps env k = switch_ends w false h at ps
+change_ends w change.OpenDialog h at ps env k = open_dialog_ends w h at ps
 
 spelled_so : (y x : List ℕ) (h : ℕ) (ps : List Sub) (m : Load (Own ActTree (Unit {0}) (Unit {0}))) → x ≡ y → Ends (OwnEnds y h ps) m
     → Ends (OwnEnds x h ps) m
@@ -116,9 +124,7 @@ own_ends : (w : Signatures) (o : Head) (x : List ℕ) (h at : ℕ) (ps : List Su
     → Ends (OwnEnds x h ps) (parse_own w o h at ps env)
 own_ends w (head.Change c) x h at ps env e k =
     spelled_so (change_word c) x h ps (parse_own w (head.Change c) h at ps env) e (binds (change_ends w c h at ps env k) λ s i. gives i)
-own_ends w (head.Planned planned.Statement) x h at ps env e k = refuses
-own_ends w (head.Planned planned.Display) x h at ps env e k = refuses
-own_ends w (head.Planned planned.Part) x h at ps env e k = refuses
+own_ends w (head.Planned p) x h at ps env e k = refuses
 own_ends w head.If x h at ps env e k = refuses
 own_ends w head.Let x h at ps env e k = refuses
 own_ends w (head.Control o) x h at ps env e k = refuses

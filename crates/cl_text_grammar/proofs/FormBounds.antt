@@ -2,7 +2,6 @@
 use Rattle.std.proofs.Common.{◌≡◌, ℕ, ◌+◌, ◌⊎◌, inl, inr, false, List, [], ◌∷◌, refl, sym, arith}
 use Rattle.std.proofs.Math.Path.{subst}
 use Rattle.cl_forms.specs.Datum.{Datum, Datums, list, in_order, offset}
-use Rattle.cl_words.specs.Signatures.{command_in}
 use Rattle.cl_words.specs.declared.signatures.Signatures.{Signatures}
 use Rattle.cl_expressions.specs.Scopes.{Names}
 use Rattle.cl_declare.specs.Names.{is_list}
@@ -14,10 +13,10 @@ use Rattle.cl_grammar.proofs.Bounds.{Within, blames_any_within, unnamed_any_with
 use Rattle.cl_grammar.proofs.Lying.{list_lies, own_lies, datum_rises, seen_rises}
 use Rattle.cl_grammar.proofs.Spelled.{false_true}
 use Rattle.cl_text_grammar.specs.Types.{TypePart, TypeBlames, TypeUnnamed}
-use Rattle.cl_text_grammar.specs.FormSights.{FormSeen, expressions, specifier, command_name, form, FormSight, Misshapen, UnknownHead, PlannedHead, Sees}
+use Rattle.cl_text_grammar.specs.FormSights.{NameSpace, FormSeen, expressions, specifier, name_among, form, FormSight, Misshapen, UnknownHead, PlannedHead, Sees}
 use Rattle.cl_text_grammar.specs.FormBlames.{FormBlames, FormBlamesAny, an_atom, a_misshapen_form, an_unknown_head, a_planned_head, in_a_part}
 use Rattle.cl_text_grammar.specs.FormBlames.{in_expressions, in_a_type, in_the_form, in_a_later}
-use Rattle.cl_text_grammar.specs.FormUnnamed.{FormUnnamed, FormUnnamedAny}
+use Rattle.cl_text_grammar.specs.FormUnnamed.{is_declared, FormUnnamed, FormUnnamedAny}
 use Rattle.cl_text_grammar.specs.FormUnnamed as unnamed
 use Rattle.cl_text_grammar.proofs.TypePartsLie.{type_rises, type_within, type_missing_within, type_number}
 use Rattle.cl_text_grammar.proofs.FormsLie.{LieForms, LieFormSight, forms_rise, LieSights}
@@ -51,14 +50,14 @@ module _ (seen : Names → List Datum → FormSight) (w : Signatures) where
   type_unnamed ts ps o (unnamed.in_a_type b) = inl b
   type_unnamed ts ps o (unnamed.in_a_later b) = inr b
 
-  pub command_blamed : (x : List ℕ) (at : ℕ) (ps : List FormSeen) (n o : ℕ) → FormBlamesAny seen w (command_name x at ∷ ps) n o
+  pub name_blamed : (k : NameSpace) (x : List ℕ) (at : ℕ) (ps : List FormSeen) (n o : ℕ) → FormBlamesAny seen w (name_among k x at ∷ ps) n o
       → ⊥ ⊎ FormBlamesAny seen w ps n o
-  command_blamed x at ps n o (in_a_later b) = inr b
+  name_blamed k x at ps n o (in_a_later b) = inr b
 
-  pub command_unnamed : (x : List ℕ) (at : ℕ) (ps : List FormSeen) (o : ℕ) → FormUnnamedAny seen w (command_name x at ∷ ps) o
-      → ((command_in w x ≡ false) × (o ≡ at)) ⊎ FormUnnamedAny seen w ps o
-  command_unnamed x at ps o (unnamed.a_command e) = inl (e, refl)
-  command_unnamed x at ps o (unnamed.in_a_later b) = inr b
+  pub name_unnamed : (k : NameSpace) (x : List ℕ) (at : ℕ) (ps : List FormSeen) (o : ℕ) → FormUnnamedAny seen w (name_among k x at ∷ ps) o
+      → ((is_declared w k x ≡ false) × (o ≡ at)) ⊎ FormUnnamedAny seen w ps o
+  name_unnamed k x at ps o (unnamed.a_name e) = inl (e, refl)
+  name_unnamed k x at ps o (unnamed.in_a_later b) = inr b
 
   pub first_form_blamed : (env : Names) (d : Datum) (ps : List FormSeen) (n o : ℕ) → FormBlamesAny seen w (form env d ∷ ps) n o
       → FormBlames seen w env d n o ⊎ FormBlamesAny seen w ps n o
@@ -134,7 +133,7 @@ module _ (seen : Names → List Datum → FormSight) (w : Signatures) (lies : Li
         let place : Within h.0 o to = any_within b h.0 to h.2 in (omega (arith, place.0, seen_rises qs from h.0 h.1), place.1)
     any_within (in_a_later {p = specifier ts} {ps} {number = n} {offset = o} b) from to h =
         let place : Within h.0 o to = any_within b h.0 to h.2 in (omega (arith, place.0, type_rises ts from h.0 h.1), place.1)
-    any_within (in_a_later {p = command_name x at} {ps} {number = n} {offset = o} b) from to h =
+    any_within (in_a_later {p = name_among k x at} {ps} {number = n} {offset = o} b) from to h =
         let place : Within (at + 1) o to = any_within b (at + 1) to h.1 in (omega (arith, place.0, h.0), place.1)
     any_within (in_a_later {p = form env d} {ps} {number = n} {offset = o} b) from to h =
         let place : Within h.0 o to = any_within b h.0 to h.2 in (omega (arith, place.0, datum_rises d from h.0 h.1), place.1)
@@ -150,14 +149,14 @@ module _ (seen : Names → List Datum → FormSight) (w : Signatures) (lies : Li
         let place : Within from o h.0 = unnamed_any_within b from h.0 h.1 in (place.0, omega (arith, place.1, forms_rise ps h.0 to h.2))
     any_unnamed_within (unnamed.in_a_type {ts} {ps} {offset = o} b) from to h =
         let place : Within from o h.0 = type_missing_within w ts o from h.0 h.1 b in (place.0, omega (arith, place.1, forms_rise ps h.0 to h.2))
-    any_unnamed_within (unnamed.a_command {x} {at} {ps} e) from to h = (h.0, omega (arith, forms_rise ps (at + 1) to h.1))
+    any_unnamed_within (unnamed.a_name {k} {x} {at} {ps} e) from to h = (h.0, omega (arith, forms_rise ps (at + 1) to h.1))
     any_unnamed_within (unnamed.in_the_form {env} {d} {ps} {offset = o} b) from to h =
         let place : Within from o h.0 = form_unnamed_within b from h.0 h.1 in (place.0, omega (arith, place.1, forms_rise ps h.0 to h.2))
     any_unnamed_within (unnamed.in_a_later {p = expressions qs} {ps} {offset = o} b) from to h =
         let place : Within h.0 o to = any_unnamed_within b h.0 to h.2 in (omega (arith, place.0, seen_rises qs from h.0 h.1), place.1)
     any_unnamed_within (unnamed.in_a_later {p = specifier ts} {ps} {offset = o} b) from to h =
         let place : Within h.0 o to = any_unnamed_within b h.0 to h.2 in (omega (arith, place.0, type_rises ts from h.0 h.1), place.1)
-    any_unnamed_within (unnamed.in_a_later {p = command_name x at} {ps} {offset = o} b) from to h =
+    any_unnamed_within (unnamed.in_a_later {p = name_among k x at} {ps} {offset = o} b) from to h =
         let place : Within (at + 1) o to = any_unnamed_within b (at + 1) to h.1 in (omega (arith, place.0, h.0), place.1)
     any_unnamed_within (unnamed.in_a_later {p = form env d} {ps} {offset = o} b) from to h =
         let place : Within h.0 o to = any_unnamed_within b h.0 to h.2 in (omega (arith, place.0, datum_rises d from h.0 h.1), place.1)
@@ -201,7 +200,7 @@ module _ (seen : Names → List Datum → FormSight) (w : Signatures) (lies : Li
         let right : Within h.0 o to = any_within a h.0 to h.2 in
         absurd (omega (arith, left.1, right.0))
     any_number (in_a_later {p = specifier ts} a) m from to h (in_a_later b) = any_number a m h.0 to h.2 b
-    any_number (in_a_later {p = command_name x at} a) m from to h (in_a_later b) = any_number a m (at + 1) to h.1 b
+    any_number (in_a_later {p = name_among k x at} a) m from to h (in_a_later b) = any_number a m (at + 1) to h.1 b
     any_number (in_a_later {p = form env d} {ps} {number = n} {offset = o} a) m from to h (in_the_form b) =
         let left : Within from o h.0 = form_within b from h.0 h.1 in
         let right : Within h.0 o to = any_within a h.0 to h.2 in

@@ -16,17 +16,17 @@ use Rattle.cl_grammar.proofs.Bounds.{Within, before_within, blames_any_within, u
 use Rattle.cl_grammar.proofs.Judging.{Any, Judges, Joins, Verdict, both_judged, given_judged, verdict_same, noted_none}
 use Rattle.cl_grammar.proofs.Lying.{LieSeen, list_lies}
 use Rattle.cl_text_grammar.specs.Types.{TypePart, TypeBlames, TypeUnnamed}
-use Rattle.cl_text_grammar.specs.FormSights.{FormSeen, expressions, specifier, command_name, form, FormSight, Misshapen, UnknownHead, PlannedHead, Sees}
+use Rattle.cl_text_grammar.specs.FormSights.{NameSpace, FormSeen, expressions, specifier, name_among, form, FormSight, Misshapen, UnknownHead, PlannedHead, Sees}
 use Rattle.cl_text_grammar.specs.FormBlames.{FormBlames, FormBlamesAny, an_atom, a_misshapen_form, an_unknown_head, a_planned_head, in_a_part}
 use Rattle.cl_text_grammar.specs.FormBlames.{in_expressions, in_a_type, in_the_form, in_a_later}
 use Rattle.cl_text_grammar.specs.FormUnnamed.{FormUnnamed, FormUnnamedAny}
 use Rattle.cl_text_grammar.specs.FormUnnamed as unnamed
 use Rattle.cl_text_grammar.proofs.TypePartsLie.{LieType, type_within, type_missing_within}
 use Rattle.cl_text_grammar.proofs.TypeJudging.{TypeJudges}
-use Rattle.cl_text_grammar.proofs.CommandJudging.{NoneBlamed, CommandUnnamed, CommandJudges}
+use Rattle.cl_text_grammar.proofs.NameJudging.{NoneBlamed, NameUnnamed, NameJudges}
 use Rattle.cl_text_grammar.proofs.FormsLie.{LieForms, LieFormSight, LieSights}
-use Rattle.cl_text_grammar.proofs.FormBounds.{none_blamed, none_unnamed, expressions_blamed, expressions_unnamed, type_blamed, type_unnamed, command_blamed}
-use Rattle.cl_text_grammar.proofs.FormBounds.{command_unnamed, first_form_blamed, first_form_unnamed, atom_blamed, SightBlames, form_blamed, SightUnnamed, form_unnamed, form_within}
+use Rattle.cl_text_grammar.proofs.FormBounds.{none_blamed, none_unnamed, expressions_blamed, expressions_unnamed, type_blamed, type_unnamed, name_blamed}
+use Rattle.cl_text_grammar.proofs.FormBounds.{name_unnamed, first_form_blamed, first_form_unnamed, atom_blamed, SightBlames, form_blamed, SightUnnamed, form_unnamed, form_within}
 use Rattle.cl_text_grammar.proofs.FormBounds.{any_within, form_unnamed_within, any_unnamed_within}
 
 module _ (seen : Names → List Datum → FormSight) (w : Signatures) (lies : LieSights seen) where
@@ -68,17 +68,17 @@ module _ (seen : Names → List Datum → FormSight) (w : Signatures) (lies : Li
     unnamed_rise = λ o p a b. before_within from middle to (type_missing_within w ts o from middle l a) (any_unnamed_within seen w lies b middle to r);
   }
 
-  command_join : (x : List ℕ) (at : ℕ) (ps : List FormSeen) (from to : ℕ) → LieForms from (command_name x at ∷ ps) to
-      → Joins NoneBlamed (FormBlamesAny seen w ps) (FormBlamesAny seen w (command_name x at ∷ ps)) (CommandUnnamed w x at) (FormUnnamedAny seen w ps)
-      (FormUnnamedAny seen w (command_name x at ∷ ps))
-  command_join x at ps from to l = record {
+  name_join : (k : NameSpace) (x : List ℕ) (at : ℕ) (ps : List FormSeen) (from to : ℕ) → LieForms from (name_among k x at ∷ ps) to
+      → Joins NoneBlamed (FormBlamesAny seen w ps) (FormBlamesAny seen w (name_among k x at ∷ ps)) (NameUnnamed w k x at) (FormUnnamedAny seen w ps)
+      (FormUnnamedAny seen w (name_among k x at ∷ ps))
+  name_join k x at ps from to l = record {
     blames_first = λ n o b. absurd b;
     blames_second = λ n o b. in_a_later b;
-    blames_either = command_blamed seen w x at ps;
+    blames_either = name_blamed seen w k x at ps;
     blames_rise = λ n o m p a b. absurd a;
-    unnamed_first = λ o b. subst (FormUnnamedAny seen w (command_name x at ∷ ps)) (sym b.1) (unnamed.a_command b.0);
+    unnamed_first = λ o b. subst (FormUnnamedAny seen w (name_among k x at ∷ ps)) (sym b.1) (unnamed.a_name b.0);
     unnamed_second = λ o b. unnamed.in_a_later b;
-    unnamed_either = command_unnamed seen w x at ps;
+    unnamed_either = name_unnamed seen w k x at ps;
     unnamed_rise = λ o p a b.
         let later : Within (at + 1) p to = any_unnamed_within seen w lies b (at + 1) to l.1 in omega (arith, a.1, later.0);
   }
@@ -116,12 +116,12 @@ module _ (seen : Names → List Datum → FormSight) (w : Signatures) (lies : Li
         (h.judged from lie.0 lie.1 u);
   }
 
-  -- the name of a command, and then the other parts
-  pub then_command : {A E : Type 0} (P : A → Type 0) (Q : E → Type 0) (x : List ℕ) (at : ℕ) (ps : List FormSeen) (m : Load A) (f : A → Load E)
-      → CommandJudges w x at P m → ((y : A) → P y → FormJudges ps Q (f y)) → FormJudges (command_name x at ∷ ps) Q (m >>= f)
-  then_command P Q x at ps m f h g = record {
+  -- the name of a command or of a dialog, and then the other parts
+  pub then_name : {A E : Type 0} (P : A → Type 0) (Q : E → Type 0) (k : NameSpace) (x : List ℕ) (at : ℕ) (ps : List FormSeen) (m : Load A) (f : A → Load E)
+      → NameJudges w k x at P m → ((y : A) → P y → FormJudges ps Q (f y)) → FormJudges (name_among k x at ∷ ps) Q (m >>= f)
+  then_name P Q k x at ps m f h g = record {
     judged = λ from to lie u.
-        both_judged (command_join x at ps from to lie) P Q f (λ y i v. (g y i).judged (at + 1) to lie.1 v) u (m u) (h.judged u);
+        both_judged (name_join k x at ps from to lie) P Q f (λ y i v. (g y i).judged (at + 1) to lie.1 v) u (m u) (h.judged u);
   }
 
   -- a form, and then the other parts

@@ -32,7 +32,7 @@ use Rattle.cl_expressions.specs.Scopes.{Names}
 use Rattle.cl_grammar.proofs.Spelled.{missed, not_fixed, Finds, nothing, word_is, of_some, first, last_found}
 use Rattle.cl_text_grammar.specs.FormSights.{Row, UnknownHead, if_seen, when_seen, let_seen, dolist_seen, progn_seen, planned_seen, write_seen}
 use Rattle.cl_text_grammar.specs.FormSights.{newline_seen, drawn_seen, indent_seen, ink_seen, room_seen, present_seen, presentation_seen, update_seen}
-use Rattle.cl_text_grammar.specs.FormSights.{call_seen, shape_rows, shape_row_seen, setf_seen, reply_seen, switch_seen, act_rows, act_row_seen}
+use Rattle.cl_text_grammar.specs.FormSights.{call_seen, shape_rows, shape_row_seen, setf_seen, reply_seen, switch_seen, dialog_seen, act_rows, act_row_seen}
 
 abbrev pub control_seen : Control → Row
 control_seen control.When = when_seen
@@ -56,6 +56,7 @@ change_seen change.Setf = setf_seen
 change_seen change.Reply = reply_seen
 change_seen change.Enable = switch_seen
 change_seen change.Disable = switch_seen
+change_seen change.OpenDialog = dialog_seen
 
 -- a word that heads no form of the language
 abbrev pub unknown_seen : Row
@@ -63,13 +64,7 @@ unknown_seen h env ds = UnknownHead h
 
 abbrev planned_shape : Planned → Row
 planned_shape planned.Display = planned_seen
-planned_shape planned.Statement = unknown_seen
 planned_shape planned.Part = unknown_seen
-
-abbrev planned_act : Planned → Row
-planned_act planned.Statement = planned_seen
-planned_act planned.Display = unknown_seen
-planned_act planned.Part = unknown_seen
 
 -- what a display form with this head sees
 abbrev pub shape_under : Signatures → Head → Row
@@ -95,7 +90,7 @@ act_under (head.Figure f) = unknown_seen
 act_under (head.Setting s) = unknown_seen
 act_under (head.Writing v) = unknown_seen
 act_under (head.Change c) = change_seen c
-act_under (head.Planned p) = planned_act p
+act_under (head.Planned p) = unknown_seen
 
 -- the word is that of the head, in both languages
 record Stands (w : Signatures) (x : List ℕ) (k : Head) : Type 0 where
@@ -202,7 +197,8 @@ module _ (w : Signatures) (x : List ℕ) where
       word_is change.Setf x (codes "setf") (λ e. stands (head.Change change.Setf) e (λ h env ds. refl) (λ h env ds. refl)) (
       word_is change.Reply x (codes "reply") (λ e. stands (head.Change change.Reply) e (λ h env ds. refl) (λ h env ds. refl)) (
       word_is change.Enable x (codes "enable") (λ e. stands (head.Change change.Enable) e (λ h env ds. refl) (λ h env ds. refl)) (
-      word_is change.Disable x (codes "disable") (λ e. stands (head.Change change.Disable) e (λ h env ds. refl) (λ h env ds. refl)) nothing)))
+      word_is change.Disable x (codes "disable") (λ e. stands (head.Change change.Disable) e (λ h env ds. refl) (λ h env ds. refl)) (
+      word_is change.OpenDialog x (codes "open-dialog") (λ e. stands (head.Change change.OpenDialog) e (λ h env ds. refl) (λ h env ds. refl)) nothing))))
 
   planned_displays : Finds (λ a. Stands w x (head.Planned a)) (planned_display x)
   planned_displays =
@@ -210,9 +206,8 @@ module _ (w : Signatures) (x : List ℕ) where
 
   planned_others : Finds (λ a. Stands w x (head.Planned a)) (planned_other x)
   planned_others =
-      word_is planned.Statement x (codes "open-dialog") (λ e. stands (head.Planned planned.Statement) e (λ h env ds. refl) (λ h env ds. refl)) (
       word_is planned.Part x (codes "formatting-row") (λ e. stands (head.Planned planned.Part) e (λ h env ds. refl) (λ h env ds. refl)) (
-      word_is planned.Part x (codes "formatting-cell") (λ e. stands (head.Planned planned.Part) e (λ h env ds. refl) (λ h env ds. refl)) nothing))
+      word_is planned.Part x (codes "formatting-cell") (λ e. stands (head.Planned planned.Part) e (λ h env ds. refl) (λ h env ds. refl)) nothing)
 
   operators_found : Finds (λ o. Stands w x (head.Operator o)) (operator_named x)
   operators_found =

@@ -42,6 +42,7 @@ change_word change.Setf = codes "setf"
 change_word change.Reply = codes "reply"
 change_word change.Enable = codes "enable"
 change_word change.Disable = codes "disable"
+change_word change.OpenDialog = codes "open-dialog"
 
 -- the word spells the head of a display form or a statement
 abbrev pub Spells : List ℕ → Head → Type 0
@@ -100,7 +101,8 @@ module _ (x : List ℕ) where
   changes : Finds (λ c. Spells x (head.Change c)) (change_named x)
   changes =
       word_is change.Setf x (codes "setf") (λ e. e) (word_is change.Reply x (codes "reply") (λ e. e)
-      (word_is change.Enable x (codes "enable") (λ e. e) (word_is change.Disable x (codes "disable") (λ e. e) nothing)))
+      (word_is change.Enable x (codes "enable") (λ e. e) (word_is change.Disable x (codes "disable") (λ e. e)
+      (word_is change.OpenDialog x (codes "open-dialog") (λ e. e) nothing))))
 
   form_words : Finds (Spells x) (form_head x)
   form_words =

@@ -23,14 +23,14 @@ use Rattle.cl_grammar.proofs.Judging.{Any, Judges}
 use Rattle.cl_grammar.proofs.Rows.{JudgedPart, JudgedParts}
 use Rattle.cl_grammar.proofs.Written.{shapes}
 use Rattle.cl_text_grammar.specs.Types.{TypePart}
-use Rattle.cl_text_grammar.specs.FormSights.{FormSeen, expressions, specifier, command_name, FormSight, Misshapen, UnknownHead, PlannedHead, Sees, Row, forms_seen}
+use Rattle.cl_text_grammar.specs.FormSights.{NameSpace, FormSeen, expressions, specifier, name_among, FormSight, Misshapen, UnknownHead, PlannedHead, Sees, Row, forms_seen}
 use Rattle.cl_text_grammar.specs.FormSights.{if_seen, when_seen, let_seen, dolist_seen, headed_seen}
 use Rattle.cl_text_grammar.proofs.FormParts.{EachPart, stand, parts_behind, stand_behind, stand_all}
 use Rattle.cl_text_grammar.proofs.BindingsJudged.{no_binding, part_judged}
 use Rattle.cl_text_grammar.proofs.FormsLie.{LieSights}
 use Rattle.cl_text_grammar.proofs.TypeJudging.{TypeJudges}
-use Rattle.cl_text_grammar.proofs.CommandJudging.{CommandJudges}
-use Rattle.cl_text_grammar.proofs.FormJudging.{FormJudges, FormJudged, then_expressions, then_type, then_command, then_form, ended, then_given}
+use Rattle.cl_text_grammar.proofs.NameJudging.{NameJudges}
+use Rattle.cl_text_grammar.proofs.FormJudging.{FormJudges, FormJudged, then_expressions, then_type, then_name, then_form, ended, then_given}
 use Rattle.cl_text_grammar.proofs.FormJudging.{Answers, list_judged, atom_judged}
 use Rattle.cl_text_grammar.proofs.FormStands.{control_seen}
 
@@ -52,8 +52,8 @@ pub data OwnSees {F O C : Type 0} (w : Signatures) (env : Names) (ds : List Datu
   in_front : {qs : List Seen} {rest : List FormSeen} {m : Load (Own F O C)} → Judges w qs (RestIs env ds rest) m → OwnSees w env ds (expressions qs ∷ rest) m
   typed_in_front : {qs : List Seen} {ts : List TypePart} {rest : List FormSeen} {m : Load ExprTree} {f : ExprTree → Load (Own F O C)} → Judges w qs Any m
       → ((t : ExprTree) → TypeJudges w ts (RestIs env ds rest) (f t)) → OwnSees w env ds (expressions qs ∷ specifier ts ∷ rest) (m >>= f)
-  command_in_front : {x : List ℕ} {at : ℕ} {rest : List FormSeen} {m : Load (Own F O C)} → CommandJudges w x at (RestIs env ds rest) m
-      → OwnSees w env ds (command_name x at ∷ rest) m
+  name_in_front : {k : NameSpace} {x : List ℕ} {at : ℕ} {rest : List FormSeen} {m : Load (Own F O C)} → NameJudges w k x at (RestIs env ds rest) m
+      → OwnSees w env ds (name_among k x at ∷ rest) m
   at_once : {ps : List FormSeen} {own : Own F O C} → RestIs env ds ps own → OwnSees w env ds ps (give own)
 
 abbrev pub OwnAnswers : {F O C : Type 0} → Signatures → Names → List Datum → ℕ → FormSight → Load (Own F O C) → Type 0
@@ -186,8 +186,8 @@ module _ {F O C : Type 0} (l : Language F O C) (w : Signatures) (row : List ℕ 
       (then_expressions seen w lies Any Any qs (specifier ts ∷ rest) n (λ t. f t >>= λ own. finished l own ps env) h λ t i.
       then_type seen w lies (RestIs env (stand ps) rest) Any ts rest (f t) (λ own. finished l own ps env) (g t) λ own j.
       finished_judged own rest ps env j k)
-  sees_row seen_parts m ps env (command_in_front {x} {at} {rest} {m = n} h) k =
-      then_command seen w lies (RestIs env (stand ps) rest) Any x at rest n (λ own. finished l own ps env) h λ own i. finished_judged own rest ps env i k
+  sees_row seen_parts m ps env (name_in_front {k = space} {x} {at} {rest} {m = n} h) k =
+      then_name seen w lies (RestIs env (stand ps) rest) Any space x at rest n (λ own. finished l own ps env) h λ own i. finished_judged own rest ps env i k
   sees_row seen_parts m ps env (at_once {ps = parts} {own} i) k = record { judged = (finished_judged own parts ps env i k).judged }
 
   own_row : (s : FormSight) (m : Load (Own F O C)) (at : ℕ) (ps : List (Part F C)) (env : Names) → OwnAnswers w env (stand ps) at s m → FormParts ps

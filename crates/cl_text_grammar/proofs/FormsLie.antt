@@ -19,10 +19,11 @@ use Rattle.cl_grammar.proofs.Lying.{LieList, LieSeen, list_lies, own_lies, datum
 use Rattle.cl_grammar.proofs.Spelled.{row_found}
 use Rattle.cl_text_grammar.specs.Types.{type_seen}
 use Rattle.cl_text_grammar.specs.UpdateSights.{keys_seen}
-use Rattle.cl_text_grammar.specs.FormSights.{FormSeen, expressions, specifier, command_name, form, FormSight, Misshapen, UnknownHead, PlannedHead, Sees, Row, forms_seen}
+use Rattle.cl_text_grammar.specs.FormSights.{NameSpace, commands, dialogs, FormSeen, expressions, specifier, name_among, form, FormSight, Misshapen}
+use Rattle.cl_text_grammar.specs.FormSights.{UnknownHead, PlannedHead, Sees, Row, forms_seen}
 use Rattle.cl_text_grammar.specs.FormSights.{if_seen, when_seen, let_seen, dolist_seen, progn_seen, planned_seen, write_seen, newline_seen}
 use Rattle.cl_text_grammar.specs.FormSights.{drawn_seen, indent_seen, ink_seen, room_seen, present_seen, presented_seen, presentation_seen, updated_seen, update_seen}
-use Rattle.cl_text_grammar.specs.FormSights.{call_seen, shape_rows, shape_row_seen, place_seen, setf_seen, reply_seen, switch_seen, act_rows, act_row_seen}
+use Rattle.cl_text_grammar.specs.FormSights.{call_seen, shape_rows, shape_row_seen, place_seen, setf_seen, reply_seen, switch_seen, dialog_seen, act_rows, act_row_seen}
 use Rattle.cl_text_grammar.specs.FormSights.{headed_seen, shape_seen, act_seen}
 use Rattle.cl_text_grammar.proofs.TypePartsLie.{LieType, type_rises, type_earlier, type_later}
 use Rattle.cl_text_grammar.proofs.TypesLie.{type_lies, all_rise}
@@ -33,7 +34,7 @@ abbrev pub LieForms : ℕ → List FormSeen → ℕ → Type 0
 LieForms from [] to = from ≤ to
 LieForms from (expressions qs ∷ ps) to = (next : ℕ) × LieSeen from qs next × LieForms next ps to
 LieForms from (specifier ts ∷ ps) to = (next : ℕ) × LieType from ts next × LieForms next ps to
-LieForms from (command_name x at ∷ ps) to = (from ≤ at) × LieForms (at + 1) ps to
+LieForms from (name_among k x at ∷ ps) to = (from ≤ at) × LieForms (at + 1) ps to
 LieForms from (form env d ∷ ps) to = (next : ℕ) × Lies from d next × LieForms next ps to
 
 abbrev pub LieFormSight : ℕ → FormSight → ℕ → Type 0
@@ -46,14 +47,14 @@ pub forms_rise : (ps : List FormSeen) (from to : ℕ) → LieForms from ps to �
 forms_rise [] from to h = h
 forms_rise (expressions qs ∷ ps) from to h = omega (arith, seen_rises qs from h.0 h.1, forms_rise ps h.0 to h.2)
 forms_rise (specifier ts ∷ ps) from to h = omega (arith, type_rises ts from h.0 h.1, forms_rise ps h.0 to h.2)
-forms_rise (command_name x at ∷ ps) from to h = omega (arith, h.0, forms_rise ps (at + 1) to h.1)
+forms_rise (name_among k x at ∷ ps) from to h = omega (arith, h.0, forms_rise ps (at + 1) to h.1)
 forms_rise (form env d ∷ ps) from to h = omega (arith, datum_rises d from h.0 h.1, forms_rise ps h.0 to h.2)
 
 pub forms_earlier : (ps : List FormSeen) (before from to : ℕ) → before ≤ from → LieForms from ps to → LieForms before ps to
 forms_earlier [] before from to e h = omega (arith, e, h)
 forms_earlier (expressions qs ∷ ps) before from to e h = (h.0, seen_earlier qs before from h.0 e h.1, h.2)
 forms_earlier (specifier ts ∷ ps) before from to e h = (h.0, type_earlier ts before from h.0 e h.1, h.2)
-forms_earlier (command_name x at ∷ ps) before from to e h = (omega (arith, e, h.0), h.1)
+forms_earlier (name_among k x at ∷ ps) before from to e h = (omega (arith, e, h.0), h.1)
 forms_earlier (form env d ∷ ps) before from to e h = (h.0, datum_earlier d before from h.0 e h.1, h.2)
 
 list_rises : (ds : List Datum) (from to : ℕ) → LieList from ds to → from ≤ to
@@ -231,7 +232,7 @@ forms_later : (ps : List FormSeen) (from to behind : ℕ) → to ≤ behind → 
 forms_later [] from to behind e h = omega (arith, e, h)
 forms_later (expressions qs ∷ ps) from to behind e h = (h.0, h.1, forms_later ps h.0 to behind e h.2)
 forms_later (specifier ts ∷ ps) from to behind e h = (h.0, h.1, forms_later ps h.0 to behind e h.2)
-forms_later (command_name x at ∷ ps) from to behind e h = (h.0, forms_later ps (at + 1) to behind e h.1)
+forms_later (name_among k x at ∷ ps) from to behind e h = (h.0, forms_later ps (at + 1) to behind e h.1)
 forms_later (form env d ∷ ps) from to behind e h = (h.0, h.1, forms_later ps h.0 to behind e h.2)
 
 sight_later : (s : FormSight) (from to behind : ℕ) → to ≤ behind → LieFormSight from s to → LieFormSight from s behind
@@ -251,16 +252,21 @@ reply_lies k env (a ∷ []) from to l h = (h.0, one_lies env a k h.0 (datum_earl
 reply_lies k env [] from to l h = tt
 reply_lies k env (a ∷ b ∷ ds) from to l h = tt
 
-command_lies : (name : Option (List ℕ)) (n : Datum) (k from next to : ℕ) → k < from → Lies from n next → next ≤ to
-    → LieFormSight k (elim name [ None ↦ Misshapen | Some x ↦ Sees (command_name x (offset n) ∷ []) ]) to
-command_lies None n k from next to l h e = tt
-command_lies (Some x) n k from next to l h e =
+name_lies : (space : NameSpace) (name : Option (List ℕ)) (n : Datum) (k from next to : ℕ) → k < from → Lies from n next → next ≤ to
+    → LieFormSight k (elim name [ None ↦ Misshapen | Some x ↦ Sees (name_among space x (offset n) ∷ []) ]) to
+name_lies space None n k from next to l h e = tt
+name_lies space (Some x) n k from next to l h e =
     let own : (from ≤ offset n) × (offset n < next) = own_lies n from next h in (omega (arith, l, own.0), omega (arith, own.1, e))
 
 switch_lies : LieRow switch_seen
-switch_lies k env (n ∷ []) from to l h = command_lies (name_in n) n k from h.0 to l h.1 h.2
+switch_lies k env (n ∷ []) from to l h = name_lies commands (name_in n) n k from h.0 to l h.1 h.2
 switch_lies k env [] from to l h = tt
 switch_lies k env (n ∷ d ∷ ds) from to l h = tt
+
+dialog_lies : LieRow dialog_seen
+dialog_lies k env (n ∷ []) from to l h = name_lies dialogs (name_in n) n k from h.0 to l h.1 h.2
+dialog_lies k env [] from to l h = tt
+dialog_lies k env (n ∷ d ∷ ds) from to l h = tt
 
 -- ---- forms by their heads
 
@@ -339,4 +345,4 @@ shapes_lie w = headed_lie (λ x. shape_row_seen w (named x (shape_rows w)) x) (�
 pub acts_lie : LieSights act_seen
 acts_lie = headed_lie (λ x. act_row_seen (named x act_rows)) (λ x. act_row_lies (named x act_rows)
     (row_found LieRow x act_rows
-    (if_lies, (when_row_lies, (let_lies, (dolist_lies, (progn_lies, (setf_lies, (reply_lies, (switch_lies, (switch_lies, (planned_lies, tt))))))))))))
+    (if_lies, (when_row_lies, (let_lies, (dolist_lies, (progn_lies, (setf_lies, (reply_lies, (switch_lies, (switch_lies, (dialog_lies, tt))))))))))))

@@ -5,8 +5,8 @@ use Rattle.std.proofs.Math.Path.{subst}
 use denote.Enum.Bare.{same_true}
 use Rattle.cl_forms.specs.contracts.keys.Key.{the_type}
 use Rattle.cl_forms.specs.Datum.{Datum, Datums, number, literal, word, quoted, stray, list, none, item, in_order}
-use Rattle.cl_forms.specs.Keys.{Keyed, section_key, value_key, translator_key, update_key, key_or, key_named, same_key, is_among, allowed, key_in, values_of, has_key}
-use Rattle.cl_forms.specs.Keys.{keyed_as, with_keyed, section_in, keyed_sections, pair_in, keyed_pairs}
+use Rattle.cl_forms.specs.Keys.{Keyed, section_key, value_key, translator_key, update_key, dialog_key, key_or, key_named, same_key, is_among}
+use Rattle.cl_forms.specs.Keys.{allowed, key_in, values_of, has_key, keyed_as, with_keyed, section_in, keyed_sections, pair_in, keyed_pairs}
 use Rattle.cl_forms.specs.Naming.{name_in}
 use Rattle.cl_forms.specs.declared.keys.Key.{Key}
 use Rattle.cl_forms.specs.declared.keys.Key.TheVariants as key
@@ -34,6 +34,10 @@ key_word key.Documentation = codes ":documentation"
 key_word key.Tester = codes ":tester"
 key_word key.UniqueId = codes ":unique-id"
 key_word key.CacheValue = codes ":cache-value"
+key_word key.Command = codes ":command"
+key_word key.Pane = codes ":pane"
+key_word key.When = codes ":when"
+key_word key.Else = codes ":else"
 
 section_words : (x : List ℕ) → Finds (λ k. x ≡ key_word k) (section_key x)
 section_words x =
@@ -56,15 +60,21 @@ translator_words x =
 update_words : (x : List ℕ) → Finds (λ k. x ≡ key_word k) (update_key x)
 update_words x = word_is key.UniqueId x (codes ":unique-id") (λ e. e) (word_is key.CacheValue x (codes ":cache-value") (λ e. e) nothing)
 
+dialog_words : (x : List ℕ) → Finds (λ k. x ≡ key_word k) (dialog_key x)
+dialog_words x =
+    word_is key.Command x (codes ":command") (λ e. e) (word_is key.Pane x (codes ":pane") (λ e. e) (word_is key.When x (codes ":when") (λ e. e)
+    (word_is key.Else x (codes ":else") (λ e. e) nothing)))
+
 either_key : {P : Key → Type 0} (o p : Option Key) → Finds P o → Finds P p → Finds P (key_or o p)
 either_key (Some k) p h i = record { found = h.found }
 either_key None p h i = i
 
 key_words : (x : List ℕ) → Finds (λ k. x ≡ key_word k) (key_named x)
 key_words x =
-    either_key (section_key x) (key_or (value_key x) (key_or (translator_key x) (update_key x))) (section_words x)
-    (either_key (value_key x) (key_or (translator_key x) (update_key x)) (value_words x)
-    (either_key (translator_key x) (update_key x) (translator_words x) (update_words x)))
+    either_key (section_key x) (key_or (value_key x) (key_or (translator_key x) (key_or (update_key x) (dialog_key x)))) (section_words x)
+    (either_key (value_key x) (key_or (translator_key x) (key_or (update_key x) (dialog_key x))) (value_words x)
+    (either_key (translator_key x) (key_or (update_key x) (dialog_key x)) (translator_words x)
+    (either_key (update_key x) (dialog_key x) (update_words x) (dialog_words x))))
 
 key_spelled : (x : List ℕ) (k : Key) → key_named x ≡ Some k → x ≡ key_word k
 key_spelled x k e = of_some k (key_named x) e (key_words x)

@@ -30,7 +30,7 @@ pub mod TypesLie
 pub mod UpdatesLie
 pub mod FormsLie
 pub mod FormBounds
-pub mod CommandJudging
+pub mod NameJudging
 pub mod FormJudging
 pub mod BindingsJudged
 pub mod FormsJudged

@@ -151,7 +151,6 @@ module _ (w : Signatures) where
   own_row c (head.Setting s) i h at ps env k = setting_row s h at ps env c k
   own_row c (head.Writing v) i h at ps env k = writing_row v h at ps env c k
   own_row c (head.Planned planned.Display) i h at ps env k = λ u. refl
-  own_row c (head.Planned planned.Statement) i h at ps env k = λ u. refl
   own_row c (head.Planned planned.Part) i h at ps env k = λ u. refl
   own_row c (head.Special s) i h at ps env k = λ u. refl
   own_row c (head.Operator o) i h at ps env k = λ u. refl

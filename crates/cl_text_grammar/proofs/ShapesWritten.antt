@@ -140,7 +140,6 @@ module _ (w : Signatures) (names : CallsNames w) where
   own_ends c (head.Writing v) x h at ps env e k =
       spelled_so w (writing_word v) x h at ps (parse_own w c (head.Writing v) h at ps env) e (binds (writing_ends w v h at ps env k) λ f i. gives i)
   own_ends c (head.Planned planned.Display) x h at ps env e k = refuses
-  own_ends c (head.Planned planned.Statement) x h at ps env e k = refuses
   own_ends c (head.Planned planned.Part) x h at ps env e k = refuses
   own_ends c head.If x h at ps env e k = refuses
   own_ends c head.Let x h at ps env e k = refuses

@@ -15,12 +15,17 @@ use Rattle.cl_grammar.specs.Sights.{Seen, expression, slot_name, all_seen, names
 use Rattle.cl_text_grammar.specs.Types.{TypePart, type_seen}
 use Rattle.cl_text_grammar.specs.UpdateSights.{keys_seen}
 
--- what is looked at: expressions, paths and names in them, what is looked at of a type, the name of a command with its offset, or a form of the same
--- language, with the variables that it sees
+-- what has the names that statements look for
+pub data NameSpace : Type 0 where
+  commands : NameSpace
+  dialogs : NameSpace
+
+-- what is looked at: expressions, paths and names in them, what is looked at of a type, the name of a command or of a dialog with its offset, or a form
+-- of the same language, with the variables that it sees
 pub data FormSeen : Type 0 where
   expressions : List Seen → FormSeen
   specifier : List TypePart → FormSeen
-  command_name : List ℕ → ℕ → FormSeen
+  name_among : NameSpace → List ℕ → ℕ → FormSeen
   form : Names → Datum → FormSeen
 
 -- what a form sees
@@ -192,8 +197,13 @@ reply_seen h env ds = Misshapen
 
 -- `(enable COMMAND)` and `(disable COMMAND)`
 abbrev pub switch_seen : Row
-switch_seen h env (n ∷ []) = elim (name_in n) [ None ↦ Misshapen | Some x ↦ Sees (command_name x (offset n) ∷ []) ]
+switch_seen h env (n ∷ []) = elim (name_in n) [ None ↦ Misshapen | Some x ↦ Sees (name_among commands x (offset n) ∷ []) ]
 switch_seen h env ds = Misshapen
+
+-- `(open-dialog DIALOG)`
+abbrev pub dialog_seen : Row
+dialog_seen h env (n ∷ []) = elim (name_in n) [ None ↦ Misshapen | Some x ↦ Sees (name_among dialogs x (offset n) ∷ []) ]
+dialog_seen h env ds = Misshapen
 
 -- the rows of statements by their words
 abbrev pub act_rows : List (List ℕ × Row)
@@ -207,7 +217,7 @@ act_rows =
     ∷ (codes "reply", reply_seen)
     ∷ (codes "enable", switch_seen)
     ∷ (codes "disable", switch_seen)
-    ∷ (codes "open-dialog", planned_seen)
+    ∷ (codes "open-dialog", dialog_seen)
     ∷ []
 
 -- one of the rows: nothing else stands before a statement

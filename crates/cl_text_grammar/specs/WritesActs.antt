@@ -23,6 +23,8 @@ mutual
     an_enable : {x : List ℕ} {n : Datum} {h : ℕ} → name_in n ≡ Some x → WritesActForm (act.Switch x true) (word (codes "enable") h ∷ n ∷ [])
     -- (disable COMMAND)
     a_disable : {x : List ℕ} {n : Datum} {h : ℕ} → name_in n ≡ Some x → WritesActForm (act.Switch x false) (word (codes "disable") h ∷ n ∷ [])
+    -- (open-dialog DIALOG)
+    an_open_dialog : {x : List ℕ} {n : Datum} {h : ℕ} → name_in n ≡ Some x → WritesActForm (act.OpenDialog x) (word (codes "open-dialog") h ∷ n ∷ [])
     -- (if TEST THEN ELSE)
     an_if : {t : ExprTree} {r s : ActTree} {a b c : Datum} {h : ℕ} → Writes t a → WritesAct r b → WritesAct s c
         → WritesActForm (act.If t r s) (word (codes "if") h ∷ a ∷ b ∷ c ∷ [])
