@@ -12,3 +12,4 @@ mod places;
 pub use dialog_forms::argument_of;
 pub use displays::with_dialog_displays;
 pub use names::{form_name, set_name};
+pub use places::declared;

@@ -6,7 +6,7 @@ use cl_table::{Declared, Table};
 
 /// The declaration in a place of a table.
 #[tactic(auto, using(crate::proofs::PlaceLemmas::declared_here, crate::proofs::PlaceLemmas::declared_there))]
-pub(crate) fn declared<D: Declared>(table: &Table<D>, place: usize) -> &D
+pub fn declared<D: Declared>(table: &Table<D>, place: usize) -> &D
     requires { place < length table.now }
     ensures { map declared_by (drop place table.now) ≡ result.now ∷ map declared_by (drop (place + 1) table.now) }
 {
