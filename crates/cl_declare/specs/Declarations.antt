@@ -5,7 +5,7 @@ use Rattle.cl_table.specs.Names.{with_first}
 use Rattle.cl_forms.specs.Datum.{Datum}
 use Rattle.cl_forms.specs.Outer.{Outer}
 use Rattle.cl_forms.specs.declared.outer.DeclarationKind.{DeclarationKind}
-use Rattle.cl_forms.specs.declared.outer.DeclarationKind.TheVariants.{Record, PresentationType, HostType, PresentMethod, AcceptMethod, Function, Display, CommandTable, Command, Translator, CommandTranslator, Frame}
+use Rattle.cl_forms.specs.declared.outer.DeclarationKind.TheVariants.{Record, PresentationType, HostType, PresentMethod, AcceptMethod, Function, Display, CommandTable, Command, Translator, CommandTranslator, Dialog, Frame}
 use Rattle.cl_forms.specs.declared.outer.OuterKind.{OuterKind}
 use Rattle.cl_forms.specs.declared.outer.OuterKind.TheVariants.{Declared, Planned, Unknown, Headless}
 use Rattle.cl_words.specs.declared.signatures.Signatures.{Signatures}
@@ -13,6 +13,7 @@ use Rattle.cl_expressions.specs.Load.{Load, ◌>>=◌, give, refuse}
 use Rattle.cl_declare.specs.Callees.{parse_record, parse_function, parse_display}
 use Rattle.cl_declare.specs.CommandTables.{parse_table}
 use Rattle.cl_declare.specs.Commands.{parse_command}
+use Rattle.cl_declare.specs.Dialogs.{parse_dialog}
 use Rattle.cl_declare.specs.Methods.{parse_method}
 use Rattle.cl_declare.specs.Sections.{parse_frame}
 use Rattle.cl_declare.specs.Translators.{parse_translator}
@@ -33,6 +34,7 @@ parse_declared w CommandTable at parts s = parse_table w at parts >>= λ d. give
 parse_declared w Command at parts s = parse_command w at parts >>= λ d. give (record s { commands = with_first (λ e. e.name) s.commands d })
 parse_declared w Translator at parts s = parse_translator w kind.Object at parts >>= λ d. give (record s { translators = with_first (λ e. e.name) s.translators d })
 parse_declared w CommandTranslator at parts s = parse_translator w kind.Command at parts >>= λ d. give (record s { translators = with_first (λ e. e.name) s.translators d })
+parse_declared w Dialog at parts s = parse_dialog w at parts >>= λ d. give (record s { dialogs = with_first (λ e. e.name) s.dialogs d })
 parse_declared w Frame at parts s = parse_frame w at parts >>= λ d. give (record s { frames = s.frames ++ d ∷ [] })
 
 -- an outermost form: 6 where no symbol heads it, 5 where the symbol heads no declaration, 0 where that is not built yet

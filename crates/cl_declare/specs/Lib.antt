@@ -11,5 +11,7 @@ pub mod TranslatorForms
 pub mod TranslatorView
 pub mod TranslatorShapes
 pub mod Translators
+pub mod DialogShapes
+pub mod Dialogs
 pub mod Sections
 pub mod Declarations

@@ -194,7 +194,7 @@ fn parse_default(
 }
 
 /// A default, which sees no variable.
-fn parse_default_value(
+pub fn parse_default_value(
     reader: &Reader,
     datum: &Datum,
     notes: &mut Notes,

@@ -9,6 +9,7 @@ ghost use Rattle.cl_expressions.specs.Leaves.{Leaves};
 use crate::callees::{parse_display, parse_function, parse_record};
 use crate::command_tables::parse_table;
 use crate::commands::parse_command;
+use crate::dialogs::parse_dialog;
 use crate::in_order::FrameForms;
 use crate::methods::parse_method;
 use crate::sections::parse_frame;
@@ -145,6 +146,10 @@ fn parse_declared(
         DeclarationKind::CommandTranslator => {
             let translator = parse_translator(reader, TranslatorKind::Command, at, parts, notes)?;
             declarations.translators.add_first(translator)?
+        }
+        DeclarationKind::Dialog => {
+            let dialog = parse_dialog(reader, at, parts, notes)?;
+            declarations.dialogs.add_first(dialog)?
         }
         DeclarationKind::Frame => {
             let frame = parse_frame(reader, at, parts, notes)?;

@@ -1,5 +1,5 @@
 //! What the declarations of an application text say: types and their methods, functions, displays, command
-//! tables, commands, translators and frames, with their exact refusals. Begin with `specs/Declarations.antt`.
+//! tables, commands, translators, dialogs and frames, with their exact refusals. Begin with `specs/Declarations.antt`.
 #![tactic(auto)]
 
 mod callees;
@@ -7,6 +7,8 @@ mod command_shapes;
 mod command_tables;
 mod commands;
 mod declarations;
+mod dialog_shapes;
+mod dialogs;
 mod frames;
 mod in_order;
 mod methods;

@@ -103,7 +103,8 @@ fn parse_target(
     }
 }
 
-fn note_command(reader: &Reader, command: &Datum, notes: &mut Notes)
+/// A command is noted where it is not declared.
+pub fn note_command(reader: &Reader, command: &Datum, notes: &mut Notes)
     ensures { note_command reader.now.signatures.now (offset (datum_of command.now))
         (name_in (datum_of command.now)) notes.old ≡ Ok (tt, notes.new) }
 {
@@ -163,6 +164,10 @@ fn parse_translator_key(
         Key::Documentation => Ok(()),
         Key::UniqueId => Ok(()),
         Key::CacheValue => Ok(()),
+        Key::Command => Ok(()),
+        Key::Pane => Ok(()),
+        Key::When => Ok(()),
+        Key::Else => Ok(()),
     }
 }
 

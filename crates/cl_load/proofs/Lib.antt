@@ -6,6 +6,8 @@ pub mod ConcludeLemmas
 pub mod TypeLemmas
 pub mod RingLemmas
 pub mod DefaultLemmas
+pub mod ElseLemmas
+pub mod DialogReadings
 pub mod FramingLemmas
 pub mod OneOutcome
 pub mod LoadLemmas

@@ -20,7 +20,7 @@ use Rattle.cl_load.specs.Outcome.{Comes, IsVerdict, Outcome, Settled, parse}
 use Rattle.cl_lattice.specs.Firsts.{offset_of}
 use Rattle.cl_phases.specs.Earlier.{earlier}
 use Rattle.cl_load.specs.Reason.{Reason, refused, uncovered}
-use Rattle.cl_load.specs.Readings.{CommandReads, Finds, FindsReading, IsFirstReading, NoneReads, TypeReads, command_offset}
+use Rattle.cl_load.specs.Readings.{CommandReads, DialogReads, Finds, FindsReading, IsFirstReading, NoneReads, TypeReads, command_offset, dialog_offset}
 use Rattle.cl_load.specs.Refusals.{app_in, faults, first_fault, form_faults, frame_faults, numbered, type_faults}
 use Rattle.cl_load.specs.Types.{Bounds}
 use Rattle.cl_load.proofs.TypeLemmas.{large_once, list_once, misfit_once}
@@ -76,8 +76,12 @@ reading_once s r q x y =
     let user_type : x.user_type ≡ y.user_type = list_once (TypeReads s.functions) offset_of s.types x.user_type y.user_type x.type_found y.type_found in
     let command : x.command ≡ y.command =
     list_once (CommandReads s.functions) command_offset s.commands x.command y.command x.command_found y.command_found in
-    x.first ∙ ap (λ (o : Option ℕ). earlier o (earlier x.user_type x.command)) frame
-    ∙ ap (λ (o : Option ℕ). earlier y.frame (earlier o x.command)) user_type ∙ ap (λ (o : Option ℕ). earlier y.frame (earlier y.user_type o)) command ∙ sym y.first
+    let dialog : x.dialog ≡ y.dialog =
+    list_once (DialogReads s.functions) dialog_offset s.dialogs x.dialog y.dialog x.dialog_found y.dialog_found in
+    x.first ∙ ap (λ (o : Option ℕ). earlier o (earlier x.user_type (earlier x.command x.dialog))) frame
+    ∙ ap (λ (o : Option ℕ). earlier y.frame (earlier o (earlier x.command x.dialog))) user_type
+    ∙ ap (λ (o : Option ℕ). earlier y.frame (earlier y.user_type (earlier o x.dialog))) command
+    ∙ ap (λ (o : Option ℕ). earlier y.frame (earlier y.user_type (earlier y.command o))) dialog ∙ sym y.first
 
 same_app : (app : Option App) (a b : App) → app ≡ Some a → app ≡ Some b → ◌≡◌ {A = Result App Fault} (Ok a) (Ok b)
 same_app app a b p q = cc

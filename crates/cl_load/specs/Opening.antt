@@ -1,12 +1,16 @@
--- The opening values of the slots, and the defaults of arguments.
+-- The opening values of the slots, the defaults of arguments, and what stands for queries that are not shown.
 use Rattle.std.specs.Prelude.{◌≡◌, ℕ, Bool, true, false, if◌then◌else◌, List, [], ◌∷◌, Option, Some, None, Result, Ok, Err}
 use Rattle.cl_value.specs.Data.{Data, null}
 use Rattle.cl_value.specs.Value.{data_of}
 use Rattle.cl_value.specs.declared.Value.{Value}
+use Rattle.cl_application.specs.App.{command_named}
 use Rattle.cl_application.specs.declared.applications.App.{App}
 use Rattle.cl_application.specs.declared.declarations.ArgumentDecl.{ArgumentDecl}
 use Rattle.cl_application.specs.declared.declarations.CommandDecl.{CommandDecl}
+use Rattle.cl_application.specs.declared.declarations.ConditionDecl.{ConditionDecl}
 use Rattle.cl_application.specs.declared.declarations.DefaultDecl.{DefaultDecl}
+use Rattle.cl_application.specs.declared.declarations.DialogDecl.{DialogDecl}
+use Rattle.cl_application.specs.declared.declarations.QueryDecl.{QueryDecl}
 use Rattle.cl_application.specs.declared.declarations.SlotDecl.{SlotDecl}
 use Rattle.cl_syntax.specs.ExprTree.{ExprTree}
 use Rattle.cl_syntax.specs.TypeSpecTree.{TypeSpecTree}
@@ -14,11 +18,12 @@ use Rattle.cl_eval.specs.declared.metering.Limits.{Limits}
 use Rattle.cl_eval.specs.Evaluated.{outcome_of_eval}
 use Rattle.cl_eval.specs.Outcome.{Outcome, Gives, Traps}
 use Rattle.cl_eval.specs.Slots.{Slots, put}
+use Rattle.cl_table.specs.Names.{named}
 use Rattle.cl_forms.specs.declared.refusals.FormRefusal.{FormRefusal}
 use Rattle.cl_forms.specs.declared.refusals.FormRefusal.TheVariants.{Refused, Memory}
 use Rattle.cl_phases.specs.Earlier.{earlier}
 
--- the limits of an opening value and of a default
+-- the limits of an opening value, of a default and of an `:else`
 abbrev pub opening_limits : Limits
 opening_limits = record { budget = 10000; depth = 512 }
 
@@ -72,9 +77,51 @@ abbrev pub first_unfit_command : Holds → App → List (List ℕ × CommandDecl
 first_unfit_command holds app [] = None
 first_unfit_command holds app (c ∷ more) = there_or (first_unfit_argument holds app c.1.arguments) (first_unfit_command holds app more)
 
--- the offset of the first opening value or default that traps or is no member of its type
+-- a value that is a member of the type of the argument; none is where there is no such argument
+abbrev pub fits_argument : Holds → Outcome Data → Option ArgumentDecl → Bool
+fits_argument holds o None = false
+fits_argument holds o (Some a) = is_fit holds o a.spec
+
+-- the offset of an `:else` that traps or is no member of its argument's type
+abbrev pub unfit_else : Holds → App → Option ConditionDecl → Option ArgumentDecl → Option ℕ
+unfit_else holds app None a = None
+unfit_else holds app (Some c) a = if fits_argument holds (constant_of app c.otherwise) a then None else Some c.otherwise_at
+
+abbrev pub Arguments : Type 0
+Arguments = List (List ℕ × ArgumentDecl)
+
+-- that of a query of a command with these arguments
+abbrev pub unfit_query : Holds → App → Arguments → QueryDecl → Option ℕ
+unfit_query holds app arguments q = unfit_else holds app q.condition (named q.name arguments)
+
+-- that of the first of the queries with such a one
+abbrev pub first_unfit_query : Holds → App → Arguments → List (List ℕ × QueryDecl) → Option ℕ
+first_unfit_query holds app arguments [] = None
+first_unfit_query holds app arguments (q ∷ more) = there_or (unfit_query holds app arguments q.1) (first_unfit_query holds app arguments more)
+
+abbrev pub arguments_in : Option CommandDecl → Arguments
+arguments_in None = []
+arguments_in (Some c) = c.arguments
+
+-- the arguments of a dialog's command
+abbrev pub arguments_for : App → DialogDecl → Arguments
+arguments_for app d = arguments_in (command_named d.command app)
+
+abbrev pub unfit_dialog : Holds → App → DialogDecl → Option ℕ
+unfit_dialog holds app d = first_unfit_query holds app (arguments_for app d) d.queries
+
+-- that of the first of the dialogs with such a query
+abbrev pub first_unfit_dialog : Holds → App → List (List ℕ × DialogDecl) → Option ℕ
+first_unfit_dialog holds app [] = None
+first_unfit_dialog holds app (d ∷ more) = there_or (unfit_dialog holds app d.1) (first_unfit_dialog holds app more)
+
+-- the offset of the first default or `:else` that traps or is no member of its argument's type
+abbrev pub first_unfit_constant : Holds → App → Option ℕ
+first_unfit_constant holds app = earlier (first_unfit_command holds app app.commands) (first_unfit_dialog holds app app.dialogs)
+
+-- the offset of the first opening value, default or `:else` that traps or is no member of its type
 unfoldable pub first_unfit : Holds → App → Option ℕ
-first_unfit holds app = earlier (first_unfit_opening holds app app.frame.slots) (first_unfit_command holds app app.commands)
+first_unfit holds app = earlier (first_unfit_opening holds app app.frame.slots) (first_unfit_constant holds app)
 
 -- each slot with its opening value, beside those that stand
 abbrev pub opened : App → List (List ℕ × SlotDecl) → Slots → Slots

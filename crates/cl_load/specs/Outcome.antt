@@ -28,7 +28,7 @@ pub record Settled (bounds : Bounds) (length : ℕ) (ds : List Datum) (s : Decla
   -- the first type that is past the limits
   pub large : Option ℕ
   pub large_found : first_fault (form_faults ds notes) ≡ None → ring ≡ None → misfit ≡ None → FindsLarge bounds s notes large
-  -- the first declaration with an opening value or a predicate that reads a slot
+  -- the first declaration with an opening value, a default, an `:else` or a predicate that reads a slot
   pub reading : Option ℕ
   pub reading_found : first_fault (form_faults ds notes) ≡ None → ring ≡ None → misfit ≡ None → large ≡ None → FindsReading s reading
   pub verdict : IsVerdict (first_fault (faults bounds length ds s notes ring misfit large reading)) (app_in s s.frames) o

@@ -1,12 +1,13 @@
--- Opening values and predicates read no slot, through calls too.
+-- Opening values, defaults, what stands for queries that are not shown and predicates read no slot, through calls too.
 use Rattle.std.specs.Prelude.{◌≡◌, ◌⊎◌, ℕ, List, [], ◌∷◌, Option, Some, None}
 use Rattle.cl_syntax.specs.declared.type_decls.TypeDecl.{TypeDecl}
 use Rattle.cl_application.specs.declared.declarations.CommandDecl.{CommandDecl}
+use Rattle.cl_application.specs.declared.declarations.DialogDecl.{DialogDecl}
 use Rattle.cl_declare.specs.declared.declarations.Declarations.{Declarations}
 use Rattle.cl_declare.specs.declared.frames.FrameForm.{FrameForm}
 use Rattle.cl_lattice.specs.Firsts.{IsFirst, offset_of}
 use Rattle.cl_phases.specs.Earlier.{earlier}
-use Rattle.cl_phases.specs.SlotReads.{AnyReads, DefaultsRead, FunctionReads, Functions}
+use Rattle.cl_phases.specs.SlotReads.{AnyReads, DefaultsRead, ElsesRead, FunctionReads, Functions}
 
 -- ---- frames
 
@@ -44,9 +45,19 @@ CommandReads fs e = DefaultsRead fs e.1.arguments
 abbrev pub command_offset : List ℕ × CommandDecl → ℕ
 command_offset e = e.1.at
 
+-- ---- dialogs
+
+-- a dialog with an `:else` that reads a slot
+abbrev pub DialogReads : Functions → List ℕ × DialogDecl → Type 0
+DialogReads fs e = ElsesRead fs e.1.queries
+
+-- the offset of a dialog
+abbrev pub dialog_offset : List ℕ × DialogDecl → ℕ
+dialog_offset e = e.1.at
+
 -- ---- declarations
 
--- the offset of the first declaration with an opening value, a default or a predicate that reads a slot
+-- the offset of the first declaration with an opening value, a default, an `:else` or a predicate that reads a slot
 pub record FindsReading (s : Declarations) (reading : Option ℕ) : Type 0 where
   pub frame : Option ℕ
   pub frame_found : Finds s.functions s.frames frame
@@ -54,4 +65,6 @@ pub record FindsReading (s : Declarations) (reading : Option ℕ) : Type 0 where
   pub type_found : IsFirst (TypeReads s.functions) offset_of s.types user_type
   pub command : Option ℕ
   pub command_found : IsFirst (CommandReads s.functions) command_offset s.commands command
-  pub first : reading ≡ earlier frame (earlier user_type command)
+  pub dialog : Option ℕ
+  pub dialog_found : IsFirst (DialogReads s.functions) dialog_offset s.dialogs dialog
+  pub first : reading ≡ earlier frame (earlier user_type (earlier command dialog))

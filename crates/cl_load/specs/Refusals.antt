@@ -64,7 +64,7 @@ abbrev pub app_in : Declarations → List FrameForm → Option App
 app_in s [] = None
 app_in s (f ∷ more) = app_placed s (place_frame f)
 
--- an opening value or a default that traps or is no member of its type
+-- an opening value, a default or an `:else` that traps or is no member of its type
 abbrev pub unfit : Bounds → Option App → Option ℕ
 unfit bounds None = None
 unfit bounds (Some app) = first_unfit (holds_in (types_in bounds app) app) app
@@ -78,8 +78,8 @@ form_faults ds notes =
 abbrev pub type_faults : (ring misfit large : Option ℕ) → List (Option Fault)
 type_faults ring misfit large = numbered 9 ring ∷ numbered 6 misfit ∷ numbered 13 large ∷ []
 
--- an opening value, a default or a predicate that reads a slot; no frame or two; no place for it; no such host type; an opening value or a default
--- that is not fit
+-- an opening value, a default, an `:else` or a predicate that reads a slot; no frame or two; no place for it; no such host type; an opening value, a
+-- default or an `:else` that is not fit
 abbrev pub frame_faults : Bounds → ℕ → Declarations → (reading : Option ℕ) → List (Option Fault)
 frame_faults bounds length s reading =
     numbered 10 reading ∷ numbered 14 (frame_missed length s.frames) ∷ no_place s.frames ∷ numbered 16 (first_missing bounds s.hosts)

@@ -47,7 +47,7 @@ FramesApp (Ok app) length s = AppFramed s app
 FramesApp (Err (Refused number at)) length s = first_fault (numbered 14 (frame_missed length s.frames) ∷ no_place s.frames ∷ []) ≡ Some (number, at)
 FramesApp (Err Memory) length s = Unit {0}
 
--- what is looked for once the frame has a place: a host type of which there is none, an opening value or a default that is not fit
+-- what is looked for once the frame has a place: a host type of which there is none, an opening value, a default or an `:else` that is not fit
 abbrev pub last_faults : Bounds → World → App → List (Option Fault)
 last_faults bounds w app = numbered 16 (first_missing bounds app.hosts) ∷ numbered 12 (first_unfit (holds_in w app) app) ∷ []
 

@@ -69,7 +69,7 @@ fn unfit_argument<T: Types>(
 }
 
 /// Whether an expression without slots and variables ends with a member of a type.
-fn is_fit<T: Types>(
+pub fn is_fit<T: Types>(
     alloc: Global,
     app: &App,
     types: &T,

@@ -3,6 +3,7 @@
 
 mod application;
 mod defaults;
+mod elses;
 mod faults;
 mod laws;
 mod loading;

@@ -1,11 +1,11 @@
-//! The opening values of the slots, and with the defaults of arguments whether they fit their types.
+//! The opening values of the slots, and with what stands for arguments whether they fit their types.
 ghost use Rattle.std.specs.Prelude.{◌≡◌, Some};
 ghost use Rattle.cl_eval.specs.Evaluated.{Evaluates};
 ghost use Rattle.cl_load.specs.Opening.{constant_of, opening_of, IsMemberOf, OpensSlots, OpensValue, OpensValues};
 ghost use Rattle.cl_phases.specs.Earlier.{earlier};
 ghost use Rattle.cl_value.specs.Value.{data_of};
 
-use crate::defaults::first_unfit_command;
+use crate::elses::first_unfit_constant;
 use cl_application::{App, SlotDecl};
 use cl_eval::{Env, Evaluated, Limits, Slots, Types, eval};
 use cl_forms::FormRefusal;
@@ -14,26 +14,26 @@ use cl_syntax::Expr;
 use cl_value::{Held, Value};
 use std::alloc::Global;
 
-/// The limits of an opening value and of a default.
+/// The limits of an opening value, of a default and of an `:else`.
 const LIMITS: Limits = Limits {
     budget: 10_000,
     depth: 512,
 };
 
-/// The slots with their opening values, or the refusal of the first opening value or default that traps or is
-/// no member of its type.
+/// The slots with their opening values, or the refusal of the first opening value, default or `:else` that traps
+/// or is no member of its type.
 #[tactic(auto, unfolding(crate::specs::Opening::first_unfit))]
 pub fn opening_slots<T: Types>(alloc: Global, app: &App, types: &T) -> Result<Slots, FormRefusal>
     ensures { OpensSlots result (T.holds types.now) app.now }
 {
-    let default = first_unfit_command(alloc, app, types)?;
+    let constant = first_unfit_constant(alloc, app, types)?;
     match opening_values(alloc, app, types) {
-        Ok(slots) => match default {
+        Ok(slots) => match constant {
             None => Ok(slots),
             Some(at) => Err(FormRefusal::Refused(12, at)),
         },
         Err(FormRefusal::Refused(number, at)) => {
-            Err(FormRefusal::Refused(number, at_first(default, at)))
+            Err(FormRefusal::Refused(number, at_first(constant, at)))
         }
         Err(FormRefusal::Memory) => Err(FormRefusal::Memory),
     }

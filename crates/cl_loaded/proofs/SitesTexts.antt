@@ -8,7 +8,7 @@ use Rattle.cl_forms.specs.Naming.{name_in}
 use Rattle.cl_forms.specs.Outer.{kind_named, outer_in, outers_of}
 use Rattle.cl_forms.specs.Tree.{trees_of}
 use Rattle.cl_forms.specs.declared.outer.DeclarationKind.{DeclarationKind}
-use Rattle.cl_forms.specs.declared.outer.DeclarationKind.TheVariants.{Record, PresentationType, HostType, PresentMethod, AcceptMethod, Function, Display, CommandTable, Command, Translator, CommandTranslator, Frame}
+use Rattle.cl_forms.specs.declared.outer.DeclarationKind.TheVariants.{Record, PresentationType, HostType, PresentMethod, AcceptMethod, Function, Display, CommandTable, Command, Translator, CommandTranslator, Dialog, Frame}
 use Rattle.cl_forms.specs.declared.outer.OuterKind.{OuterKind}
 use Rattle.cl_forms.specs.declared.outer.OuterKind.TheVariants.{Declared, Planned, Unknown, Headless}
 use Rattle.cl_words.specs.Signatures.{signatures_of}
@@ -22,6 +22,7 @@ use Rattle.cl_declare.specs.Callees.{parse_display, parse_function, parse_record
 use Rattle.cl_declare.specs.CommandTables.{parse_table}
 use Rattle.cl_declare.specs.Commands.{parse_command}
 use Rattle.cl_declare.specs.Declarations.{nothing_declared, parse_declaration, parse_declared, parse_each_declaration, parse_kind}
+use Rattle.cl_declare.specs.Dialogs.{parse_dialog}
 use Rattle.cl_declare.specs.Methods.{parse_method}
 use Rattle.cl_declare.specs.Names.{is_name_list, variables_in}
 use Rattle.cl_declare.specs.Sections.{parse_frame}
@@ -112,6 +113,7 @@ module _ (w : Signatures) (at : ℕ) (parts : List Datum) (s : Declarations) (fr
   declared_apart Command = binds (anything (parse_command w at parts)) λ d x. gives unchanged
   declared_apart Translator = binds (anything (parse_translator w kind.Object at parts)) λ d x. gives unchanged
   declared_apart CommandTranslator = binds (anything (parse_translator w kind.Command at parts)) λ d x. gives unchanged
+  declared_apart Dialog = binds (anything (parse_dialog w at parts)) λ d x. gives unchanged
   declared_apart Frame = binds (anything (parse_frame w at parts)) λ d x. gives unchanged
 
   kind_apart : (k : OuterKind) → Ends (Apart to) (parse_kind w k at parts s)

@@ -10,7 +10,7 @@ use Rattle.cl_forms.specs.Datum.{Datum}
 use Rattle.cl_forms.specs.Outer.{Outer, outers_of}
 use Rattle.cl_forms.specs.declared.outer.DeclarationKind.{DeclarationKind}
 use Rattle.cl_forms.specs.declared.outer.DeclarationKind.TheVariants.{Record, PresentationType, HostType, PresentMethod, AcceptMethod, Function, Display, CommandTable, Command}
-use Rattle.cl_forms.specs.declared.outer.DeclarationKind.TheVariants.{Translator, CommandTranslator, Frame}
+use Rattle.cl_forms.specs.declared.outer.DeclarationKind.TheVariants.{Translator, CommandTranslator, Dialog, Frame}
 use Rattle.cl_forms.specs.declared.outer.OuterKind.{OuterKind}
 use Rattle.cl_forms.specs.declared.outer.OuterKind.TheVariants.{Declared, Planned, Unknown, Headless}
 use Rattle.cl_words.specs.Signatures.{signatures_of}
@@ -20,6 +20,7 @@ use Rattle.cl_declare.specs.Callees.{parse_display, parse_function, parse_record
 use Rattle.cl_declare.specs.CommandTables.{parse_table}
 use Rattle.cl_declare.specs.Commands.{parse_command}
 use Rattle.cl_declare.specs.Declarations.{nothing_declared, parse_declaration, parse_declarations, parse_declared, parse_each_declaration, parse_kind}
+use Rattle.cl_declare.specs.Dialogs.{parse_dialog}
 use Rattle.cl_declare.specs.Methods.{parse_method}
 use Rattle.cl_declare.specs.Sections.{parse_frame}
 use Rattle.cl_declare.specs.Translators.{parse_translator}
@@ -69,6 +70,7 @@ declared-kept w CommandTable at ds s own notes = after-kept (parse_table w at ds
 declared-kept w Command at ds s own notes = after-kept (parse_command w at ds notes) _ (λ d later. own)
 declared-kept w Translator at ds s own notes = after-kept (parse_translator w translator.Object at ds notes) _ (λ d later. own)
 declared-kept w CommandTranslator at ds s own notes = after-kept (parse_translator w translator.Command at ds notes) _ (λ d later. own)
+declared-kept w Dialog at ds s own notes = after-kept (parse_dialog w at ds notes) _ (λ d later. own)
 declared-kept w Frame at ds s own notes = after-kept (parse_frame w at ds notes) _ (λ d later. own)
 
 kind-kept : (w : Signatures) (k : OuterKind) (at : ℕ) (ds : List Datum) (s : Declarations) → AreOwned s.types → (notes : Notes)

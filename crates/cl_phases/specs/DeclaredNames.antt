@@ -4,7 +4,7 @@ use denote.Enum.Bare.{sameb}
 use Rattle.cl_forms.specs.Datum.{Datum, number, literal, word, quoted, stray, list, parts_of}
 use Rattle.cl_forms.specs.Outer.{Outer}
 use Rattle.cl_forms.specs.declared.outer.DeclarationKind.{DeclarationKind}
-use Rattle.cl_forms.specs.declared.outer.DeclarationKind.TheVariants.{Record, PresentationType, HostType, PresentMethod, AcceptMethod, Function, Display, CommandTable, Command, Translator, CommandTranslator, Frame}
+use Rattle.cl_forms.specs.declared.outer.DeclarationKind.TheVariants.{Record, PresentationType, HostType, PresentMethod, AcceptMethod, Function, Display, CommandTable, Command, Translator, CommandTranslator, Dialog, Frame}
 use Rattle.cl_forms.specs.declared.outer.OuterKind.{OuterKind}
 use Rattle.cl_forms.specs.declared.outer.OuterKind.TheVariants.{Declared, Planned, Unknown, Headless}
 use Rattle.cl_words.specs.TypeNames.{is_standard_type}
@@ -51,6 +51,7 @@ space_of CommandTable = space.Tables
 space_of Command = space.Commands
 space_of Translator = space.Translators
 space_of CommandTranslator = space.Translators
+space_of Dialog = space.Dialogs
 space_of Frame = space.Frames
 
 -- a form of this kind declares a name in a space
@@ -69,6 +70,7 @@ is_reserved space.AcceptMethods name = false
 is_reserved space.Tables name = is_global_table name
 is_reserved space.Commands name = false
 is_reserved space.Translators name = false
+is_reserved space.Dialogs name = false
 is_reserved space.Frames name = false
 
 -- the name of a form

@@ -3,9 +3,9 @@ use Rattle.std.specs.Prelude.{ℕ, nat_lt, List, [], ◌∷◌, length, slice_ge
 use Rattle.cl_forms.specs.Datum.{Datum, Datums, number, literal, word, quoted, stray, list, none, item, datums_of, offset, parts_of}
 use Rattle.cl_forms.specs.Keys.{section_values}
 use Rattle.cl_forms.specs.declared.keys.Key.TheVariants.{Slots, Panes, Name}
-use Rattle.cl_forms.specs.Outer.{Outer, behind_name, outer_in}
+use Rattle.cl_forms.specs.Outer.{Outer, behind_first, behind_name, outer_in}
 use Rattle.cl_forms.specs.declared.outer.DeclarationKind.{DeclarationKind}
-use Rattle.cl_forms.specs.declared.outer.DeclarationKind.TheVariants.{Record, PresentationType, HostType, PresentMethod, AcceptMethod, Function, Display, CommandTable, Command, Translator, CommandTranslator, Frame}
+use Rattle.cl_forms.specs.declared.outer.DeclarationKind.TheVariants.{Record, PresentationType, HostType, PresentMethod, AcceptMethod, Function, Display, CommandTable, Command, Translator, CommandTranslator, Dialog, Frame}
 use Rattle.cl_forms.specs.declared.outer.OuterKind.{OuterKind}
 use Rattle.cl_forms.specs.declared.outer.OuterKind.TheVariants.{Declared, Planned, Unknown, Headless}
 use Rattle.cl_phases.specs.CommandNames.{head_value}
@@ -46,6 +46,10 @@ abbrev pub past_sections : List Datum → Option ℕ
 past_sections [] = None
 past_sections (d ∷ ds) = earlier (past_section d) (past_sections ds)
 
+-- a dialog has at most 16 queries, which stand behind its name and its keys
+abbrev pub past_queries : List Datum → Option ℕ
+past_queries more = past 16 (behind_first more)
+
 -- a record has at most 16 fields
 abbrev pub past_kind : DeclarationKind → List Datum → Option ℕ
 past_kind Record more = past 16 more
@@ -59,6 +63,7 @@ past_kind CommandTable more = None
 past_kind Command more = past_parameters more
 past_kind Translator more = None
 past_kind CommandTranslator more = None
+past_kind Dialog more = past_queries more
 past_kind Frame more = past_sections more
 
 abbrev pub past_outer : OuterKind → List Datum → Option ℕ

@@ -1,4 +1,4 @@
--- Opening values, defaults and functions that read a slot, in the evaluator's words for what an expression reads.
+-- Opening values, defaults, what stands for queries that are not shown and functions that read a slot, in the evaluator's words for what an expression reads.
 use Rattle.std.specs.Prelude.{◌≡◌, ◌⊎◌, ℕ, zero, suc, Bool, true, false, List, [], ◌∷◌, Option, Some, None}
 use Rattle.cl_syntax.specs.ExprTree.{ExprTree}
 use Rattle.cl_syntax.specs.declared.callees.Callee.{Callee}
@@ -6,8 +6,10 @@ use Rattle.cl_syntax.specs.declared.callees.Callee.TheVariants as callee
 use Rattle.cl_syntax.specs.declared.paths.Path.{Path}
 use Rattle.cl_table.specs.Names.{named}
 use Rattle.cl_application.specs.declared.declarations.ArgumentDecl.{ArgumentDecl}
+use Rattle.cl_application.specs.declared.declarations.ConditionDecl.{ConditionDecl}
 use Rattle.cl_application.specs.declared.declarations.DefaultDecl.{DefaultDecl}
 use Rattle.cl_application.specs.declared.declarations.FunctionDecl.{FunctionDecl}
+use Rattle.cl_application.specs.declared.declarations.QueryDecl.{QueryDecl}
 use Rattle.cl_application.specs.declared.declarations.SlotDecl.{SlotDecl}
 use Rattle.cl_eval.specs.ReadPaths.{InFunction, IsSlot, Reads}
 
@@ -51,6 +53,15 @@ DefaultReads fs (Some d) = ReadsSlot fs d.value
 -- one of the defaults of these arguments reads a slot
 abbrev pub DefaultsRead : Functions → List (List ℕ × ArgumentDecl) → Type 0
 DefaultsRead fs arguments = OneHas (λ a. DefaultReads fs a.default) arguments
+
+-- the `:else` of a condition that may be there reads a slot
+abbrev pub ElseReads : Functions → Option ConditionDecl → Type 0
+ElseReads fs None = ⊥
+ElseReads fs (Some c) = ReadsSlot fs c.otherwise
+
+-- one of those of these queries reads a slot
+abbrev pub ElsesRead : Functions → List (List ℕ × QueryDecl) → Type 0
+ElsesRead fs queries = OneHas (λ q. ElseReads fs q.condition) queries
 
 -- the function of this name reads a slot
 pub record FunctionReads (fs : Functions) (x : List ℕ) : Type 0 where

@@ -5,7 +5,7 @@ use Rattle.cl_forms.specs.Keys.{section_values}
 use Rattle.cl_forms.specs.declared.keys.Key.TheVariants.{Slots, Panes}
 use Rattle.cl_forms.specs.Outer.{Outer, behind_name}
 use Rattle.cl_forms.specs.declared.outer.DeclarationKind.{DeclarationKind}
-use Rattle.cl_forms.specs.declared.outer.DeclarationKind.TheVariants.{Record, PresentationType, HostType, PresentMethod, AcceptMethod, Function, Display, CommandTable, Command, Translator, CommandTranslator, Frame}
+use Rattle.cl_forms.specs.declared.outer.DeclarationKind.TheVariants.{Record, PresentationType, HostType, PresentMethod, AcceptMethod, Function, Display, CommandTable, Command, Translator, CommandTranslator, Dialog, Frame}
 use Rattle.cl_forms.specs.declared.outer.OuterKind.{OuterKind}
 use Rattle.cl_forms.specs.declared.outer.OuterKind.TheVariants.{Declared, Planned, Unknown, Headless}
 use Rattle.cl_phases.specs.Earlier.{earlier, at_if}
@@ -14,7 +14,7 @@ use Rattle.cl_phases.specs.CommandNames.{lines_in, strokes_in}
 use Rattle.cl_phases.specs.DeclaredNames.{names_at, declared_in, is_reserved}
 use Rattle.cl_phases.specs.declared.repeats.NameAt.{NameAt}
 use Rattle.cl_phases.specs.declared.declared_names.Space.{Space}
-use Rattle.cl_phases.specs.declared.declared_names.Space.TheVariants.{Callees, Types, PresentMethods, AcceptMethods, Tables, Commands, Translators, Frames}
+use Rattle.cl_phases.specs.declared.declared_names.Space.TheVariants.{Callees, Types, PresentMethods, AcceptMethods, Tables, Commands, Translators, Dialogs, Frames}
 
 -- ---- among the outermost forms
 
@@ -53,6 +53,7 @@ parts_twice CommandTable more = None
 parts_twice Command more = parameters_twice more
 parts_twice Translator more = None
 parts_twice CommandTranslator more = None
+parts_twice Dialog more = None
 parts_twice Frame more = sections_twice more
 
 abbrev pub outer_twice : OuterKind → List Datum → Option ℕ
@@ -85,7 +86,7 @@ abbrev pub tables_twice : List Outer → Option ℕ
 tables_twice os = earlier (twice_in Tables os) (commands_twice os)
 
 abbrev pub spaces_twice : List Outer → Option ℕ
-spaces_twice os = earlier (earlier (twice_in Callees os) (types_twice os)) (earlier (tables_twice os) (earlier (twice_in Translators os) (twice_in Frames os)))
+spaces_twice os = earlier (earlier (twice_in Callees os) (types_twice os)) (earlier (tables_twice os) (earlier (twice_in Translators os) (earlier (twice_in Dialogs os) (twice_in Frames os))))
 
 abbrev pub first_twice : List Outer → Option ℕ
 first_twice os = earlier (spaces_twice os) (declarations_twice os)

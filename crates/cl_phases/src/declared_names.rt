@@ -23,6 +23,7 @@ pub enum Space {
     Commands,
     /// Translators of both kinds.
     Translators,
+    Dialogs,
     Frames,
 }
 
@@ -48,6 +49,7 @@ fn space_of(kind: DeclarationKind) -> Space
         DeclarationKind::Command => Space::Commands,
         DeclarationKind::Translator => Space::Translators,
         DeclarationKind::CommandTranslator => Space::Translators,
+        DeclarationKind::Dialog => Space::Dialogs,
         DeclarationKind::Frame => Space::Frames,
     }
 }
@@ -76,6 +78,7 @@ pub fn is_reserved(space: Space, name: &[u8]) -> bool
         Space::Tables => is_global_table(name),
         Space::Commands => false,
         Space::Translators => false,
+        Space::Dialogs => false,
         Space::Frames => false,
     }
 }

@@ -7,6 +7,7 @@ mod laws;
 mod limits;
 mod offsets;
 mod repeats;
+mod slot_names;
 mod slot_reads;
 mod twice;
 

@@ -4,11 +4,13 @@ ghost use Rattle.cl_forms.specs.Datum.{datums_of};
 ghost use Rattle.cl_forms.specs.DatumView.{datum_of};
 ghost use Rattle.cl_forms.specs.Outer.{behind_name};
 ghost use Rattle.cl_forms.specs.OuterView.{outer_of};
-ghost use Rattle.cl_phases.specs.Limits.{first_past, long_among, long_in, long_line, past, past_declaration, past_declarations, past_kind, past_line, past_outer, past_parameters, past_section, past_sections};
+ghost use Rattle.cl_phases.specs.Limits.{first_past, long_among, long_in, long_line, past, past_declaration, past_declarations, past_kind, past_line, past_outer, past_parameters, past_queries, past_section, past_sections};
 
 use crate::command_names::head_value;
 use crate::offsets::{at_if, earlier};
-use cl_forms::{Datum, DeclarationKind, Key, Outer, OuterKind, outer_in, section_values};
+use cl_forms::{
+    Datum, DeclarationKind, Key, Outer, OuterKind, behind_first, outer_in, section_values,
+};
 
 /// The most bytes of a symbol.
 const LONGEST_SYMBOL: usize = 64;
@@ -18,8 +20,8 @@ const LONGEST_LINE: usize = 64;
 const LONGEST_TEXT: usize = 4_096;
 /// The most outermost forms.
 const MOST_FORMS: usize = 4_096;
-/// The most fields of a record, the most parameters of a user type, a function or a display, and the most
-/// arguments of a command.
+/// The most fields of a record, the most parameters of a user type, a function or a display, the most
+/// arguments of a command and the most queries of a dialog.
 const MOST_NAMES: usize = 16;
 /// The most slots of a frame.
 const MOST_SLOTS: usize = 256;
@@ -27,7 +29,7 @@ const MOST_SLOTS: usize = 256;
 const MOST_PANES: usize = 16;
 
 /// The least offset of what is past a limit: a symbol, a text or a command-line name that is too long, and
-/// the first form, field, parameter, argument, slot or pane that is one too many.
+/// the first form, field, parameter, argument, query, slot or pane that is one too many.
 pub fn first_past(forms: &[Datum]) -> Option<u32>
     ensures { result ≡ first_past (map datum_of forms.now) }
 {
@@ -142,6 +144,7 @@ fn past_kind(kind: DeclarationKind, more: &[Datum]) -> Option<u32>
         DeclarationKind::Command => past_parameters(more),
         DeclarationKind::Translator => None,
         DeclarationKind::CommandTranslator => None,
+        DeclarationKind::Dialog => past_queries(more),
         DeclarationKind::Frame => past_sections(more),
     }
 }
@@ -153,6 +156,13 @@ fn past_parameters(more: &[Datum]) -> Option<u32>
         [] => None,
         [parameters, ..] => past(MOST_NAMES, parameters.parts()),
     }
+}
+
+/// The queries of a dialog stand behind its name and its keys.
+fn past_queries(more: &[Datum]) -> Option<u32>
+    ensures { result ≡ past_queries (map datum_of more.now) }
+{
+    past(MOST_NAMES, behind_first(more))
 }
 
 #[tactic(auto, using(crate::proofs::EarlierLemmas::earlier_assoc, crate::proofs::EarlierLemmas::earlier_none))]

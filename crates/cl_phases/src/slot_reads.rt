@@ -1,12 +1,15 @@
-//! Whether opening values, defaults of arguments and predicates read a slot, through calls too.
-ghost use Rattle.std.specs.Prelude.{◌≡◌, ◌↔◌, ◌++◌, IfOk, IsTrue, OnOk, option_map};
-ghost use Rattle.cl_syntax.specs.ExprTree.{expr_trees_of};
-ghost use Rattle.cl_syntax.specs.Expr.{bindings_of};
-ghost use Rattle.cl_phases.specs.SlotReads.{DefaultReads, DefaultsRead, FunctionReads, ReadsSlot, Tells};
-ghost use Rattle.cl_phases.specs.SlotSearch.{AreClear, StaysClear, body_at, calls, calls_among, calls_bound, names_slot, names_slot_among, names_slot_bound, with_call, with_calls};
+//! Whether opening values, defaults of arguments, what stands for queries that are not shown and predicates read a
+//! slot, through calls too.
+ghost use Rattle.std.specs.Prelude.{◌≡◌, ◌↔◌, IfOk, IsTrue, OnOk, option_map};
+ghost use Rattle.cl_phases.specs.SlotReads.{DefaultReads, DefaultsRead, ElseReads, ElsesRead, FunctionReads, ReadsSlot, Tells};
+ghost use Rattle.cl_phases.specs.SlotSearch.{AreClear, StaysClear, body_at, calls, with_call, with_calls};
 
-use cl_application::{ArgumentDecl, ArgumentDecls, CommandDecl, Functions, SlotDecls};
-use cl_syntax::{Binding, Expr, ExprKind};
+use crate::slot_names::{add_calls, names_slot};
+use cl_application::{
+    ArgumentDecl, ArgumentDecls, CommandDecl, DialogDecl, Functions, QueryDecl, QueryDecls,
+    SlotDecls,
+};
+use cl_syntax::Expr;
 use cl_table::{Declared, Names, Table};
 use cl_value::Text;
 use std::alloc::{AllocError, Global};
@@ -87,6 +90,20 @@ impl<'a> SlotSearch<'a> {
     {
         let mut reached = mem::replace(&mut self.reached, Table::new(self.alloc));
         if defaults_read_slot(self.alloc, self.functions, &command.arguments, &mut reached)? {
+            return Ok(true);
+        }
+        self.reached = reached;
+        Ok(false)
+    }
+
+    /// Whether an `:else` of the dialog's queries reads a slot: one stands in it, or in the body of a function
+    /// that is reached from it through calls.
+    pub fn dialog_reads_slot(&mut self, dialog: &DialogDecl) -> Result<bool, AllocError>
+        ensures reads { IfOk result (λ b. IsTrue b ↔ ElsesRead self.old dialog.now.queries) }
+        ensures same { self.new ≡ self.old }
+    {
+        let mut reached = mem::replace(&mut self.reached, Table::new(self.alloc));
+        if elses_read_slot(self.alloc, self.functions, &dialog.queries, &mut reached)? {
             return Ok(true);
         }
         self.reached = reached;
@@ -190,6 +207,47 @@ fn default_reads_slot(
     }
 }
 
+/// Whether an `:else` of these queries reads a slot. What was reached before reads none and is not looked at
+/// again.
+fn elses_read_slot(
+    alloc: Global,
+    functions: &Functions,
+    queries: &QueryDecls,
+    reached: &mut Table<Reached>,
+) -> Result<bool, AllocError>
+    requires { AreClear functions.now reached.old }
+    ensures reads { IfOk result (λ b. IsTrue b ↔ ElsesRead functions.now queries.now) }
+    ensures clear { IfOk result (StaysClear functions.now reached.new) }
+{
+    for place in 0..queries.len() {
+        let Some(query) = queries.at(place) else {
+            unreachable!()
+        };
+        if else_reads_slot(alloc, functions, query, reached)? {
+            return Ok(true);
+        }
+    }
+    Ok(false)
+}
+
+/// Whether the `:else` of a query, if it has one, reads a slot. What was reached before reads none and is not
+/// looked at again.
+fn else_reads_slot(
+    alloc: Global,
+    functions: &Functions,
+    query: &QueryDecl,
+    reached: &mut Table<Reached>,
+) -> Result<bool, AllocError>
+    requires { AreClear functions.now reached.old }
+    ensures reads { IfOk result (λ b. IsTrue b ↔ ElseReads functions.now query.now.condition) }
+    ensures clear { IfOk result (StaysClear functions.now reached.new) }
+{
+    match &query.condition {
+        Some(condition) => reads_slot(alloc, functions, &condition.otherwise, reached),
+        None => Ok(false),
+    }
+}
+
 /// Whether the expression reads a slot. What was reached before reads none and is not looked at again.
 fn reads_slot(
     alloc: Global,
@@ -261,118 +319,4 @@ fn add_reached(
     }
     let name = name.copy()?;
     reached.add_first(Reached { name })
-}
-
-/// Whether a slot stands in the expression.
-#[cycle(names_slot)]
-fn names_slot(expr: &Expr) -> bool
-    ensures { result ≡ names_slot expr.now }
-{
-    match &expr.kind {
-        ExprKind::Constant(_) => false,
-        ExprKind::Variable(_) => false,
-        ExprKind::Slot(_) => true,
-        ExprKind::If(choice) => {
-            names_slot(&choice.test) || names_slot(&choice.then) || names_slot(&choice.other)
-        }
-        ExprKind::Let(bindings, body) => names_slot_bound(bindings) || names_slot(body),
-        ExprKind::And(parts) => names_slot_among(parts),
-        ExprKind::Or(parts) => names_slot_among(parts),
-        ExprKind::Map(each) => names_slot(&each.list) || names_slot(&each.body),
-        ExprKind::Filter(each) => names_slot(&each.list) || names_slot(&each.body),
-        ExprKind::Fold(fold) => {
-            names_slot(&fold.list) || names_slot(&fold.opening) || names_slot(&fold.body)
-        }
-        ExprKind::Operation(_, parts) => names_slot_among(parts),
-        ExprKind::Call(_, parts) => names_slot_among(parts),
-    }
-}
-
-#[cycle(names_slot)]
-#[tactic(auto, using(crate::proofs::Parts::part_nodes))]
-fn names_slot_among(parts: &[Expr]) -> bool
-    ensures { result ≡ names_slot_among (expr_trees_of parts.now) }
-{
-    for part in parts {
-        if names_slot(part) {
-            return true;
-        }
-    }
-    false
-}
-
-#[cycle(names_slot)]
-#[tactic(auto, using(crate::proofs::Parts::binding_nodes))]
-fn names_slot_bound(bindings: &[Binding]) -> bool
-    ensures { result ≡ names_slot_bound (bindings_of bindings.now) }
-{
-    for binding in bindings {
-        if names_slot(&binding.value) {
-            return true;
-        }
-    }
-    false
-}
-
-/// Adds the names of the functions that an expression calls.
-#[cycle(add_calls)]
-fn add_calls(expr: &Expr, names: &mut Names) -> Result<(), AllocError>
-    ensures { OnOk result (names.new ≡ names.old ++ calls expr.now) }
-{
-    match &expr.kind {
-        ExprKind::Constant(_) => Ok(()),
-        ExprKind::Variable(_) => Ok(()),
-        ExprKind::Slot(_) => Ok(()),
-        ExprKind::If(choice) => {
-            add_calls(&choice.test, names)?;
-            add_calls(&choice.then, names)?;
-            add_calls(&choice.other, names)
-        }
-        ExprKind::Let(bindings, body) => {
-            add_calls_bound(bindings, names)?;
-            add_calls(body, names)
-        }
-        ExprKind::And(parts) => add_calls_among(parts, names),
-        ExprKind::Or(parts) => add_calls_among(parts, names),
-        ExprKind::Map(each) => {
-            add_calls(&each.list, names)?;
-            add_calls(&each.body, names)
-        }
-        ExprKind::Filter(each) => {
-            add_calls(&each.list, names)?;
-            add_calls(&each.body, names)
-        }
-        ExprKind::Fold(fold) => {
-            add_calls(&fold.list, names)?;
-            add_calls(&fold.opening, names)?;
-            add_calls(&fold.body, names)
-        }
-        ExprKind::Operation(_, parts) => add_calls_among(parts, names),
-        ExprKind::Call(name, parts) => {
-            names.push(name.copy()?)?;
-            add_calls_among(parts, names)
-        }
-    }
-}
-
-#[cycle(add_calls)]
-#[tactic(auto, using(crate::proofs::Parts::part_nodes))]
-fn add_calls_among(parts: &[Expr], names: &mut Names) -> Result<(), AllocError>
-    ensures { OnOk result (names.new ≡ names.old ++ calls_among (expr_trees_of parts.now)) }
-{
-    for part in parts {
-        add_calls(part, names)?;
-    }
-    Ok(())
-}
-
-#[cycle(add_calls)]
-#[tactic(auto, using(crate::proofs::Parts::binding_nodes))]
-fn add_calls_bound(bindings: &[Binding], names: &mut Names) -> Result<(), AllocError>
-    ensures { OnOk result (names.new ≡ names.old ++ calls_bound (bindings_of bindings.now)) }
-{
-    for binding in bindings {
-        add_calls(&binding.value, names)?;
-    }
-    Ok(())
 }

@@ -31,10 +31,11 @@ fn spaces_twice(alloc: Global, outers: &[Outer<'_>]) -> Result<Option<u32>, Allo
     let types = types_twice(alloc, outers)?;
     let tables = tables_twice(alloc, outers)?;
     let translators = space_twice(alloc, Space::Translators, outers)?;
+    let dialogs = space_twice(alloc, Space::Dialogs, outers)?;
     let frames = space_twice(alloc, Space::Frames, outers)?;
     Ok(earlier(
         earlier(callees, types),
-        earlier(tables, earlier(translators, frames)),
+        earlier(tables, earlier(translators, earlier(dialogs, frames))),
     ))
 }
 
@@ -131,6 +132,7 @@ fn parts_twice(
         DeclarationKind::Command => parameters_twice(alloc, more),
         DeclarationKind::Translator => Ok(None),
         DeclarationKind::CommandTranslator => Ok(None),
+        DeclarationKind::Dialog => Ok(None),
         DeclarationKind::Frame => sections_twice(alloc, more),
     }
 }

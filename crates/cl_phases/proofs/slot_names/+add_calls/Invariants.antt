@@ -2,7 +2,7 @@ use Rattle.std.proofs.Common.{◌≡◌, ◌+◌, ◌*◌, ◌++◌, drop}
 use Rattle.cl_syntax.specs.ExprTree.{nodes, nodes_all, nodes_bound, expr_trees_of}
 use Rattle.cl_syntax.specs.Expr.{bindings_of}
 use Rattle.cl_phases.specs.SlotSearch.{calls_among, calls_bound}
-use Rattle.cl_phases.proofs.slot_reads.+add_calls.Given as goal
+use Rattle.cl_phases.proofs.slot_names.+add_calls.Given as goal
 
 abbrev pub decreases-add_calls : goal.decreases-add_calls
 decreases-add_calls l = 2 * nodes l.expr.now

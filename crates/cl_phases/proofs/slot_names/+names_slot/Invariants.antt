@@ -2,7 +2,7 @@ use Rattle.std.proofs.Common.{◌≡◌, ◌+◌, ◌*◌, drop}
 use Rattle.cl_syntax.specs.ExprTree.{nodes, nodes_all, nodes_bound, expr_trees_of}
 use Rattle.cl_syntax.specs.Expr.{bindings_of}
 use Rattle.cl_phases.specs.SlotSearch.{names_slot_among, names_slot_bound}
-use Rattle.cl_phases.proofs.slot_reads.+names_slot.Given as goal
+use Rattle.cl_phases.proofs.slot_names.+names_slot.Given as goal
 
 abbrev pub decreases-names_slot : goal.decreases-names_slot
 decreases-names_slot l = 2 * nodes l.expr.now
