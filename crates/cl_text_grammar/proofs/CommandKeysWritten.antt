@@ -82,6 +82,10 @@ module _ (h : ℕ) (v : Datum) (so_far ks : List Keyed) (ds : List Datum) (rest 
   key_written key.Tester i a = absurd (false_true i)
   key_written key.UniqueId i a = absurd (false_true i)
   key_written key.CacheValue i a = absurd (false_true i)
+  key_written key.Command i a = absurd (false_true i)
+  key_written key.Pane i a = absurd (false_true i)
+  key_written key.When i a = absurd (false_true i)
+  key_written key.Else i a = absurd (false_true i)
 
 pair_written : (d v : Datum) (k : Keyed) (so_far ks : List Keyed) (ds : List Datum) → IsPair command_keys k d v → AllWritten ks ds → StandApart so_far (k ∷ ks)
     → AllWritten (k ∷ ks) (d ∷ v ∷ ds)
@@ -195,6 +199,10 @@ module _ (h : ℕ) (v : Datum) (so_far ks : List Keyed) (ds : List Datum) (rest 
   argument_key_written key.Tester i a = absurd (false_true i)
   argument_key_written key.UniqueId i a = absurd (false_true i)
   argument_key_written key.CacheValue i a = absurd (false_true i)
+  argument_key_written key.Command i a = absurd (false_true i)
+  argument_key_written key.Pane i a = absurd (false_true i)
+  argument_key_written key.When i a = absurd (false_true i)
+  argument_key_written key.Else i a = absurd (false_true i)
 
 argument_pair_written : (d v : Datum) (k : Keyed) (so_far ks : List Keyed) (ds : List Datum) → IsPair argument_keys k d v → ArgumentKeysWritten ks ds
     → StandApart so_far (k ∷ ks) → ArgumentKeysWritten (k ∷ ks) (d ∷ v ∷ ds)

@@ -87,6 +87,10 @@ module _ (w : Signatures) where
     key_ends key.Tester key_at v ks ds i j a = absurd (false_true i)
     key_ends key.UniqueId key_at v ks ds i j a = absurd (false_true i)
     key_ends key.CacheValue key_at v ks ds i j a = absurd (false_true i)
+    key_ends key.Command key_at v ks ds i j a = absurd (false_true i)
+    key_ends key.Pane key_at v ks ds i j a = absurd (false_true i)
+    key_ends key.When key_at v ks ds i j a = absurd (false_true i)
+    key_ends key.Else key_at v ks ds i j a = absurd (false_true i)
 
     pair_ends : (d v : Datum) (k : Keyed) (ks : List Keyed) (ds : List Datum) → IsPair table_keys k d v → ArePairs table_keys ks ds → StandApart [] (k ∷ ks)
         → TableEnds h at (n ∷ d ∷ v ∷ ds) (parse_inheriting w at x (values_of key.InheritFrom (k ∷ ks)))

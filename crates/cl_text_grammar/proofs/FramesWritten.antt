@@ -287,21 +287,7 @@ module _ (w : Signatures) (names : CallsNames w) where
     key_ends key.Slots i a = slots_section a
     key_ends key.Panes i a = panes_section a
     key_ends key.CommandTable i a = table_section a
-    key_ends key.Name i a = absurd (false_true i)
-    key_ends key.Keystroke i a = absurd (false_true i)
-    key_ends key.InheritFrom i a = absurd (false_true i)
-    key_ends key.Satisfies i a = absurd (false_true i)
-    key_ends key.Description i a = absurd (false_true i)
-    key_ends key.Separator i a = absurd (false_true i)
-    key_ends key.SingleBox i a = absurd (false_true i)
-    key_ends key.Default i a = absurd (false_true i)
-    key_ends key.Prompt i a = absurd (false_true i)
-    key_ends key.Gesture i a = absurd (false_true i)
-    key_ends key.Priority i a = absurd (false_true i)
-    key_ends key.Documentation i a = absurd (false_true i)
-    key_ends key.Tester i a = absurd (false_true i)
-    key_ends key.UniqueId i a = absurd (false_true i)
-    key_ends key.CacheValue i a = absurd (false_true i)
+    key_ends k i a = absurd (false_true i)
 
   section_ends : (d : Datum) (k : Keyed) (so_far ks : List Keyed) (ds : List Datum) → IsSection frame_keys k d → AllRead ks ds → StandApart so_far (k ∷ ks)
       → AllRead (k ∷ ks) (d ∷ ds)

@@ -20,6 +20,8 @@ pub mod CommandKeysWritten
 pub mod CommandsWritten
 pub mod TranslatorKeysWritten
 pub mod TranslatorsWritten
+pub mod DialogKeysWritten
+pub mod DialogsWritten
 pub mod TextWritten
 pub mod DisplaysNamed
 pub mod FormStands

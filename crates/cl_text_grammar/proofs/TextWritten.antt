@@ -18,7 +18,7 @@ use Rattle.cl_grammar.proofs.Endings.{Ends, gives, refuses, binds, ends_weaker}
 use Rattle.cl_grammar.proofs.Spelled.{Finds, word_is, of_some}
 use Rattle.cl_text_grammar.specs.Displays.{CallsDisplays}
 use Rattle.cl_text_grammar.specs.WritesDeclarations.{Declaration, of_record, of_user_type, of_host_type, of_present_method, of_accept_method, of_function, of_display}
-use Rattle.cl_text_grammar.specs.WritesDeclarations.{of_command_table, of_command, of_translator, of_frame, WritesDeclared, a_present_method, an_accept_method}
+use Rattle.cl_text_grammar.specs.WritesDeclarations.{of_command_table, of_command, of_translator, of_dialog, of_frame, WritesDeclared, a_present_method, an_accept_method}
 use Rattle.cl_text_grammar.specs.WritesDeclarations.{a_translator, a_command_translator, WritesDeclaration, a_declaration, nothing, one_more, with_declaration, with_declarations}
 use Rattle.cl_text_grammar.specs.WritesDeclarations.{IsDeclaredIn, TextDeclares}
 use Rattle.cl_grammar.proofs.Spelled as words
@@ -28,6 +28,7 @@ use Rattle.cl_text_grammar.proofs.FramesWritten.{frame_ends}
 use Rattle.cl_text_grammar.proofs.UserTypesWritten.{user_type_ends}
 use Rattle.cl_text_grammar.proofs.MethodsWritten.{host_type_ends, method_ends}
 use Rattle.cl_text_grammar.proofs.TranslatorsWritten.{translator_ends}
+use Rattle.cl_text_grammar.proofs.DialogsWritten.{dialog_ends}
 
 abbrev kind_word : DeclarationKind → List ℕ
 kind_word kind.Record = codes "define-record"
@@ -41,6 +42,7 @@ kind_word kind.CommandTable = codes "define-command-table"
 kind_word kind.Command = codes "define-command"
 kind_word kind.Translator = codes "define-presentation-translator"
 kind_word kind.CommandTranslator = codes "define-presentation-to-command-translator"
+kind_word kind.Dialog = codes "define-dialog"
 kind_word kind.Frame = codes "define-application-frame"
 
 type_words : (x : List ℕ) → Finds (λ k. x ≡ kind_word k) (type_declared x)
@@ -55,7 +57,7 @@ other_words x =
     (word_is kind.CommandTable x (codes "define-command-table") (λ e. e) (word_is kind.Command x (codes "define-command") (λ e. e)
     (word_is kind.Translator x (codes "define-presentation-translator") (λ e. e)
     (word_is kind.CommandTranslator x (codes "define-presentation-to-command-translator") (λ e. e)
-    (word_is kind.Frame x (codes "define-application-frame") (λ e. e) words.nothing))))))
+    (word_is kind.Dialog x (codes "define-dialog") (λ e. e) (word_is kind.Frame x (codes "define-application-frame") (λ e. e) words.nothing)))))))
 
 either_kind : {P : DeclarationKind → Type 0} (o p : Option DeclarationKind) → Finds P o → Finds P p → Finds P (declared_or o p)
 either_kind (Some k) p h i = record { found = h.found }
@@ -89,6 +91,7 @@ module _ (w : Signatures) (names : CallsNames w) (displays : CallsDisplays w) wh
       binds (translator_ends w names Object at ds) λ d i. gives (record { declaration = of_translator d; added = refl; written = a_translator i })
   kind_ends kind.CommandTranslator h at ds s =
       binds (translator_ends w names Command at ds) λ d i. gives (record { declaration = of_translator d; added = refl; written = a_command_translator i })
+  kind_ends kind.Dialog h at ds s = binds (dialog_ends w names h at ds) λ d i. gives (record { declaration = of_dialog d; added = refl; written = i })
   kind_ends kind.Frame h at ds s = binds (frame_ends w names h at ds) λ d i. gives (record { declaration = of_frame d; added = refl; written = i })
 
   other_ends : (b : Bool) (h at : ℕ) (es ds : List Datum) (s : Declarations)

@@ -31,6 +31,10 @@ each_key P i c key.Gesture e = absurd (false_true e)
 each_key P i c key.Priority e = absurd (false_true e)
 each_key P i c key.Documentation e = absurd (false_true e)
 each_key P i c key.Tester e = absurd (false_true e)
+each_key P i c key.Command e = absurd (false_true e)
+each_key P i c key.Pane e = absurd (false_true e)
+each_key P i c key.When e = absurd (false_true e)
+each_key P i c key.Else e = absurd (false_true e)
 
 -- the keys stand in the data, each once at most, and what stands behind `:cache-value` is a list of paths
 pub record FittingKeys (ks : List Keyed) (ds : List Datum) : Type 0 where

@@ -153,6 +153,10 @@ module _ (w : Signatures) (ps : Names) where
     key_ends key.Tester i a = absurd (false_true i)
     key_ends key.UniqueId i a = absurd (false_true i)
     key_ends key.CacheValue i a = absurd (false_true i)
+    key_ends key.Command i a = absurd (false_true i)
+    key_ends key.Pane i a = absurd (false_true i)
+    key_ends key.When i a = absurd (false_true i)
+    key_ends key.Else i a = absurd (false_true i)
 
   pair_ends : (d v : Datum) (k : Keyed) (so_far ks : List Keyed) (ds : List Datum) → IsPair type_keys k d v → AllRead ks ds → StandApart so_far (k ∷ ks)
       → AllRead (k ∷ ks) (d ∷ v ∷ ds)

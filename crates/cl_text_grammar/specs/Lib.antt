@@ -13,4 +13,5 @@ pub mod WritesFrames
 pub mod WritesUserTypes
 pub mod WritesCommands
 pub mod WritesTranslators
+pub mod WritesDialogs
 pub mod WritesDeclarations

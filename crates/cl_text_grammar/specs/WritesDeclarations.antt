@@ -18,6 +18,8 @@ use Rattle.cl_application.specs.declared.declarations.DisplayDecl.{DisplayDecl}
 use Rattle.cl_application.specs.declared.declarations.ArgumentDecl.{ArgumentDecl}
 use Rattle.cl_application.specs.declared.declarations.CommandDecl.{CommandDecl}
 use Rattle.cl_application.specs.declared.declarations.TranslatorDecl.{TranslatorDecl}
+use Rattle.cl_application.specs.declared.declarations.DialogDecl.{DialogDecl}
+use Rattle.cl_application.specs.declared.declarations.QueryDecl.{QueryDecl}
 use Rattle.cl_application.specs.declared.declarations.SlotDecl.{SlotDecl}
 use Rattle.cl_tables.specs.declared.declarations.TableDecl.{TableDecl}
 use Rattle.cl_declare.specs.declared.declarations.Declarations.{Declarations}
@@ -38,6 +40,7 @@ use Rattle.cl_text_grammar.specs.WritesFrames.{WritesSections, slots_of}
 use Rattle.cl_text_grammar.specs.WritesUserTypes.{WritesTypeKeys}
 use Rattle.cl_text_grammar.specs.WritesCommands.{WritesCommandHead, WritesCommandArguments, with_arguments, WritesParents}
 use Rattle.cl_text_grammar.specs.WritesTranslators.{WritesTranslator}
+use Rattle.cl_text_grammar.specs.WritesDialogs.{WritesDialogKeys, WritesQueries, with_queries, AskFor}
 
 -- a method of a type, declared at this offset, writes what stands behind the head
 pub data WritesMethod (at : ℕ) : MethodDecl → List Datum → Type 0 where
@@ -57,6 +60,7 @@ pub data Declaration : Type 0 where
   of_command_table : TableDecl → Declaration
   of_command : CommandDecl → Declaration
   of_translator : TranslatorDecl → Declaration
+  of_dialog : DialogDecl → Declaration
   of_frame : FrameForm → Declaration
 
 -- a declaration at this offset writes the parts of a list
@@ -110,6 +114,11 @@ pub data WritesDeclared (w : Signatures) (at : ℕ) : Declaration → List Datum
   -- (define-presentation-to-command-translator NAME (FROM COMMAND KEY VALUE ...) (PARAMETER) BODY)
   a_command_translator : {t : TranslatorDecl} {ds : List Datum} {h : ℕ} → WritesTranslator w Command at t ds
       → WritesDeclared w at (of_translator t) (word (codes "define-presentation-to-command-translator") h ∷ ds)
+  -- (define-dialog NAME (:command COMMAND :pane PANE) QUERY ...)
+  a_dialog : {x c p : List ℕ} {qs : List QueryDecl} {n : Datum} {keys : Datums} {ds : List Datum} {keys_at h : ℕ} → name_in n ≡ Some x
+      → WritesDialogKeys (Some c) (Some p) (in_order keys) → WritesQueries qs ds → AskFor w c qs
+      → WritesDeclared w at (of_dialog (record { name = x; command = c; pane = p; queries = with_queries [] qs; at = at }))
+      (word (codes "define-dialog") h ∷ n ∷ list keys keys_at ∷ ds)
   -- (define-application-frame NAME SECTION ...): with the table that each text has where no other is named
   a_frame : {x : List ℕ} {z : Size} {ss : Option (List SlotDecl)} {ps : List PaneForm} {c : Option (List ℕ)} {n : Datum} {ds : List Datum} {h : ℕ}
       → name_in n ≡ Some x → WritesSections w (Some z) ss (Some ps) c ds
@@ -141,6 +150,7 @@ with_declaration s (of_display d) = record s { displays = with_first (λ e. e.na
 with_declaration s (of_command_table d) = record s { tables = with_first (λ e. e.name) s.tables d }
 with_declaration s (of_command d) = record s { commands = with_first (λ e. e.name) s.commands d }
 with_declaration s (of_translator d) = record s { translators = with_first (λ e. e.name) s.translators d }
+with_declaration s (of_dialog d) = record s { dialogs = with_first (λ e. e.name) s.dialogs d }
 with_declaration s (of_frame d) = record s { frames = s.frames ++ d ∷ [] }
 
 abbrev pub with_declarations : Declarations → List Declaration → Declarations
