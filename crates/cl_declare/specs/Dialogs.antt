@@ -1,5 +1,5 @@
 -- Dialogs, as forms declare them: the command, the pane and the conditions of the queries, in the order of the text.
-use Rattle.std.specs.Prelude.{ℕ, ◌&&◌, if◌then◌else◌, List, [], ◌∷◌, Option, Some, None}
+use Rattle.std.specs.Prelude.{ℕ, if◌then◌else◌, List, [], ◌∷◌, Option, Some, None}
 use Rattle.cl_application.specs.declared.declarations.ConditionDecl.{ConditionDecl}
 use Rattle.cl_application.specs.declared.declarations.DefaultDecl.{DefaultDecl}
 use Rattle.cl_application.specs.declared.declarations.DialogDecl.{DialogDecl}

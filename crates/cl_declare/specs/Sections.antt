@@ -64,6 +64,10 @@ parse_section w k slots = elim k.key [
   | key.Tester ↦ give slots
   | key.UniqueId ↦ give slots
   | key.CacheValue ↦ give slots
+  | key.Command ↦ give slots
+  | key.Pane ↦ give slots
+  | key.When ↦ give slots
+  | key.Else ↦ give slots
 ]
 
 abbrev pub parse_sections : Signatures → List Keyed → SlotTable → Load SlotTable

@@ -63,6 +63,10 @@ parse_translator_key w xs k t = elim k.key [
   | key.Documentation ↦ give t
   | key.UniqueId ↦ give t
   | key.CacheValue ↦ give t
+  | key.Command ↦ give t
+  | key.Pane ↦ give t
+  | key.When ↦ give t
+  | key.Else ↦ give t
 ]
 
 -- the tester, if there is one

@@ -56,6 +56,10 @@ parse_type_key w ps k i = elim k.key [
   | key.Tester ↦ give i
   | key.UniqueId ↦ give i
   | key.CacheValue ↦ give i
+  | key.Command ↦ give i
+  | key.Pane ↦ give i
+  | key.When ↦ give i
+  | key.Else ↦ give i
 ]
 
 abbrev pub parse_type_keys : Signatures → Names → List Keyed → Inherited → Load Inherited

@@ -46,7 +46,10 @@ pub fn dialog_shape(
         return Ok(None);
     };
     let names = first_symbols(reader.alloc, queries)?;
-    if !are_asked(reader.signatures.command_arguments(command.as_slice()), &names) {
+    if !are_asked(
+        reader.signatures.command_arguments(command.as_slice()),
+        &names,
+    ) {
         return Ok(None);
     }
     Ok(Some(DialogShape {

@@ -120,9 +120,14 @@ fn parse_all(
         (map datum_of queries.now) [] notes.old) }
 {
     let names = first_symbols(reader.alloc, queries)?;
-    let outside = reader.seeing(&Scope::Empty);
-    let variables = Scope::Names(names.as_slice(), outside.scope);
-    parse_queries(&outside.seeing(&variables), queries, notes)
+    let nothing = Scope::Empty;
+    let variables = Scope::Names(names.as_slice(), &nothing);
+    let inside = Reader {
+        alloc: reader.alloc,
+        signatures: reader.signatures,
+        scope: &variables,
+    };
+    parse_queries(&inside, queries, notes)
 }
 
 /// The queries, of two of one name the first, which see the variables of the reader. What is not declared is noted.

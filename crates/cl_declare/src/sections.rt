@@ -100,6 +100,10 @@ fn parse_section(
         Key::Tester => Ok(()),
         Key::UniqueId => Ok(()),
         Key::CacheValue => Ok(()),
+        Key::Command => Ok(()),
+        Key::Pane => Ok(()),
+        Key::When => Ok(()),
+        Key::Else => Ok(()),
     }
 }
 

@@ -164,6 +164,10 @@ fn parse_translator_key(
         Key::Documentation => Ok(()),
         Key::UniqueId => Ok(()),
         Key::CacheValue => Ok(()),
+        Key::Command => Ok(()),
+        Key::Pane => Ok(()),
+        Key::When => Ok(()),
+        Key::Else => Ok(()),
     }
 }
 

@@ -115,6 +115,10 @@ fn parse_type_key(
         Key::Tester => Ok(()),
         Key::UniqueId => Ok(()),
         Key::CacheValue => Ok(()),
+        Key::Command => Ok(()),
+        Key::Pane => Ok(()),
+        Key::When => Ok(()),
+        Key::Else => Ok(()),
     }
 }
 

@@ -10,7 +10,7 @@ ghost use Rattle.cl_value.specs.Value.{data_of};
 use crate::openings::opened_queries;
 use crate::variables::form_env;
 use cl_application::{App, DialogDecl};
-use cl_dialog_forms::form_name;
+use cl_dialog_forms::{argument_of, form_name};
 use cl_eval::Env;
 use cl_syntax::TypeSpec;
 use cl_value::{Text, Value};
@@ -133,8 +133,7 @@ impl Dialog {
     {
         let selected = self.selected.as_ref()?;
         let declared = app.dialog(self.name.as_slice())?;
-        let command = app.command(declared.command.as_slice())?;
-        match command.arguments.get(selected.as_slice()) {
+        match argument_of(app, declared, selected.as_slice()) {
             Some(argument) => Some(&argument.spec),
             None => None,
         }

@@ -5,9 +5,9 @@ ghost use Rattle.cl_dialog.specs.Held.{Exits, query_of};
 ghost use Rattle.cl_value.specs.Value.{data_of};
 
 use crate::dialogs::{Dialog, Query, copy_of};
-use crate::openings::query_at;
 use crate::variables::values_env;
 use cl_application::{App, DialogDecl, QueryDecl};
+use cl_dialog_forms::declared;
 use cl_eval::{Evaluated, Limits, Slots, eval};
 use cl_outside::own_steps;
 use cl_parser::closed_value;
@@ -39,7 +39,7 @@ impl Dialog {
     {
         let mut values = Values::new(alloc);
         for place in 0..dialog.queries.len() {
-            let query = query_at(&dialog.queries, place);
+            let query = declared(&dialog.queries, place);
             let Ok(given) = given(alloc, app, slots, self.queries(), query) else {
                 return Exit::Memory;
             };

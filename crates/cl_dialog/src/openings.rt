@@ -1,6 +1,5 @@
 //! How dialogs open.
-ghost use Rattle.std.specs.Prelude.{◌≡◌, ◌<◌, ◌+◌, ◌∷◌, IfOk, drop, length, map, option_map};
-ghost use Rattle.cl_application.specs.Panes.{declared_by};
+ghost use Rattle.std.specs.Prelude.{◌≡◌, IfOk, map, option_map};
 ghost use Rattle.cl_dialog.specs.Held.{query_of};
 ghost use Rattle.cl_dialog.specs.Opened.{opened_query, opening_value};
 ghost use Rattle.cl_dialog_forms.specs.Forms.{arguments_of, queries_of};
@@ -8,7 +7,8 @@ ghost use Rattle.cl_table.specs.Names.{named};
 ghost use Rattle.cl_value.specs.Value.{data_of};
 
 use crate::dialogs::Query;
-use cl_application::{App, DialogDecl, QueryDecl, QueryDecls};
+use cl_application::{App, DialogDecl, QueryDecl};
+use cl_dialog_forms::{argument_of, declared};
 use cl_parser::default_value;
 use cl_value::Value;
 use std::alloc::{AllocError, Global};
@@ -23,7 +23,7 @@ pub(crate) fn opened_queries(
 {
     let mut queries = Vec::new(alloc);
     for place in 0..dialog.queries.len() {
-        let query = query_at(&dialog.queries, place);
+        let query = declared(&dialog.queries, place);
         queries.push(opened_query(alloc, app, dialog, query)?)?;
     }
     Ok(queries)
@@ -53,23 +53,8 @@ fn opening_value(
 ) -> Result<Option<Value>, AllocError>
     ensures { IfOk result (λ o. option_map data_of o ≡ opening_value app.now (named name.now (arguments_of app.now dialog.now))) }
 {
-    let Some(command) = app.command(dialog.command.as_slice()) else {
-        return Ok(None);
-    };
-    match command.arguments.get(name) {
+    match argument_of(app, dialog, name) {
         Some(argument) => default_value(alloc, app, argument),
         None => Ok(None),
     }
-}
-
-/// The query in a place.
-#[tactic(auto, using(crate::proofs::QueryLemmas::query_here, crate::proofs::QueryLemmas::query_there))]
-pub(crate) fn query_at(queries: &QueryDecls, place: usize) -> &QueryDecl
-    requires { place < length queries.now }
-    ensures { map declared_by (drop place queries.now) ≡ result.now ∷ map declared_by (drop (place + 1) queries.now) }
-{
-    let Some(query) = queries.at(place) else {
-        unreachable!()
-    };
-    query
 }

@@ -1,9 +1,10 @@
 -- The paths that forms read as the expressions of a cache.
-use Rattle.std.specs.Prelude.{ℕ, Bool, true, false, if◌then◌else◌, List, [], ◌∷◌, ◌++◌}
+use Rattle.std.specs.Prelude.{ℕ, Bool, false, if◌then◌else◌, List, [], ◌∷◌, ◌++◌, map}
+use Rattle.std.specs.List.{list_any}
 use Rattle.cl_application.specs.declared.applications.App.{App}
 use Rattle.cl_cover.specs.Walk.{reads_of}
 use Rattle.cl_syntax.specs.ExprTree as expr
-use Rattle.cl_syntax.specs.ExprTree.{ExprTree, ExprTrees, none, part}
+use Rattle.cl_syntax.specs.ExprTree.{ExprTree, ExprTrees, expr_trees_of, none, part}
 use Rattle.cl_syntax.specs.Paths.{Along, is_prefix}
 use Rattle.cl_syntax.specs.ShapeTree.{ShapeTrees}
 use Rattle.cl_syntax.specs.declared.operators.Operator.TheVariants as operator
@@ -20,8 +21,7 @@ is_same p q = if is_prefix p q then is_prefix q p else false
 
 -- one of the paths is this one
 abbrev pub is_among : Path → List Path → Bool
-is_among p [] = false
-is_among p (q ∷ qs) = if is_same q p then true else is_among p qs
+is_among p qs = list_any (λ q. is_same q p) qs
 
 -- the path behind the others, where it is not among them
 abbrev pub with_path : List Path → Path → List Path
@@ -51,14 +51,10 @@ fields_taken t (f ∷ along) = fields_taken (field_taken t f) along
 abbrev pub path_expression : Path → ExprTree
 path_expression p = fields_taken (root_expression p.root) p.fields
 
-abbrev pub path_expressions : List Path → ExprTrees
-path_expressions [] = none
-path_expressions (p ∷ ps) = part (path_expression p) (path_expressions ps)
-
 -- the paths that forms read, each at its first place alone
 abbrev pub paths_once : App → ShapeTrees → List Path
 paths_once app fs = once_behind [] (reads_of app fs)
 
 -- the cache of an update with this body
 abbrev pub cache_of : App → ShapeTrees → ExprTrees
-cache_of app body = path_expressions (paths_once app body)
+cache_of app body = expr_trees_of (map path_expression (paths_once app body))

@@ -105,7 +105,7 @@ dialog_display app d = record { name = form_name d.name; parameters = parameters
 
 -- those of all dialogs, in order of declaration
 abbrev pub dialog_displays : App → List DisplayDecl
-dialog_displays app = map (λ e. dialog_display app (declared_by e)) app.dialogs
+dialog_displays app = map (dialog_display app) (map declared_by app.dialogs)
 
 abbrev pub own_name : DisplayDecl → List ℕ
 own_name d = d.name

@@ -5,6 +5,7 @@ use Rattle.cl_application.specs.declared.declarations.FrameDecl.{FrameDecl}
 use Rattle.cl_forms.specs.Datum.{Datum}
 use Rattle.cl_forms.specs.Outer.{outers_of}
 use Rattle.cl_expressions.specs.Load.{Fault, Notes}
+use Rattle.cl_dialog_forms.specs.Forms.{with_dialog_displays}
 use Rattle.cl_declare.specs.declared.declarations.Declarations.{Declarations}
 use Rattle.cl_declare.specs.declared.frames.FrameForm.{FrameForm}
 use Rattle.cl_phases.specs.Limits.{first_past}
@@ -39,8 +40,9 @@ abbrev pub no_place : List FrameForm → Option Fault
 no_place [] = None
 no_place (f ∷ more) = fault_in (place_frame f)
 
-abbrev pub app_of : Declarations → FrameDecl → App
-app_of s f = record {
+-- what is declared, with this frame
+abbrev pub declared_app : Declarations → FrameDecl → App
+declared_app s f = record {
   records = s.records;
   types = s.types;
   hosts = s.hosts;
@@ -54,6 +56,10 @@ app_of s f = record {
   dialogs = s.dialogs;
   frame = f;
 }
+
+-- the same with the forms of its dialogs behind its displays
+abbrev pub app_of : Declarations → FrameDecl → App
+app_of s f = with_dialog_displays (declared_app s f)
 
 abbrev pub app_placed : Declarations → Result FrameDecl Fault → Option App
 app_placed s (Ok f) = Some (app_of s f)

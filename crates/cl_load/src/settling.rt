@@ -1,7 +1,7 @@
 //! The frame of declarations, and the application that they make.
 ghost use Rattle.std.specs.Prelude.{◌≡◌, IfOk};
 ghost use Rattle.cl_application.specs.Panes.{IsPlaced};
-ghost use Rattle.cl_load.specs.Refusals.{app_of};
+ghost use Rattle.cl_load.specs.Refusals.{declared_app};
 ghost use Rattle.cl_load.specs.Settling.{FramesApp, Opens, OpensLast, Settles, TakesFrame};
 ghost use Rattle.cl_load.specs.Types.{declared_types};
 ghost use Rattle.cl_tables.specs.Rings.{HasNoRing};
@@ -14,6 +14,7 @@ use crate::readings::first_reading;
 use crate::types::first_missing;
 use cl_application::{App, FrameDecl};
 use cl_declare::{Declarations, FrameForm, FrameForms};
+use cl_dialog_forms::with_dialog_displays;
 use cl_eval::Slots;
 use cl_forms::FormRefusal;
 use cl_lattice::Lattice;
@@ -39,7 +40,7 @@ pub fn settle<H: Hosts>(
     open(alloc, hosts, app, lattice)
 }
 
-/// The application of declarations with their one frame at its place, or the first of refusals 14 and 15.
+/// The application of declarations with their one frame at its place and with the forms of its dialogs, or the first of refusals 14 and 15.
 fn frame_app(alloc: Global, length: u32, declarations: Declarations) -> Result<App, FormRefusal>
     ensures framed { FramesApp result length declarations }
     ensures placed { IfOk result (λ app. IsPlaced app.frame) }
@@ -47,7 +48,8 @@ fn frame_app(alloc: Global, length: u32, declarations: Declarations) -> Result<A
     let mut declarations = declarations;
     let frame = take_frame(length, &mut declarations.frames)?;
     let frame = place_frame(alloc, frame)?;
-    Ok(app_of(declarations, frame))
+    let app = declared_app(declarations, frame);
+    Ok(with_dialog_displays(alloc, app)?)
 }
 
 /// The one frame.
@@ -65,8 +67,9 @@ fn take_frame(length: u32, frames: &mut FrameForms) -> Result<FrameForm, FormRef
     Ok(frame)
 }
 
-fn app_of(declarations: Declarations, frame: FrameDecl) -> App
-    ensures { result ≡ app_of declarations frame }
+/// What is declared, with this frame.
+fn declared_app(declarations: Declarations, frame: FrameDecl) -> App
+    ensures { result ≡ declared_app declarations frame }
 {
     App {
         records: declarations.records,
