@@ -6,7 +6,7 @@ use Rattle.cl_forms.specs.Naming.{are_names, name_in}
 use Rattle.cl_forms.specs.Outer.{declaration_named, is_planned, kind_or, kind_named, outer_listed, outer_in}
 use Rattle.cl_forms.specs.declared.outer.DeclarationKind.{DeclarationKind}
 use Rattle.cl_forms.specs.declared.outer.DeclarationKind.TheVariants.{Record, PresentationType, HostType, PresentMethod, AcceptMethod, Function, Display, CommandTable, Command}
-use Rattle.cl_forms.specs.declared.outer.DeclarationKind.TheVariants.{Translator, CommandTranslator, Frame}
+use Rattle.cl_forms.specs.declared.outer.DeclarationKind.TheVariants.{Translator, CommandTranslator, Dialog, Frame}
 use Rattle.cl_forms.specs.declared.outer.OuterKind.{OuterKind}
 use Rattle.cl_forms.specs.declared.outer.OuterKind.TheVariants.{Planned, Unknown}
 use Rattle.cl_words.specs.declared.signatures.Signatures.{Signatures}
@@ -21,6 +21,7 @@ use Rattle.cl_faults.proofs.DataFaults.{CoversEach, covers_parts, covers_datums}
 use Rattle.cl_faults.proofs.DisplayFaults.{shapes_faults}
 use Rattle.cl_faults.proofs.CommandFaults.{command_table_faults, command_faults}
 use Rattle.cl_faults.proofs.TranslatorFaults.{translator_faults}
+use Rattle.cl_faults.proofs.DialogFaults.{dialog_faults}
 use Rattle.cl_faults.proofs.FrameFaults.{frame_faults}
 use Rattle.cl_faults.proofs.UserTypeFaults.{user_type_faults, host_type_faults, method_faults}
 
@@ -59,6 +60,7 @@ module _ {P : ℕ → Type 0} where
   declared_faults w Command at ds s h c = binds (command_faults w at ds h c) λ d. gives
   declared_faults w Translator at ds s h c = binds (translator_faults w translator.Object at ds h c) λ d. gives
   declared_faults w CommandTranslator at ds s h c = binds (translator_faults w translator.Command at ds h c) λ d. gives
+  declared_faults w Dialog at ds s h c = binds (dialog_faults w at ds h c) λ d. gives
   declared_faults w Frame at ds s h c = binds (frame_faults w at ds h c) λ d. gives
 
   known_faults : (w : Signatures) (kind : Option DeclarationKind) (other : OuterKind) (at : ℕ) (ds : List Datum) (s : Declarations) → P at

@@ -6,7 +6,7 @@ use Rattle.cl_forms.specs.Datum.{Datum}
 use Rattle.cl_forms.specs.Outer.{outer_in, outers_of}
 use Rattle.cl_forms.specs.declared.outer.DeclarationKind.{DeclarationKind}
 use Rattle.cl_forms.specs.declared.outer.DeclarationKind.TheVariants.{Record, PresentationType, HostType, PresentMethod, AcceptMethod, Function, Display, CommandTable, Command}
-use Rattle.cl_forms.specs.declared.outer.DeclarationKind.TheVariants.{Translator, CommandTranslator, Frame}
+use Rattle.cl_forms.specs.declared.outer.DeclarationKind.TheVariants.{Translator, CommandTranslator, Dialog, Frame}
 use Rattle.cl_forms.specs.declared.outer.OuterKind.{OuterKind}
 use Rattle.cl_forms.specs.declared.outer.OuterKind.TheVariants.{Declared, Planned, Unknown, Headless}
 use Rattle.cl_expressions.specs.Load.{Load, Notes, Fault, after, ◌>>=◌, give}
@@ -20,6 +20,7 @@ use Rattle.cl_faults.proofs.DataFaults.{CoversEach}
 use Rattle.cl_faults.proofs.DeclarationFaults.{record_faults, function_faults, display_faults, declaration_faults}
 use Rattle.cl_faults.proofs.CommandFaults.{command_table_faults, command_faults}
 use Rattle.cl_faults.proofs.TranslatorFaults.{translator_faults}
+use Rattle.cl_faults.proofs.DialogFaults.{dialog_faults}
 use Rattle.cl_faults.proofs.FrameFaults.{frame_faults}
 use Rattle.cl_faults.proofs.UserTypeFaults.{user_type_faults, host_type_faults, method_faults}
 
@@ -87,6 +88,7 @@ declared_same w CommandTable at ds s t = row_same _ _ (command_table_faults w at
 declared_same w Command at ds s t = row_same _ _ (command_faults w at ds tt (anywhere ds))
 declared_same w Translator at ds s t = row_same _ _ (translator_faults w translator.Object at ds tt (anywhere ds))
 declared_same w CommandTranslator at ds s t = row_same _ _ (translator_faults w translator.Command at ds tt (anywhere ds))
+declared_same w Dialog at ds s t = row_same _ _ (dialog_faults w at ds tt (anywhere ds))
 declared_same w Frame at ds s t = row_same _ _ (frame_faults w at ds tt (anywhere ds))
 
 kind_same : (w : Signatures) (kind : OuterKind) (at : ℕ) (ds : List Datum) (s t : Declarations)

@@ -63,6 +63,10 @@ module _ {P : ℕ → Type 0} where
   section_faults w key.Tester at ds slots h c = gives
   section_faults w key.UniqueId at ds slots h c = gives
   section_faults w key.CacheValue at ds slots h c = gives
+  section_faults w key.Command at ds slots h c = gives
+  section_faults w key.Pane at ds slots h c = gives
+  section_faults w key.When at ds slots h c = gives
+  section_faults w key.Else at ds slots h c = gives
 
   sections_faults : (w : Signatures) (ks : List Keyed) (slots : SlotTable) → CoversKeys P ks → FaultsAt P (parse_sections w ks slots)
   sections_faults w [] slots c = gives

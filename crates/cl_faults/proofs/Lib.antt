@@ -9,6 +9,7 @@ pub mod KeyFaults
 pub mod UpdateFaults
 pub mod CommandFaults
 pub mod TranslatorFaults
+pub mod DialogFaults
 pub mod FrameFaults
 pub mod UserTypeFaults
 pub mod DeclarationFaults

@@ -25,7 +25,7 @@ use Rattle.cl_faults.proofs.TypeFaults.{type_faults}
 use Rattle.cl_faults.proofs.CommandFaults.{tables_faults}
 
 module _ {P : ℕ → Type 0} where
-  named_faults : (w : Signatures) (at : ℕ) (name : Option (List ℕ)) → FaultsAt P (note_command w at name)
+  pub named_faults : (w : Signatures) (at : ℕ) (name : Option (List ℕ)) → FaultsAt P (note_command w at name)
   named_faults w at None = gives
   named_faults w at (Some x) = notes (command_in w x) at
 
@@ -60,6 +60,10 @@ module _ {P : ℕ → Type 0} where
   key_faults w xs key.Documentation at ds t c = gives
   key_faults w xs key.UniqueId at ds t c = gives
   key_faults w xs key.CacheValue at ds t c = gives
+  key_faults w xs key.Command at ds t c = gives
+  key_faults w xs key.Pane at ds t c = gives
+  key_faults w xs key.When at ds t c = gives
+  key_faults w xs key.Else at ds t c = gives
 
   keys_faults : (w : Signatures) (xs : Names) (ks : List Keyed) (t : Tester) → CoversKeys P ks → FaultsAt P (parse_translator_keys w xs ks t)
   keys_faults w xs [] t c = gives

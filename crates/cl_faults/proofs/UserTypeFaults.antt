@@ -63,6 +63,10 @@ module _ {P : ℕ → Type 0} where
   type_key_faults w ps key.Tester at ds i c = gives
   type_key_faults w ps key.UniqueId at ds i c = gives
   type_key_faults w ps key.CacheValue at ds i c = gives
+  type_key_faults w ps key.Command at ds i c = gives
+  type_key_faults w ps key.Pane at ds i c = gives
+  type_key_faults w ps key.When at ds i c = gives
+  type_key_faults w ps key.Else at ds i c = gives
 
   type_keys_faults : (w : Signatures) (ps : Names) (ks : List Keyed) (i : Inherited) → CoversKeys P ks → FaultsAt P (parse_type_keys w ps ks i)
   type_keys_faults w ps [] i c = gives

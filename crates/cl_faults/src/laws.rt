@@ -15,14 +15,12 @@ ghost use Rattle.cl_faults.specs.Faults.{StandsIn, AreInOrder, IsLeastFault};
 ghost use Rattle.cl_faults.specs.Loaded.{DataBlame, IsDeclared, IsFirstUnnamed};
 
 /// The fault of a form stands in it, whatever was read before.
-#[tactic(auto, using(crate::proofs::FirstFault::faults_stand_in_their_form))]
 pub fn faults_stand_in_their_form()
     ensures { (w : Signatures) (d : Datum) (s : Declarations) (notes : Notes) (n o : ℕ)
         → parse_declaration w (outer_in d) s notes ≡ Err (n, o) → StandsIn o d }
 {}
 
 /// Of the faults of forms that stand in order, the one that is found first is that of least offset.
-#[tactic(auto, using(crate::proofs::FirstFault::first_fault_has_least_offset))]
 pub fn first_fault_has_least_offset()
     ensures { (w : Signatures) (ds : List Datum) (notes : Notes) (n o : ℕ) → AreInOrder ds
         → parse_declarations w (outers_of ds) notes ≡ Err (n, o) → IsLeastFault w ds n o }
