@@ -104,9 +104,10 @@ extended : (u : Sited) (table : List (List ℕ × DisplayDecl)) (ds : List Displ
     → InDisplays u table ⊎ InSome u ds
 extended u table [] h = inl h
 extended u table (d ∷ ds) h =
-    elim (extended u (with_first own_name table d) ds h)
-    [ inl i ↦ elim (one_first (is_some (named d.name table)) u table d.name d i) [ inl j ↦ inl j | inr j ↦ inr (inl j) ]
-    | inr i ↦ inr (inr i) ]
+    elim (extended u (with_first own_name table d) ds h) [
+      | inl i ↦ elim (one_first (is_some (named d.name table)) u table d.name d i) [ inl j ↦ inl j | inr j ↦ inr (inl j) ]
+      | inr i ↦ inr (inr i)
+    ]
 
 -- ---- all updates
 
