@@ -5,5 +5,7 @@ pub mod TextsOwned
 pub mod TextsStable
 pub mod SitesLemmas
 pub mod SitesForms
+pub mod SitesQueries
+pub mod SitesDialogs
 pub mod SitesTexts
 pub mod Reused

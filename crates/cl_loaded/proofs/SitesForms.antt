@@ -4,6 +4,7 @@ use Rattle.std.specs.Prelude.{◌==◌, Result, Ok, Err, Option, Some, None}
 use Rattle.cl_syntax.specs.ShapeTree.{ShapeTree, shape_trees_of}
 use Rattle.cl_syntax.specs.UpdateTree.{UpdateTree}
 use Rattle.cl_syntax.specs.declared.figures.Figure.{Figure}
+use Rattle.cl_syntax.specs.declared.sites.Site.{Site}
 use Rattle.cl_forms.specs.Datum.{Datum, Datums, number, literal, word, quoted, stray, list, none, item, in_order, parts_of}
 use Rattle.cl_forms.specs.Keys.{Keyed}
 use Rattle.cl_forms.specs.Naming.{fits}
@@ -38,14 +39,18 @@ use Rattle.cl_grammar.specs.Lies.{Lies, LieAll}
 use Rattle.cl_grammar.proofs.Endings.{Ends, gives, refuses, chooses, binds, ends_weaker}
 use Rattle.cl_grammar.proofs.Lying.{datum_rises}
 use Rattle.cl_reuse.specs.Sited.{Has, HaveIt, Sited}
-use Rattle.cl_loaded.proofs.SitesLemmas.{Spaced, either, fewer, nothing, that_spaced, wider}
+use Rattle.cl_loaded.proofs.SitesLemmas.{Spaced, either, fewer, form_of, nothing, that_spaced, wider}
+
+-- no query of a dialog
+abbrev pub IsWritten : Site → Type 0
+IsWritten s = s.query ≡ 0
 
 -- the updates of a form, and of forms, from one place up to another
 abbrev pub Stands : ℕ → ℕ → ShapeTree → Type 0
-Stands from to f = Spaced from to (λ u. Has u f)
+Stands from to f = Spaced form_of IsWritten from to (λ u. Has u f)
 
 abbrev pub StandAll : ℕ → ℕ → List ShapeTree → Type 0
-StandAll from to fs = Spaced from to (λ u. HaveIt u (shape_trees_of fs))
+StandAll from to fs = Spaced form_of IsWritten from to (λ u. HaveIt u (shape_trees_of fs))
 
 -- no update stands in the form
 abbrev HasNone : ShapeTree → Type 0
@@ -176,24 +181,28 @@ writing_none w writing.Present at subs env = present_none w at subs env
 
 -- ---- forms of their own
 
+-- the update has the site of the form here
+abbrev IsUpdateAt : ℕ → UpdateTree → Type 0
+IsUpdateAt at u = (u.site.form ≡ at) × IsWritten u.site
+
 -- an update has the site of its form
 abbrev OpensAt : ℕ → Opening → Type 0
 OpensAt at (opening.Indent t) = Unit {0}
 OpensAt at (opening.Ink t) = Unit {0}
 OpensAt at opening.Room = Unit {0}
 OpensAt at (opening.Presentation p) = Unit {0}
-OpensAt at (opening.Update u) = u.site.form ≡ at
+OpensAt at (opening.Update u) = IsUpdateAt at u
 
 abbrev OwnAt : ℕ → Own ShapeTree Opening Context → Type 0
 OwnAt at (Whole f) = HasNone f
 OwnAt at (Before o count c) = OpensAt at o
 
 keyed_at : (w : Signatures) (at : ℕ) (ks : Option (List Keyed)) (env : Names)
-    → Ends (λ (u : UpdateTree). u.site.form ≡ at) (parse_update_keyed w at ks env)
+    → Ends (IsUpdateAt at) (parse_update_keyed w at ks env)
 keyed_at w at None env = refuses
-keyed_at w at (Some ks) env = binds (anything (parse_update_keys w env ks nothing_said)) λ s x. gives refl
+keyed_at w at (Some ks) env = binds (anything (parse_update_keys w env ks nothing_said)) λ s x. gives (refl, refl)
 
-list_at : (w : Signatures) (at : ℕ) (d : Datum) (env : Names) → Ends (λ (u : UpdateTree). u.site.form ≡ at) (parse_update_list w at d env)
+list_at : (w : Signatures) (at : ℕ) (d : Datum) (env : Names) → Ends (IsUpdateAt at) (parse_update_list w at d env)
 list_at w at (list ds place) env = keyed_at w at (update_keys_in (in_order ds)) env
 list_at w at (number z place) env = refuses
 list_at w at (literal s place) env = refuses
@@ -227,7 +236,7 @@ closed_stands (opening.Indent t) fs at to e l h = wider at (at + 1) to to (omega
 closed_stands (opening.Ink t) fs at to e l h = wider at (at + 1) to to (omega arith) (omega arith) h
 closed_stands opening.Room fs at to e l h = wider at (at + 1) to to (omega arith) (omega arith) h
 closed_stands (opening.Presentation p) fs at to e l h = wider at (at + 1) to to (omega arith) (omega arith) h
-closed_stands (opening.Update u) fs at to e l h = either at (at + 1) to (that_spaced at u (shape_trees_of fs) e) h (omega arith) (omega (arith, l))
+closed_stands (opening.Update u) fs at to e l h = either at (at + 1) to (that_spaced form_of IsWritten at u (shape_trees_of fs) e.0 e.1) h (omega arith) (omega (arith, l))
 
 finished_stands : (own : Own ShapeTree Opening Context) (ps : List (Part ShapeTree Context)) (env : Names) (at to : ℕ) → OwnAt at own
     → PartsStand (at + 1) ps to → Ends (Stands at to) (finished display_forms own ps env)
