@@ -1,7 +1,7 @@
 //! The frame of declarations, and the application that they make.
 ghost use Rattle.std.specs.Prelude.{◌≡◌, IfOk};
 ghost use Rattle.cl_application.specs.Panes.{IsPlaced};
-ghost use Rattle.cl_load.specs.Refusals.{declared_app};
+ghost use Rattle.cl_load.specs.Refusals.{app_of, declared_app};
 ghost use Rattle.cl_load.specs.Settling.{FramesApp, Opens, OpensLast, Settles, TakesFrame};
 ghost use Rattle.cl_load.specs.Types.{declared_types};
 ghost use Rattle.cl_tables.specs.Rings.{HasNoRing};
@@ -19,7 +19,7 @@ use cl_eval::Slots;
 use cl_forms::FormRefusal;
 use cl_lattice::Lattice;
 use cl_ptext::{Hosts, TypeBook};
-use std::alloc::Global;
+use std::alloc::{AllocError, Global};
 
 /// The application of declarations in a text of this length, with its types and its opening slots; or the
 /// first of refusals 10, 14, 15, 16 and 12.
@@ -40,7 +40,8 @@ pub fn settle<H: Hosts>(
     open(alloc, hosts, app, lattice)
 }
 
-/// The application of declarations with their one frame at its place and with the forms of its dialogs, or the first of refusals 14 and 15.
+/// The application of declarations with their one frame at its place and with the forms of its dialogs, or the
+/// first of refusals 14 and 15.
 fn frame_app(alloc: Global, length: u32, declarations: Declarations) -> Result<App, FormRefusal>
     ensures framed { FramesApp result length declarations }
     ensures placed { IfOk result (λ app. IsPlaced app.frame) }
@@ -48,8 +49,8 @@ fn frame_app(alloc: Global, length: u32, declarations: Declarations) -> Result<A
     let mut declarations = declarations;
     let frame = take_frame(length, &mut declarations.frames)?;
     let frame = place_frame(alloc, frame)?;
-    let app = declared_app(declarations, frame);
-    Ok(with_dialog_displays(alloc, app)?)
+    let app = app_of(alloc, declarations, frame)?;
+    Ok(app)
 }
 
 /// The one frame.
@@ -65,6 +66,13 @@ fn take_frame(length: u32, frames: &mut FrameForms) -> Result<FrameForm, FormRef
         unreachable!()
     };
     Ok(frame)
+}
+
+/// The application, which has the forms of its dialogs behind its displays.
+fn app_of(alloc: Global, declarations: Declarations, frame: FrameDecl) -> Result<App, AllocError>
+    ensures { IfOk result (λ app. app ≡ app_of declarations frame) }
+{
+    with_dialog_displays(alloc, declared_app(declarations, frame))
 }
 
 /// What is declared, with this frame.

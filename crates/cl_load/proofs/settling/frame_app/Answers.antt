@@ -15,4 +15,4 @@ returns-in_err-frame-2-clause-framed c =
 
 pub returns-clause-framed : goal.returns-clause-framed
 returns-clause-framed c =
-    app_framed c.args.declarations c.in_ok-frame.frame c.in_ok-frame-2.frame c.app_of.result c.in_ok-frame.ensures c.in_ok-frame-2.ensures.value c.app_of.ensures
+    app_framed c.args.declarations c.in_ok-frame.frame c.in_ok-frame-2.frame c.in_ok-app.app c.in_ok-frame.ensures c.in_ok-frame-2.ensures.value c.in_ok-app.ensures
