@@ -7,7 +7,6 @@ use crate::declarations::{
     Functions, HostDecls, MethodDecl, Methods, PaneDecl, TableDecls, TranslatorDecls,
 };
 use cl_syntax::{RecordDecl, Records, Shape, TypeSpec, UserTypes};
-use cl_value::Text;
 
 /// An application: what its text declares.
 #[derive(Drop)]

@@ -14,7 +14,6 @@ use cl_forms::{Datum, FormRefusal, fits};
 use cl_syntax::{Figure, Shape};
 use cl_value::Text;
 use cl_words::{Writing, figure_count};
-use std::alloc::Global;
 
 /// A drawing form, `(draw-point E E E)` or one of its kin.
 #[tactic(auto, using(cl_expressions::proofs::Subs::subs_counted))]

@@ -19,7 +19,7 @@ use crate::names::is_list;
 use cl_application::{ArgumentDecl, ArgumentDecls, CommandDecl, DefaultDecl};
 use cl_bodies::{parse_acts, parse_type, text_behind};
 use cl_expressions::{Notes, Reader, Scope, parse_expression};
-use cl_forms::{Datum, FormRefusal, Key, Keyed, keyed_pairs, symbol_text, values_of};
+use cl_forms::{Datum, FormRefusal, Key, keyed_pairs, symbol_text, values_of};
 use cl_syntax::Acts;
 use cl_table::Names;
 use cl_value::Text;

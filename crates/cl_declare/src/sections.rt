@@ -15,7 +15,6 @@ use cl_bodies::parse_type;
 use cl_expressions::{Notes, Reader, Scope, parse_expression};
 use cl_forms::{Datum, FormRefusal, Key, Keyed, keyed_sections, name_in, symbol_text};
 use cl_table::Names;
-use std::alloc::AllocError;
 
 /// `(define-application-frame NAME SECTION ...)`
 pub fn parse_frame(

@@ -11,7 +11,6 @@ use cl_syntax::{
     TypeName, TypeSpec, UserTypes, standard_named,
 };
 use cl_table::{Names, Table};
-use cl_value::Text;
 use std::alloc::{AllocError, Global};
 use std::marker::Model;
 

@@ -10,12 +10,9 @@ ghost use Rattle.cl_lattice.specs.Rings.{IsUserType};
 ghost use Rattle.cl_lattice.specs.World.{kind_named};
 
 use crate::arguments::{Bound, first_number, is_among, next_spec, second_number, tokens_in};
-use crate::atoms::{
-    is_blank_area, is_boolean, is_null, is_of_record, is_one_of, is_symbol, is_text, is_within,
-};
-use crate::declared_types::{TypeKind, UserType};
+use crate::atoms::{is_blank_area, is_boolean, is_null, is_one_of, is_symbol, is_text, is_within};
 use crate::lattices::Lattice;
-use crate::members::{answer, is_subset, satisfies};
+use crate::members::{answer, is_subset};
 use crate::predicates::Predicates;
 use cl_syntax::{StandardType, TypeArg, TypeSpec};
 use cl_value::{Held, Value};

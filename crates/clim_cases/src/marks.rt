@@ -3,7 +3,7 @@ use crate::cases::Text;
 use crate::faults::{Fault, Wrong};
 use crate::names::byte_of;
 use crate::sections::Raw;
-use std::alloc::{AllocError, Global};
+use std::alloc::AllocError;
 
 /// What the names in marks stand for.
 #[derive(Clone, Copy)]

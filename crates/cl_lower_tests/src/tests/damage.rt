@@ -6,7 +6,6 @@ use cl_region::{Rect, Shift};
 use cl_syntax::Site;
 use cl_value::{Value, Values};
 use std::alloc::Global;
-use std::process::Abort;
 use std::test::Fail;
 
 const STAYED: Shift = Shift { dx: 0, dy: 0 };
