@@ -1,0 +1,4 @@
+pub mod PathLemmas
+pub mod CalleeLemmas
+pub mod FormLemmas
+pub mod DisplayLemmas
