@@ -89,8 +89,9 @@ fn answer<T: Types>(
     };
     let later = slots_after(alloc, app, types, slots, command)?;
     let nothing = History::empty(alloc);
-    let old = match drawn_over(alloc, app, types, pane, slots, &nothing).shown {
-        Redisplayed::Built(history, _, _) => history,
+    let first = drawn_over(alloc, app, types, pane, slots, &nothing);
+    let old = match first.shown {
+        Redisplayed::Built(history, _reuse, _keeps) => history,
         Redisplayed::Trapped(history, _) => history,
         Redisplayed::Memory => return Err(Fault::Memory),
     };
