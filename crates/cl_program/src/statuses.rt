@@ -2,15 +2,12 @@
 ghost use Rattle.std.specs.Prelude.{◌≡◌, ◌≤◌, ◌⊎◌, ℕ, List, Option, map};
 ghost use Rattle.cl_frame.specs.Sending.{wire_of};
 ghost use Rattle.cl_invocation.specs.Words.{invocation_of};
-ghost use Rattle.cl_application.specs.declared.applications.App.{App};
-ghost use Rattle.cl_gen.specs.Workload.{application_text};
-ghost use Rattle.cl_load.specs.Application.{IsApplication, IsReason};
 ghost use Rattle.cl_load.specs.Reason.{Reason};
 ghost use Rattle.cl_outside.specs.Causes.{Rose};
 ghost use Rattle.cl_program.specs.Command.{IsBench, IsCheck, IsNoCommand, IsRun, Names};
 ghost use Rattle.cl_program.specs.Commands.{KeptBy};
 ghost use Rattle.cl_program.specs.Hosts.{hosts_of};
-ghost use Rattle.cl_program.specs.Statuses.{DeclaresApplication, EndsWith, HasFewLines, HasManyLines, HasRefusal};
+ghost use Rattle.cl_program.specs.Statuses.{DeclaresApplication, DeclaresItems, EndsWith, HasFewLines, HasManyLines, HasRefusal, RefusesItems};
 ghost use Rattle.cl_program.specs.Surroundings.{placed, streams};
 
 use crate::commands::run_words;
@@ -71,11 +68,11 @@ pub fn clim_main<H: Hosts, P: Place, G: Source, O: Sink, L: Ledger>(
         → (Rose (P.app_faults place.old name) (P.app_faults place.new name) → ⊥)
         → DeclaresApplication (H.bounds hosts.now) (P.file place.old name)
         → (result.0 ≡ 0) ⊎ (result.0 ≡ 5) ⊎ (result.0 ≡ 7) }
-    ensures bench_due { (items : ℕ) (app : App) → IsBench (map (λ w. w.now) words.now) items
-        → IsApplication (H.bounds hosts.now) (application_text items) app
+    ensures bench_due { (items : ℕ) → IsBench (map (λ w. w.now) words.now) items
+        → DeclaresItems (H.bounds hosts.now) items
         → (result.0 ≡ 0) ⊎ (result.0 ≡ 5) ⊎ (result.0 ≡ 7) }
     ensures bench_refusal_due { (items : ℕ) (reason : Reason) → IsBench (map (λ w. w.now) words.now) items
-        → IsReason (H.bounds hosts.now) (application_text items) reason
+        → RefusesItems (H.bounds hosts.now) items reason
         → (result.0 ≡ 1) ⊎ (result.0 ≡ 5) ⊎ (result.0 ≡ 7) }
     ensures complete { (name : List ℕ) (wire : Option (List ℕ)) (budget : Option ℕ)
         → IsRun (map (λ w. w.now) words.now) name wire budget

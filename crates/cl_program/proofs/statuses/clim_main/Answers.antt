@@ -137,23 +137,23 @@ returns-in-Ended-TooMany-clause-complete g c = λ name wire budget run place_fau
     absurd (limit_passed _ (map (λ (w : Bor (List ℕ)). w.now) c.args.words.now) _ _ _ _ c.in-Ended-TooMany.field-0 c.in-Ended-TooMany.field-0-is c.in-Ended-TooMany.ensures.ran few)
 
 pub returns-in-Usage-clause-bench_due : goal.returns-in-Usage-clause-bench_due
-returns-in-Usage-clause-bench_due g c = λ items app run declares.
+returns-in-Usage-clause-bench_due g c = λ items run declares.
     absurd (none_benched (map (λ (w : Bor (List ℕ)). w.now) c.args.words.now) items c.in-Usage.ensures.ran.0 run)
 
 pub returns-in-AppFault-clause-bench_due : goal.returns-in-AppFault-clause-bench_due
-returns-in-AppFault-clause-bench_due g c = λ items app run declares.
+returns-in-AppFault-clause-bench_due g c = λ items run declares.
     absurd (bench_unnamed (map (λ (w : Bor (List ℕ)). w.now) c.args.words.now) items _ run c.in-AppFault.ensures.ran.0.command)
 
 pub returns-in-WireFault-clause-bench_due : goal.returns-in-WireFault-clause-bench_due
-returns-in-WireFault-clause-bench_due g c = λ items app run declares.
+returns-in-WireFault-clause-bench_due g c = λ items run declares.
     absurd (bench_unnamed (map (λ (w : Bor (List ℕ)). w.now) c.args.words.now) items _ run (run_named (map (λ (w : Bor (List ℕ)). w.now) c.args.words.now) _ _ _ c.in-WireFault.ensures.ran.opened.command))
 
 pub returns-in-Ended-ReadFault-clause-bench_due : goal.returns-in-Ended-ReadFault-clause-bench_due
-returns-in-Ended-ReadFault-clause-bench_due g c = λ items app run declares.
+returns-in-Ended-ReadFault-clause-bench_due g c = λ items run declares.
     absurd (bench_unnamed (map (λ (w : Bor (List ℕ)). w.now) c.args.words.now) items _ run (run_named (map (λ (w : Bor (List ℕ)). w.now) c.args.words.now) _ _ _ c.in-Ended-ReadFault.ensures.ran.opened.command))
 
 pub returns-in-Ended-TooMany-clause-bench_due : goal.returns-in-Ended-TooMany-clause-bench_due
-returns-in-Ended-TooMany-clause-bench_due g c = λ items app run declares.
+returns-in-Ended-TooMany-clause-bench_due g c = λ items run declares.
     absurd (bench_unnamed (map (λ (w : Bor (List ℕ)). w.now) c.args.words.now) items _ run (run_named (map (λ (w : Bor (List ℕ)). w.now) c.args.words.now) _ _ _ c.in-Ended-TooMany.ensures.ran.opened.command))
 
 pub returns-in-Usage-clause-bench_refusal_due : goal.returns-in-Usage-clause-bench_refusal_due
@@ -181,8 +181,8 @@ returns-in-Ended-Done-clause-bench_refusal_due g c = λ items reason run refused
     absurd (bench_unnamed (map (λ (w : Bor (List ℕ)). w.now) c.args.words.now) items _ run (run_named (map (λ (w : Bor (List ℕ)). w.now) c.args.words.now) _ _ _ c.in-Ended-Done.ensures.ran.opened.command))
 
 pub returns-in-Refused-clause-bench_due : goal.returns-in-Refused-clause-bench_due
-returns-in-Refused-clause-bench_due g c = λ items app run declares.
-    absurd (refused_makes _ (map (λ (w : Bor (List ℕ)). w.now) c.args.words.now) _ _ _ items app c.in-Refused.ensures.ran run declares)
+returns-in-Refused-clause-bench_due g c = λ items run declares.
+    absurd (refused_makes _ (map (λ (w : Bor (List ℕ)). w.now) c.args.words.now) _ _ _ items declares.0 c.in-Refused.ensures.ran run declares.1)
 
 pub returns-in-Loads-clause-bench_refusal_due : goal.returns-in-Loads-clause-bench_refusal_due
 returns-in-Loads-clause-bench_refusal_due g c = λ items reason run refused.

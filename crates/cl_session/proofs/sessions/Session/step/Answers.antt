@@ -10,27 +10,27 @@ use Rattle.cl_session.proofs.sessions.Session.step.Goals as goal
 
 pub returns-clause-steps : goal.returns-clause-steps
 returns-clause-steps g c =
-    steps-to (ground_of g.T.Types.holds g.T.Types.presents g.T.Types.reads g.T.Types.hierarchy c.args.program.now) c.args.self.now record { accessible = c.args.self.now.accessible; desk = c.handle-handling.new.desk; frame = c.update-painted.new.self; totals = c.with_gesture.result }
+    steps-to (ground_of g.T.Types.holds g.T.Types.presents g.T.Types.reads g.T.Types.hierarchy c.args.program.now) c.args.self.now record { accessible = c.args.self.now.accessible; desk = c.handle-handling.new.desk; frame = c.update-painted.new.self; totals = c.with_gesture-self.result }
     c.args.slots.now c.handle-handling.new.slots c.args.gesture.now c.handle-handling.result c.update-painted.result c.replies_of-replies.result
-    c.handle-handling.ensures.handles (rw (c.which-which.ensures, c.filling.ensures) at c.update-painted.ensures.settles) c.update-painted.ensures.stale c.replies_of-replies.ensures c.with_gesture.ensures
+    c.handle-handling.ensures.handles (rw (c.which-which.ensures, c.filling.ensures) at c.update-painted.ensures.settles) c.update-painted.ensures.stale c.replies_of-replies.ensures c.with_gesture-self.ensures
 
 pub returns-clause-ledger : goal.returns-clause-ledger
 returns-clause-ledger g c =
-    spends-to (ground_of g.T.Types.holds g.T.Types.presents g.T.Types.reads g.T.Types.hierarchy c.args.program.now) c.args.self.now record { accessible = c.args.self.now.accessible; desk = c.handle-handling.new.desk; frame = c.update-painted.new.self; totals = c.with_gesture.result }
+    spends-to (ground_of g.T.Types.holds g.T.Types.presents g.T.Types.reads g.T.Types.hierarchy c.args.program.now) c.args.self.now record { accessible = c.args.self.now.accessible; desk = c.handle-handling.new.desk; frame = c.update-painted.new.self; totals = c.with_gesture-self.result }
     c.args.slots.now c.handle-handling.new.slots c.args.gesture.now c.handle-handling.result c.update-painted.result c.replies_of-replies.result
     c.handle-handling.ensures.handles (rw (c.which-which.ensures, c.filling.ensures) at c.update-painted.ensures.settles) c.update-painted.ensures.stale c.replies_of-replies.ensures
     c.args.steps.now c.handle-handling.new.steps c.update-painted.new.steps c.handle-handling.ensures.ledger (rw (c.which-which.ensures, c.filling.ensures) at c.update-painted.ensures.ledger)
 
 pub returns-clause-failed : goal.returns-clause-failed
 returns-clause-failed g c =
-    wire-to (ground_of g.T.Types.holds g.T.Types.presents g.T.Types.reads g.T.Types.hierarchy c.args.program.now) c.args.self.now record { accessible = c.args.self.now.accessible; desk = c.handle-handling.new.desk; frame = c.update-painted.new.self; totals = c.with_gesture.result }
+    wire-to (ground_of g.T.Types.holds g.T.Types.presents g.T.Types.reads g.T.Types.hierarchy c.args.program.now) c.args.self.now record { accessible = c.args.self.now.accessible; desk = c.handle-handling.new.desk; frame = c.update-painted.new.self; totals = c.with_gesture-self.result }
     c.args.slots.now c.handle-handling.new.slots c.args.gesture.now c.handle-handling.result c.update-painted.result c.replies_of-replies.result
     c.handle-handling.ensures.handles (rw (c.which-which.ensures, c.filling.ensures) at c.update-painted.ensures.settles) c.update-painted.ensures.stale c.replies_of-replies.ensures
     (g.D.Device.faults c.args.device.now) (g.D.Device.faults c.update-painted.new.device) c.update-painted.ensures.cause
 
 pub returns-clause-sent : goal.returns-clause-sent
 returns-clause-sent g c =
-    sent-to (ground_of g.T.Types.holds g.T.Types.presents g.T.Types.reads g.T.Types.hierarchy c.args.program.now) c.args.self.now record { accessible = c.args.self.now.accessible; desk = c.handle-handling.new.desk; frame = c.update-painted.new.self; totals = c.with_gesture.result }
+    sent-to (ground_of g.T.Types.holds g.T.Types.presents g.T.Types.reads g.T.Types.hierarchy c.args.program.now) c.args.self.now record { accessible = c.args.self.now.accessible; desk = c.handle-handling.new.desk; frame = c.update-painted.new.self; totals = c.with_gesture-self.result }
     c.args.slots.now c.handle-handling.new.slots c.args.gesture.now c.handle-handling.result c.update-painted.result c.replies_of-replies.result
     c.handle-handling.ensures.handles (rw (c.which-which.ensures, c.filling.ensures) at c.update-painted.ensures.settles) c.update-painted.ensures.stale c.replies_of-replies.ensures
     (wire_of (g.D.Device.wire c.args.device.now) (g.D.Device.faults c.args.device.now) (g.D.Device.lent c.args.device.now).told)
@@ -50,9 +50,9 @@ returns-clause-breaks g c = λ stale.
 pub returns-clause-fits : goal.returns-clause-fits
 returns-clause-fits g c =
     let own = ground_of g.T.Types.holds g.T.Types.presents g.T.Types.reads g.T.Types.hierarchy c.args.program.now in
-    let steps = steps-to (ground_of g.T.Types.holds g.T.Types.presents g.T.Types.reads g.T.Types.hierarchy c.args.program.now) c.args.self.now record { accessible = c.args.self.now.accessible; desk = c.handle-handling.new.desk; frame = c.update-painted.new.self; totals = c.with_gesture.result }
+    let steps = steps-to (ground_of g.T.Types.holds g.T.Types.presents g.T.Types.reads g.T.Types.hierarchy c.args.program.now) c.args.self.now record { accessible = c.args.self.now.accessible; desk = c.handle-handling.new.desk; frame = c.update-painted.new.self; totals = c.with_gesture-self.result }
     c.args.slots.now c.handle-handling.new.slots c.args.gesture.now c.handle-handling.result c.update-painted.result c.replies_of-replies.result
-    c.handle-handling.ensures.handles (rw (c.which-which.ensures, c.filling.ensures) at c.update-painted.ensures.settles) c.update-painted.ensures.stale c.replies_of-replies.ensures c.with_gesture.ensures in
+    c.handle-handling.ensures.handles (rw (c.which-which.ensures, c.filling.ensures) at c.update-painted.ensures.settles) c.update-painted.ensures.stale c.replies_of-replies.ensures c.with_gesture-self.ensures in
     record {
       reuse = c.requires.fits.reuse;
       accessible = c.requires.fits.accessible;

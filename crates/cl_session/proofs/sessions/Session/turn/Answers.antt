@@ -47,7 +47,7 @@ returns-in-Memory-clause-turns g c = λ going.
     let r = c.in-Memory.ensures.next going in
     rw c.goes_on-in-Memory.ensures
     (turn-said (ground_of g.T.Types.holds g.T.Types.presents g.T.Types.reads g.T.Types.hierarchy c.args.program.now) c.say_lost.result (does r.0) lost _ _ r.1
-    (line_bytes (codes "! memory" ∷ [])) refl refl (rw c.with_memory.ensures refl) c.say_lost.ensures.says)
+    (line_bytes (codes "! memory" ∷ [])) refl refl (rw c.with_memory-self.ensures refl) c.say_lost.ensures.says)
 
 pub returns-in-End-clause-turns : goal.returns-in-End-clause-turns
 returns-in-End-clause-turns g c = λ going.
