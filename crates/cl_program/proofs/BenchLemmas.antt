@@ -1,7 +1,6 @@
 -- What a bench comes to, by the sums over what was told of its pane.
-use Rattle.std.proofs.Common.{◌≡◌, ◌≤◌, ◌+◌, ℕ, List, [], ◌++◌, length, refl, sym, ◌∙◌, ap, append-nil, Option, Some, None, inl, inr, arith}
+use Rattle.std.proofs.Common.{◌≡◌, ◌≤◌, ◌+◌, ℕ, List, ◌++◌, length, refl, ◌∙◌, ap, append-nil, Option, Some, None, inl, inr, arith}
 use Rattle.std.specs.Prelude.{◌⊎◌, Err}
-use Rattle.std.specs.Io.KnownBytes.{Consumes, IsAtEnd}
 use Rattle.cl_application.specs.declared.applications.App.{App}
 use Rattle.cl_frame.specs.Ground.{Ground, ground}
 use Rattle.cl_gen.specs.Workload.{application_text, gestures_text}
@@ -13,13 +12,12 @@ use Rattle.cl_load.specs.Types.{types_in}
 use Rattle.cl_load.specs.declared.refusals.LoadRefusal.{LoadRefusal}
 use Rattle.cl_outside.specs.Causes.{Rose}
 use Rattle.cl_ptext.specs.Subtyping.{hierarchy_in}
-use Rattle.cl_session.specs.declared.serving.End.{End}
 use Rattle.cl_session.specs.declared.serving.End.TheVariants as end
 use Rattle.cl_session.specs.declared.totals.Totals.{Totals}
 use Rattle.cl_program.specs.Command.{IsBench}
 use Rattle.cl_program.specs.Commands.{RanBench, Tells, TellsTotals}
 use Rattle.cl_program.specs.Hosts.{HostMeanings, meanings_in, reads_in}
-use Rattle.cl_program.specs.Run.{Benches, BenchesShort, EndsAs, IsMeasured, MakesText, NamesText, OfBench, Ran, RanOut, RanOutBenching, RanOutServing, ReadToEnd, ReadToFault, ReadToLimit, SaysCut, SaysWhole, WrittenToFault, ground_in, limits_of, opening_cost}
+use Rattle.cl_program.specs.Run.{BenchesShort, EndsAs, IsMeasured, MakesText, OfBench, Ran, RanOut, RanOutBenching, RanOutServing, ReadToEnd, ReadToFault, ReadToLimit, SaysCut, SaysWhole, WrittenToFault, ground_in, limits_of, opening_cost}
 use Rattle.cl_program.specs.Surroundings.{Placed, Streams, no_device, streams}
 use Rattle.cl_program.specs.declared.running.How.{How}
 use Rattle.cl_program.specs.declared.running.How.TheVariants as how

@@ -6,7 +6,7 @@ use Rattle.std.specs.List.{list_all}
 use Rattle.std.specs.Str.{bytes_eq}
 use Rattle.std.specs.Str.Parse.{digits_value}
 use Rattle.std.proofs.lemmas.Bool.{and_parts, leb-true}
-use Rattle.cl_invocation.specs.Words.{Invocation, Parts, Text, any, at_most_one, bench, bench_of, budget_given, check, check_of, commanded, invocation_of, is_number, items_in, parts_from, run, run_of}
+use Rattle.cl_invocation.specs.Words.{Invocation, Parts, Text, any, at_most_one, bench, bench_of, budget_given, check, check_of, commanded, is_number, parts_from, run, run_of}
 use Rattle.cl_program.specs.Command.{IsBench}
 
 abbrev is_bench : Invocation → ℕ

@@ -18,7 +18,7 @@ use Rattle.cl_outside.specs.Causes.{Rose}
 use Rattle.cl_outside.specs.Place.{IsTold}
 use Rattle.cl_ptext.specs.Subtyping.{hierarchy_in}
 use Rattle.cl_updating.specs.Redisplays.{CanReuse}
-use Rattle.cl_program.specs.Command.{IsCheck, IsRun, Names, application_of}
+use Rattle.cl_program.specs.Command.{IsCheck, IsRun, application_of}
 use Rattle.cl_program.specs.Commands.{Checked, KeepsFiles, RanOn, RanText, RefusesText, SaysLine, Stands, Tells}
 use Rattle.cl_program.specs.Hosts.{HostMeanings, meanings_in, reads_in}
 use Rattle.cl_program.specs.Run.{IsRefused, NamesText, OfBench, Opens, Ran, RanLoaded, RanOutBenching, RanOutServing, SaysCut, SaysWhole, ground_in, limits_of}

@@ -1,5 +1,5 @@
 -- How serving ended, as what a run comes to.
-use Rattle.std.proofs.Common.{◌≡◌, ◌<◌, ◌≤◌, ℕ, ◌+◌, List, [], ◌++◌, length, sym, ◌∙◌, ap, arith, append-nil, Option, Bool, true, false, inl, inr, subst, ◌∷◌}
+use Rattle.std.proofs.Common.{◌≡◌, ◌<◌, ◌≤◌, ℕ, ◌+◌, List, [], ◌++◌, length, sym, ◌∙◌, ap, arith, append-nil, Option, Bool, true, false, inl, inr, ◌∷◌}
 use Rattle.std.specs.Io.KnownBytes.{Consumes}
 use Rattle.cl_outside.specs.Causes.{Rose}
 use Rattle.cl_gesture.specs.Lines.{Piece, Reads, AreCut, ended, pieces}
@@ -14,7 +14,7 @@ use Rattle.cl_session.specs.Serving.{Served, Faulted, CutOff, ServesTo, Stand, s
 use Rattle.cl_session.specs.declared.serving.End.{End}
 use Rattle.cl_session.specs.declared.serving.End.TheVariants as end
 use Rattle.cl_program.specs.Run.{EndsAs, ReadToEnd, ReadToFault, ReadToLimit, WrittenToFault, AreFirst, IsTranscriptOf, IsTranscriptTo, OpensOn, opening_cost, opening_world}
-use Rattle.cl_program.specs.Surroundings.{Streams, streams}
+use Rattle.cl_program.specs.Surroundings.{streams}
 
 -- what a reader at the first line has read, with what is ahead of it
 read_so_far : (old new : Option (List ℕ)) (ahead_old ahead_new read : List ℕ) → ahead_old ≡ [] → Reads old new ahead_old ahead_new read

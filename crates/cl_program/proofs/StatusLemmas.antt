@@ -17,7 +17,7 @@ use Rattle.cl_session.specs.declared.serving.End.{End}
 use Rattle.cl_session.specs.declared.serving.End.TheVariants as end
 use Rattle.cl_program.specs.Command.{IsBench, IsCheck, IsNoCommand, IsRun, Names, application_of}
 use Rattle.cl_program.specs.Hosts.{HostMeanings}
-use Rattle.cl_program.specs.Run.{AppFaultRose, IsLoaded, MakesText, NamesText, OfBench, Opens, ReadToEnd, ReadToLimit, Refuses, Serves}
+use Rattle.cl_program.specs.Run.{AppFaultRose, IsLoaded, MakesText, NamesText, Opens, ReadToEnd, ReadToLimit, Refuses, Serves}
 use Rattle.cl_program.specs.Statuses.{DeclaresApplication, HasFewLines, HasManyLines, HasRefusal}
 use Rattle.cl_program.specs.Surroundings.{Placed, Streams}
 use Rattle.cl_program.specs.Texts.{IsTextOf, first_bytes}
@@ -155,12 +155,12 @@ loaded_declares bounds words place name reason o is d =
     some_declared bounds (place.file o.name) o.text o.app reason o.of_file o.declared (subst P same d)
 
 -- the text of a bench that was run is not refused
-pub bench_declares : (hosts : HostMeanings) (words : List (List ℕ)) (P : ℕ → Ground → Type 0) (items : ℕ) (reason : Reason)
-    → OfBench hosts words P → IsBench words items → IsReason hosts.bounds (application_text items) reason → ⊥
-bench_declares hosts words P items reason o is refusal =
-    let same : application_text o.0 ≡ application_text items = ap application_text (one_bench words o.0 items o.1 is) in
-    let Q : List ℕ → Type 0 = λ xs. IsApplication hosts.bounds xs o.2.0 in
-    not_both hosts.bounds (application_text items) o.2.0 reason (subst Q same o.2.1) refusal
+pub bench_declares : (bounds : Bounds) (words : List (List ℕ)) (items other : ℕ) (app : App) (reason : Reason)
+    → IsBench words items → IsApplication bounds (application_text items) app → IsBench words other → IsReason bounds (application_text other) reason → ⊥
+bench_declares bounds words items other app reason is declared also refusal =
+    let same : application_text items ≡ application_text other = ap application_text (one_bench words items other is also) in
+    let Q : List ℕ → Type 0 = λ xs. IsApplication bounds xs app in
+    not_both bounds (application_text other) app reason (subst Q same declared) refusal
 
 -- an application that is checked is not opened
 pub opened_checked : (hosts : HostMeanings) (words : List (List ℕ)) (place : Placed) (wire : Option (List ℕ)) (g : Ground) (name : List ℕ) → Opens hosts words place wire g → IsCheck words name → ⊥

@@ -2,7 +2,6 @@
 use Rattle.std.specs.Prelude.{◌≡◌, ℕ, List, [], ◌∷◌, ◌++◌, codes, ◌+◌, ◌*◌, Option, None, Some, option_and_then}
 use Rattle.std.specs.Fmt.{decimal}
 use Rattle.cl_cover.specs.PathText.{path_text}
-use Rattle.cl_cover.specs.declared.updates.Uncovered.{Uncovered}
 use Rattle.cl_invocation.specs.Words.{Invocation, run, check, bench, invocation_of}
 use Rattle.cl_load.specs.Reason.{Reason, refused, uncovered}
 use Rattle.cl_session.specs.declared.totals.Totals.{Totals}

@@ -190,7 +190,7 @@ returns-in-Loads-clause-bench_refusal_due g c = λ items reason run refused.
 
 pub returns-in-Benched-clause-bench_refusal_due : goal.returns-in-Benched-clause-bench_refusal_due
 returns-in-Benched-clause-bench_refusal_due g c = λ items reason run refused.
-    absurd (bench_declares _ (map (λ (w : Bor (List ℕ)). w.now) c.args.words.now) _ items reason c.in-Benched.ensures.ran run refused)
+    absurd (bench_declares _ (map (λ (w : Bor (List ℕ)). w.now) c.args.words.now) _ items _ reason c.in-Benched.ensures.ran.1 c.in-Benched.ensures.ran.2.1 run refused)
 
 pub returns-in-Benched-clause-usage_due : goal.returns-in-Benched-clause-usage_due
 returns-in-Benched-clause-usage_due g c = λ none.
