@@ -1,6 +1,6 @@
 pub mod Behind
 pub mod Claims
-pub mod Numbers
+pub mod NumberLemmas
 pub mod Parses
 pub mod Rows
 pub mod Rules

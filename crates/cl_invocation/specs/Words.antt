@@ -9,10 +9,12 @@ use Rattle.std.specs.Str.Parse.{digits_value}
 abbrev pub Text : Type 0
 Text = List ℕ
 
--- an application is run, with the name of its wire's file and its budget of forms where the words say them, or it is checked
+-- an application is run, with the name of its wire's file and its budget of forms where the words say them, or it is checked;
+-- or a bench of some items is run
 pub data Invocation : Type 0 where
   run : (application : Text) → (wire : Option Text) → (budget : Option ℕ) → Invocation
   check : (application : Text) → Invocation
+  bench : (items : ℕ) → Invocation
 
 -- ---- one word
 
@@ -116,13 +118,21 @@ parts_from next (word ∷ rest) = option_and_then (λ part. option_map (joined p
 
 -- ---- the invocation
 
--- 1 to 9 decimal digits, which write a number from 1 to 100,000,000
-abbrev pub is_budget : Text → Bool
-is_budget text = list_all is_ascii_digit text && nat_lt 0 (length text) && nat_le (length text) 9
-    && nat_le 1 (digits_value 10 text) && nat_le (digits_value 10 text) 100000000
+-- 1 to 9 decimal digits, which write a number within the bounds
+abbrev pub is_number : (least most : ℕ) → Text → Bool
+is_number least most text = list_all is_ascii_digit text && nat_lt 0 (length text) && nat_le (length text) 9
+    && nat_le least (digits_value 10 text) && nat_le (digits_value 10 text) most
 
+-- the number within the bounds that the text writes
+abbrev pub number_in : (least most : ℕ) → Text → Option ℕ
+number_in least most text = if is_number least most text then Some (digits_value 10 text) else None
+
+-- a budget is from 1 to 100,000,000 forms, and a bench has from 1 to 1,000 items
 abbrev pub budget_in : Text → Option ℕ
-budget_in text = if is_budget text then Some (digits_value 10 text) else None
+budget_in text = number_in 1 100000000 text
+
+abbrev pub items_in : Text → Option ℕ
+items_in text = number_in 1 1000 text
 
 -- an option is given at most once
 abbrev pub at_most_one : List Text → Option (Option Text)
@@ -144,11 +154,17 @@ abbrev pub check_of : Text → List Text → List Text → Option Invocation
 check_of application [] [] = Some (check application)
 check_of application wires budgets = None
 
--- two positional words: `run` or `check`, and the application
+-- nor beside `bench`
+abbrev pub bench_of : Text → List Text → List Text → Option Invocation
+bench_of text [] [] = option_map (λ items. bench items) (items_in text)
+bench_of text wires budgets = None
+
+-- two positional words: `run` or `check`, and the application, or `bench`, and the number of its items
 abbrev pub commanded : List Text → List Text → List Text → Option Invocation
-commanded (command ∷ application ∷ []) wires budgets =
-    if bytes_eq command (codes "run") then run_of application wires budgets
-    else (if bytes_eq command (codes "check") then check_of application wires budgets else None)
+commanded (command ∷ operand ∷ []) wires budgets =
+    if bytes_eq command (codes "run") then run_of operand wires budgets
+    else (if bytes_eq command (codes "check") then check_of operand wires budgets
+    else (if bytes_eq command (codes "bench") then bench_of operand wires budgets else None))
 commanded positional wires budgets = None
 
 -- the invocation that the words are, if they are one

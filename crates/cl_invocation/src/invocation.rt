@@ -1,11 +1,11 @@
 //! The invocation that the words are.
 ghost use Rattle.std.specs.Prelude.{◌≡◌, ◌==◌, IfOk, length, option_map};
-ghost use Rattle.cl_invocation.specs.Words.{at_most_one, budget_given, check_of, commanded, invocation_of, run_of};
+ghost use Rattle.cl_invocation.specs.Words.{at_most_one, bench_of, budget_given, check_of, commanded, invocation_of, run_of};
 ghost use Rattle.cl_invocation.specs.Command.{parts_in};
 ghost use Rattle.cl_invocation.specs.Shown.{invocation, text, texts, values};
 
-use crate::budgets::budget_in;
 use crate::commands::parts_of;
+use crate::numbers::{budget_in, items_in};
 use clap::ArgMatches;
 use std::alloc::{AllocError, Global};
 
@@ -25,6 +25,11 @@ pub enum Invocation<'a> {
     Check {
         /// The application's name.
         application: &'a str,
+    },
+    /// To run the bench.
+    Bench {
+        /// How many items it has, from 1 to 1,000.
+        items: u32,
     },
 }
 
@@ -53,7 +58,7 @@ fn invocation_in<'a>(parts: &ArgMatches<'a>) -> Option<Invocation<'a>>
     commanded(positional, wires, budgets)
 }
 
-// Two positional words: `run` or `check`, and the application.
+// Two positional words: `run` or `check`, and the application, or `bench`, and the number of its items.
 fn commanded<'a>(
     positional: Option<&[&'a str]>,
     wires: Option<&[&'a str]>,
@@ -61,13 +66,15 @@ fn commanded<'a>(
 ) -> Option<Invocation<'a>>
     ensures { option_map invocation result ≡ commanded (values positional.entry) (values wires.entry) (values budgets.entry) }
 {
-    let Some([command, application]) = positional else {
+    let Some([command, operand]) = positional else {
         return None;
     };
     if *command == "run" {
-        run_of(application, wires, budgets)
+        run_of(operand, wires, budgets)
     } else if *command == "check" {
-        check_of(application, wires, budgets)
+        check_of(operand, wires, budgets)
+    } else if *command == "bench" {
+        bench_of(operand, wires, budgets)
     } else {
         None
     }
@@ -103,6 +110,21 @@ fn check_of<'a>(
     } else {
         None
     }
+}
+
+// Nor beside `bench`.
+fn bench_of<'a>(
+    text: &str,
+    wires: Option<&[&'a str]>,
+    budgets: Option<&[&'a str]>,
+) -> Option<Invocation<'a>>
+    ensures { option_map invocation result ≡ bench_of text.now (values wires.entry) (values budgets.entry) }
+{
+    if !is_absent(wires) || !is_absent(budgets) {
+        return None;
+    }
+    let items = items_in(text)?;
+    Some(Invocation::Bench { items })
 }
 
 // The value of an option that is given at most once.

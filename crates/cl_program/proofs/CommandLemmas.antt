@@ -1,15 +1,15 @@
 -- A run of words, by the run of the text that they name.
-use Rattle.std.proofs.Common.{refl, ◌≡◌, ◌≢◌, ◌≤◌, ℕ, List, sym, ◌∙◌, ap, Option, Some, None, Bool, true, inl, inr, subst, arith}
-use Rattle.std.specs.Prelude.{Err, option_map}
+use Rattle.std.proofs.Common.{refl, ◌≡◌, ◌≢◌, ◌≤◌, ◌⊎◌, ℕ, List, sym, ◌∙◌, ap, Option, Some, None, Bool, true, inl, inr, subst, arith}
+use Rattle.std.specs.Prelude.{Err, option_and_then, option_map}
 use Rattle.cl_application.specs.declared.applications.App.{App}
 use Rattle.cl_eval.specs.declared.metering.Limits.{Limits}
 use Rattle.cl_frame.specs.Ground.{Ground, ground}
 use Rattle.cl_frame.specs.Sending.{Wire, wire_of}
 use Rattle.cl_invocation.specs.Words.{Invocation, run, check, invocation_of}
 use Rattle.cl_lattice.specs.World.{World}
-use Rattle.cl_load.specs.Application.{IsApplication}
+use Rattle.cl_load.specs.Application.{IsApplication, IsReason}
 use Rattle.cl_load.specs.Loads.{Loads}
-use Rattle.cl_load.specs.Reason.{refused, uncovered}
+use Rattle.cl_load.specs.Reason.{Reason, refused, uncovered}
 use Rattle.cl_load.specs.Types.{Bounds, holds_in, types_in}
 use Rattle.cl_load.specs.declared.refusals.LoadRefusal.{LoadRefusal}
 use Rattle.cl_load.specs.declared.refusals.LoadRefusal.TheVariants as refusal
@@ -18,10 +18,10 @@ use Rattle.cl_outside.specs.Causes.{Rose}
 use Rattle.cl_outside.specs.Place.{IsTold}
 use Rattle.cl_ptext.specs.Subtyping.{hierarchy_in}
 use Rattle.cl_updating.specs.Redisplays.{CanReuse}
-use Rattle.cl_program.specs.Command.{IsCheck, IsRun, Names, application_of}
+use Rattle.cl_program.specs.Command.{IsCheck, IsRun, application_of}
 use Rattle.cl_program.specs.Commands.{Checked, KeepsFiles, RanOn, RanText, RefusesText, SaysLine, Stands, Tells}
 use Rattle.cl_program.specs.Hosts.{HostMeanings, meanings_in, reads_in}
-use Rattle.cl_program.specs.Run.{Opens, Ran, RanLoaded, RanOutServing, SaysCut, SaysWhole, ground_in, limits_of}
+use Rattle.cl_program.specs.Run.{IsRefused, NamesText, OfBench, Opens, Ran, RanLoaded, RanOutBenching, RanOutServing, SaysCut, SaysWhole, ground_in, limits_of}
 use Rattle.cl_program.specs.Surroundings.{IsMade, Placed, Streams, UsesDevice, no_device}
 use Rattle.cl_program.specs.Texts.{IsTextOf}
 use Rattle.cl_program.specs.declared.running.How.{How}
@@ -33,9 +33,14 @@ uses_from None old mid new d e same u = (u.0, u.1, u.2 ∙ same)
 uses_from (Some name) old mid new d e same u =
     (subst (λ (w : Wire). IsMade w d) same u.0, u.1, u.2)
 
--- words that run an application name it
-named : (words : List (List ℕ)) (i : Invocation) (name : List ℕ) → invocation_of words ≡ Some i → application_of i ≡ name → Names words name
-named words i name e f = ap (option_map application_of) e ∙ ap (λ (n : List ℕ). Some n) f
+-- words that name a file whose text is refused
+is-refused : (bounds : Bounds) (words : List (List ℕ)) (place : Placed) (i : Invocation) (name text : List ℕ) (reason : Reason)
+    → invocation_of words ≡ Some i → application_of i ≡ Some name → IsTextOf (place.file name) text → IsReason bounds text reason
+    → IsRefused bounds words place reason
+is-refused bounds words place i name text reason e f of refusal =
+    let names : NamesText words place text =
+    record { name = name; command = ap (option_and_then application_of) e ∙ f; of_file = of } in
+    record { text = text; given = inl names; refusal = refusal }
 
 module _ (hosts : HostMeanings) (words : List (List ℕ)) (name : List ℕ) (wire : Option (List ℕ)) (budget : Option ℕ) (run_is : IsRun words name wire budget) where
   opens : (place : Placed) (text : List ℕ) (app : App) → IsTextOf (place.file name) text → IsApplication hosts.bounds text app
@@ -50,12 +55,12 @@ module _ (hosts : HostMeanings) (words : List (List ℕ)) (name : List ℕ) (wir
   Ran-text old mid new s t text how.AppFault of sink making r = absurd r
   Ran-text old mid new s t text how.Refused of sink making r = record {
     reason = r.0;
-    refused = record { name = name; command = named words (run name wire budget) name run_is refl; text = text; of_file = of; refusal = r.1 };
+    refused = is-refused hosts.bounds words old (run name wire budget) name text r.0 run_is refl of r.1;
     said = r.2;
   }
   Ran-text old mid new s t text how.RefusalCut of sink making r = record {
     reason = r.0;
-    refused = record { name = name; command = named words (run name wire budget) name run_is refl; text = text; of_file = of; refusal = r.1 };
+    refused = is-refused hosts.bounds words old (run name wire budget) name text r.0 run_is refl of r.1;
     said = r.2;
   }
   Ran-text old mid new s t text how.Loads of sink making r = absurd r
@@ -71,7 +76,10 @@ module _ (hosts : HostMeanings) (words : List (List ℕ)) (name : List ℕ) (wir
   Ran-text old mid new s t text how.Memory of sink making (inr r) =
       let serving : RanOutServing hosts words old s t =
       record { g = ground_in hosts r.0 (limits_of budget); wire = wire; opened = opens old text r.0 of r.1; ran_out = r.2 } in
-      inr serving
+      let either : RanOutServing hosts words old s t ⊎ OfBench hosts words (RanOutBenching s t) = inl serving in
+      inr either
+  Ran-text old mid new s t text how.Benched of sink making r = absurd r
+  Ran-text old mid new s t text how.BenchCut of sink making r = absurd r
   Ran-text old mid new s t text (how.Ended e) of sink making r = record {
     g = ground_in hosts r.0 (limits_of budget);
     wire = wire;
@@ -79,6 +87,7 @@ module _ (hosts : HostMeanings) (words : List (List ℕ)) (name : List ℕ) (wir
     device_old = r.2.device_old;
     device_new = r.2.device_new;
     uses = uses_from wire old mid new r.2.device_old r.2.device_new sink r.2.uses;
+    totals = r.2.totals;
     went = r.2.went;
   }
 
@@ -89,18 +98,20 @@ Ran-check hosts words name old new s t text how.UsageCut is of r = absurd r
 Ran-check hosts words name old new s t text how.AppFault is of r = absurd r
 Ran-check hosts words name old new s t text how.Refused is of r = record {
   reason = r.0;
-  refused = record { name = name; command = named words (check name) name is refl; text = text; of_file = of; refusal = r.1 };
+  refused = is-refused hosts.bounds words old (check name) name text r.0 is refl of r.1;
   said = r.2;
 }
 Ran-check hosts words name old new s t text how.RefusalCut is of r = record {
   reason = r.0;
-  refused = record { name = name; command = named words (check name) name is refl; text = text; of_file = of; refusal = r.1 };
+  refused = is-refused hosts.bounds words old (check name) name text r.0 is refl of r.1;
   said = r.2;
 }
 Ran-check hosts words name old new s t text how.Loads is of r = (record { name = name; command = is; text = text; of_file = of; app = r.0; declared = r.1 }, r.2)
 Ran-check hosts words name old new s t text how.LoadsCut is of r = (record { name = name; command = is; text = text; of_file = of; app = r.0; declared = r.1 }, r.2)
 Ran-check hosts words name old new s t text how.WireFault is of r = absurd r
 Ran-check hosts words name old new s t text how.Memory is of r = inl r
+Ran-check hosts words name old new s t text how.Benched is of r = absurd r
+Ran-check hosts words name old new s t text how.BenchCut is of r = absurd r
 Ran-check hosts words name old new s t text (how.Ended e) is of r = absurd r
 
 -- its histories may be reused
@@ -123,12 +134,14 @@ Ran-application hosts text wire limits app types p q s t how.LoadsCut is same r 
 Ran-application hosts text wire limits app types p q s t how.WireFault is same r = (app, is, r)
 Ran-application hosts text wire limits app types p q s t how.Memory is same (inl r) = inl r
 Ran-application hosts text wire limits app types p q s t how.Memory is same (inr r) = inr (app, is, rw same at r)
+Ran-application hosts text wire limits app types p q s t how.Benched is same r = absurd r
+Ran-application hosts text wire limits app types p q s t how.BenchCut is same r = absurd r
 Ran-application hosts text wire limits app types p q s t (how.Ended e) is same r = (app, is, rw same at r)
 
 -- ---- a text that does not load
 
 -- the line of its refusal was said so
-refuses : (bounds : Bounds) (text : List ℕ) (r : LoadRefusal) (said : List ℕ → Type 0) → Stands bounds text r → SaysLine r said → RefusesText bounds text said
+pub refuses : (bounds : Bounds) (text : List ℕ) (r : LoadRefusal) (said : List ℕ → Type 0) → Stands bounds text r → SaysLine r said → RefusesText bounds text said
 refuses bounds text (refusal.Refused number at) said is line = (refused number at, is, line)
 refuses bounds text (refusal.Uncovered form path) said is line = (uncovered (record { form = form; path = path }), is, line)
 refuses bounds text refusal.Memory said is line = absurd line
@@ -150,6 +163,8 @@ Ran-refused hosts text wire limits r p q s t how.Loads is told = absurd told
 Ran-refused hosts text wire limits r p q s t how.LoadsCut is told = absurd told
 Ran-refused hosts text wire limits r p q s t how.WireFault is told = absurd told
 Ran-refused hosts text wire limits r p q s t how.Memory is told = inl told
+Ran-refused hosts text wire limits r p q s t how.Benched is told = absurd told
+Ran-refused hosts text wire limits r p q s t how.BenchCut is told = absurd told
 Ran-refused hosts text wire limits r p q s t (how.Ended e) is told = absurd told
 
 -- a check of it
@@ -163,6 +178,8 @@ Checked-refused bounds text r s t how.Loads is told = absurd told
 Checked-refused bounds text r s t how.LoadsCut is told = absurd told
 Checked-refused bounds text r s t how.WireFault is told = absurd told
 Checked-refused bounds text r s t how.Memory is told = told
+Checked-refused bounds text r s t how.Benched is told = absurd told
+Checked-refused bounds text r s t how.BenchCut is told = absurd told
 Checked-refused bounds text r s t (how.Ended e) is told = absurd told
 
 -- ---- an application that was loaded
@@ -179,11 +196,14 @@ RanOn-none wire g p q s t d e how.Loads none begun ends sink r = absurd r
 RanOn-none wire g p q s t d e how.LoadsCut none begun ends sink r = absurd r
 RanOn-none wire g p q s t d e how.WireFault none begun ends sink r = absurd r
 RanOn-none wire g p q s t d e how.Memory none begun ends sink r = inr r
+RanOn-none wire g p q s t d e how.Benched none begun ends sink r = absurd r
+RanOn-none wire g p q s t d e how.BenchCut none begun ends sink r = absurd r
 RanOn-none wire g p q s t d e (how.Ended x) none begun ends sink r = record {
   device_old = d;
   device_new = e;
   uses = subst (λ (w : Option (List ℕ)). UsesDevice w p q d e) (sym none) (begun, ends, sink);
-  went = r;
+  totals = r.0;
+  went = r.1;
 }
 
 -- on the sink of the file of its wire
@@ -198,11 +218,14 @@ RanOn-wire wire name g p q s t d how.Loads is made held r = absurd r
 RanOn-wire wire name g p q s t d how.LoadsCut is made held r = absurd r
 RanOn-wire wire name g p q s t d how.WireFault is made held r = absurd r
 RanOn-wire wire name g p q s t d how.Memory is made held r = inr r
+RanOn-wire wire name g p q s t d how.Benched is made held r = absurd r
+RanOn-wire wire name g p q s t d how.BenchCut is made held r = absurd r
 RanOn-wire wire name g p q s t d (how.Ended x) is made held r = record {
   device_old = d;
   device_new = q.sink;
   uses = subst (λ (w : Option (List ℕ)). UsesDevice w p q d q.sink) (sym is) (made, refl, held);
-  went = r;
+  totals = r.0;
+  went = r.1;
 }
 
 -- ---- what stays of a place

@@ -3,3 +3,6 @@ pub mod RunLemmas
 pub mod StatusLemmas
 pub mod CommandLemmas
 pub mod OpeningLemmas
+pub mod BenchWords
+pub mod BenchLemmas
+pub mod SayingLemmas

@@ -8,7 +8,7 @@ use Rattle.cl_load.specs.Opening.{opening_slots}
 use Rattle.cl_outside.specs.Operations.{mended, ops_bytes}
 use Rattle.cl_session.specs.Session.{cost_of_panes}
 use Rattle.cl_session.specs.Transcript.{RoseIf}
-use Rattle.cl_session.specs.World.{World, opening}
+use Rattle.cl_session.specs.World.{opening}
 use Rattle.cl_program.specs.Run.{OpensOn, opening_cost, opening_world}
 
 -- the world and the cost of an opening on opening slots

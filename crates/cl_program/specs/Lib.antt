@@ -1,3 +1,4 @@
+pub mod SureBytes
 pub mod Command
 pub mod Surroundings
 pub mod Texts

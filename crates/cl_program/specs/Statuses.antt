@@ -1,6 +1,7 @@
 -- The statuses of the program, and when they are due.
 use Rattle.std.specs.Prelude.{◌≡◌, ◌<◌, ◌≤◌, ℕ, List, length, Option, None, Some}
 use Rattle.cl_application.specs.declared.applications.App.{App}
+use Rattle.cl_gen.specs.Workload.{application_text}
 use Rattle.cl_gesture.specs.Lines.{pieces}
 use Rattle.cl_gesture.specs.Next.{most_lines}
 use Rattle.cl_load.specs.Application.{IsApplication, IsReason}
@@ -25,6 +26,8 @@ status_of how.Loads = 0
 status_of how.LoadsCut = 5
 status_of how.WireFault = 6
 status_of how.Memory = 7
+status_of how.Benched = 0
+status_of how.BenchCut = 5
 status_of (how.Ended end.Done) = 0
 status_of (how.Ended end.ReadFault) = 4
 status_of (how.Ended end.TooMany) = 8
@@ -57,3 +60,11 @@ HasFewLines (Some bytes) = length (pieces bytes) ≤ most_lines
 abbrev pub HasManyLines : Option (List ℕ) → Type 0
 HasManyLines None = ⊥
 HasManyLines (Some bytes) = most_lines < length (pieces bytes)
+
+-- the application text of a bench of so many items declares an application on host types of these bounds
+abbrev pub DeclaresItems : Bounds → (items : ℕ) → Type 0
+DeclaresItems bounds items = (app : App) × IsApplication bounds (application_text items) app
+
+-- it does not load for this reason
+abbrev pub RefusesItems : Bounds → (items : ℕ) → Reason → Type 0
+RefusesItems bounds items reason = IsReason bounds (application_text items) reason

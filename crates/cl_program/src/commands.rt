@@ -1,4 +1,4 @@
-//! The commands of the program: an application is run, or checked.
+//! The commands of the program: an application is run, or checked, or a bench is run.
 ghost use Rattle.std.specs.Prelude.{◌≡◌, ◌≤◌, ℕ, List, Option, [], Some, None, map, option_map, true};
 ghost use Rattle.cl_application.specs.Panes.{IsPlaced};
 ghost use Rattle.cl_frame.specs.Ground.{ground, ground_of, meanings_of};
@@ -13,6 +13,7 @@ ghost use Rattle.cl_ptext.specs.Subtyping.{hierarchy_in};
 ghost use Rattle.cl_tables.specs.Rings.{HasNoRing};
 ghost use Rattle.cl_updating.specs.Redisplays.{CanReuse};
 
+use crate::benching::run_bench;
 use crate::running::{How, limits_of, run_program};
 use crate::saying::{say_loads, say_refusal, say_uncovered, say_usage};
 use crate::texts::{TextRead, read_text};
@@ -98,6 +99,7 @@ pub fn run_words<H: Hosts, P: Place, G: Source, O: Sink, L: Ledger>(
             TextRead::Failed => How::AppFault,
             TextRead::Memory => How::Memory,
         },
+        Some(Invocation::Bench { items }) => run_bench(alloc, items, hosts, out, steps),
     }
 }
 
@@ -350,8 +352,8 @@ fn refusal_of<H: Hosts>(alloc: Global, text: &[u8], hosts: &H) -> Option<LoadRef
     }
 }
 
-// Says why a text does not load.
-fn tell_refusal<O: Sink>(alloc: Global, refusal: &LoadRefusal, out: &mut O) -> How
+/// Says why a text does not load.
+pub(crate) fn tell_refusal<O: Sink>(alloc: Global, refusal: &LoadRefusal, out: &mut O) -> How
     ensures tells { (left : Option (List ℕ)) (faults spent : ℕ) → Tells refusal.now
         (streams left faults (O.taken out.old) (O.faults out.old) spent)
         (streams left faults (O.taken out.new) (O.faults out.new) spent) result }

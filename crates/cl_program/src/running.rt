@@ -38,16 +38,20 @@ pub enum How {
     LoadsCut,
     /// The place failed to make the wire's file.
     WireFault,
-    /// Want of memory before the first gesture.
+    /// Want of memory before the first gesture, or in a bench.
     Memory,
+    /// The bench was run, and its line was written.
+    Benched,
+    /// The bench was run, and the output failed in its line.
+    BenchCut,
     /// The gestures were served.
     Ended(End),
 }
 
-// A session whose frame was just opened, with the slots.
+/// A session whose frame was just opened, with the slots.
 #[derive(Drop)]
-struct Opening {
-    session: Session,
+pub(crate) struct Opening {
+    pub(crate) session: Session,
     slots: Slots,
 }
 
@@ -102,8 +106,8 @@ pub fn run_program<T: Types, D: Device, G: Source, O: Sink, L: Ledger>(
     }
 }
 
-// Opens the frame of an application.
-fn open<T: Types, D: Device, L: Ledger>(
+/// Opens the frame of an application.
+pub(crate) fn open<T: Types, D: Device, L: Ledger>(
     program: &Program<'_, T>,
     slots: &Slots,
     device: &mut D,
@@ -136,8 +140,8 @@ fn open<T: Types, D: Device, L: Ledger>(
 }
 
 impl Opening {
-    // Serves the gestures.
-    fn serve<T: Types, D: Device, G: Source, O: Sink, L: Ledger>(
+    /// Serves the gestures.
+    pub(crate) fn serve<T: Types, D: Device, G: Source, O: Sink, L: Ledger>(
         &mut self,
         program: &Program<'_, T>,
         room: Ahead,
@@ -160,7 +164,7 @@ impl Opening {
             (O.taken out.old) (O.faults out.old) spent)
             (streams (G.left gestures.new) (G.faults gestures.new) (O.taken out.new)
             (O.faults out.new) steps.new) begun
-            (wire_of (D.wire device.new) (D.faults device.new) (D.lent device.new).told) result }
+            (wire_of (D.wire device.new) (D.faults device.new) (D.lent device.new).told) self.new.session.totals result }
         ensures lent { G.lent gestures.new ≡ G.lent gestures.old }
         ensures later { G.faults gestures.old ≤ G.faults gestures.new }
         ensures out_lent { O.lent out.new ≡ O.lent out.old }

@@ -4,10 +4,10 @@ ghost use Rattle.cl_frame.specs.Sending.{wire_of};
 ghost use Rattle.cl_invocation.specs.Words.{invocation_of};
 ghost use Rattle.cl_load.specs.Reason.{Reason};
 ghost use Rattle.cl_outside.specs.Causes.{Rose};
-ghost use Rattle.cl_program.specs.Command.{IsCheck, IsNoCommand, IsRun, Names};
+ghost use Rattle.cl_program.specs.Command.{IsBench, IsCheck, IsNoCommand, IsRun, Names};
 ghost use Rattle.cl_program.specs.Commands.{KeptBy};
 ghost use Rattle.cl_program.specs.Hosts.{hosts_of};
-ghost use Rattle.cl_program.specs.Statuses.{DeclaresApplication, EndsWith, HasFewLines, HasManyLines, HasRefusal};
+ghost use Rattle.cl_program.specs.Statuses.{DeclaresApplication, DeclaresItems, EndsWith, HasFewLines, HasManyLines, HasRefusal, RefusesItems};
 ghost use Rattle.cl_program.specs.Surroundings.{placed, streams};
 
 use crate::commands::run_words;
@@ -26,11 +26,14 @@ pub struct Status(pub u8);
 /// The words `run APP [--wire NAME] [--budget N]` read the application from the place's file APP, to
 /// its end or to 1,048,577 bytes, load it, make the file NAME, open the frame with a budget of N forms
 /// a display or command (1,000,000 where none is given), and serve the gestures; the operations of
-/// the screen go to the wire. The words `check APP` read and load it, and say `loads`. The run stops at
-/// the first of these: words that are no command (status 2), a fault of the place with APP (3), a text
+/// the screen go to the wire. The words `check APP` read and load it, and say `loads`. The words `bench N`
+/// make an application of N items and gestures that change each of them, load it, serve the gestures on a
+/// device that keeps nothing, and say the sums of what was kept, moved, drawn and erased; they touch neither
+/// the place nor the given gestures. The run stops at the first of these: words that are no command (status 2), a fault of the place with APP (3), a text
 /// that is refused (1), a wire that cannot be made (6), want of memory (7), a fault of the gestures (4)
 /// or of the output (5), a byte behind 1,000,000 lines (8), the end of the gestures (0). Want of memory
-/// comes only before the first gesture. A fault of the wire changes no status.
+/// comes only before the first gesture; a bench that met it in a gesture says no line. A fault of the wire
+/// changes no status.
 pub fn clim_main<H: Hosts, P: Place, G: Source, O: Sink, L: Ledger>(
     alloc: Global,
     words: &[&str],
@@ -65,6 +68,12 @@ pub fn clim_main<H: Hosts, P: Place, G: Source, O: Sink, L: Ledger>(
         → (Rose (P.app_faults place.old name) (P.app_faults place.new name) → ⊥)
         → DeclaresApplication (H.bounds hosts.now) (P.file place.old name)
         → (result.0 ≡ 0) ⊎ (result.0 ≡ 5) ⊎ (result.0 ≡ 7) }
+    ensures bench_due { (items : ℕ) → IsBench (map (λ w. w.now) words.now) items
+        → DeclaresItems (H.bounds hosts.now) items
+        → (result.0 ≡ 0) ⊎ (result.0 ≡ 5) ⊎ (result.0 ≡ 7) }
+    ensures bench_refusal_due { (items : ℕ) (reason : Reason) → IsBench (map (λ w. w.now) words.now) items
+        → RefusesItems (H.bounds hosts.now) items reason
+        → (result.0 ≡ 1) ⊎ (result.0 ≡ 5) ⊎ (result.0 ≡ 7) }
     ensures complete { (name : List ℕ) (wire : Option (List ℕ)) (budget : Option ℕ)
         → IsRun (map (λ w. w.now) words.now) name wire budget
         → (Rose (P.app_faults place.old name) (P.app_faults place.new name) → ⊥)
@@ -99,6 +108,8 @@ pub fn clim_main<H: Hosts, P: Place, G: Source, O: Sink, L: Ledger>(
         How::LoadsCut => Status(5),
         How::WireFault => Status(6),
         How::Memory => Status(7),
+        How::Benched => Status(0),
+        How::BenchCut => Status(5),
         How::Ended(End::Done) => Status(0),
         How::Ended(End::ReadFault) => Status(4),
         How::Ended(End::TooMany) => Status(8),

@@ -4,7 +4,6 @@ use Rattle.std.proofs.lemmas.List.Elements.{All-cons, All-nil}
 use Rattle.cl_application.specs.Panes.{panes_of}
 use Rattle.cl_application.specs.declared.declarations.PaneDecl.{PaneDecl}
 use Rattle.cl_frame.specs.States.{StateAt}
-use Rattle.cl_eval.specs.Slots.{Slots}
 use Rattle.cl_frame.specs.Ground.{Ground}
 use Rattle.cl_frame.specs.Panes.{PaneMarks}
 use Rattle.cl_frame.specs.Settling.{marks_after, marks_settled, pane_draw, settle_pane, settle_panes}

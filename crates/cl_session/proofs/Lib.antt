@@ -17,3 +17,4 @@ pub mod BindingLemmas
 pub mod EnabledLemmas
 pub mod RunLemmas
 pub mod PointingLemmas
+pub mod TotalsLemmas

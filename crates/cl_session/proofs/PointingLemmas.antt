@@ -19,7 +19,7 @@ use Rattle.cl_session.specs.Handling.{enabled_in}
 use Rattle.cl_session.specs.declared.accessible.Accessible.{Accessible}
 use Rattle.cl_dialog.specs.OpenDialog.{OpenDialog}
 use Rattle.cl_session.specs.Dialogs.{answer, dialog_contexts}
-use Rattle.cl_session.specs.Pointing.{TypedArgument, chosen_by, contexts_of, is_within, line_with, scene_by, typed_in, value_of, values_in}
+use Rattle.cl_session.specs.Pointing.{TypedArgument, chosen_by, contexts_of, line_with, scene_by, typed_in, value_of, values_in}
 use Rattle.cl_session.specs.Runs.{Handled, command_outcome, run_command, tell}
 use Rattle.cl_session.specs.Step.{act_on, got_line, point_within, run_chosen, run_named, take_object}
 use Rattle.cl_session.specs.World.{Enabled, World}

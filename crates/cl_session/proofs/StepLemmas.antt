@@ -26,7 +26,8 @@ use Rattle.cl_session.specs.Replies.{lines_of, met_of, own_lines}
 use Rattle.cl_session.specs.Session.{StepsTo, world_of}
 use Rattle.cl_session.specs.Runs.{Handled}
 use Rattle.cl_session.specs.Step.{Spends, gesture_bytes, handled, handled_or_not, next, next_behind, pane_lines, sent_behind, settled_behind, wire_lines, which_after}
-use Rattle.cl_session.specs.Transcript.{RoseIf}
+use Rattle.cl_session.specs.Totals.{with_gesture}
+use Rattle.cl_session.specs.Transcript.{RoseIf, counted}
 use Rattle.cl_session.specs.World.{Enabled, World, filling_by, state_in}
 use Rattle.cl_session.specs.declared.answers.Replies.{Replies}
 use Rattle.cl_session.specs.declared.handling.After.{After}
@@ -125,8 +126,8 @@ module _ (g : Ground) (old new : Session) (slots_old slots_new : Slots) (act : G
   memory : r.memory ≡ handling_met h
   memory = memory_of h p r are
 
-  pub steps-to : StepsTo g old new slots_old slots_new act r
-  steps-to =
+  pub steps-to : new.totals ≡ with_gesture old.totals r.memory (reports_of_frame new.frame) → StepsTo g old new slots_old slots_new act r
+  steps-to counts =
       let w = world_of old slots_old in
       let hd = handled_or_not g w act (handling_met h) in
       record {
@@ -136,6 +137,7 @@ module _ (g : Ground) (old new : Session) (slots_old slots_new : Slots) (act : G
         none_of_own = none_of h p r are;
         reports = subst (λ (b : Bool). reports_of_frame new.frame ≡ map report_after (settled_behind g (handled_or_not g w act b) (mets_of new.frame)))
             (sym memory) (settles.reports ∙ ap (λ (ss : List PaneStep). map report_after ss) (sym (steps-same g hd slots_new new.desk old.frame (after_of h) (lines_by h) (mets_of new.frame) left)));
+        totals = counts;
       }
 
   pub spends-to : (from at to : ℕ) → RisesBy (handling_met h) from at (handled g (world_of old slots_old) act).cost
@@ -190,3 +192,9 @@ pub lines-said : (g : Ground) (old new : Session) (slots_old slots_new : Slots) 
 lines-said g old new slots_old slots_new act r s =
     ap (λ (o : List (List ℕ)). o ++ (pane_lines (panes_of g.app) (reports_of_frame new.frame) ++ wire_lines r.wire)) s.own
     ∙ ap (λ (rs : List PaneReport). (handled_or_not g (world_of old slots_old) act r.memory).replies ++ (pane_lines (panes_of g.app) rs ++ wire_lines r.wire)) s.reports
+
+-- what is told of the step is counted
+pub counted-to : (g : Ground) (old new : Session) (slots_old slots_new : Slots) (act : Gesture) (r : Replies) → StepsTo g old new slots_old slots_new act r
+    → new.totals ≡ counted g (world_of old slots_old) act (met_of new.frame r) old.totals
+counted-to g old new slots_old slots_new act r s =
+    s.totals ∙ ap (λ (rs : List PaneReport). with_gesture old.totals r.memory rs) s.reports

@@ -10,6 +10,7 @@ use Rattle.cl_frame.specs.Sending.{Wire}
 use Rattle.cl_session.specs.Transcript.{meters}
 use Rattle.cl_session.specs.Turns.{IsSame, StaysAt}
 use Rattle.cl_session.specs.World.{World}
+use Rattle.cl_session.specs.declared.totals.Totals.{Totals}
 use Rattle.cl_session.specs.declared.serving.End.{End}
 use Rattle.cl_session.specs.declared.serving.End.TheVariants as end
 
@@ -60,11 +61,12 @@ stays-after stop.AtEnd t r first second whole f join u h = let p = rw (f u) at h
 stays-after stop.AtFault t r first second whole f join u h = let p = rw (f u) at h in (p.0, join u p.1)
 stays-after stop.AtLimit t r first second whole f join u h = let p = rw (f u) at h in (p.0, join u p.1)
 
-pub same-twice : {A B C D : Type 0} (a b c : A) (x y z : B) (d e f : C) (i j k : ℕ) (u v w : D) → IsSame a b x y d e i j u v → IsSame b c y z e f j k v w → IsSame a c x z d f i k u w
-same-twice a b c x y z d e f i j k u v w p q = (q.0 ∙ p.0, q.1 ∙ p.1, q.2 ∙ p.2, q.3 ∙ p.3, q.4 ∙ p.4)
+pub same-twice : {A B C D : Type 0} (a b c : A) (x y z : B) (d e f : C) (i j k : ℕ) (l m n : Totals) (u v w : D)
+    → IsSame a b x y d e i j l m u v → IsSame b c y z e f j k m n v w → IsSame a c x z d f i k l n u w
+same-twice a b c x y z d e f i j k l m n u v w p q = (q.0 ∙ p.0, q.1 ∙ p.1, q.2 ∙ p.2, q.3 ∙ p.3, q.4 ∙ p.4, q.5 ∙ p.5)
 
 -- nothing changed, so serving stands where it stood
 pub same-stand : {A B C : Type 0} (progress : A → Progress) (taken : B → Option (List ℕ)) (out_faults : B → ℕ) (device_of : C → Wire)
-    (a b : A) (x y : B) (d e : C) (i j : ℕ) (u v : World) → IsSame a b x y d e i j u v
-    → stand v (meters j (device_of e)) (progress b) (taken y) (out_faults y) ≡ stand u (meters i (device_of d)) (progress a) (taken x) (out_faults x)
-same-stand progress taken out_faults device_of a b x y d e i j u v h = rw (h.0, h.1, h.2, h.3, h.4) refl
+    (a b : A) (x y : B) (d e : C) (i j : ℕ) (l m : Totals) (u v : World) → IsSame a b x y d e i j l m u v
+    → stand v (meters j (device_of e) m) (progress b) (taken y) (out_faults y) ≡ stand u (meters i (device_of d) l) (progress a) (taken x) (out_faults x)
+same-stand progress taken out_faults device_of a b x y d e i j l m u v h = rw (h.0, h.1, h.2, h.3, h.4, h.5) refl

@@ -23,7 +23,6 @@ use Rattle.cl_reuse.specs.Kept.{KeptAt, count_moved, count_still, items_kept}
 use Rattle.cl_reuse.specs.Records.{kept_among}
 use Rattle.cl_redisplay.specs.Shown.{Shown, glyph_in, row_from, rows_from, told_row}
 use Rattle.cl_session.specs.Laws.{IsToldByLines}
-use Rattle.cl_session.specs.Naming.{command_of_line, command_of_stroke}
 use Rattle.cl_session.specs.Step.{point_at}
 use Rattle.cl_session.specs.Runs.{Handled, refuse}
 use Rattle.cl_session.specs.Step.{handled, handled_or_not, memory_line, next_behind, pane_lines, report_line, report_lines}

@@ -11,6 +11,7 @@ pub mod Targets
 pub mod Replies
 pub mod Handling
 pub mod Telling
+pub mod Totals
 pub mod Session
 pub mod Streams
 pub mod Transcript

@@ -14,6 +14,7 @@ use Rattle.cl_session.specs.Handling.{world_at}
 use Rattle.cl_session.specs.Accessible.{IsAccessible}
 use Rattle.cl_session.specs.Replies.{met_of, own_lines}
 use Rattle.cl_session.specs.Step.{handled_or_not, next, settled_behind}
+use Rattle.cl_session.specs.Totals.{with_gesture}
 use Rattle.cl_session.specs.World.{World, cost_of_pane}
 use Rattle.cl_updating.specs.Redisplays.{CanReuse}
 
@@ -39,10 +40,12 @@ costs_of_panes g slots (d ∷ ds) = cost_of_pane g slots d + costs_of_panes g sl
 abbrev pub cost_of_panes : Ground → Slots → ℕ
 cost_of_panes g slots = costs_of_panes g slots (panes_of g.app)
 
--- A gesture took the world to the next one, and these are the replies: the own lines of its handling, and the reports of the panes.
+-- A gesture took the world to the next one, and these are the replies: the own lines of its handling, and the reports of the panes, which are
+-- counted.
 pub record StepsTo (g : Ground) (old new : Session) (slots_old slots_new : Slots) (act : Gesture) (replies : Replies) : Type 0 where
   pub world : world_of new slots_new ≡ (next g (world_of old slots_old) act (met_of new.frame replies)).world
   pub own : own_lines replies.memory replies.own ≡ (handled_or_not g (world_of old slots_old) act replies.memory).replies
   pub none_of_own : replies.memory ≡ true → replies.own ≡ []
   pub reports : reports_of_frame new.frame
       ≡ map report_after (settled_behind g (handled_or_not g (world_of old slots_old) act replies.memory) (met_of new.frame replies).panes)
+  pub totals : new.totals ≡ with_gesture old.totals replies.memory (reports_of_frame new.frame)

@@ -1,17 +1,15 @@
 -- The step of a world by a gesture: the next world and the lines that are said of it.
-use Rattle.std.specs.Prelude.{ℕ, ◌+◌, ◌==◌, Bool, true, false, nat_le, if◌then◌else◌, List, [], ◌∷◌, ◌++◌, length, map, Option, Some, None, option_map, unwrap_or, codes}
+use Rattle.std.specs.Prelude.{ℕ, ◌+◌, ◌==◌, Bool, true, false, nat_le, if◌then◌else◌, List, [], ◌∷◌, ◌++◌, length, map, Option, Some, None, codes}
 use Rattle.std.specs.Fmt.{decimal}
-use Rattle.std.specs.Str.{bytes_eq, str_eq_ignore_ascii_case}
+use Rattle.std.specs.Str.{str_eq_ignore_ascii_case}
 use Rattle.cl_application.specs.App.{command_named}
 use Rattle.cl_application.specs.Panes.{panes_of}
 use Rattle.cl_application.specs.declared.declarations.ArgumentDecl.{ArgumentDecl}
 use Rattle.cl_application.specs.declared.declarations.CommandDecl.{CommandDecl}
 use Rattle.cl_application.specs.declared.declarations.PaneDecl.{PaneDecl}
 use Rattle.cl_dialog.specs.OpenDialog.{OpenDialog}
-use Rattle.cl_eval.specs.Outcome.{Outcome, Gives, RisesBy, Traps}
-use Rattle.cl_eval.specs.Slots.{Env, Slots}
-use Rattle.cl_eval.specs.Executed.{outcome_of_exec}
-use Rattle.cl_eval.specs.declared.effects.Effects.{Effects}
+use Rattle.cl_eval.specs.Outcome.{RisesBy}
+use Rattle.cl_eval.specs.Slots.{Slots}
 use Rattle.cl_record.specs.Lines.{item_line, lines_from}
 use Rattle.cl_redisplay.specs.Shown.{Shown, shown_ink_rows, shown_rows}
 use Rattle.cl_frame.specs.Ground.{Ground}
@@ -30,7 +28,6 @@ use Rattle.cl_line.specs.Lines.{without_last}
 use Rattle.cl_line.specs.declared.lines.TheConstants.{MAX_ELEMENTS}
 use Rattle.cl_line.specs.declared.elements.Element.{Element}
 use Rattle.cl_parser.specs.Parses.{decls_of, parse, without_tokens}
-use Rattle.cl_parser.specs.Tokens.{Scene}
 use Rattle.cl_parser.specs.declared.parsing.Parsed.{Parsed}
 use Rattle.cl_parser.specs.declared.parsing.Parsed.TheVariants as parsed
 use Rattle.cl_session.specs.declared.handling.After.{After}

@@ -8,9 +8,12 @@ use Rattle.cl_gesture.specs.Gesture.{LineKind, idle, bad, does, kind_of}
 use Rattle.cl_gesture.specs.declared.answers.Gesture.{Gesture}
 use Rattle.cl_frame.specs.Ground.{Ground}
 use Rattle.cl_frame.specs.Sending.{SendsOn, ShowsPanes, Wire}
+use Rattle.cl_frame.specs.Settling.{report_after}
 use Rattle.cl_session.specs.World.{World}
-use Rattle.cl_session.specs.Step.{Met, Spends, gesture_bytes, next}
+use Rattle.cl_session.specs.Step.{Met, Spends, gesture_bytes, handled_or_not, next, settled_behind}
 use Rattle.cl_session.specs.Streams as streams
+use Rattle.cl_session.specs.Totals.{with_gesture, with_memory}
+use Rattle.cl_session.specs.declared.totals.Totals.{Totals}
 
 -- a line with the line feed that ends it
 abbrev pub ended_line : List ℕ → List ℕ
@@ -41,33 +44,40 @@ world_after g w bad went = w
 world_after g w (does act) lost = w
 world_after g w (does act) (stepped met) = (next g w act met).world
 
--- what the ledger stands at, and what is told of the device
+-- what the ledger stands at, what is told of the device, and the sums over what was told of panes
 pub record Meters : Type 0 where
   pub spent : ℕ
   pub device : Wire
+  pub totals : Totals
 
-abbrev pub meters : (spent : ℕ) → (device : Wire) → Meters
-meters spent device = record { spent = spent; device = device }
+abbrev pub meters : (spent : ℕ) → (device : Wire) → (totals : Totals) → Meters
+meters spent device totals = record { spent = spent; device = device; totals = totals }
 
 -- no count falls, and one rose where this holds
 abbrev pub RoseIf : Bool → (old new : ℕ) → Type 0
 RoseIf true old new = (old ≤ new) × Rose old new
 RoseIf false old new = old ≤ new
 
+-- the sums behind a gesture
+abbrev pub counted : Ground → World → Gesture → Met → Totals → Totals
+counted g w act met totals =
+    with_gesture totals met.handling (map report_after (settled_behind g (handled_or_not g w act met.handling) met.panes))
+
 -- What a gesture spends and sends. The ledger rises by what it ran. All its bytes were sent, and playback of the wire is what the panes show
--- then; where it says `! wire`, the device failed behind the first bytes.
+-- then; where it says `! wire`, the device failed behind the first bytes. What was told of the panes is counted.
 pub record SpendsStep (g : Ground) (w : World) (act : Gesture) (met : Met) (old new : Meters) : Type 0 where
   pub ran : Spends g w act met old.spent new.spent
   pub failed : RoseIf met.wire old.device.faults new.device.faults
   pub sent : SendsOn (not met.wire) old.device new.device (gesture_bytes g w act met)
   pub shows : met.wire ≡ false → ShowsPanes g.app (next g w act met).world.panes new.device
   pub told : new.device.told ≡ old.device.told
+  pub counts : new.totals ≡ counted g w act met old.totals
 
--- what a line spends
+-- what a line spends; one that was lost is counted
 abbrev pub Spent : Ground → World → LineKind → Went → (old new : Meters) → Type 0
 Spent g w idle went old new = new ≡ old
 Spent g w bad went old new = new ≡ old
-Spent g w (does act) lost old new = new ≡ old
+Spent g w (does act) lost old new = new ≡ record old { totals = with_memory old.totals }
 Spent g w (does act) (stepped met) old new = SpendsStep g w act met old new
 
 -- ---- the session as a machine over a stream

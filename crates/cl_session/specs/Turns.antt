@@ -3,6 +3,7 @@ use Rattle.std.specs.Prelude.{◌≡◌, ◌<◌, ℕ, Bool, true, false, Option
 use Rattle.cl_frame.specs.Ground.{Ground}
 use Rattle.cl_gesture.specs.declared.answers.Stop.{Stop}
 use Rattle.cl_gesture.specs.declared.answers.Stop.TheVariants as stop
+use Rattle.cl_session.specs.declared.totals.Totals.{Totals}
 use Rattle.cl_session.specs.declared.serving.End.{End}
 use Rattle.cl_session.specs.declared.serving.End.TheVariants as end
 use Rattle.cl_session.specs.Serving.{GoesOn, ServesTo, Stand}
@@ -21,10 +22,12 @@ StaysAt stop.AtEnd answer same = (answer ≡ Some end.Done) × same
 StaysAt stop.AtFault answer same = (answer ≡ Some end.ReadFault) × same
 StaysAt stop.AtLimit answer same = (answer ≡ Some end.TooMany) × same
 
--- the reader, the sink, the device, the ledger and the world are as before
-abbrev pub IsSame : {A B C D : Type 0} → (gestures_old gestures_new : A) → (out_old out_new : B) → (device_old device_new : C) → (spent_old spent_new : ℕ) → (from to : D) → Type 0
-IsSame gestures_old gestures_new out_old out_new device_old device_new spent_old spent_new from to =
-    (gestures_new ≡ gestures_old) × (out_new ≡ out_old) × (device_new ≡ device_old) × (spent_new ≡ spent_old) × (to ≡ from)
+-- the reader, the sink, the device, the ledger, the sums and the world are as before
+abbrev pub IsSame : {A B C D : Type 0} → (gestures_old gestures_new : A) → (out_old out_new : B) → (device_old device_new : C) → (spent_old spent_new : ℕ) → (totals_old totals_new : Totals)
+    → (from to : D) → Type 0
+IsSame gestures_old gestures_new out_old out_new device_old device_new spent_old spent_new totals_old totals_new from to =
+    (gestures_new ≡ gestures_old) × (out_new ≡ out_old) × (device_new ≡ device_old) × (spent_new ≡ spent_old) × (totals_new ≡ totals_old)
+    × (to ≡ from)
 
 abbrev pub end_unless : Bool → Option End
 end_unless true = None

@@ -13,6 +13,7 @@ mod serving;
 mod sessions;
 mod speaking;
 mod telling;
+mod totals;
 mod translators;
 mod writing;
 
@@ -24,3 +25,4 @@ pub use handling::Desk;
 pub use naming::enabled_of;
 pub use serving::End;
 pub use sessions::{DEPTH, Session};
+pub use totals::Totals;

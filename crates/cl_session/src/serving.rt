@@ -53,14 +53,14 @@ impl Session {
         ensures serves { stop_of gestures.old ≡ stop.Going
             → ServesTo (ground_of T.holds T.presents T.reads T.hierarchy program.now)
             (stand (world_of self.old slots.old) (meters steps.old (wire_of (D.wire device.old)
-            (D.faults device.old) (D.lent device.old).told))
+            (D.faults device.old) (D.lent device.old).told) self.old.totals)
             (progress_of G.left G.faults gestures.old) (O.taken out.old) (O.faults out.old))
             (stand (world_of self.new slots.new) (meters steps.new (wire_of (D.wire device.new)
-            (D.faults device.new) (D.lent device.new).told))
+            (D.faults device.new) (D.lent device.new).told) self.new.totals)
             (progress_of G.left G.faults gestures.new) (O.taken out.new) (O.faults out.new)) result }
         ensures stays { StaysAt (stop_of gestures.old) (Some result)
             (IsSame gestures.old gestures.new out.old out.new device.old device.new steps.old
-            steps.new (world_of self.old slots.old) (world_of self.new slots.new)) }
+            steps.new self.old.totals self.new.totals (world_of self.old slots.old) (world_of self.new slots.new)) }
         ensures lent { G.lent (source_of gestures.new) ≡ G.lent (source_of gestures.old) }
         ensures out_lent { O.lent out.new ≡ O.lent out.old }
         ensures device_lent { D.lent device.new ≡ D.lent device.old }
@@ -100,14 +100,14 @@ impl Session {
         ensures turns { stop_of gestures.old ≡ stop.Going
             → Turns (ground_of T.holds T.presents T.reads T.hierarchy program.now)
             (stand (world_of self.old slots.old) (meters steps.old (wire_of (D.wire device.old)
-            (D.faults device.old) (D.lent device.old).told))
+            (D.faults device.old) (D.lent device.old).told) self.old.totals)
             (progress_of G.left G.faults gestures.old) (O.taken out.old) (O.faults out.old))
             (stand (world_of self.new slots.new) (meters steps.new (wire_of (D.wire device.new)
-            (D.faults device.new) (D.lent device.new).told))
+            (D.faults device.new) (D.lent device.new).told) self.new.totals)
             (progress_of G.left G.faults gestures.new) (O.taken out.new) (O.faults out.new)) result }
         ensures stays { StaysAt (stop_of gestures.old) result
             (IsSame gestures.old gestures.new out.old out.new device.old device.new steps.old
-            steps.new (world_of self.old slots.old) (world_of self.new slots.new)) }
+            steps.new self.old.totals self.new.totals (world_of self.old slots.old) (world_of self.new slots.new)) }
         ensures lent { G.lent (source_of gestures.new) ≡ G.lent (source_of gestures.old) }
         ensures out_lent { O.lent out.new ≡ O.lent out.old }
         ensures device_lent { D.lent device.new ≡ D.lent device.old }
@@ -126,7 +126,10 @@ impl Session {
                 goes_on(say_replies(out, program.app, &self.frame, &replies))
             }
             Next::Bad(number) => goes_on(say_bad(out, number)),
-            Next::Memory => goes_on(say_lost(out)),
+            Next::Memory => {
+                self.totals = self.totals.with_memory();
+                goes_on(say_lost(out))
+            }
             Next::End => Some(End::Done),
             Next::ReadFault => Some(End::ReadFault),
             Next::TooMany => Some(End::TooMany),

@@ -9,6 +9,7 @@ ghost use Rattle.cl_session.specs.Replies.{met_of};
 ghost use Rattle.cl_session.specs.Handling.{AreRepliesOf};
 ghost use Rattle.cl_session.specs.Session.{Fits, StepsTo, cost_of_panes, world_of};
 ghost use Rattle.cl_session.specs.Step.{Spends, gesture_bytes};
+ghost use Rattle.cl_session.specs.Totals.{no_totals};
 ghost use Rattle.cl_session.specs.Transcript.{RoseIf};
 ghost use Rattle.cl_session.specs.World.{opening};
 ghost use Rattle.cl_tables.specs.Rings.{HasNoRing};
@@ -18,6 +19,7 @@ use crate::accessible::{Accessible, accessible_of};
 use crate::answers::Replies;
 use crate::handling::{Desk, Handling, handle};
 use crate::naming::enabled_of;
+use crate::totals::Totals;
 use cl_eval::{Lines, Program, Slots, Types};
 use cl_frame::{Frame, State, Which};
 use cl_gesture::Gesture;
@@ -29,13 +31,14 @@ use std::alloc::{AllocError, Global};
 /// How many forms may be entered and not left.
 pub const DEPTH: u32 = 512;
 
-/// An application's frame between two gestures, what lies on its desk, and what is accessible from its command table. The slots
-/// stand apart.
+/// An application's frame between two gestures, what lies on its desk, what is accessible from its command table, and the sums
+/// over what was told of its panes. The slots stand apart.
 #[derive(Drop)]
 pub struct Session {
     pub accessible: Accessible,
     pub desk: Desk,
     pub frame: Frame,
+    pub totals: Totals,
 }
 
 impl Session {
@@ -74,6 +77,7 @@ impl Session {
             (λ s. s.frame.screen.stale ≡ true → D.broken device.new ≡ true) }
         ensures lent { D.lent device.new ≡ D.lent device.old }
         ensures device_later { D.faults device.old ≤ D.faults device.new }
+        ensures totals { IfOk result (λ s. s.totals ≡ no_totals) }
     {
         let accessible = accessible_of(program.alloc, program.app)?;
         let desk = Desk {
@@ -94,12 +98,13 @@ impl Session {
             accessible,
             desk,
             frame,
+            totals: Totals::new(),
         })
     }
 
     /// Handles one gesture, and settles all panes where a command committed, a dialog was set or closed, or where it is `force`,
     /// and else those that are blank for want of memory. A screen that was stale before is redrawn in
-    /// full at the end. The own replies are made before anything changes.
+    /// full at the end. The own replies are made before anything changes. What is told is counted.
     pub fn step<T: Types, D: Device, L: Ledger>(
         &mut self,
         program: &Program<'_, T>,
@@ -146,7 +151,16 @@ impl Session {
             filling: self.desk.filling(program.app),
         };
         let painted = self.frame.update(program, which, &state, device, steps);
-        replies_of(program.alloc, handling, painted)
+        let replies = replies_of(program.alloc, handling, painted);
+        self.totals = self.totals.with_gesture(replies.memory, &self.frame);
+        replies
+    }
+
+    /// The sums over what the replies so far told of panes, and how often they told of want of memory; the opening is not told.
+    pub fn totals(&self) -> Totals
+        ensures { result ≡ self.now.totals }
+    {
+        self.totals
     }
 }
 

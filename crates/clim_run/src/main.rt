@@ -8,10 +8,10 @@ ghost use Rattle.cl_frame.specs.Sending.{wire_of};
 ghost use Rattle.cl_invocation.specs.Words.{invocation_of};
 ghost use Rattle.cl_load.specs.Reason.{Reason};
 ghost use Rattle.cl_outside.specs.Causes.{Rose};
-ghost use Rattle.cl_program.specs.Command.{IsCheck, IsNoCommand, IsRun, Names};
+ghost use Rattle.cl_program.specs.Command.{IsBench, IsCheck, IsNoCommand, IsRun, Names};
 ghost use Rattle.cl_program.specs.Commands.{KeptBy};
 ghost use Rattle.cl_program.specs.Hosts.{hosts_of};
-ghost use Rattle.cl_program.specs.Statuses.{DeclaresApplication, EndsWith, HasFewLines, HasManyLines, HasRefusal};
+ghost use Rattle.cl_program.specs.Statuses.{DeclaresApplication, DeclaresItems, EndsWith, HasFewLines, HasManyLines, HasRefusal, RefusesItems};
 ghost use Rattle.cl_program.specs.Surroundings.{placed, streams};
 
 use cl_host::{month_number, shipped_types, weekday_number};
@@ -106,6 +106,12 @@ fn run<H: Hosts, P: Place, G: Source, O: Sink>(
         → (Rose (P.app_faults place.old name) (P.app_faults place.new name) → ⊥)
         → DeclaresApplication (H.bounds hosts.now) (P.file place.old name)
         → (exit_status result ≡ 0) ⊎ (exit_status result ≡ 5) ⊎ (exit_status result ≡ 7) }
+    ensures bench_due { (items : ℕ) → IsBench (map (λ w. w.now) words.now) items
+        → DeclaresItems (H.bounds hosts.now) items
+        → (exit_status result ≡ 0) ⊎ (exit_status result ≡ 5) ⊎ (exit_status result ≡ 7) }
+    ensures bench_refusal_due { (items : ℕ) (reason : Reason) → IsBench (map (λ w. w.now) words.now) items
+        → RefusesItems (H.bounds hosts.now) items reason
+        → (exit_status result ≡ 1) ⊎ (exit_status result ≡ 5) ⊎ (exit_status result ≡ 7) }
     ensures complete { (name : List ℕ) (wire : Option (List ℕ)) (budget : Option ℕ)
         → IsRun (map (λ w. w.now) words.now) name wire budget
         → (Rose (P.app_faults place.old name) (P.app_faults place.new name) → ⊥)

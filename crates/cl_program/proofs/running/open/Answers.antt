@@ -9,6 +9,7 @@ pub returns-clause-opening : goal.returns-clause-opening
 returns-clause-opening g c = record {
   world = c.in_ok-session.ensures.world
       ∙ opened_at (ground_of g.T.Types.holds g.T.Types.presents g.T.Types.reads g.T.Types.hierarchy c.args.program.now) c.in_ok-slots.slots c.in_ok-session.session.frame.screen.stale (c.in_ok-slots.ensures ∙ c.requires.opening);
+  totals = c.in_ok-session.ensures.totals;
   fits = c.in_ok-session.ensures.fits;
   breaks = c.in_ok-session.ensures.breaks;
 }

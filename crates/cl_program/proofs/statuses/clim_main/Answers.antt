@@ -1,7 +1,7 @@
 use Rattle.std.proofs.Common.{map, List, ℕ}
 use denote.Bor.{Bor}
-use Rattle.cl_program.proofs.StatusLemmas.{check_named, end_reached, fault_named, limit_passed, loaded_declares, none_named, not_checked}
-use Rattle.cl_program.proofs.StatusLemmas.{opened_checked, opened_declares, refused_declares, run_named}
+use Rattle.cl_program.proofs.StatusLemmas.{bench_declares, bench_unnamed, check_named, end_reached, fault_named, limit_passed, loaded_declares, none_benched, none_named, not_checked}
+use Rattle.cl_program.proofs.StatusLemmas.{opened_checked, opened_declares, refused_commands, refused_declares, refused_makes, run_named}
 use Rattle.cl_program.proofs.statuses.clim_main.Goals as goal
 
 pub returns-in-Usage-clause-refusal_due : goal.returns-in-Usage-clause-refusal_due
@@ -50,7 +50,7 @@ returns-in-AppFault-clause-limit_due g c = λ name wire budget run place_fault m
 
 pub returns-in-Refused-clause-usage_due : goal.returns-in-Refused-clause-usage_due
 returns-in-Refused-clause-usage_due g c = λ none.
-    absurd (none_named (map (λ (w : Bor (List ℕ)). w.now) c.args.words.now) _ none c.in-Refused.ensures.ran.refused.command)
+    absurd (refused_commands _ (map (λ (w : Bor (List ℕ)). w.now) c.args.words.now) _ _ _ c.in-Refused.ensures.ran none)
 
 pub returns-in-Refused-clause-check_due : goal.returns-in-Refused-clause-check_due
 returns-in-Refused-clause-check_due g c = λ name run place_fault declares.
@@ -135,3 +135,79 @@ returns-in-Ended-Done-clause-limit_due g c = λ name wire budget run place_fault
 pub returns-in-Ended-TooMany-clause-complete : goal.returns-in-Ended-TooMany-clause-complete
 returns-in-Ended-TooMany-clause-complete g c = λ name wire budget run place_fault making_fault gesture_fault output_fault declares few.
     absurd (limit_passed _ (map (λ (w : Bor (List ℕ)). w.now) c.args.words.now) _ _ _ _ c.in-Ended-TooMany.field-0 c.in-Ended-TooMany.field-0-is c.in-Ended-TooMany.ensures.ran few)
+
+pub returns-in-Usage-clause-bench_due : goal.returns-in-Usage-clause-bench_due
+returns-in-Usage-clause-bench_due g c = λ items run declares.
+    absurd (none_benched (map (λ (w : Bor (List ℕ)). w.now) c.args.words.now) items c.in-Usage.ensures.ran.0 run)
+
+pub returns-in-AppFault-clause-bench_due : goal.returns-in-AppFault-clause-bench_due
+returns-in-AppFault-clause-bench_due g c = λ items run declares.
+    absurd (bench_unnamed (map (λ (w : Bor (List ℕ)). w.now) c.args.words.now) items _ run c.in-AppFault.ensures.ran.0.command)
+
+pub returns-in-WireFault-clause-bench_due : goal.returns-in-WireFault-clause-bench_due
+returns-in-WireFault-clause-bench_due g c = λ items run declares.
+    absurd (bench_unnamed (map (λ (w : Bor (List ℕ)). w.now) c.args.words.now) items _ run (run_named (map (λ (w : Bor (List ℕ)). w.now) c.args.words.now) _ _ _ c.in-WireFault.ensures.ran.opened.command))
+
+pub returns-in-Ended-ReadFault-clause-bench_due : goal.returns-in-Ended-ReadFault-clause-bench_due
+returns-in-Ended-ReadFault-clause-bench_due g c = λ items run declares.
+    absurd (bench_unnamed (map (λ (w : Bor (List ℕ)). w.now) c.args.words.now) items _ run (run_named (map (λ (w : Bor (List ℕ)). w.now) c.args.words.now) _ _ _ c.in-Ended-ReadFault.ensures.ran.opened.command))
+
+pub returns-in-Ended-TooMany-clause-bench_due : goal.returns-in-Ended-TooMany-clause-bench_due
+returns-in-Ended-TooMany-clause-bench_due g c = λ items run declares.
+    absurd (bench_unnamed (map (λ (w : Bor (List ℕ)). w.now) c.args.words.now) items _ run (run_named (map (λ (w : Bor (List ℕ)). w.now) c.args.words.now) _ _ _ c.in-Ended-TooMany.ensures.ran.opened.command))
+
+pub returns-in-Usage-clause-bench_refusal_due : goal.returns-in-Usage-clause-bench_refusal_due
+returns-in-Usage-clause-bench_refusal_due g c = λ items reason run refused.
+    absurd (none_benched (map (λ (w : Bor (List ℕ)). w.now) c.args.words.now) items c.in-Usage.ensures.ran.0 run)
+
+pub returns-in-AppFault-clause-bench_refusal_due : goal.returns-in-AppFault-clause-bench_refusal_due
+returns-in-AppFault-clause-bench_refusal_due g c = λ items reason run refused.
+    absurd (bench_unnamed (map (λ (w : Bor (List ℕ)). w.now) c.args.words.now) items _ run c.in-AppFault.ensures.ran.0.command)
+
+pub returns-in-WireFault-clause-bench_refusal_due : goal.returns-in-WireFault-clause-bench_refusal_due
+returns-in-WireFault-clause-bench_refusal_due g c = λ items reason run refused.
+    absurd (bench_unnamed (map (λ (w : Bor (List ℕ)). w.now) c.args.words.now) items _ run (run_named (map (λ (w : Bor (List ℕ)). w.now) c.args.words.now) _ _ _ c.in-WireFault.ensures.ran.opened.command))
+
+pub returns-in-Ended-ReadFault-clause-bench_refusal_due : goal.returns-in-Ended-ReadFault-clause-bench_refusal_due
+returns-in-Ended-ReadFault-clause-bench_refusal_due g c = λ items reason run refused.
+    absurd (bench_unnamed (map (λ (w : Bor (List ℕ)). w.now) c.args.words.now) items _ run (run_named (map (λ (w : Bor (List ℕ)). w.now) c.args.words.now) _ _ _ c.in-Ended-ReadFault.ensures.ran.opened.command))
+
+pub returns-in-Ended-TooMany-clause-bench_refusal_due : goal.returns-in-Ended-TooMany-clause-bench_refusal_due
+returns-in-Ended-TooMany-clause-bench_refusal_due g c = λ items reason run refused.
+    absurd (bench_unnamed (map (λ (w : Bor (List ℕ)). w.now) c.args.words.now) items _ run (run_named (map (λ (w : Bor (List ℕ)). w.now) c.args.words.now) _ _ _ c.in-Ended-TooMany.ensures.ran.opened.command))
+
+pub returns-in-Ended-Done-clause-bench_refusal_due : goal.returns-in-Ended-Done-clause-bench_refusal_due
+returns-in-Ended-Done-clause-bench_refusal_due g c = λ items reason run refused.
+    absurd (bench_unnamed (map (λ (w : Bor (List ℕ)). w.now) c.args.words.now) items _ run (run_named (map (λ (w : Bor (List ℕ)). w.now) c.args.words.now) _ _ _ c.in-Ended-Done.ensures.ran.opened.command))
+
+pub returns-in-Refused-clause-bench_due : goal.returns-in-Refused-clause-bench_due
+returns-in-Refused-clause-bench_due g c = λ items run declares.
+    absurd (refused_makes _ (map (λ (w : Bor (List ℕ)). w.now) c.args.words.now) _ _ _ items declares.0 c.in-Refused.ensures.ran run declares.1)
+
+pub returns-in-Loads-clause-bench_refusal_due : goal.returns-in-Loads-clause-bench_refusal_due
+returns-in-Loads-clause-bench_refusal_due g c = λ items reason run refused.
+    absurd (bench_unnamed (map (λ (w : Bor (List ℕ)). w.now) c.args.words.now) items _ run (check_named (map (λ (w : Bor (List ℕ)). w.now) c.args.words.now) _ c.in-Loads.ensures.ran.0.command))
+
+pub returns-in-Benched-clause-bench_refusal_due : goal.returns-in-Benched-clause-bench_refusal_due
+returns-in-Benched-clause-bench_refusal_due g c = λ items reason run refused.
+    absurd (bench_declares _ (map (λ (w : Bor (List ℕ)). w.now) c.args.words.now) _ items _ reason c.in-Benched.ensures.ran.1 c.in-Benched.ensures.ran.2.1 run refused)
+
+pub returns-in-Benched-clause-usage_due : goal.returns-in-Benched-clause-usage_due
+returns-in-Benched-clause-usage_due g c = λ none.
+    absurd (none_benched (map (λ (w : Bor (List ℕ)). w.now) c.args.words.now) _ none c.in-Benched.ensures.ran.1)
+
+pub returns-in-Benched-clause-refusal_due : goal.returns-in-Benched-clause-refusal_due
+returns-in-Benched-clause-refusal_due g c = λ name reason run place_fault declares.
+    absurd (bench_unnamed (map (λ (w : Bor (List ℕ)). w.now) c.args.words.now) _ name c.in-Benched.ensures.ran.1 run)
+
+pub returns-in-Benched-clause-limit_due : goal.returns-in-Benched-clause-limit_due
+returns-in-Benched-clause-limit_due g c = λ name wire budget run place_fault making_fault gesture_fault output_fault declares many.
+    absurd (bench_unnamed (map (λ (w : Bor (List ℕ)). w.now) c.args.words.now) _ name c.in-Benched.ensures.ran.1 (run_named (map (λ (w : Bor (List ℕ)). w.now) c.args.words.now) name wire budget run))
+
+pub returns-in-BenchCut-clause-complete : goal.returns-in-BenchCut-clause-complete
+returns-in-BenchCut-clause-complete g c = λ name wire budget run place_fault making_fault gesture_fault output_fault declares few.
+    absurd (bench_unnamed (map (λ (w : Bor (List ℕ)). w.now) c.args.words.now) _ name c.in-BenchCut.ensures.ran.1 (run_named (map (λ (w : Bor (List ℕ)). w.now) c.args.words.now) name wire budget run))
+
+pub returns-in-BenchCut-clause-limit_due : goal.returns-in-BenchCut-clause-limit_due
+returns-in-BenchCut-clause-limit_due g c = λ name wire budget run place_fault making_fault gesture_fault output_fault declares many.
+    absurd (bench_unnamed (map (λ (w : Bor (List ℕ)). w.now) c.args.words.now) _ name c.in-BenchCut.ensures.ran.1 (run_named (map (λ (w : Bor (List ℕ)). w.now) c.args.words.now) name wire budget run))

@@ -18,9 +18,9 @@ turns-init g c = record {
   going = λ start. Going-nothing (said_of_piece (ground_of g.T.Types.holds g.T.Types.presents g.T.Types.reads g.T.Types.hierarchy c.args.program.now))
       (world_after_piece (ground_of g.T.Types.holds g.T.Types.presents g.T.Types.reads g.T.Types.hierarchy c.args.program.now))
       (SpentOfPiece (ground_of g.T.Types.holds g.T.Types.presents g.T.Types.reads g.T.Types.hierarchy c.args.program.now))
-      (stand (world_of c.args.self.now c.args.slots.now) (meters c.args.steps.now (wire_of (g.D.Device.wire c.args.device.now) (g.D.Device.faults c.args.device.now) (g.D.Device.lent c.args.device.now).told))
+      (stand (world_of c.args.self.now c.args.slots.now) (meters c.args.steps.now (wire_of (g.D.Device.wire c.args.device.now) (g.D.Device.faults c.args.device.now) (g.D.Device.lent c.args.device.now).told) c.args.self.now.totals)
       (progress_of g.G.Source.left g.G.Source.faults c.args.gestures.now) (g.O.Sink.taken c.args.out.now) (g.O.Sink.faults c.args.out.now)) start;
-  untouched = untouched-start (stop_of c.args.gestures.now) _ (refl, refl, refl, refl, refl);
+  untouched = untouched-start (stop_of c.args.gestures.now) _ (refl, refl, refl, refl, refl, refl);
   counts = omega arith;
   lent = refl;
   out_lent = refl;
@@ -64,7 +64,7 @@ returns-in-Some-clause-serves g c = λ start.
     (λ e. let done = stays-done (stop_of c.turns.gestures) _ _ e c.in-Some.ensures.stays in (
       some-end _ _ done.0,
       same-stand (λ (s : Gestures g.row.G.Denot). progress_of g.G.Source.left g.G.Source.faults s) g.O.Sink.taken g.O.Sink.faults (λ (d : g.row.D.Denot). wire_of (g.D.Device.wire d) (g.D.Device.faults d) (g.D.Device.lent d).told)
-          c.turns.gestures c.turn.new.gestures c.turns.out c.turn.new.out c.turns.device c.turn.new.device c.turns.steps c.turn.new.steps
+          c.turns.gestures c.turn.new.gestures c.turns.out c.turn.new.out c.turns.device c.turn.new.device c.turns.steps c.turn.new.steps c.turns.self.totals c.turn.new.self.totals
           (world_of c.turns.self c.turns.slots) (world_of c.turn.new.self c.turn.new.slots) done.1,
     ))
 
@@ -72,6 +72,6 @@ pub returns-in-Some-clause-stays : goal.returns-in-Some-clause-stays
 returns-in-Some-clause-stays g c =
     stays-after (stop_of c.args.gestures.now) (stop_of c.turns.gestures) (Some c.in-Some.end) _ _ _ (λ same. ap stop_of same.0)
     (same-twice c.args.gestures.now c.turns.gestures c.turn.new.gestures c.args.out.now c.turns.out c.turn.new.out c.args.device.now c.turns.device c.turn.new.device
-    c.args.steps.now c.turns.steps c.turn.new.steps
+    c.args.steps.now c.turns.steps c.turn.new.steps c.args.self.now.totals c.turns.self.totals c.turn.new.self.totals
     (world_of c.args.self.now c.args.slots.now) (world_of c.turns.self c.turns.slots) (world_of c.turn.new.self c.turn.new.slots))
     c.turns.invariant.untouched c.in-Some.ensures.stays

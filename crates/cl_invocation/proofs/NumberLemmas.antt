@@ -4,7 +4,7 @@ use Rattle.std.specs.Prelude.{Result, Ok, Err}
 use Rattle.std.specs.Char.{is_ascii_digit}
 use Rattle.std.specs.List.{list_all}
 use Rattle.std.specs.Str.Parse.{ParsesUnsigned, digits_value}
-use Rattle.cl_invocation.specs.Words.{budget_in}
+use Rattle.cl_invocation.specs.Words.{number_in}
 use Rattle.std.proofs.lemmas.Str.Parse.{IsNumeralModel, numerals_by_value, parse_digits, digits_value_short}
 
 own : IsNumeralModel (λ ds. list_all is_ascii_digit ds ≡ true) (digits_value 10)
@@ -31,7 +31,7 @@ unparsed E text error h digits short = go (length text) refl
         let some : 0 < length text = omega arith in
         absurd (parse_digits own 32 text (Err error) h digits (some, fits text digits short))
 
--- the empty text is no budget
-pub no_budget : (text : List ℕ) → length text ≡ 0 → None ≡ budget_in text
-no_budget [] e = refl
-no_budget (x ∷ xs) e = absurd (omega arith)
+-- the empty text is no number
+pub no_number : (least most : ℕ) (text : List ℕ) → length text ≡ 0 → None ≡ number_in least most text
+no_number least most [] e = refl
+no_number least most (x ∷ xs) e = absurd (omega arith)
