@@ -98,6 +98,19 @@ impl Value {
     pub fn order(&self, other: &Value) -> Ordering
         ensures { result ≡ order_of (data_of self.now) (data_of other.now) }
     {
+        // Most ids are numbers, and these want no room on the stack for what others need.
+        match (self, other) {
+            (Value::Int(a), Value::Int(b)) => a.cmp(b),
+            _ => self.order_by_parts(other),
+        }
+    }
+
+    /// The same for all values.
+    #[cycle(order)]
+    #[inline(never)]
+    fn order_by_parts(&self, other: &Value) -> Ordering
+        ensures { result ≡ order_of (data_of self.now) (data_of other.now) }
+    {
         match (self, other) {
             (Value::Int(a), Value::Int(b)) => a.cmp(b),
             (Value::Bool(a), Value::Bool(b)) => a.cmp(b),

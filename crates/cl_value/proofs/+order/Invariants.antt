@@ -8,7 +8,10 @@ invariant-order::order_all-loop-place l =
     order_of_items (parts_of (drop l.place l.values)) (parts_of (drop l.place l.others)) ≡ order_of_items (parts_of l.values) (parts_of l.others)
 
 abbrev pub decreases-Value::order : goal.decreases-Value::order
-decreases-Value::order l = 2 * size_of (data_of l.self.now)
+decreases-Value::order l = 3 * size_of (data_of l.self.now) + 1
+
+abbrev pub decreases-Value::order_by_parts : goal.decreases-Value::order_by_parts
+decreases-Value::order_by_parts l = 3 * size_of (data_of l.self.now)
 
 abbrev pub decreases-order::order_all : goal.decreases-order::order_all
-decreases-order::order_all l = 2 * size_of_items (parts_of l.values.now) + 1
+decreases-order::order_all l = 3 * size_of_items (parts_of l.values.now) + 2
