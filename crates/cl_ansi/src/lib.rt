@@ -3,5 +3,7 @@
 #![tactic(auto)]
 
 mod ansi_device;
+mod laws;
 
 pub use ansi_device::AnsiDevice;
+pub use laws::{a_terminal_shows_the_picture, control_functions_are_spelled};
