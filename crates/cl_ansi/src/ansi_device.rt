@@ -61,6 +61,13 @@ impl<S: Sink> AnsiDevice<S> {
         sink
     }
 
+    /// Whether an operation failed since it was last cleared. Then it is to be cleared before a span.
+    pub fn is_broken(&self) -> bool
+        ensures { result ≡ self.now.broken }
+    {
+        self.broken
+    }
+
     /// Takes the terminal over: its other screen, blank, with reports of the pointer. It is to be cleared
     /// before it shows a span.
     pub fn enter(&mut self) -> Sent

@@ -4,6 +4,8 @@
 
 mod ansi_device;
 mod laws;
+#[cfg(test)]
+mod tests;
 
 pub use ansi_device::AnsiDevice;
 pub use laws::{a_terminal_shows_the_picture, control_functions_are_spelled};
