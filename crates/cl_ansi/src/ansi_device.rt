@@ -76,7 +76,7 @@ impl<S: Sink> AnsiDevice<S> {
         self.send(&[b"\x1b[?1049h\x1b[?1000h\x1b[?1006h\x1b[2J\x1b[H"])
     }
 
-    /// Gives the terminal back as it was.
+    /// Gives the terminal back: its own ink, no reports of the pointer, and its first screen.
     pub fn leave(&mut self) -> Sent
         ensures { Writes self.old self.new leave_bytes result }
     {

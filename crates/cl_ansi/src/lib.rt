@@ -8,4 +8,4 @@ mod laws;
 mod tests;
 
 pub use ansi_device::AnsiDevice;
-pub use laws::{a_terminal_shows_the_picture, control_functions_are_spelled};
+pub use laws::a_terminal_shows_the_picture;
