@@ -7,7 +7,8 @@ use Rattle.cl_keys.specs.Decoding.{State}
 use Rattle.cl_outside.specs.Causes.{Rose}
 use Rattle.cl_session.specs.Step.{Met}
 use Rattle.cl_session.specs.World.{World}
-use Rattle.cl_terminal.specs.Live.{EndsAt, GoesOn, Handles, end_among, world_behind}
+use Rattle.cl_terminal.specs.Handled.{end_among}
+use Rattle.cl_terminal.specs.Live.{EndsAt, GoesOn, Handles, world_behind}
 use Rattle.cl_terminal.specs.declared.flows.Flow.{Flow}
 use Rattle.cl_terminal.specs.declared.flows.Flow.TheVariants as flow
 use Rattle.cl_terminal.specs.declared.flows.Closing.{Closing}
