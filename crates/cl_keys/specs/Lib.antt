@@ -1,0 +1,4 @@
+pub mod Decoding
+pub mod Keys
+pub mod Phases
+pub mod Reports
