@@ -2,3 +2,4 @@ pub mod Decoding
 pub mod Keys
 pub mod Phases
 pub mod Reports
+pub mod Spelling

@@ -1,9 +1,9 @@
 //! What a terminal reports of its pointer.
-ghost use Rattle.std.specs.Prelude.{◌≡◌, true};
+ghost use Rattle.std.specs.Prelude.{◌≡◌, position, true};
 ghost use Rattle.std.specs.Char.{is_ascii_digit};
 ghost use Rattle.std.specs.List.{list_all};
 ghost use Rattle.std.specs.Str.Parse.{digits_value};
-ghost use Rattle.cl_keys.specs.Reports.{button_of, coordinate_of, is_number, press_in, press_of};
+ghost use Rattle.cl_keys.specs.Reports.{button_of, coordinate_of, is_number, is_semicolon, press_in, press_of};
 
 use crate::keys::{Button, Press};
 
@@ -60,12 +60,19 @@ fn coordinate_of(bytes: &[u8]) -> Option<u16>
     }
 }
 
+/// Where the first `;` stands.
+fn first_semicolon(bytes: &[u8]) -> Option<usize>
+    ensures { result ≡ position is_semicolon bytes.now }
+{
+    bytes.iter().position(|byte| *byte == b';')
+}
+
 /// The press of the button of this code at this place, a column, `;` and a row.
 fn press_of(code: u8, place: &[u8]) -> Option<Press>
     ensures { result ≡ press_of code place.now }
 {
     let button = button_of(code)?;
-    let at = place.iter().position(|byte| *byte == b';')?;
+    let at = first_semicolon(place)?;
     let column = coordinate_of(&place[..at])?;
     let row = coordinate_of(&place[at + 1..])?;
     Some(Press {
