@@ -1,1 +1,4 @@
+pub mod Cutting
 pub mod Numbers
+pub mod Presses
+pub mod Spelled

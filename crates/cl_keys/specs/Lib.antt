@@ -1,5 +1,6 @@
 pub mod Decoding
 pub mod Keys
+pub mod Laws
 pub mod Phases
 pub mod Reports
 pub mod Spelling

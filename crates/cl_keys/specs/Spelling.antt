@@ -46,3 +46,8 @@ IsSpelledBy key.Force bytes = bytes ≡ 12 ∷ []
 IsSpelledBy (key.Stroke letter) bytes = (sent : ℕ) × (bytes ≡ 27 ∷ sent ∷ []) × IsLetter letter sent
 IsSpelledBy (key.Press press) bytes = SpellsPress press bytes
 IsSpelledBy key.End bytes = bytes ≡ 4 ∷ []
+
+-- these bytes are sent for the keys, one behind the other
+pub data AreSpelledBy : List Key → List ℕ → Type 0 where
+  none : AreSpelledBy [] []
+  more : (k : Key) (keys : List Key) (bytes rest : List ℕ) → IsSpelledBy k bytes → AreSpelledBy keys rest → AreSpelledBy (k ∷ keys) (bytes ++ rest)

@@ -9,7 +9,9 @@
 
 mod decoder;
 mod keys;
+mod laws;
 mod reports;
 
 pub use decoder::Decoder;
 pub use keys::{Button, Key, Press};
+pub use laws::{cuts_are_free, spellings_give_all_keys, spellings_give_keys};

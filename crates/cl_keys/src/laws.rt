@@ -1,0 +1,17 @@
+//! What the definitions of keys mean. The contracts are the laws.
+ghost use Rattle.cl_keys.specs.Laws.{CutsAreFree, SpellingsGiveKeys, SpellingsGiveAllKeys};
+
+/// However bytes are cut into parts, they make the same keys, and leave a decoder in the same state.
+pub fn cuts_are_free()
+    ensures { CutsAreFree }
+{}
+
+/// What a terminal sends for a key makes this key alone, and leaves a decoder at rest.
+pub fn spellings_give_keys()
+    ensures { SpellingsGiveKeys }
+{}
+
+/// What a terminal sends for keys, one behind the other, makes these keys, and leaves a decoder at rest.
+pub fn spellings_give_all_keys()
+    ensures { SpellingsGiveAllKeys }
+{}
