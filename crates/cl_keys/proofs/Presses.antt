@@ -1,19 +1,16 @@
 -- What is sent for a press makes this press.
-use Rattle.std.proofs.Common.{◌≡◌, ℕ, ◌+◌, ◌-◌, ◌<◌, ◌≤◌, ◌==◌, ◌≢◌, Bool, true, false, not, cond, suc, nat_le, nat_lt, List, [], ◌∷◌, ◌++◌, length, take, drop, Option, Some, None, All, refl, sym, ap, subst, ◌∙◌, arith, append_assoc, append-nil, length-append}
-use Rattle.std.specs.Prelude.{codes, option_map, position}
+use Rattle.std.proofs.Common.{◌≡◌, ℕ, ◌+◌, ◌<◌, ◌≤◌, Bool, true, false, not, cond, suc, nat_le, nat_lt, List, [], ◌∷◌, ◌++◌, length, Option, Some, None, All, refl, sym, ap, ◌∙◌, arith, append_assoc, append-nil, length-append}
+use Rattle.std.specs.Prelude.{option_map, position}
 use Rattle.std.specs.List.{position_or_len}
-use Rattle.std.specs.Str.Parse.{digits_value}
 use Rattle.std.proofs.Math.Seq.{take-append_seam, drop-append-add}
-use Rattle.std.proofs.lemmas.Bool.{and_from, cond-true, eqb-true, le-leb, ne_eqb}
+use Rattle.std.proofs.lemmas.Bool.{le-leb, ne_eqb}
 use Rattle.std.proofs.lemmas.Bool.Decides.{nat_tests}
-use Rattle.std.proofs.lemmas.Grind.{common_steps}
-use Rattle.std.proofs.lemmas.List.Elements.{All-append, All-cons, All-head, All-nil, All-tail, All-weaker}
+use Rattle.std.proofs.lemmas.List.Elements.{All-append, All-cons, All-head, All-tail, All-weaker}
 use Rattle.cl_keys.specs.declared.keys.Button.{Button}
 use Rattle.cl_keys.specs.declared.keys.Button.TheVariants as button
-use Rattle.cl_keys.specs.declared.keys.Key.{Key}
 use Rattle.cl_keys.specs.declared.keys.Key.TheVariants as key
 use Rattle.cl_keys.specs.declared.keys.Press.{Press}
-use Rattle.cl_keys.specs.Decoding.{State, Step, at_rest, before_keys, begun, collecting, is_part, keys_from, keys_of, rested, state_after, step, with_part}
+use Rattle.cl_keys.specs.Decoding.{Step, at_rest, before_keys, collecting, is_part, keys_from, keys_of, state_after, step}
 use Rattle.cl_keys.specs.Reports.{button_of, coordinate_of, from_zero, is_semicolon, press_in, press_of}
 use Rattle.cl_keys.specs.Spelling.{IsDigit, SpellsPress, WritesNumber, digit_of}
 use Rattle.cl_keys.proofs.Cutting.{keys-append, state-append}

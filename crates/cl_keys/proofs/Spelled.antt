@@ -1,12 +1,10 @@
 -- What is sent for a key makes this key.
-use Rattle.std.proofs.Common.{◌≡◌, ℕ, ◌+◌, ◌-◌, ◌<◌, ◌≤◌, ◌==◌, ◌≢◌, ◌⊎◌, inl, inr, Bool, true, false, cond, suc, List, [], ◌∷◌, ◌++◌, length, take, drop, Option, Some, None, All, refl, sym, ap, subst, ◌∙◌, arith, append_assoc, append-nil, length-append}
-use Rattle.std.specs.Char.{is_ascii_alphabetic, to_ascii_lowercase}
+use Rattle.std.proofs.Common.{◌≡◌, ℕ, ◌≤◌, inl, inr, List, [], ◌∷◌, ◌++◌, Some, refl, sym, ap, subst, ◌∙◌, arith}
 use Rattle.std.proofs.lemmas.Bool.{ne_eqb}
 use Rattle.std.proofs.lemmas.Bool.Decides.{nat_tests}
-use Rattle.std.proofs.lemmas.Grind.{common_steps}
 use Rattle.cl_keys.specs.declared.keys.Key.{Key}
 use Rattle.cl_keys.specs.declared.keys.Key.TheVariants as key
-use Rattle.cl_keys.specs.Decoding.{State, Step, at_rest, before_keys, begun, collecting, escaped, keys_from, keys_of, rested, state_after, step}
+use Rattle.cl_keys.specs.Decoding.{at_rest, before_keys, begun, keys_from, keys_of, rested, state_after}
 use Rattle.cl_keys.specs.Keys.{plain_key, stroke_of}
 use Rattle.cl_keys.specs.Laws.{SpellingsGiveAllKeys, SpellingsGiveKeys}
 use Rattle.cl_keys.specs.Spelling.{AreSpelledBy, none, more, IsLetter, IsSpelledBy}

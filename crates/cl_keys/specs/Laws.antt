@@ -1,8 +1,8 @@
 -- What the keys of bytes are, in the words of who sends them.
-use Rattle.std.specs.Prelude.{◌≡◌, ℕ, List, [], ◌∷◌, ◌++◌}
+use Rattle.std.specs.Prelude.{◌≡◌, ℕ, List, [], ◌∷◌, ◌++◌, Some}
 use Rattle.cl_keys.specs.declared.keys.Key.{Key}
-use Rattle.cl_keys.specs.Decoding.{State, at_rest, keys_from, keys_of, state_after}
-use Rattle.cl_keys.specs.Spelling.{AreSpelledBy, IsSpelledBy}
+use Rattle.cl_keys.specs.Decoding.{State, at_rest, keys_from, keys_of, state_after, step}
+use Rattle.cl_keys.specs.Spelling.{AreSpelledBy, EndWith, IsSpelledBy}
 
 -- a cut changes nothing: the keys are those of the first part and then those of the second, which goes on where the first left off
 abbrev pub CutsAreFree : Type 0
@@ -17,3 +17,7 @@ SpellingsGiveKeys = (k : Key) (bytes : List ℕ) → IsSpelledBy k bytes → (ke
 -- what is sent for keys makes these keys
 abbrev pub SpellingsGiveAllKeys : Type 0
 SpellingsGiveAllKeys = (keys : List Key) (bytes : List ℕ) → AreSpelledBy keys bytes → (keys_of bytes ≡ keys) × (state_after at_rest bytes ≡ at_rest)
+
+-- no byte ends a key, but where the bytes up to it end with what is sent for this key
+abbrev pub KeysAreSpelled : Type 0
+KeysAreSpelled = (bytes : List ℕ) (byte : ℕ) (k : Key) → (step (state_after at_rest bytes) byte).key ≡ Some k → EndWith k (bytes ++ byte ∷ [])

@@ -51,3 +51,10 @@ IsSpelledBy key.End bytes = bytes ≡ 4 ∷ []
 pub data AreSpelledBy : List Key → List ℕ → Type 0 where
   none : AreSpelledBy [] []
   more : (k : Key) (keys : List Key) (bytes rest : List ℕ) → IsSpelledBy k bytes → AreSpelledBy keys rest → AreSpelledBy (k ∷ keys) (bytes ++ rest)
+
+-- the bytes end with what is sent for the key
+pub record EndWith (k : Key) (bytes : List ℕ) : Type 0 where
+  pub before : List ℕ
+  pub sent : List ℕ
+  pub whole : bytes ≡ before ++ sent
+  pub spelled : IsSpelledBy k sent

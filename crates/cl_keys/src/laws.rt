@@ -1,5 +1,5 @@
 //! What the definitions of keys mean. The contracts are the laws.
-ghost use Rattle.cl_keys.specs.Laws.{CutsAreFree, SpellingsGiveKeys, SpellingsGiveAllKeys};
+ghost use Rattle.cl_keys.specs.Laws.{CutsAreFree, KeysAreSpelled, SpellingsGiveAllKeys, SpellingsGiveKeys};
 
 /// However bytes are cut into parts, they make the same keys, and leave a decoder in the same state.
 pub fn cuts_are_free()
@@ -14,4 +14,9 @@ pub fn spellings_give_keys()
 /// What a terminal sends for keys, one behind the other, makes these keys, and leaves a decoder at rest.
 pub fn spellings_give_all_keys()
     ensures { SpellingsGiveAllKeys }
+{}
+
+/// A key is made only where what a terminal sends for it ends.
+pub fn keys_are_spelled()
+    ensures { KeysAreSpelled }
 {}

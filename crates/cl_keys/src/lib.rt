@@ -14,4 +14,4 @@ mod reports;
 
 pub use decoder::Decoder;
 pub use keys::{Button, Key, Press};
-pub use laws::{cuts_are_free, spellings_give_all_keys, spellings_give_keys};
+pub use laws::{cuts_are_free, keys_are_spelled, spellings_give_all_keys, spellings_give_keys};
