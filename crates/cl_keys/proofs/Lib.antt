@@ -5,3 +5,4 @@ pub mod Reading
 pub mod Sending
 pub mod Spelled
 pub mod Standing
+pub mod Pointing

@@ -1,4 +1,5 @@
 pub mod Decoding
+pub mod Gestures
 pub mod Keys
 pub mod Laws
 pub mod Phases

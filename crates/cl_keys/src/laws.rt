@@ -1,4 +1,5 @@
 //! What the definitions of keys mean. The contracts are the laws.
+ghost use Rattle.cl_keys.specs.Gestures.{OnePaneIsPointedAt};
 ghost use Rattle.cl_keys.specs.Laws.{CutsAreFree, KeysAreSpelled, SpellingsGiveAllKeys, SpellingsGiveKeys};
 
 /// However bytes are cut into parts, they make the same keys, and leave a decoder in the same state.
@@ -19,4 +20,9 @@ pub fn spellings_give_all_keys()
 /// A key is made only where what a terminal sends for it ends.
 pub fn keys_are_spelled()
     ensures { KeysAreSpelled }
+{}
+
+/// Where the panes of an application lie apart, a press points at the one in which its cell lies, whatever their order.
+pub fn one_pane_is_pointed_at()
+    ensures { OnePaneIsPointedAt }
 {}

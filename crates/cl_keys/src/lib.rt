@@ -8,10 +8,15 @@
 #![tactic(auto)]
 
 mod decoder;
+mod gestures;
 mod keys;
 mod laws;
 mod reports;
 
 pub use decoder::Decoder;
+pub use gestures::gesture_of;
 pub use keys::{Button, Key, Press};
-pub use laws::{cuts_are_free, keys_are_spelled, spellings_give_all_keys, spellings_give_keys};
+pub use laws::{
+    cuts_are_free, keys_are_spelled, one_pane_is_pointed_at, spellings_give_all_keys,
+    spellings_give_keys,
+};
