@@ -20,3 +20,6 @@ pub use laws::{
     cuts_are_free, keys_are_spelled, one_pane_is_pointed_at, spellings_give_all_keys,
     spellings_give_keys,
 };
+
+#[cfg(test)]
+mod tests;
