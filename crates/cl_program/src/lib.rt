@@ -10,4 +10,7 @@ mod statuses;
 mod sure_source;
 mod texts;
 
+pub use running::limits_of;
+pub use saying::{say_refusal, say_uncovered};
 pub use statuses::{Status, clim_main};
+pub use texts::{TextRead, read_text};

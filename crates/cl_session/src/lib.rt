@@ -25,4 +25,5 @@ pub use handling::Desk;
 pub use naming::enabled_of;
 pub use serving::End;
 pub use sessions::{DEPTH, Session};
+pub use speaking::say_replies;
 pub use totals::Totals;

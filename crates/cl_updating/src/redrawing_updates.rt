@@ -81,6 +81,7 @@ fn redraw_keyed<T: Types>(
 
 // An update that was opened, over the old one with its site and its id.
 #[cycle(redraw)]
+#[inline(never)]
 fn redraw_over<T: Types>(
     ground: &Ground<'_, '_, '_, T>,
     old: &Old<'_>,
@@ -116,6 +117,7 @@ fn redraw_over<T: Types>(
 
 // An update that was opened, whose body is a draw of its own over these records, with what is left of the limits.
 #[cycle(redraw)]
+#[inline(never)]
 fn redraw_body<T: Types>(
     ground: &Ground<'_, '_, '_, T>,
     below: &Level<'_>,

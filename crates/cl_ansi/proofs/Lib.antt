@@ -1,0 +1,4 @@
+pub mod Glyphs
+pub mod Screens
+pub mod Sequences
+pub mod Untold

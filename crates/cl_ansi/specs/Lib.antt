@@ -1,0 +1,4 @@
+pub mod Laws
+pub mod Screen
+pub mod Sequences
+pub mod Terminal
