@@ -1,0 +1,5 @@
+pub mod Handled
+pub mod Live
+pub mod Running
+pub mod Serving
+pub mod Showing
