@@ -28,6 +28,21 @@ true-behind : (a b : Bool) → b ≡ true → (a || b) ≡ true
 true-behind true b e = refl
 true-behind false b e = e
 
+true-before : (a b : Bool) → a ≡ true → (a || b) ≡ true
+true-before true b e = refl
+true-before false b e = absurd (cc)
+
+-- the keys before one that ends the run: none
+end-first : (k : Key) (ks : List Key) → is_end k ≡ true → before_first is_end (k ∷ ks) ≡ []
+end-first (key.Typed byte) ks e = absurd (cc)
+end-first key.Return ks e = absurd (cc)
+end-first key.Rubout ks e = absurd (cc)
+end-first key.Clear ks e = absurd (cc)
+end-first key.Force ks e = absurd (cc)
+end-first (key.Stroke letter) ks e = absurd (cc)
+end-first (key.Press press) ks e = absurd (cc)
+end-first key.End ks e = refl
+
 by_key : (o : Option Key) (keys : List Key) → list_any is_end keys ≡ true → list_any is_end (before_keys o keys) ≡ true
 by_key None keys e = e
 by_key (Some k) keys e = true-behind (is_end k) (list_any is_end keys) e
@@ -86,12 +101,15 @@ module _ {World Choice : Type 0} (after : World → Gesture → Choice → World
     ends = λ more. end-behind s b more;
   }
 
-  -- a byte that ends the run
-  pub byte-end : (s : State) (w : World) (b : ℕ) → (step s b).key ≡ Some key.End → EndsAt after app s w w (b ∷ [])
-  byte-end s w b e = record {
+  -- a byte that ends the key for the end
+  pub byte-end : (s : State) (w : World) (b : ℕ) (k : Key) → (step s b).key ≡ Some k → is_end k ≡ true → EndsAt after app s w w (b ∷ [])
+  byte-end s w b k e last = record {
     handles = λ more.
-        subst (λ (k : Option Key). AreHandled after app w (gestures_of app (before_first is_end (before_keys k (keys_from (step s b).state more)))) w) (sym e) refl;
-    ends = λ more. subst (λ (k : Option Key). list_any is_end (before_keys k (keys_from (step s b).state more)) ≡ true) (sym e) refl;
+        subst (λ (o : Option Key). AreHandled after app w (gestures_of app (before_first is_end (before_keys o (keys_from (step s b).state more)))) w) (sym e)
+        (subst (λ (ks : List Key). AreHandled after app w (gestures_of app ks) w) (sym (end-first k (keys_from (step s b).state more) last)) refl);
+    ends = λ more.
+        subst (λ (o : Option Key). list_any is_end (before_keys o (keys_from (step s b).state more)) ≡ true) (sym e)
+        (true-before (is_end k) (list_any is_end (keys_from (step s b).state more)) last);
   }
 
   -- the gestures of a key without one, and of the keys behind it
@@ -125,6 +143,15 @@ module _ {World Choice : Type 0} (after : World → Gesture → Choice → World
         (subst (λ (gs : List Gesture). AreHandled after app w gs to) (sym (acts-of k (keys_from (step s b).state more) act other has)) (inl h));
     ends = λ more. end-behind s b more;
   }
+
+  by-act : (s : State) (w : World) (b : ℕ) (k : Key) (o : Option Gesture) → (step s b).key ≡ Some k → is_end k ≡ false → gesture_of app k ≡ o
+      → GoesOn after app s w (step s b).state w (b ∷ [])
+  by-act s w b k None e other has = byte-without s w b k e other has
+  by-act s w b k (Some act) e other has = byte-lost s w b k act e other has
+
+  -- a byte that ends a key out of memory for its gesture
+  pub byte-unhandled : (s : State) (w : World) (b : ℕ) (k : Key) → (step s b).key ≡ Some k → is_end k ≡ false → GoesOn after app s w (step s b).state w (b ∷ [])
+  byte-unhandled s w b k e other = by-act s w b k (gesture_of app k) e other refl
 
   -- a byte that ends a key whose gesture was handled
   pub byte-handled : (s : State) (w w_new : World) (b : ℕ) (k : Key) (act : Gesture) (choice : Choice) → (step s b).key ≡ Some k → is_end k ≡ false

@@ -33,7 +33,7 @@ pub record Broke (g : Ground) (old new : Standing) (bytes : List ℕ) (faults_ol
 -- what taking bytes comes to, by what it answers
 abbrev pub Takes : Ground → (old new : Standing) → List ℕ → (faults_old faults_new : ℕ) → Flow → Type 0
 Takes g old new bytes faults_old faults_new flow.On = GoesOn g old.state old.world new.state new.world bytes
-Takes g old new bytes faults_old faults_new flow.End = EndsAt g old.state old.world new.world bytes × (end_among old.state bytes ≡ true)
+Takes g old new bytes faults_old faults_new flow.End = EndsAt g old.state old.world new.world bytes
 Takes g old new bytes faults_old faults_new flow.Fault = Broke g old new bytes faults_old faults_new
 
 -- a gesture was handled; where the terminal failed, it did so in this gesture
