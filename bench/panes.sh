@@ -1,6 +1,6 @@
 #!/usr/bin/env bash
 # What it takes to settle 16 panes of which one changes, through the built program, which is built here where it is not yet. Each pane has a list of
-# 100 lines, as one piece that depends on the pane's own slot. A command changes the slot of one pane, and another runs in an application
+# 300 lines, as one piece that depends on the pane's own slot. A command changes the slot of one pane, and another runs in an application
 # that has that pane alone. It prints the processor instructions of one command where valgrind is there, and else the microseconds of user and
 # system processor time. Each is the difference of a run of few commands and of one of more. It ends with 1 where 16 panes take more than 1.3
 # times what the one takes alone.
@@ -26,7 +26,7 @@ application() {
         for ((k = 0; k < $2; k++)); do
             echo "(define-display show$k ()"
             echo "  (updating-output (:unique-id 'all :cache-value (list (slot s$k)))"
-            echo "    (dolist (x (range 1 100)) (write-text (text (+ x (slot s$k)))) (newline))))"
+            echo "    (dolist (x (range 1 300)) (write-text (text (+ x (slot s$k)))) (newline))))"
         done
     } >"$files/$1.clim"
 }
@@ -66,11 +66,12 @@ each() {
 
 # of the panes one is drawn anew, and each other one is kept
 told=$(run all few | grep -c '^pane p[0-9]* kept 1 moved 0 drawn 0 erased 0$' || true)
-if [ "$told" -ne $((15 * few)) ] || [ "$(run all few | grep -c '^pane p0 kept 0 moved 0 drawn 100 erased 100$')" -ne "$few" ]; then
+if [ "$told" -ne $((15 * few)) ] || [ "$(run all few | grep -c '^pane p0 kept 0 moved 0 drawn 300 erased 300$')" -ne "$few" ]; then
     echo "bench: the panes were not displayed as they are meant" >&2
     exit 1
 fi
 awk -v all="$(each all)" -v alone="$(each alone)" -v unit="$unit" 'BEGIN {
     printf "16 panes, of which one changes: %.0f %s, %.2f times that pane alone (%.0f; 1.3 at most)\n", all, unit, all / alone, alone
+    printf "  each pane that does not change: %.0f %s\n", (all - alone) / 15, unit
     exit all > 1.3 * alone
 }'
