@@ -1,0 +1,24 @@
+//! Why cases cannot be answered.
+use std::alloc::{AllocError, AllocFailed};
+
+/// Why cases cannot be answered.
+#[derive(Clone, Copy, Debug)]
+pub enum Fault {
+    /// A line is no case.
+    Wrong,
+    Unreadable,
+    Output,
+    Memory,
+}
+
+impl From<AllocError> for Fault {
+    fn from(_error: AllocError) -> Fault {
+        Fault::Memory
+    }
+}
+
+impl<T: Drop> From<AllocFailed<T>> for Fault {
+    fn from(_error: AllocFailed<T>) -> Fault {
+        Fault::Memory
+    }
+}
