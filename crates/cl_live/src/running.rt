@@ -49,14 +49,17 @@ pub(crate) fn run_words<H: Hosts, P: Place, G: Source, O: Sink, L: Ledger>(
         (wire_of (P.taken place.new) (P.writing_faults place.new) (P.tells place.new)))
         (streams (G.left keys.old) (G.faults keys.old) (O.taken out) (O.faults out) steps.old)
         (streams (G.left keys.new) (G.faults keys.new) (O.taken result.1) (O.faults result.1) steps.new) result.0 }
-    ensures keeps { (name : List ℕ) (budget : Option ℕ) → IsLive (map (λ w. w.now) words.now) name budget → KeepsFiles name None (P.by_name place.old)
+    ensures keeps { (name : List ℕ) (budget : Option ℕ) → IsLive (map (λ w. w.now) words.now) name budget
+        → KeepsFiles name None (P.by_name place.old)
         (placed (P.file place.old) (P.app_faults place.old) (P.making_faults place.old)
         (wire_of (P.taken place.old) (P.writing_faults place.old) (P.tells place.old)))
         (placed (P.file place.new) (P.app_faults place.new) (P.making_faults place.new)
         (wire_of (P.taken place.new) (P.writing_faults place.new) (P.tells place.new))) }
-    ensures untouched { IsNoLive (map (λ w. w.now) words.now) → (placed (P.file place.new) (P.app_faults place.new) (P.making_faults place.new)
-        (wire_of (P.taken place.new) (P.writing_faults place.new) (P.tells place.new))) ≡ (placed (P.file place.old) (P.app_faults place.old) (P.making_faults place.old)
-        (wire_of (P.taken place.old) (P.writing_faults place.old) (P.tells place.old))) }
+    ensures untouched { IsNoLive (map (λ w. w.now) words.now)
+        → placed (P.file place.new) (P.app_faults place.new) (P.making_faults place.new)
+        (wire_of (P.taken place.new) (P.writing_faults place.new) (P.tells place.new))
+        ≡ placed (P.file place.old) (P.app_faults place.old) (P.making_faults place.old)
+        (wire_of (P.taken place.old) (P.writing_faults place.old) (P.tells place.old)) }
     ensures place_lent { P.lent place.new ≡ P.lent place.old }
     ensures lent { G.lent keys.new ≡ G.lent keys.old }
     ensures later { G.faults keys.old ≤ G.faults keys.new }
@@ -85,7 +88,8 @@ fn run_asked<H: Hosts, P: Place, G: Source, O: Sink, L: Ledger>(
     out: O,
     steps: &mut Steps<L>,
 ) -> (How, O)
-    ensures went { (words : List (List ℕ)) → IsLive words asked.entry.application.now asked.entry.budget → Went (hosts_of H.bounds H.entries hosts.now) words
+    ensures went { (words : List (List ℕ)) → IsLive words asked.entry.application.now asked.entry.budget
+        → Went (hosts_of H.bounds H.entries hosts.now) words
         (placed (P.file place.old) (P.app_faults place.old) (P.making_faults place.old)
         (wire_of (P.taken place.old) (P.writing_faults place.old) (P.tells place.old)))
         (placed (P.file place.new) (P.app_faults place.new) (P.making_faults place.new)

@@ -17,14 +17,22 @@ use cl_ptext::Hosts;
 use cl_terminal::{Closing, RunEnd};
 use std::alloc::Global;
 
-/// The status that the program ends with, and its output behind what that took.
+/// The status that a run in a terminal ends with, and its output behind what that took.
 #[derive(Drop)]
 pub struct Ended<O> {
     pub status: u8,
     pub out: O,
 }
 
-/// Runs an application in a terminal.
+/// Runs an application in the terminal that the output is, with the host types that it may use. The words behind the program's name are
+/// `APP [--budget N]`.
+///
+/// It reads the application from the place's file APP, to its end or to 1,048,577 bytes, loads it, takes the terminal over, opens the frame
+/// with a budget of N forms a display or command (1,000,000 where none is given), and serves the keys up to the one that ends the run or to
+/// their end; then it gives the terminal back. The run stops at the first of these: words that are no such command (status 2), a fault of the
+/// place with APP (3), a text that is refused (1), want of memory before the first key (7), a fault of the keys (4) or of the output (5), a
+/// thousand million reads of the keys (8), the end (0). The lines of words that are no command and of a refusal are said on the output, and
+/// the terminal is not taken over then. The place is only read.
 pub fn live_main<H: Hosts, P: Place, G: Source, O: Sink, L: Ledger>(
     alloc: Global,
     words: &[&str],
@@ -41,14 +49,17 @@ pub fn live_main<H: Hosts, P: Place, G: Source, O: Sink, L: Ledger>(
         (wire_of (P.taken place.new) (P.writing_faults place.new) (P.tells place.new)))
         (streams (G.left keys.old) (G.faults keys.old) (O.taken out) (O.faults out) steps.old)
         (streams (G.left keys.new) (G.faults keys.new) (O.taken result.out) (O.faults result.out) steps.new) result.status }
-    ensures keeps { (name : List ℕ) (budget : Option ℕ) → IsLive (map (λ w. w.now) words.now) name budget → KeepsFiles name None (P.by_name place.old)
+    ensures keeps { (name : List ℕ) (budget : Option ℕ) → IsLive (map (λ w. w.now) words.now) name budget
+        → KeepsFiles name None (P.by_name place.old)
         (placed (P.file place.old) (P.app_faults place.old) (P.making_faults place.old)
         (wire_of (P.taken place.old) (P.writing_faults place.old) (P.tells place.old)))
         (placed (P.file place.new) (P.app_faults place.new) (P.making_faults place.new)
         (wire_of (P.taken place.new) (P.writing_faults place.new) (P.tells place.new))) }
-    ensures untouched { IsNoLive (map (λ w. w.now) words.now) → (placed (P.file place.new) (P.app_faults place.new) (P.making_faults place.new)
-        (wire_of (P.taken place.new) (P.writing_faults place.new) (P.tells place.new))) ≡ (placed (P.file place.old) (P.app_faults place.old) (P.making_faults place.old)
-        (wire_of (P.taken place.old) (P.writing_faults place.old) (P.tells place.old))) }
+    ensures untouched { IsNoLive (map (λ w. w.now) words.now)
+        → placed (P.file place.new) (P.app_faults place.new) (P.making_faults place.new)
+        (wire_of (P.taken place.new) (P.writing_faults place.new) (P.tells place.new))
+        ≡ placed (P.file place.old) (P.app_faults place.old) (P.making_faults place.old)
+        (wire_of (P.taken place.old) (P.writing_faults place.old) (P.tells place.old)) }
 
     // When they are due.
     ensures usage_due { IsNoLive (map (λ w. w.now) words.now) → (result.status ≡ 2) ⊎ (result.status ≡ 5) ⊎ (result.status ≡ 7) }

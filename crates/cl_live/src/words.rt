@@ -33,11 +33,13 @@ pub(crate) fn read_run<'a>(
         (λ asked. IsRunHere (map (λ w. w.now) words.entry.now) asked.application.now asked.budget)) }
 {
     match read_words(alloc, words)? {
-        Some(Invocation::Run {
-            application,
-            wire: None,
-            budget,
-        }) => Ok(Some(Asked {
+        Some(
+            Invocation::Run {
+                application,
+                wire: None,
+                budget,
+            },
+        ) => Ok(Some(Asked {
             application,
             budget,
         })),

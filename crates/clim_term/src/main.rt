@@ -62,8 +62,7 @@ fn run<H: Hosts, P: Place, G: Source, O: Sink>(
     place: &mut P,
     keys: &mut G,
     out: O,
-) -> (ExitCode, O)
-{
+) -> (ExitCode, O) {
     let mut steps = own_steps();
     let Ended { status, out } = live_main(alloc, words, hosts, place, keys, out, &mut steps);
     (ExitCode::from(status), out)
