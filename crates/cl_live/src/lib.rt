@@ -5,6 +5,8 @@ mod ends;
 mod running;
 mod saying;
 mod statuses;
+#[cfg(test)]
+mod tests;
 mod words;
 
 pub use statuses::{Ended, live_main};
