@@ -5,8 +5,8 @@ use Rattle.cl_application.specs.declared.applications.App.{App}
 use Rattle.cl_eval.specs.declared.metering.Limits.{Limits}
 use Rattle.cl_frame.specs.Ground.{ground}
 use Rattle.cl_lattice.specs.World.{World}
-use Rattle.cl_live.specs.Runs.{RanOn, RanText, Tells, Went}
-use Rattle.cl_live.specs.Words.{IsLive, as_run}
+use Rattle.cl_live.specs.Runs.{RanOn, RanText, SaysUsage, Tells, Went}
+use Rattle.cl_live.specs.Words.{IsLive, IsNoLive, as_run}
 use Rattle.cl_live.specs.declared.ends.How.{How}
 use Rattle.cl_live.specs.declared.ends.How.TheVariants as how
 use Rattle.cl_load.specs.Application.{IsApplication}
@@ -58,3 +58,14 @@ module _ (hosts : HostMeanings) (words : List (List ℕ)) (name : List ℕ) (bud
   Went-text old new s t text how.Memory of r = r
   Went-text old new s t text (how.Ran ended) of r =
       record { g = ground_in hosts r.0 (limits_of budget); opened = opens old text r.0 of r.1; ran = r.2 }
+
+-- the words ask for none
+pub Went-usage : (hosts : HostMeanings) (words : List (List ℕ)) (place : Placed) (s t : Streams) (h : How) → IsNoLive words → SaysUsage s t h
+    → Went hosts words place place s t h
+Went-usage hosts words place s t how.Usage none said = (none, said)
+Went-usage hosts words place s t how.UsageCut none said = (none, said)
+Went-usage hosts words place s t how.AppFault none said = absurd said
+Went-usage hosts words place s t how.Refused none said = absurd said
+Went-usage hosts words place s t how.RefusalCut none said = absurd said
+Went-usage hosts words place s t how.Memory none said = absurd said
+Went-usage hosts words place s t (how.Ran ended) none said = absurd said

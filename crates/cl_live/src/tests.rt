@@ -13,6 +13,7 @@ const COUNTER: &[u8] =
 ";
 
 // Keys, and the numbers of the reads and of the writes that fail.
+#[derive(Clone, Copy)]
 struct Keys<'a> {
     bytes: &'a [u8],
     reads_fail: &'a [u64],
@@ -101,7 +102,7 @@ fn texts_that_do_not_load(rt: HostRuntime) -> Result<(), Fail> {
     Ok(())
 }
 
-// The first read of the keys fails: the terminal is given back. Then the terminal fails in its first write, and in that which gives it back.
+// The first read of the keys fails, and the terminal is given back. Then the first write fails.
 #[test]
 fn faults(rt: HostRuntime) -> Result<(), Fail> {
     let unread = Keys {
