@@ -1,7 +1,7 @@
 -- When a status is due.
 use Rattle.std.proofs.Common.{refl, ◌≡◌, ℕ, List, Option, None, inl, inr, subst}
 use Rattle.std.specs.Prelude.{◌⊎◌}
-use Rattle.cl_live.specs.Runs.{FaultRose, Refuses, Runs, Went}
+use Rattle.cl_live.specs.Runs.{FaultRose, Refuses, Went}
 use Rattle.cl_live.specs.Statuses.{status_of}
 use Rattle.cl_live.specs.Words.{IsLive, IsNoLive, as_run}
 use Rattle.cl_live.specs.declared.ends.How.{How}
@@ -16,7 +16,6 @@ use Rattle.cl_program.specs.Run.{IsRefused, NamesText, SaysWhole}
 use Rattle.cl_program.specs.Statuses.{DeclaresApplication, HasRefusal}
 use Rattle.cl_program.specs.Surroundings.{Placed, Streams}
 use Rattle.cl_terminal.specs.declared.flows.Closing.TheVariants as closing
-use Rattle.cl_terminal.specs.declared.running.RunEnd.{RunEnd}
 use Rattle.cl_terminal.specs.declared.running.RunEnd.TheVariants as end
 
 -- words that ask for an application name it

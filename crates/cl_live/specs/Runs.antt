@@ -1,5 +1,5 @@
 -- What a run in a terminal comes to. The gestures of the streams are the keys here, and their output is the terminal.
-use Rattle.std.specs.Prelude.{◌≡◌, ◌⊎◌, ℕ, List, Option, None}
+use Rattle.std.specs.Prelude.{◌≡◌, ℕ, List, Option, None}
 use Rattle.cl_ansi.specs.Terminal.{Terminal}
 use Rattle.cl_eval.specs.declared.metering.Limits.{Limits}
 use Rattle.cl_frame.specs.Ground.{Ground}
@@ -17,7 +17,6 @@ use Rattle.cl_program.specs.Surroundings.{Placed, Streams}
 use Rattle.cl_program.specs.Texts.{IsTextOf}
 use Rattle.cl_terminal.specs.Running.{IsGivenBack, Ran}
 use Rattle.cl_terminal.specs.declared.running.RunEnd.{RunEnd}
-use Rattle.cl_terminal.specs.declared.running.RunEnd.TheVariants as end
 
 -- ---- an application that was loaded
 

@@ -1,5 +1,5 @@
 -- The words of the command line, and the usage line.
-use Rattle.std.specs.Prelude.{◌≡◌, ℕ, List, [], ◌∷◌, ◌++◌, codes, Option, None}
+use Rattle.std.specs.Prelude.{ℕ, List, [], ◌∷◌, ◌++◌, codes, Option, None}
 use Rattle.cl_program.specs.Command.{IsRun}
 
 -- the words behind the program's name as those of a run
