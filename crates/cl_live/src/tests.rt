@@ -14,15 +14,15 @@ const COUNTER: &[u8] =
 
 // Keys, and the numbers of the reads and of the writes that fail.
 #[derive(Clone, Copy)]
-struct Keys<'a> {
+struct Given<'a> {
     bytes: &'a [u8],
     reads_fail: &'a [u64],
     writes_fail: &'a [u64],
 }
 
 // Keys of which no read fails, nor a write.
-fn keys(bytes: &[u8]) -> Keys<'_> {
-    Keys {
+fn quiet(bytes: &[u8]) -> Given<'_> {
+    Given {
         bytes,
         reads_fail: &[],
         writes_fail: &[],
@@ -30,7 +30,7 @@ fn keys(bytes: &[u8]) -> Keys<'_> {
 }
 
 // A run on these words, over a place with the counter and with a text that is refused.
-fn run(alloc: Global, words: &[&str], keys: &Keys<'_>) -> Result<Ended<MemSink>, AllocError> {
+fn run(alloc: Global, words: &[&str], keys: &Given<'_>) -> Result<Ended<MemSink>, AllocError> {
     let mut files = Vec::new(alloc);
     files.push((String::from_str(alloc, "app")?, COUNTER.to_vec(alloc)?))?;
     files.push((String::from_str(alloc, "bad")?, b"(".to_vec(alloc)?))?;
@@ -56,7 +56,7 @@ fn run(alloc: Global, words: &[&str], keys: &Keys<'_>) -> Result<Ended<MemSink>,
 
 #[test]
 fn a_key_is_shown_up_to_the_end(rt: HostRuntime) -> Result<(), Fail> {
-    let ended = run(rt.alloc(), &["app"], &keys(b"add\r\x04add\r"))?;
+    let ended = run(rt.alloc(), &["app"], &quiet(b"add\r\x04add\r"))?;
     assert_eq!(rt; ended.status, 0);
     let wanted: &[u8] =
         b"\x1b[?1049h\x1b[?1000h\x1b[?1006h\x1b[2J\x1b[H\x1b[0m\x1b[2J\x1b[H\x1b[1;1H\x1b[39m0  \x1b[0m\
@@ -68,7 +68,7 @@ fn a_key_is_shown_up_to_the_end(rt: HostRuntime) -> Result<(), Fail> {
 
 #[test]
 fn a_budget_holds_displays(rt: HostRuntime) -> Result<(), Fail> {
-    let ended = run(rt.alloc(), &["app", "--budget", "2"], &keys(b""))?;
+    let ended = run(rt.alloc(), &["app", "--budget", "2"], &quiet(b""))?;
     assert_eq!(rt; ended.status, 0);
     let wanted: &[u8] =
         b"\x1b[?1049h\x1b[?1000h\x1b[?1006h\x1b[2J\x1b[H\x1b[0m\x1b[2J\x1b[H\x1b[1;1H\x1b[39mtra\x1b[0m\
@@ -81,22 +81,22 @@ fn a_budget_holds_displays(rt: HostRuntime) -> Result<(), Fail> {
 #[test]
 fn words_that_are_no_command(rt: HostRuntime) -> Result<(), Fail> {
     let usage: &[u8] = b"usage: clim_term APP [--budget N]\n";
-    let ended = run(rt.alloc(), &["app", "--wire", "w"], &keys(b""))?;
+    let ended = run(rt.alloc(), &["app", "--wire", "w"], &quiet(b""))?;
     assert_eq!(rt; ended.status, 2);
     assert_eq!(rt; ended.out.taken(), usage);
-    assert_eq!(rt; run(rt.alloc(), &[], &keys(b""))?.status, 2);
-    assert_eq!(rt; run(rt.alloc(), &["check", "app"], &keys(b""))?.status, 2);
+    assert_eq!(rt; run(rt.alloc(), &[], &quiet(b""))?.status, 2);
+    assert_eq!(rt; run(rt.alloc(), &["check", "app"], &quiet(b""))?.status, 2);
     Ok(())
 }
 
 #[test]
 fn texts_that_do_not_load(rt: HostRuntime) -> Result<(), Fail> {
     let refused: &[u8] = b"refused 2 at 1\n";
-    let ended = run(rt.alloc(), &["bad"], &keys(b"a"))?;
+    let ended = run(rt.alloc(), &["bad"], &quiet(b"a"))?;
     assert_eq!(rt; ended.status, 1);
     assert_eq!(rt; ended.out.taken(), refused);
     let none: &[u8] = b"";
-    let ended = run(rt.alloc(), &["none"], &keys(b"a"))?;
+    let ended = run(rt.alloc(), &["none"], &quiet(b"a"))?;
     assert_eq!(rt; ended.status, 3);
     assert_eq!(rt; ended.out.taken(), none);
     Ok(())
@@ -105,7 +105,7 @@ fn texts_that_do_not_load(rt: HostRuntime) -> Result<(), Fail> {
 // The first read of the keys fails, and the terminal is given back. Then the first write fails.
 #[test]
 fn faults(rt: HostRuntime) -> Result<(), Fail> {
-    let unread = Keys {
+    let unread = Given {
         bytes: b"a",
         reads_fail: &[1],
         writes_fail: &[],
@@ -118,7 +118,7 @@ fn faults(rt: HostRuntime) -> Result<(), Fail> {
             .taken()
             .ends_with(b"\x1b[0m\x1b[?1006l\x1b[?1000l\x1b[?1049l")
     );
-    let unwritten = Keys {
+    let unwritten = Given {
         bytes: b"\x04",
         reads_fail: &[],
         writes_fail: &[1],
