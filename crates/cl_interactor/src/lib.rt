@@ -3,12 +3,12 @@
 //! CLIM II specification's chapter on the input editor; the rows are our own profile.
 #![tactic(auto)]
 
-mod expected;
+mod expecting;
 mod rows;
 #[cfg(test)]
 mod tests;
 mod typed;
 
-pub use expected::expected;
+pub use expecting::expected;
 pub use rows::{REPLY_ROWS, interactor};
 pub use typed::put_typed;

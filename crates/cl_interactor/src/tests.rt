@@ -10,7 +10,7 @@ fn rows_stand_below_the_screen(rt: HostRuntime) -> Result<(), Fail> {
     let bytes = interactor(rt.alloc(), 9, typed, b"how many", b"ok Add\nmain\n")?;
     assert_eq!(rt;
         bytes.as_slice(),
-        b"\x1b[11;1Hhow many\x1b[K\x1b[12;1Hok Add\x1b[K\x1b[13;1Hmain\x1b[K\x1b[14;1H\x1b[K\x1b[15;1H\x1b[K\x1b[10;1H> Add ?x\x1b[K"
+        b"\x1b[11;1Hhow many\x1b[K\x1b[12;1Hok Add\x1b[K\x1b[13;1Hmain\x1b[K\x1b[14;1H\x1b[K\x1b[15;1H\x1b[K\x1b[10;1H> Add ?x\x1b[K".as_slice()
     );
     Ok(())
 }
@@ -23,6 +23,6 @@ fn objects_are_shown_as_they_are_printed(rt: HostRuntime) -> Result<(), Fail> {
     let _ = line.push_object(4, Value::Int(-7));
     let mut bytes = Vec::new(alloc);
     put_typed(&mut bytes, &line)?;
-    assert_eq!(rt; bytes.as_slice(), b"Move -7");
+    assert_eq!(rt; bytes.as_slice(), b"Move -7".as_slice());
     Ok(())
 }

@@ -61,12 +61,14 @@ semicolon-place : (xs ys : List ℕ) → All IsDigit xs → position_or_len is_s
 semicolon-place [] ys h = refl
 semicolon-place (x ∷ xs) ys h =
     let digit = All-head IsDigit x xs h in
-    place-by (is_semicolon x) (position_or_len is_semicolon (xs ++ 59 ∷ ys)) (length xs) (ne_eqb x 59 (λ e. omega (arith, e, digit))) (semicolon-place xs ys (All-tail IsDigit x xs h))
+    let other = ne_eqb x 59 (λ e. omega (arith, e, digit)) in
+    place-by (is_semicolon x) (position_or_len is_semicolon (xs ++ 59 ∷ ys)) (length xs) other (semicolon-place xs ys (All-tail IsDigit x xs h))
 
 semicolon-at : (xs ys : List ℕ) → All IsDigit xs → position is_semicolon (xs ++ 59 ∷ ys) ≡ Some (length xs)
 semicolon-at xs ys h =
     let place = semicolon-place xs ys h in
-    let within : nat_lt (length xs) (length (xs ++ 59 ∷ ys)) ≡ true = le-leb (suc (length xs)) (length (xs ++ 59 ∷ ys)) (omega (arith, length-append xs (59 ∷ ys))) in
+    let within : nat_lt (length xs) (length (xs ++ 59 ∷ ys)) ≡ true =
+    le-leb (suc (length xs)) (length (xs ++ 59 ∷ ys)) (omega (arith, length-append xs (59 ∷ ys))) in
     rw (place, within) refl
 
 button-read : (b : Button) → button_of (digit_of b) ≡ Some b
@@ -104,13 +106,15 @@ report-parts b x y column row =
     let behind = All-cons IsPart 59 y (omega arith, omega arith) (digits-parts y row) in
     let place = All-append IsPart x (59 ∷ y) (digits-parts x column) behind in
     let semicolon = All-cons IsPart 59 (place_of x y) (omega arith, omega arith) place in
-    All-cons IsPart 60 (digit_of b ∷ 59 ∷ place_of x y) (omega arith, omega arith) (All-cons IsPart (digit_of b) (59 ∷ place_of x y) (digit-part b) semicolon)
+    All-cons IsPart 60 (digit_of b ∷ 59 ∷ place_of x y) (omega arith, omega arith)
+    (All-cons IsPart (digit_of b) (59 ∷ place_of x y) (digit-part b) semicolon)
 
 report-short : (b : Button) (x y : List ℕ) → length x ≤ 5 → length y ≤ 5 → length (report_of b x y) ≤ 16
 report-short b x y column row = omega (arith, length-append x (59 ∷ y))
 
 -- a control sequence of few enough bytes that an `M` ends
-ended-keys : (kept : List ℕ) → All IsPart kept → length kept ≤ 16 → keys_of (27 ∷ 91 ∷ (kept ++ 77 ∷ [])) ≡ before_keys (option_map key.Press (press_in kept)) []
+ended-keys : (kept : List ℕ) → All IsPart kept → length kept ≤ 16
+    → keys_of (27 ∷ 91 ∷ (kept ++ 77 ∷ [])) ≡ before_keys (option_map key.Press (press_in kept)) []
 ended-keys kept h room =
     keys-append (collecting []) kept (77 ∷ [])
     ∙ (ap (λ ks. ks ++ keys_from (state_after (collecting []) kept) (77 ∷ [])) (keeps-keys [] kept h (omega arith))

@@ -29,7 +29,8 @@ button-sent code b h = button-by code b (code == 48) (code == 49) (code == 50) r
 abbrev pub Writes : List ℕ → ℕ → Type 0
 Writes digits n = WritesNumber digits (n + 1) × (n < 65535)
 
-from-zero-by : (v n : ℕ) (within : Bool) → (nat_le 1 v && nat_le v 65535) ≡ within → cond within (Some (v - 1)) None ≡ Some n → (n + 1 ≡ v) × (n < 65535)
+from-zero-by : (v n : ℕ) (within : Bool) → (nat_le 1 v && nat_le v 65535) ≡ within
+    → cond within (Some (v - 1)) None ≡ Some n → (n + 1 ≡ v) × (n < 65535)
 from-zero-by v n true within h =
     let parts = and_parts (nat_le 1 v) (nat_le v 65535) within in
     let low : 1 ≤ v = leb-true 1 v parts.0 in let high : v ≤ 65535 = leb-true v 65535 parts.1 in
@@ -37,7 +38,8 @@ from-zero-by v n true within h =
     (omega (arith, low, same), omega (arith, low, high, same))
 from-zero-by v n false within h = absurd (cc)
 
-coordinate-by : (digits : List ℕ) (n : ℕ) (number : Bool) → is_number digits ≡ number → cond number (from_zero (digits_value 10 digits)) None ≡ Some n → Writes digits n
+coordinate-by : (digits : List ℕ) (n : ℕ) (number : Bool) → is_number digits ≡ number
+    → cond number (from_zero (digits_value 10 digits)) None ≡ Some n → Writes digits n
 coordinate-by digits n true number h =
     let v = digits_value 10 digits in let parts = number_parts digits number in
     let value = from-zero-by v n (nat_le 1 v && nat_le v 65535) refl h in

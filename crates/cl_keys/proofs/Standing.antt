@@ -41,8 +41,12 @@ part-by : (bytes kept : List ℕ) (b : ℕ) (room : Bool) → End bytes (27 ∷ 
 part-by bytes kept b true e = end-more bytes (27 ∷ 91 ∷ kept) b e
 part-by bytes kept b false e = tt
 
+-- the step of a control sequence at a byte, which is a part of it or not
+abbrev collected : (kept : List ℕ) (b : ℕ) (part : Bool) → Step
+collected kept b part = cond {A = Step} part (record { state = with_part kept b; key = None }) (record { state = rested b; key = key_ended kept b })
+
 collecting-by : (bytes kept : List ℕ) (b : ℕ) (part : Bool) → End bytes (27 ∷ 91 ∷ kept)
-    → Stands (cond {A = Step} part (record { state = with_part kept b; key = None }) (record { state = rested b; key = key_ended kept b })).state (bytes ++ b ∷ [])
+    → Stands (collected kept b part).state (bytes ++ b ∷ [])
 collecting-by bytes kept b true e = part-by bytes kept b (nat_lt (length kept) 16) e
 collecting-by bytes kept b false e = rested-stands bytes b
 
@@ -61,20 +65,24 @@ step-stands passing bytes b e = passing-by bytes b (is_part b)
 after-stands : (s : State) (seen bytes : List ℕ) → Stands s seen → Stands (state_after s bytes) (seen ++ bytes)
 after-stands s seen [] e = subst (Stands s) (sym (append-nil seen)) e
 after-stands s seen (b ∷ bs) e =
-    subst (Stands (state_after (step s b).state bs)) (append_assoc seen (b ∷ []) bs) (after-stands (step s b).state (seen ++ b ∷ []) bs (step-stands s seen b e))
+    let next = (step s b).state in let more = after-stands next (seen ++ b ∷ []) bs (step-stands s seen b e) in
+    subst (Stands (state_after next bs)) (append_assoc seen (b ∷ []) bs) more
 
 -- ---- the key of a step
 
 -- what is sent for the key stands at the end
 at-end : (k : Key) (bytes last : List ℕ) (b : ℕ) → End bytes last → IsSpelledBy k (last ++ b ∷ []) → EndWith k (bytes ++ b ∷ [])
-at-end k bytes last b e spelled = let more = end-more bytes last b e in record { before = more.before; sent = last ++ b ∷ []; whole = more.whole; spelled = spelled }
+at-end k bytes last b e spelled =
+    let more = end-more bytes last b e in
+    record { before = more.before; sent = last ++ b ∷ []; whole = more.whole; spelled = spelled }
 
 key-by : (bytes kept : List ℕ) (b : ℕ) (k : Key) (part : Bool) → End bytes (27 ∷ 91 ∷ kept)
-    → (cond {A = Step} part (record { state = with_part kept b; key = None }) (record { state = rested b; key = key_ended kept b })).key ≡ Some k → EndWith k (bytes ++ b ∷ [])
+    → (collected kept b part).key ≡ Some k → EndWith k (bytes ++ b ∷ [])
 key-by bytes kept b k true e h = absurd (cc)
 key-by bytes kept b k false e h = at-end k bytes (27 ∷ 91 ∷ kept) b e (ended-sent kept b k h)
 
-none-by : (b : ℕ) (k : Key) (part : Bool) (x y : State) → (cond {A = Step} part (record { state = x; key = None }) (record { state = y; key = None })).key ≡ Some k → ⊥
+none-by : (b : ℕ) (k : Key) (part : Bool) (x y : State)
+    → (cond {A = Step} part (record { state = x; key = None }) (record { state = y; key = None })).key ≡ Some k → ⊥
 none-by b k true x y h = cc
 none-by b k false x y h = cc
 

@@ -5,8 +5,8 @@ use Rattle.cl_keys.specs.declared.keys.Key.TheVariants as key
 use Rattle.cl_keys.specs.Keys.{plain_key, stroke_of}
 use Rattle.cl_keys.specs.Reports.{press_in}
 
--- what is known of a key that has begun: nothing has, an escape has, an escape and `O`, a control sequence with these bytes so far, or one that is too
--- long to be kept
+-- what came of a key that has begun: nothing, an escape, an escape and `O`, a control sequence with these bytes so far, or one that is too long to be
+-- kept
 pub data State : Type 0 where
   at_rest : State
   escaped : State
@@ -39,6 +39,7 @@ with_part bytes byte = if nat_lt (length bytes) 16 then collecting (bytes ++ byt
 abbrev pub key_ended : List ℕ → ℕ → Option Key
 key_ended bytes byte = if byte == 77 then option_map key.Press (press_in bytes) else None
 
+-- what a byte does in a state
 abbrev pub step : State → ℕ → Step
 step at_rest byte = record { state = rested byte; key = plain_key byte }
 step escaped byte = record { state = begun byte; key = stroke_of byte }

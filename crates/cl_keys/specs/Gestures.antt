@@ -1,5 +1,6 @@
 -- What a key does in an application.
-use Rattle.std.specs.Prelude.{◌≡◌, ◌+◌, ◌-◌, ◌&&◌, ℕ, pos, Bool, true, nat_le, nat_lt, if◌then◌else◌, Contains, Option, Some, None, option_map, List, [], ◌∷◌, filter_map}
+use Rattle.std.specs.Prelude.{◌≡◌, ◌+◌, ◌-◌, ◌&&◌, ℕ, pos, Bool, true, nat_le, nat_lt, if◌then◌else◌}
+use Rattle.std.specs.Prelude.{Contains, Option, Some, None, option_map, List, [], ◌∷◌, filter_map}
 use Rattle.cl_application.specs.Panes.{LieApart, panes_of}
 use Rattle.cl_application.specs.declared.applications.App.{App}
 use Rattle.cl_application.specs.declared.declarations.PaneDecl.{PaneDecl}

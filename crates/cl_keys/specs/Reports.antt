@@ -31,6 +31,7 @@ from_zero n = if nat_le 1 n && nat_le n 65535 then Some (n - 1) else None
 abbrev pub coordinate_of : List ℕ → Option ℕ
 coordinate_of digits = if is_number digits then from_zero (digits_value 10 digits) else None
 
+-- a byte is `;`
 abbrev pub is_semicolon : ℕ → Bool
 is_semicolon byte = byte == 59
 

@@ -7,6 +7,7 @@ use Rattle.cl_keys.specs.declared.keys.Key.{Key}
 use Rattle.cl_keys.specs.declared.keys.Key.TheVariants as key
 use Rattle.cl_keys.specs.declared.keys.Press.{Press}
 
+-- a decimal digit
 abbrev pub IsDigit : ℕ → Type 0
 IsDigit byte = (48 ≤ byte) × (byte ≤ 57)
 

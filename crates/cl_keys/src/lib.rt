@@ -5,6 +5,9 @@
 //! below 32 for a letter with the control key. Alt with a letter is sent as an escape, the byte 27, and the letter. An escape and
 //! `[` begin a control sequence, which a byte from 64 to 126 ends: the arrow keys are sent so, and so is the pointer, `ESC [ < B ; X ; Y M`
 //! where a button went down. An escape and `O` begin a sequence of one byte more.
+//!
+//! In an application a key makes a gesture. A press points at a pane: the left button selects, the middle one describes, and the
+//! right one asks for the menu.
 #![tactic(auto)]
 
 mod decoder;
@@ -20,3 +23,6 @@ pub use laws::{
     cuts_are_free, keys_are_spelled, one_pane_is_pointed_at, spellings_give_all_keys,
     spellings_give_keys,
 };
+
+#[cfg(test)]
+mod tests;

@@ -1,0 +1,4 @@
+pub mod Ending
+pub mod Handling
+pub mod Taking
+pub mod Turning

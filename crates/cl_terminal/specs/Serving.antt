@@ -7,7 +7,8 @@ use Rattle.cl_keys.specs.Decoding.{State}
 use Rattle.cl_outside.specs.Causes.{Rose}
 use Rattle.cl_session.specs.Step.{Met}
 use Rattle.cl_session.specs.World.{World}
-use Rattle.cl_terminal.specs.Live.{EndsAt, GoesOn, Handles, end_among, world_behind}
+use Rattle.cl_terminal.specs.Handled.{end_among}
+use Rattle.cl_terminal.specs.Live.{EndsAt, GoesOn, Handles, world_behind}
 use Rattle.cl_terminal.specs.declared.flows.Flow.{Flow}
 use Rattle.cl_terminal.specs.declared.flows.Flow.TheVariants as flow
 use Rattle.cl_terminal.specs.declared.flows.Closing.{Closing}
@@ -32,7 +33,7 @@ pub record Broke (g : Ground) (old new : Standing) (bytes : List ℕ) (faults_ol
 -- what taking bytes comes to, by what it answers
 abbrev pub Takes : Ground → (old new : Standing) → List ℕ → (faults_old faults_new : ℕ) → Flow → Type 0
 Takes g old new bytes faults_old faults_new flow.On = GoesOn g old.state old.world new.state new.world bytes
-Takes g old new bytes faults_old faults_new flow.End = EndsAt g old.state old.world new.world bytes × (end_among old.state bytes ≡ true)
+Takes g old new bytes faults_old faults_new flow.End = EndsAt g old.state old.world new.world bytes
 Takes g old new bytes faults_old faults_new flow.Fault = Broke g old new bytes faults_old faults_new
 
 -- a gesture was handled; where the terminal failed, it did so in this gesture

@@ -1,5 +1,5 @@
 -- What a terminal shows below the screen.
-use Rattle.std.specs.Prelude.{◌≡◌, ◌⊎◌, ℕ, Bool, true, List, [], ◌++◌, Option, None, Some, codes}
+use Rattle.std.specs.Prelude.{◌≡◌, ◌⊎◌, ℕ, List, [], ◌++◌, Option, None, Some, codes}
 use Rattle.cl_ansi.specs.Terminal.{Terminal, Writes}
 use Rattle.cl_application.specs.declared.applications.App.{App}
 use Rattle.cl_interactor.specs.Expected.{expected_words}

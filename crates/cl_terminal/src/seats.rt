@@ -2,6 +2,7 @@
 ghost use Rattle.std.specs.Prelude.{◌≡◌, ◌≤◌, ◌∷◌, []};
 ghost use Rattle.cl_frame.specs.Ground.{ground_of};
 ghost use Rattle.cl_session.specs.Session.{world_of};
+ghost use Rattle.cl_terminal.specs.Handled.{is_end};
 ghost use Rattle.cl_terminal.specs.Live.{IsReady};
 ghost use Rattle.cl_terminal.specs.Serving.{HandlesOne, Takes, standing};
 
@@ -69,17 +70,19 @@ impl Seat {
         ensures later { device.old.faults ≤ device.new.faults }
         ensures steps_later { steps.old ≤ steps.new }
     {
-        match self.decoder.take(byte) {
-            None => Flow::On,
-            Some(Key::End) => Flow::End,
-            Some(key) => match gesture_of(program.alloc, program.app, &key) {
-                Ok(Some(gesture)) => self.handle(program, &gesture, device, steps),
-                Ok(None) => Flow::On,
-                Err(_) => {
-                    self.said = None;
-                    Flow::On
-                }
-            },
+        let Some(key) = self.decoder.take(byte) else {
+            return Flow::On;
+        };
+        if is_end(&key) {
+            return Flow::End;
+        }
+        match gesture_of(program.alloc, program.app, &key) {
+            Ok(Some(gesture)) => self.handle(program, &gesture, device, steps),
+            Ok(None) => Flow::On,
+            Err(_) => {
+                self.said = None;
+                Flow::On
+            }
         }
     }
 
@@ -106,4 +109,11 @@ impl Seat {
         self.said = said_of(program.alloc, program.app, &self.session.frame, &replies);
         if replies.wire { Flow::Fault } else { Flow::On }
     }
+}
+
+// Whether a key ends the run.
+fn is_end(key: &Key) -> bool
+    ensures { result ≡ is_end key.now }
+{
+    matches!(key, Key::End)
 }

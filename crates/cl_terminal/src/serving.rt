@@ -68,8 +68,9 @@ impl Seat {
         ensures device_later { device.old.faults ≤ device.new.faults }
         ensures steps_later { steps.old ≤ steps.new }
     {
-        if self.show(program.alloc, program.app, device) == Sent::Failed {
-            return Some(Closing::OutputFault);
+        match self.show(program.alloc, program.app, device) {
+            Sent::Done => {}
+            Sent::Failed => return Some(Closing::OutputFault),
         }
         let mut piece = [0; PIECE];
         match keys.read(&mut piece) {

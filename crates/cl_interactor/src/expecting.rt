@@ -1,8 +1,6 @@
 //! What a person is expected to give next.
-ghost use Rattle.std.specs.Prelude.{◌≡◌, ◌+◌, length, option_map};
-ghost use Rattle.cl_dialog_forms.specs.Forms.{arguments_of};
-ghost use Rattle.cl_interactor.specs.Expected.{argument_named, command_seen, expected_in_dialog, expected_in_line, expected_words, named_in, prompt_of, words_at};
-ghost use Rattle.cl_table.specs.Names.{named};
+ghost use Rattle.std.specs.Prelude.{◌≡◌, option_map};
+ghost use Rattle.cl_interactor.specs.Expected.{argument_selected, command_seen, expected_in_dialog, expected_in_line, expected_words, named_in, words_at};
 
 use cl_application::{App, ArgumentDecl, CommandDecl};
 use cl_dialog::Dialog;
@@ -14,7 +12,7 @@ use cl_tables::Tables;
 /// that is typed next; `return` past the last one. While a dialog is open it is the prompt of the argument of the selected query, and
 /// `a query` where none is selected.
 pub fn expected<'a>(app: &'a App, tables: &Tables, line: &Line, dialog: Option<&Dialog>) -> &'a [u8]
-    ensures { result.now ≡ expected_words app.now tables.now line.now (option_map (λ d. d.now) dialog) }
+    ensures { result.now ≡ expected_words app.now tables.now line.now (option_map (λ d. d.now) dialog.entry) }
 {
     match dialog {
         Some(dialog) => expected_in_dialog(app, dialog),
