@@ -1,0 +1,99 @@
+-- What a run in a terminal comes to. The gestures of the streams are the keys here, and their output is the terminal.
+use Rattle.std.specs.Prelude.{◌≡◌, ℕ, List, Option, None}
+use Rattle.cl_ansi.specs.Terminal.{Terminal}
+use Rattle.cl_eval.specs.declared.metering.Limits.{Limits}
+use Rattle.cl_frame.specs.Ground.{Ground}
+use Rattle.cl_live.specs.Words.{IsLive, IsNoLive, as_run, usage_line}
+use Rattle.cl_live.specs.declared.ends.How.{How}
+use Rattle.cl_live.specs.declared.ends.How.TheVariants as how
+use Rattle.cl_load.specs.Opening.{opening_slots}
+use Rattle.cl_load.specs.Types.{Bounds}
+use Rattle.cl_load.specs.declared.refusals.LoadRefusal.{LoadRefusal}
+use Rattle.cl_outside.specs.Causes.{Rose}
+use Rattle.cl_program.specs.Commands.{RefusesText, SaysLine}
+use Rattle.cl_program.specs.Hosts.{HostMeanings}
+use Rattle.cl_program.specs.Run.{OfApplication, Opens, SaysCut, SaysWhole}
+use Rattle.cl_program.specs.Surroundings.{Placed, Streams}
+use Rattle.cl_program.specs.Texts.{IsTextOf}
+use Rattle.cl_terminal.specs.Running.{IsGivenBack, Ran}
+use Rattle.cl_terminal.specs.declared.running.RunEnd.{RunEnd}
+
+-- ---- an application that was loaded
+
+-- a terminal that took these bytes and had so many faults was given back
+pub record GivesBack (taken : Option (List ℕ)) (faults : ℕ) : Type 0 where
+  pub terminal : Terminal
+  pub taken_is : terminal.taken ≡ taken
+  pub faults_is : terminal.faults ≡ faults
+  pub given_back : IsGivenBack terminal
+
+-- it was run in the terminal from its opening slots on, and the terminal was given back
+pub record RanOn (g : Ground) (old new : Streams) (ended : RunEnd) : Type 0 where
+  pub ran : Ran g (opening_slots g.app) old.left new.left old.gesture_faults new.gesture_faults old.output_faults new.output_faults ended
+  pub given_back : GivesBack new.taken new.output_faults
+
+-- ---- a text that was read
+
+-- a run of it
+abbrev pub RanText : HostMeanings → (text : List ℕ) → Limits → (old new : Streams) → How → Type 0
+RanText hosts text limits old new how.Usage = ⊥
+RanText hosts text limits old new how.UsageCut = ⊥
+RanText hosts text limits old new how.AppFault = ⊥
+RanText hosts text limits old new how.Refused = RefusesText hosts.bounds text (SaysWhole old new)
+RanText hosts text limits old new how.RefusalCut = RefusesText hosts.bounds text (SaysCut old new)
+RanText hosts text limits old new how.Memory = new ≡ old
+RanText hosts text limits old new (how.Ran ended) = OfApplication hosts text limits (λ g. RanOn g old new ended)
+
+-- the line of a refusal was written, or the output failed, or memory was wanting before it
+abbrev pub Tells : LoadRefusal → (old new : Streams) → How → Type 0
+Tells r old new how.Usage = ⊥
+Tells r old new how.UsageCut = ⊥
+Tells r old new how.AppFault = ⊥
+Tells r old new how.Refused = SaysLine r (SaysWhole old new)
+Tells r old new how.RefusalCut = SaysLine r (SaysCut old new)
+Tells r old new how.Memory = new ≡ old
+Tells r old new (how.Ran ended) = ⊥
+
+-- ---- the words
+
+-- the usage line was written, or the output failed in it
+abbrev pub SaysUsage : (old new : Streams) → How → Type 0
+SaysUsage old new how.Usage = SaysWhole old new usage_line
+SaysUsage old new how.UsageCut = SaysCut old new usage_line
+SaysUsage old new how.AppFault = ⊥
+SaysUsage old new how.Refused = ⊥
+SaysUsage old new how.RefusalCut = ⊥
+SaysUsage old new how.Memory = ⊥
+SaysUsage old new (how.Ran ended) = ⊥
+
+-- the words ask for a file, with which the place failed
+pub record FaultRose (words : List (List ℕ)) (old new : Placed) : Type 0 where
+  pub name : List ℕ
+  pub budget : Option ℕ
+  pub asked : IsLive words name budget
+  pub rose : Rose (old.app_faults name) (new.app_faults name)
+
+-- the words ask for a file of a text that does not load, and the line of its reason was said so
+pub record Refuses (bounds : Bounds) (words : List (List ℕ)) (place : Placed) (said : List ℕ → Type 0) : Type 0 where
+  pub name : List ℕ
+  pub budget : Option ℕ
+  pub asked : IsLive words name budget
+  pub text : List ℕ
+  pub of_file : IsTextOf (place.file name) text
+  pub refuses : RefusesText bounds text said
+
+-- the words ask for an application, which was run in the terminal
+pub record Runs (hosts : HostMeanings) (words : List (List ℕ)) (place : Placed) (old new : Streams) (ended : RunEnd) : Type 0 where
+  pub g : Ground
+  pub opened : Opens hosts (as_run words) place None g
+  pub ran : RanOn g old new ended
+
+-- a run of these words, with these host types
+abbrev pub Went : HostMeanings → (words : List (List ℕ)) → (place_old place_new : Placed) → (old new : Streams) → How → Type 0
+Went hosts words place_old place_new old new how.Usage = IsNoLive words × SaysWhole old new usage_line
+Went hosts words place_old place_new old new how.UsageCut = IsNoLive words × SaysCut old new usage_line
+Went hosts words place_old place_new old new how.AppFault = FaultRose words place_old place_new × (new ≡ old)
+Went hosts words place_old place_new old new how.Refused = Refuses hosts.bounds words place_old (SaysWhole old new)
+Went hosts words place_old place_new old new how.RefusalCut = Refuses hosts.bounds words place_old (SaysCut old new)
+Went hosts words place_old place_new old new how.Memory = new ≡ old
+Went hosts words place_old place_new old new (how.Ran ended) = Runs hosts words place_old old new ended
