@@ -33,6 +33,7 @@ abbrev pub first : List ℕ → List ℕ
 first [] = []
 first (b ∷ bs) = if b == 59 then [] else b ∷ first bs
 
+-- the second of two parameters
 abbrev pub second : List ℕ → List ℕ
 second [] = []
 second (b ∷ bs) = if b == 59 then bs else second bs
@@ -67,6 +68,7 @@ continued s (Some (introducer ∷ parameters)) b =
 abbrev pub with_byte : Screen → ℕ → Screen
 with_byte s b = if b == 27 then record s { sequence = Some [] } else continued s s.sequence b
 
+-- the screen after these bytes
 abbrev pub shown : Screen → List ℕ → Screen
 shown s [] = s
 shown s (b ∷ bs) = shown (with_byte s b) bs

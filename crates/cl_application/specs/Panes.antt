@@ -12,6 +12,7 @@ declared_by e = e.1
 abbrev pub panes_in : FrameDecl → List PaneDecl
 panes_in f = map declared_by f.panes
 
+-- the panes of an application, in order of declaration
 abbrev pub panes_of : App → List PaneDecl
 panes_of app = panes_in app.frame
 

@@ -62,10 +62,12 @@ abbrev mutual
   pub in_parts : (TypeSpecTree → List Probe) → TypeSpecTree → List Probe
   in_parts found (specifier x ts o) = found (specifier x ts o) ++ in_parts_all found ts
 
+  -- what is found in the specifiers among arguments, deep
   pub in_parts_all : (TypeSpecTree → List Probe) → TypeArgTrees → List Probe
   in_parts_all found none = []
   in_parts_all found (argument a ts) = in_parts_arg found a ++ in_parts_all found ts
 
+  -- what is found in an argument that is a specifier, deep
   pub in_parts_arg : (TypeSpecTree → List Probe) → TypeArgTree → List Probe
   in_parts_arg found (Constant d) = []
   in_parts_arg found Any = []

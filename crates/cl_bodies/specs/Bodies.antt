@@ -138,6 +138,7 @@ abbrev mutual
   parse_form l w c (word x at) env = refuse 6 at
   parse_form l w c (stray at) env = refuse 6 at
 
+  -- the parts of a form, each with what it is as an expression, as bindings and as a form
   pub parts_in : {F O C : Type 0} → Language F O C → Signatures → Datums → List (Part F C)
   parts_in l w none = []
   parts_in l w (item d ds) =

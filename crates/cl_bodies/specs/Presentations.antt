@@ -47,6 +47,7 @@ abbrev pub parse_object : Signatures → Datum → Datum → Bool → Names → 
 parse_object w e s single_box env =
     parse_expression w e env >>= λ t. parse_type w [] s >>= λ spec. give (record { object = t; spec = spec; single_box = single_box })
 
+-- the object and its type, where what stands behind them says whether the whole box is sensitive
 abbrev pub parse_boxed : Signatures → ℕ → Datum → Datum → Option Bool → Names → Load PresentationTree
 parse_boxed w at e s None env = refuse 6 at
 parse_boxed w at e s (Some single_box) env = parse_object w e s single_box env

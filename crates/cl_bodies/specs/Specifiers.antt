@@ -56,6 +56,7 @@ takes_named w x = elim (standard_named x) [ None ↦ option_map takes_declared (
 
 -- ---- rows
 
+-- the data of the parts
 abbrev pub shapes : List TypeSub → List Datum
 shapes subs = map (λ s. s.shape) subs
 
@@ -77,16 +78,20 @@ abbrev pub parse_each_type : List TypeSub → Load (List TypeArgTree)
 parse_each_type [] = give []
 parse_each_type (s ∷ subs) = s.spec >>= λ t. parse_each_type subs >>= λ ts. give (Spec t ∷ ts)
 
+-- no argument at all
 abbrev pub parse_nothing : ℕ → List Datum → Load (List TypeArgTree)
 parse_nothing at [] = give []
 parse_nothing at (d ∷ ds) = refuse 6 at
 
+-- one specifier
 abbrev pub parse_one_type : ℕ → List TypeSub → Load (List TypeArgTree)
 parse_one_type at subs = if length subs == 1 then parse_each_type subs else refuse 6 at
 
+-- one specifier or more
 abbrev pub parse_some_types : ℕ → List TypeSub → Load (List TypeArgTree)
 parse_some_types at subs = if length subs == 0 then refuse 6 at else parse_each_type subs
 
+-- the tokens, then the specifier
 abbrev pub parse_token_type : ℕ → Option (List (List ℕ)) → TypeSub → Load (List TypeArgTree)
 parse_token_type at None s = refuse 6 at
 parse_token_type at (Some xs) s = s.spec >>= λ t. give (Tokens xs ∷ Spec t ∷ [])
@@ -120,9 +125,11 @@ parse_named w ps x name_at at subs = parse_known ps (takes_named w x) x name_at 
 abbrev pub parse_headed : Signatures → Names → ℕ → Datum → List TypeSub → Load TypeSpecTree
 parse_headed w ps at h subs = elim (name_in h) [ None ↦ refuse 6 at | Some x ↦ parse_named w ps x (offset h) at subs ]
 
+-- a specifier with these options in the place of its own
 abbrev pub with_options : TypeOptions → TypeSpecTree → TypeSpecTree
 with_options o (specifier x ts other) = specifier x ts o
 
+-- what is read, with its options; wrong at this offset where they are none
 abbrev pub parse_optioned : ℕ → Option TypeOptions → Load TypeSpecTree → Load TypeSpecTree
 parse_optioned at None m = refuse 6 at
 parse_optioned at (Some o) m = m >>= λ s. give (with_options o s)
@@ -167,6 +174,7 @@ abbrev mutual
   parse_parts w ps at none = refuse 6 at
   parse_parts w ps at (item h more) = parse_headed w ps at h (type_subs w ps more)
 
+  -- each argument, with the type that it is as it is read
   pub type_subs : Signatures → Names → Datums → List TypeSub
   type_subs w ps none = []
   type_subs w ps (item d ds) = record { shape = d; spec = parse_type w ps d } ∷ type_subs w ps ds

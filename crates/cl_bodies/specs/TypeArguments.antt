@@ -42,6 +42,7 @@ argument_in ps (datum.quoted x at name_at) = Some (Constant (symbol x))
 argument_in ps (datum.stray at) = None
 argument_in ps (datum.list ds at) = None
 
+-- a constant that is a number
 abbrev pub is_number : Data → Bool
 is_number (int z) = true
 is_number (bool b) = false
@@ -74,6 +75,7 @@ is_wanted wanted.ConstantOrStar (Param x) = true
 is_wanted wanted.ConstantOrStar (Spec s) = false
 is_wanted wanted.ConstantOrStar (Tokens xs) = false
 
+-- a stray quote
 abbrev pub is_stray : Datum → Bool
 is_stray (datum.number z at) = false
 is_stray (datum.literal s at) = false
@@ -86,6 +88,7 @@ is_stray (datum.list ds at) = false
 abbrev pub may_stand : Names → Wanted → Datum → Bool
 may_stand ps kind d = elim (argument_in ps d) [ None ↦ is_stray d | Some a ↦ is_wanted kind a ]
 
+-- each of the data may stand where an argument of this kind is wanted
 abbrev pub may_all_stand : Names → Wanted → List Datum → Bool
 may_all_stand ps kind [] = true
 may_all_stand ps kind (d ∷ ds) = may_stand ps kind d && may_all_stand ps kind ds
@@ -95,6 +98,7 @@ abbrev pub first_stray : List Datum → Option ℕ
 first_stray [] = None
 first_stray (d ∷ ds) = if is_stray d then Some (offset d) else first_stray ds
 
+-- an argument, if there is one, before others
 abbrev pub argument_before : Option TypeArgTree → List TypeArgTree → List TypeArgTree
 argument_before None as_read = as_read
 argument_before (Some a) as_read = a ∷ as_read
@@ -125,6 +129,7 @@ option_keys = key.Description ∷ key.Separator ∷ []
 abbrev pub is_separator : ℕ → Bool
 is_separator b = is_ascii_graphic b && not (is_ascii_alphanumeric b) && not (b == 34) && not (b == 92)
 
+-- the separator that a text of one byte is
 abbrev pub separator_in : List ℕ → Option ℕ
 separator_in [] = None
 separator_in (b ∷ []) = if is_separator b then Some b else None
@@ -141,11 +146,13 @@ abbrev pub separator_of : Option (List ℕ) → Option (Option ℕ)
 separator_of None = Some None
 separator_of (Some s) = option_map (λ b. Some b) (separator_in s)
 
+-- the options of a description and a separator; None where one of them is wrong
 abbrev pub options_with : Option (Option (List ℕ)) → Option (Option ℕ) → Option TypeOptions
 options_with (Some d) (Some s) = Some (record { description = d; separator = s })
 options_with (Some d) None = None
 options_with None separator = None
 
+-- what the keys say
 abbrev pub options_of : List Keyed → Option TypeOptions
 options_of ks = options_with (text_behind (values_of key.Description ks)) (option_and_then separator_of (text_behind (values_of key.Separator ks)))
 

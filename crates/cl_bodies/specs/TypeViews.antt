@@ -10,6 +10,7 @@ use Rattle.cl_expressions.specs.Scopes.{Names}
 use Rattle.cl_words.specs.declared.signatures.Signatures.{Signatures}
 use Rattle.cl_bodies.specs.Specifiers.{parse_headed, parse_listed}
 
+-- what the arguments of the program are
 abbrev pub args_of : Vec TypeArg Global → List TypeArgTree
 args_of v = map arg_tree_of v.items
 

@@ -35,6 +35,7 @@ abbrev pub cache_fits : Option (List Datum) → Bool
 cache_fits None = true
 cache_fits (Some ds) = is_some (paths_alone ds)
 
+-- the keys, where what stands behind the key of the cache is a list of paths
 abbrev pub with_cache_fitting : List Keyed → Option (List Keyed)
 with_cache_fitting ks = if cache_fits (values_of key.CacheValue ks) then Some ks else None
 
@@ -49,6 +50,7 @@ pub record Said : Type 0 where
   pub id : Option ExprTree
   pub cache : Option ExprTrees
 
+-- before a key is read
 abbrev pub nothing_said : Said
 nothing_said = record { id = None; cache = None }
 
@@ -57,6 +59,7 @@ abbrev pub parse_id : Signatures → Names → List Datum → Said → Load Said
 parse_id w env [] s = give s
 parse_id w env (d ∷ ds) s = parse_expression w d env >>= λ t. give (record s { id = Some t })
 
+-- the paths of the cache, if there are any
 abbrev pub parse_cache : Signatures → Names → Option (List Datum) → Said → Load Said
 parse_cache w env None s = give s
 parse_cache w env (Some ds) s = parse_each_path w ds env >>= λ ts. give (record s { cache = Some (expr_trees_of ts) })
@@ -66,6 +69,7 @@ abbrev pub parse_update_key : Signatures → Names → Key → List Datum → Sa
 parse_update_key w env key.UniqueId ds s = parse_id w env ds s
 parse_update_key w env other ds s = parse_cache w env (paths_alone ds) s
 
+-- what the keys say, in their order
 abbrev pub parse_update_keys : Signatures → Names → List Keyed → Said → Load Said
 parse_update_keys w env [] s = give s
 parse_update_keys w env (k ∷ ks) s = parse_update_key w env k.key k.values s >>= λ more. parse_update_keys w env ks more
@@ -76,6 +80,7 @@ parse_update_keys w env (k ∷ ks) s = parse_update_key w env k.key k.values s >
 abbrev pub update_of : ℕ → Said → UpdateTree
 update_of at s = record { site = record { form = at; query = 0 }; id = s.id; cache = s.cache }
 
+-- the update that its keys make; wrong at this offset where the keys are
 abbrev pub parse_update_keyed : Signatures → ℕ → Option (List Keyed) → Names → Load UpdateTree
 parse_update_keyed w at None env = refuse 6 at
 parse_update_keyed w at (Some ks) env = parse_update_keys w env ks nothing_said >>= λ s. give (update_of at s)

@@ -9,7 +9,7 @@ use Rattle.cl_syntax.specs.TypeSpecTree as type_spec
 use Rattle.cl_syntax.specs.TypeSpecTree.{TypeSpecTree, specifier, TypeArgTree, Constant, Any, Param, Spec, Names, TypeArgTrees, argument}
 use Rattle.cl_eval.specs.Slots.{is_name}
 use Rattle.cl_syntax.specs.Paths.{Along}
-use Rattle.cl_eval.specs.ReadPaths.{Apart, ApartAll, IsSlot, Reads, ReadsAmong, ReadsArg, ReadsArgs, ReadsBound, ReadsCache, ReadsForm, ReadsForms, ReadsId, ReadsSpec, taken}
+use Rattle.cl_eval.specs.ReadPaths.{Apart, ApartAll, IsSlot, Reads, ReadsAmong, ReadsArg, ReadsArgs, ReadsBound, ReadsCache, ReadsForm, ReadsForms, ReadsId, ReadsSpec, operand_fields}
 use Rattle.cl_cover.specs.Sights.{behind, behind_all, is_hidden, is_name_among}
 use Rattle.cl_cover.specs.Steps.{steps, steps_among, steps_arg, steps_args, steps_bound, steps_cache, steps_form, steps_forms, steps_id, steps_spec}
 use Rattle.cl_syntax.specs.declared.callees.Callee.{Callee}
@@ -142,7 +142,7 @@ module _ (calls : Callee → Type 0) (p : Path) where
         gives (steps sight [] t) (steps sight [] opening ++ steps (behind a (behind x sight)) [] body) (λ k. stands sight [] t v k)
         (λ k. gives (steps sight [] opening) (steps (behind a (behind x sight)) [] body) (λ l. stands sight [] opening v l)
         (λ l. stands (behind a (behind x sight)) [] body (seen_behind a (behind x sight) p.root (seen_behind x sight p.root v l.0) l.1.0) l.1.1) k) r
-    stands sight along (expr.Operation o ts) v r = stands_among sight (taken o ts along) ts v r
+    stands sight along (expr.Operation o ts) v r = stands_among sight (operand_fields o ts along) ts v r
     stands sight along (expr.Call f ts) v r =
         gives (steps_among sight [] ts) (step.Calls (callee.Function f) ∷ []) (λ k. stands_among sight [] ts v k) (λ k. inl k) r
 
@@ -279,7 +279,7 @@ module _ (calls : Callee → Type 0) (p : Path) where
           both sight (steps sight [] t) (steps sight [] opening ++ steps (behind a (behind x sight)) [] body) (λ k. of_term sight [] t k)
           (λ k. both sight (steps sight [] opening) (steps (behind a (behind x sight)) [] body) (λ l. of_term sight [] opening l)
           (λ l. under x sight (under a (behind x sight) (of_term (behind a (behind x sight)) [] body l))) k) h
-      of_term sight along (expr.Operation o ts) h = of_among sight (taken o ts along) ts h
+      of_term sight along (expr.Operation o ts) h = of_among sight (operand_fields o ts along) ts h
       of_term sight along (expr.Call f ts) h =
           both sight (steps_among sight [] ts) (step.Calls (callee.Function f) ∷ []) (λ k. of_among sight [] ts k) (λ k. call_read sight (callee.Function f) k) h
 

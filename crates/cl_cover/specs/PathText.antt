@@ -15,5 +15,6 @@ abbrev pub text_along : List ℕ → Along → List ℕ
 text_along so_far [] = so_far
 text_along so_far (f ∷ along) = text_along (codes "(get " ++ so_far ++ codes " " ++ f ++ codes ")") along
 
+-- a path as it is written
 abbrev pub path_text : Path → List ℕ
 path_text p = text_along (root_text p.root) p.fields

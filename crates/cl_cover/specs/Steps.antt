@@ -14,7 +14,7 @@ use Rattle.cl_application.specs.declared.declarations.FunctionDecl.{FunctionDecl
 use Rattle.cl_application.specs.declared.declarations.DisplayDecl.{DisplayDecl}
 use Rattle.cl_application.specs.declared.declarations.MethodDecl.{MethodDecl}
 use Rattle.cl_syntax.specs.Paths.{Along}
-use Rattle.cl_eval.specs.ReadPaths.{taken}
+use Rattle.cl_eval.specs.ReadPaths.{operand_fields}
 use Rattle.cl_cover.specs.Sights.{behind, behind_all, is_hidden, slots}
 use Rattle.cl_syntax.specs.declared.callees.Callee.{Callee}
 use Rattle.cl_syntax.specs.declared.callees.Callee.TheVariants as callee
@@ -37,7 +37,7 @@ abbrev mutual
   steps sight along (expr.Filter x t body) = steps sight [] t ++ steps (behind x sight) [] body
   steps sight along (expr.Fold x t accumulator opening body) =
       steps sight [] t ++ (steps sight [] opening ++ steps (behind accumulator (behind x sight)) [] body)
-  steps sight along (expr.Operation o ts) = steps_among sight (taken o ts along) ts
+  steps sight along (expr.Operation o ts) = steps_among sight (operand_fields o ts along) ts
   steps sight along (expr.Call f ts) = steps_among sight [] ts ++ step.Calls (callee.Function f) ∷ []
 
   -- those of parts
@@ -55,10 +55,12 @@ abbrev mutual
   pub steps_spec : TypeSpecTree → List Step
   steps_spec (specifier x ts o) = step.Calls (callee.PresentMethod x) ∷ (steps_args ts ++ step.Calls (callee.Inherited x) ∷ [])
 
+  -- the steps of the arguments of a specifier
   pub steps_args : TypeArgTrees → List Step
   steps_args type_spec.none = []
   steps_args (argument a ts) = steps_arg a ++ steps_args ts
 
+  -- those of an argument, where it is a specifier
   pub steps_arg : TypeArgTree → List Step
   steps_arg (Constant d) = []
   steps_arg Any = []

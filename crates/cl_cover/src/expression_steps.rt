@@ -5,7 +5,7 @@ ghost use Rattle.cl_syntax.specs.ExprTree as expr;
 ghost use Rattle.cl_syntax.specs.ExprTree.{expr_trees_of};
 ghost use Rattle.cl_syntax.specs.declared.operators.Operator.TheVariants as operator;
 ghost use Rattle.cl_syntax.specs.declared.operators.RecordOperator.TheVariants as record_operator;
-ghost use Rattle.cl_eval.specs.ReadPaths.{taken};
+ghost use Rattle.cl_eval.specs.ReadPaths.{operand_fields};
 ghost use Rattle.cl_cover.specs.Sights.{behind, behind_all};
 ghost use Rattle.cl_cover.specs.Steps.{steps, steps_among, steps_bound};
 ghost use Rattle.cl_cover.specs.declared.steps.Step.TheVariants as step;
@@ -60,8 +60,8 @@ pub(crate) fn add_steps(
             add_folded(alloc, &fold.name, &fold.accumulator, &fold.body, sight, out)
         }
         ExprKind::Operation(operator, parts) => {
-            let taken = taken(alloc, operator, parts, along)?;
-            add_among(alloc, parts, &taken, sight, out)
+            let operand_fields = operand_fields(alloc, operator, parts, along)?;
+            add_among(alloc, parts, &operand_fields, sight, out)
         }
         ExprKind::Call(name, parts) => {
             add_among(alloc, parts, &whole, sight, out)?;
@@ -182,13 +182,13 @@ fn add_path(alloc: Global, root: Root, along: &Names, out: &mut Vec<Step>) -> Re
 }
 
 /// The fields that are taken of an operator's parts.
-fn taken(
+fn operand_fields(
     alloc: Global,
     operator: &Operator,
     parts: &[Expr],
     along: &Names,
 ) -> Result<Names, AllocError>
-    ensures { IfOk result (λ names. names ≡ taken operator.now (expr_trees_of parts.now) along.now) }
+    ensures { IfOk result (λ names. names ≡ operand_fields operator.now (expr_trees_of parts.now) along.now) }
 {
     match operator {
         Operator::Record(record) => match record {
@@ -215,7 +215,7 @@ fn taken_by_get(
     parts: &[Expr],
     along: &Names,
 ) -> Result<Names, AllocError>
-    ensures { IfOk result (λ names. names ≡ taken (operator.Record (record_operator.Get field.now)) (expr_trees_of parts.now) along.now) }
+    ensures { IfOk result (λ names. names ≡ operand_fields (operator.Record (record_operator.Get field.now)) (expr_trees_of parts.now) along.now) }
 {
     if parts.len() == 1 {
         names_behind(alloc, field, along)

@@ -53,6 +53,7 @@ module _ {A : Type 0} where
     items_of (item a) = a ∷ []
     items_of (updated name kept ks) = items_in ks
 
+    -- the items of children, in their order
     pub items_in : Children A → List A
     items_in none = []
     items_in (child k ks) = items_of k ++ items_in ks
@@ -69,6 +70,7 @@ module _ {A : Type 0} (move : Shift → A → A) where
     child_before at (presentation l p ts) rest = children_before (join_shifts p at) ts rest
     child_before at (update h p ts) rest = child (updated (h.site, h.id) None (children_before (join_shifts p at) ts none)) rest
 
+    -- the children of trees, in front of others
     pub children_before : (at : Shift) → Trees A → Children A → Children A
     children_before at trees.none rest = rest
     children_before at (tree t ts) rest = child_before at t (children_before at ts rest)

@@ -28,13 +28,16 @@ size_of (opened v inside rest) = 3 + size_of inside + size_of rest
 
 -- ---- how the logic stores them
 
+-- how the logic stores a move, if there is one
 abbrev moved_code : Coded (Option Shift)
 moved_code = coded_option shift_code
 
+-- the term of what was kept
 abbrev code : Keeps → Gv
 code none = gnil
 code (opened v inside rest) = gcons (moved_code.code v) (gcons (code inside) (code rest))
 
+-- what was kept is one thing where its terms are one
 pub code-inj : (x y : Keeps) → code x ≡ code y → x ≡ y
 code-inj none none e = refl
 code-inj (opened v inside rest) (opened w within more) e =
@@ -45,5 +48,6 @@ code-inj (opened v inside rest) (opened w within more) e =
 code-inj none (opened w within more) e = absurd (eqb-false 0 1 refl (ap has_parts e))
 code-inj (opened v inside rest) none e = absurd (eqb-false 1 0 refl (ap has_parts e))
 
+-- how the logic stores what was kept
 abbrev pub keeps_code : Coded Keeps
 keeps_code = record { code = code; inj = code-inj }

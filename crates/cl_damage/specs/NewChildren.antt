@@ -20,6 +20,7 @@ module _ {A : Type 0} (move : Shift → A → A) where
     new_child_before at (update h p ts) keeps.none rest =
         child (updated (h.site, h.id) None (new_children_before (join_shifts p at) ts keeps.none (λ _. none))) (rest keeps.none)
 
+    -- the children of new trees, in front of others, with what was kept of them
     pub new_children_before : (at : Shift) → Trees A → Keeps → (Keeps → Children A) → Children A
     new_children_before at records.none ks rest = rest ks
     new_children_before at (tree t ts) ks rest = new_child_before at t ks (λ left. new_children_before at ts left rest)

@@ -34,16 +34,19 @@ area_told a b =
     (both _ _ (both _ _ (signed_Decides a.x b.x) (signed_Decides a.y b.y))
     (both _ _ (both _ _ (signed_Decides a.width b.width) (signed_Decides a.height b.height)) (unsigned_Decides a.ink b.ink)))
 
+-- ways that are found the same are one way
 way_means : (a b : Direction) → same_way a b ≡ true → a ≡ b
 way_means Horizontal Horizontal e = refl
 way_means Horizontal Vertical e = absurd (cc)
 way_means Vertical Horizontal e = absurd (cc)
 way_means Vertical Vertical e = refl
 
+-- a way is found the same as itself
 way_itself : (a : Direction) → same_way a a ≡ true
 way_itself Horizontal = refl
 way_itself Vertical = refl
 
+-- shapes that are found the same are one shape
 shape_means : (s t : LeafShape) → same_shape s t ≡ true → s ≡ t
 shape_means (Text s) (Text t) e = ap Text ((bytes_decides s t).0 e)
 shape_means (Point a) (Point b) e = ap Point ((unsigned_Decides a b).0 e)
@@ -52,6 +55,7 @@ shape_means Outline Outline e = refl
 shape_means (Fill a) (Fill b) e = ap Fill ((unsigned_Decides a b).0 e)
 shape_means s t e = absurd (cc)
 
+-- a shape is found the same as itself
 shape_itself : (s : LeafShape) → same_shape s s ≡ true
 shape_itself (Text s) = (bytes_decides s s).1 refl
 shape_itself (Point a) = (unsigned_Decides a a).1 refl
@@ -59,6 +63,7 @@ shape_itself (Line a) = way_itself a
 shape_itself Outline = refl
 shape_itself (Fill a) = (unsigned_Decides a a).1 refl
 
+-- whether items are the same is told by their areas and shapes
 parts_told : (i j : Item) → Decides (same_item i j) ((i.area ≡ j.area) × (same_shape i.shape j.shape ≡ true))
 parts_told i j = both (same_area i.area j.area) (same_shape i.shape j.shape) (area_told i.area j.area) (λ e. e, λ e. e)
 

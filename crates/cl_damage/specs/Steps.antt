@@ -11,6 +11,7 @@ module _ {A : Type 0} where
     size_of (item a) = 1
     size_of (updated name kept ks) = 2 + size_of_all ks
 
+    -- the sizes of children together
     pub size_of_all : Children A → ℕ
     size_of_all none = 0
     size_of_all (child k ks) = size_of k + size_of_all ks

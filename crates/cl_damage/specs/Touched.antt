@@ -85,6 +85,7 @@ pub record Compared (A : Type 0) : Type 0 where
   pub child : Child A
   pub against : List (Child A) → List Rect
 
+-- the child that was compared
 abbrev pub child_of : {A : Type 0} → Compared A → Child A
 child_of c = c.child
 
@@ -133,6 +134,7 @@ module _ {A : Type 0} (bounds : A → Rect) where
       compared (item a) = record { child = item a; against = λ os. [] }
       compared (updated name kept ks) = record { child = updated name kept ks; against = λ os. level os (all_compared ks) }
 
+      -- each child compared, in order
       pub all_compared : Children A → List (Compared A)
       all_compared none = []
       all_compared (child k ks) = compared k ∷ all_compared ks

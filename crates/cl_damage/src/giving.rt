@@ -8,9 +8,9 @@ ghost use Rattle.cl_damage.specs.Children.{child_before, children_before, items_
 ghost use Rattle.cl_damage.specs.Lents.{AllStand, Stands, child_lent};
 ghost use Rattle.cl_damage.specs.Touched.{all_give, gives};
 
-use crate::lents::{Lent, joined};
+use crate::lents::Lent;
 use cl_medium::Leaf;
-use cl_record::{Node, Nodes};
+use cl_record::{Node, Nodes, join_shifts};
 use cl_region::{Rect, Shift};
 use std::alloc::AllocError;
 
@@ -24,11 +24,11 @@ fn give_node<L: Leaf>(node: &Node<L>, at: Shift, rects: &mut Vec<Rect>) -> Resul
     match node {
         Node::Leaf(leaf) => give_item(leaf, at, rects),
         Node::Presentation(presented) => {
-            let at = joined(presented.place(), at);
+            let at = join_shifts(presented.place(), at);
             give_row(presented.inside(), at, rects)
         }
         Node::Update(piece) => {
-            let at = joined(piece.place(), at);
+            let at = join_shifts(piece.place(), at);
             give_row(piece.inside(), at, rects)
         }
     }

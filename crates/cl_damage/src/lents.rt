@@ -2,7 +2,6 @@
 ghost use Rattle.std.specs.Prelude.{◌≡◌, ◌++◌, IfOk, OnOk, drop, map};
 ghost use Rattle.cl_record.specs.Ranges.{ArePlaced, IsPlaced};
 ghost use Rattle.cl_record.specs.Seen.{tree_of};
-ghost use Rattle.cl_record.specs.Shifts.{IsShift, join_shifts};
 ghost use Rattle.cl_record.specs.Trees.{trees_of};
 ghost use Rattle.cl_damage.specs.Children.{Children, list_of, none};
 ghost use Rattle.cl_damage.specs.KeepRows.{keeps_of};
@@ -12,7 +11,7 @@ ghost use Rattle.cl_damage.specs.NewChildren.{new_child_before, new_children_bef
 
 use crate::keeps::Keep;
 use cl_medium::Leaf;
-use cl_record::{Node, Nodes, Piece};
+use cl_record::{Node, Nodes, Piece, join_shifts};
 use cl_region::Shift;
 use std::alloc::{AllocError, Global};
 
@@ -32,17 +31,6 @@ pub(crate) struct Branch<'a, L: Leaf> {
     pub(crate) piece: &'a Piece<L>,
     pub(crate) moved: Option<Shift>,
     pub(crate) inside: &'a [Keep],
-}
-
-// One move after the other.
-pub(crate) fn joined(first: Shift, second: Shift) -> Shift
-    requires { IsShift (join_shifts first second) }
-    ensures { result ≡ join_shifts first second }
-{
-    Shift {
-        dx: first.dx + second.dx,
-        dy: first.dy + second.dy,
-    }
 }
 
 // How far the update at this place was moved, if it was kept; one that is not told of was not.
@@ -102,11 +90,11 @@ fn meet_node<'a, L: Leaf>(
             Ok(next)
         }
         Node::Presentation(presented) => {
-            let at = joined(presented.place(), at);
+            let at = join_shifts(presented.place(), at);
             meet_row(presented.inside(), at, keeps, next, met)
         }
         Node::Update(piece) => {
-            let place = joined(piece.place(), at);
+            let place = join_shifts(piece.place(), at);
             let moved = moved_at(keeps, next);
             let inside = inside_at(keeps, next);
             met.push(Lent::Update(Branch {

@@ -23,6 +23,7 @@ abbrev pub table_seen : ℕ → Option (List ℕ) → List Part
 table_seen at None = []
 table_seen at (Some x) = table_name x at ∷ []
 
+-- the tables that data name
 abbrev pub tables_seen : List Datum → List Part
 tables_seen [] = []
 tables_seen (d ∷ ds) = table_seen (offset d) (name_in d) ++ tables_seen ds
@@ -33,6 +34,7 @@ inheriting_seen at None = []
 inheriting_seen at (Some []) = wrong at
 inheriting_seen at (Some (d ∷ ds)) = if is_name_list d then tables_seen (parts_of d) else wrong at
 
+-- a table has a name, and keys that it may have
 abbrev pub named_table_seen : ℕ → Option (List ℕ) → Option (List Keyed) → List Part
 named_table_seen at None ks = wrong at
 named_table_seen at (Some x) None = wrong at
@@ -51,6 +53,7 @@ default_seen None = []
 default_seen (Some []) = []
 default_seen (Some (d ∷ ds)) = expressions (expression [] d ∷ []) ∷ []
 
+-- the type of an argument, then the default behind its key
 abbrev pub keyed_argument_seen : Signatures → Datum → Option (List Keyed) → List Part
 keyed_argument_seen w t None = []
 keyed_argument_seen w t (Some ks) = specifier (type_seen w [] t) ∷ default_seen (values_of key.Default ks)
@@ -61,6 +64,7 @@ argument_seen w (n ∷ t ∷ keys) = keyed_argument_seen w t (keyed_pairs argume
 argument_seen w [] = []
 argument_seen w (n ∷ []) = []
 
+-- what is looked at of each argument, in their order
 abbrev pub arguments_seen : Signatures → List Datum → List Part
 arguments_seen w [] = []
 arguments_seen w (d ∷ ds) = argument_seen w (parts_of d) ++ arguments_seen w ds

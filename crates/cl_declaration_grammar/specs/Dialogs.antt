@@ -19,10 +19,12 @@ abbrev pub pane_name_seen : ℕ → Option (List ℕ) → List Part
 pane_name_seen at None = []
 pane_name_seen at (Some x) = pane_name x at ∷ []
 
+-- the command that stands first
 abbrev pub command_behind_seen : List Datum → List Part
 command_behind_seen [] = []
 command_behind_seen (d ∷ ds) = command_name_seen (offset d) (name_in d)
 
+-- the pane that stands first
 abbrev pub pane_behind_seen : List Datum → List Part
 pane_behind_seen [] = []
 pane_behind_seen (d ∷ ds) = pane_name_seen (offset d) (name_in d)
@@ -31,6 +33,7 @@ pane_behind_seen (d ∷ ds) = pane_name_seen (offset d) (name_in d)
 abbrev pub dialog_key_seen : Keyed → List Part
 dialog_key_seen k = if same_key k.key key.Command then command_behind_seen k.values else pane_behind_seen k.values
 
+-- what stands behind each of them, in their order
 abbrev pub dialog_keys_seen : List Keyed → List Part
 dialog_keys_seen [] = []
 dialog_keys_seen (k ∷ ks) = dialog_key_seen k ++ dialog_keys_seen ks
@@ -46,10 +49,12 @@ condition_seen xs (d ∷ ds) = expressions (expression xs d ∷ []) ∷ []
 abbrev pub query_key_seen : Names → Keyed → List Part
 query_key_seen xs k = if same_key k.key key.When then condition_seen xs k.values else condition_seen [] k.values
 
+-- what stands behind each key of a query, in their order
 abbrev pub query_keys_seen : Names → List Keyed → List Part
 query_keys_seen xs [] = []
 query_keys_seen xs (k ∷ ks) = query_key_seen xs k ++ query_keys_seen xs ks
 
+-- what is looked at of a query, by its keys
 abbrev pub keyed_query_seen : Names → Option (List Keyed) → List Part
 keyed_query_seen xs None = []
 keyed_query_seen xs (Some ks) = query_keys_seen xs ks
@@ -59,6 +64,7 @@ abbrev pub query_seen : Names → List Datum → List Part
 query_seen xs [] = []
 query_seen xs (n ∷ keys) = keyed_query_seen xs (keyed_pairs query_keys [] keys)
 
+-- what is looked at of each query, in their order
 abbrev pub queries_seen : Names → List Datum → List Part
 queries_seen xs [] = []
 queries_seen xs (d ∷ ds) = query_seen xs (parts_of d) ++ queries_seen xs ds

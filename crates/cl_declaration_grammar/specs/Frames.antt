@@ -16,6 +16,7 @@ abbrev pub slot_seen : Signatures → List Datum → List Part
 slot_seen w (n ∷ t ∷ e ∷ []) = specifier (type_seen w [] t) ∷ expressions (expression [] e ∷ []) ∷ []
 slot_seen w parts = []
 
+-- what is looked at of each slot, in their order
 abbrev pub slots_seen : Signatures → List Datum → List Part
 slots_seen w [] = []
 slots_seen w (d ∷ ds) = slot_seen w (parts_of d) ++ slots_seen w ds
@@ -30,6 +31,7 @@ abbrev pub pane_seen : List Datum → List Part
 pane_seen (n ∷ x ∷ y ∷ a ∷ b ∷ d ∷ []) = pane_display_seen (offset d) (name_in d)
 pane_seen parts = []
 
+-- what is looked at of each pane, in their order
 abbrev pub panes_seen : List Datum → List Part
 panes_seen [] = []
 panes_seen (p ∷ more) = pane_seen (parts_of p) ++ panes_seen more
@@ -62,6 +64,7 @@ section_seen w k = elim k.key [
   | key.Else ↦ []
 ]
 
+-- what is looked at of each section, in their order
 abbrev pub sections_seen : Signatures → List Keyed → List Part
 sections_seen w [] = []
 sections_seen w (k ∷ ks) = section_seen w k ++ sections_seen w ks

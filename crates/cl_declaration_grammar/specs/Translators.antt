@@ -59,6 +59,7 @@ translator_key_seen xs k = elim k.key [
   | key.Else ↦ []
 ]
 
+-- what stands behind each key, in their order
 abbrev pub translator_keys_seen : Names → List Keyed → List Part
 translator_keys_seen xs [] = []
 translator_keys_seen xs (k ∷ ks) = translator_key_seen xs k ++ translator_keys_seen xs ks
@@ -71,10 +72,12 @@ shaped_translator_seen w kind at f ks (Some s) =
     specifier (type_seen w [] f.from)
     ∷ (target_seen w kind f.to ++ (translator_keys_seen (s.parameter ∷ []) ks ++ expressions (expression (s.parameter ∷ []) f.body ∷ []) ∷ []))
 
+-- a translator has keys that it may have
 abbrev pub keyed_translator_seen : Signatures → TranslatorKind → ℕ → TranslatorForm → Option (List Keyed) → List Part
 keyed_translator_seen w kind at f None = wrong at
 keyed_translator_seen w kind at f (Some ks) = shaped_translator_seen w kind at f ks (translator_shape kind f ks)
 
+-- a translator has the parts of its form
 abbrev pub formed_translator_seen : Signatures → TranslatorKind → ℕ → Option TranslatorForm → List Part
 formed_translator_seen w kind at None = wrong at
 formed_translator_seen w kind at (Some f) = keyed_translator_seen w kind at f (keyed_pairs translator_keys [] f.keys)

@@ -16,6 +16,7 @@ abbrev pub inherited_seen : Signatures → Names → List Datum → List Part
 inherited_seen w ps [] = []
 inherited_seen w ps (d ∷ ds) = specifier (type_seen w ps d) ∷ []
 
+-- the function of this name, where it is a name
 abbrev pub predicate_name_seen : ℕ → Option (List ℕ) → List Part
 predicate_name_seen at None = []
 predicate_name_seen at (Some x) = function_name x at ∷ []
@@ -53,6 +54,7 @@ type_key_seen w ps k = elim k.key [
   | key.Else ↦ []
 ]
 
+-- what stands behind each key, in their order
 abbrev pub type_keys_seen : Signatures → Names → List Keyed → List Part
 type_keys_seen w ps [] = []
 type_keys_seen w ps (k ∷ ks) = type_key_seen w ps k ++ type_keys_seen w ps ks

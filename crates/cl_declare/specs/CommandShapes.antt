@@ -19,6 +19,7 @@ use Rattle.cl_declare.specs.declared.command_shapes.CommandShape.{CommandShape}
 abbrev pub command_keys : List Key
 command_keys = key.CommandTable ∷ key.Name ∷ key.Keystroke ∷ []
 
+-- the name of a command, by its head
 abbrev pub head_name : Datum → Option (List ℕ)
 head_name d = option_and_then name_in (first_or_itself d)
 
@@ -33,6 +34,7 @@ abbrev pub given_or_made : Option (List ℕ) → List ℕ → List ℕ
 given_or_made None symbol = line_name_of symbol
 given_or_made (Some x) symbol = x
 
+-- the shape of a command of this name; None where something else stands behind one of its keys
 abbrev pub shape_with : List ℕ → Option (Option (List ℕ)) → Option (Option (List ℕ)) → Option (Option (List ℕ)) → Option CommandShape
 shape_with x (Some table) (Some line_name) (Some keystroke) =
     Some (record { name = x; table = table_or_global table; line_name = given_or_made line_name x; keystroke = keystroke })
@@ -51,13 +53,16 @@ command_shape (Some x) ks = shape_with x (name_behind (values_of key.CommandTabl
 abbrev pub argument_keys : List Key
 argument_keys = key.Default ∷ key.Prompt ∷ []
 
+-- the name `command`
 abbrev pub is_command_word : Datum → Bool
 is_command_word d = bytes_eq (symbol_of d) (codes "command")
 
+-- the first of data is the name `command`
 abbrev pub begins_with_command : List Datum → Bool
 begins_with_command [] = false
 begins_with_command (d ∷ ds) = is_command_word d
 
+-- the first of data is a form that begins with `command`
 abbrev pub begins_inside : List Datum → Bool
 begins_inside [] = false
 begins_inside (d ∷ ds) = begins_with_command (parts_of d)
@@ -77,6 +82,7 @@ is_argument [] = false
 is_argument (n ∷ []) = false
 is_argument (n ∷ t ∷ keys) = is_some (name_in n) && (not (is_command_type t) && has_prompt (keyed_pairs argument_keys [] keys))
 
+-- each of the data is an argument
 abbrev pub are_arguments : List Datum → Bool
 are_arguments [] = true
 are_arguments (d ∷ ds) = is_argument (parts_of d) && are_arguments ds

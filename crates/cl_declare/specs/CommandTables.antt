@@ -31,6 +31,7 @@ note_tables w (d ∷ ds) = note_named_table w (offset d) (name_in d) >>= λ u. n
 abbrev pub table_keys : List Key
 table_keys = key.InheritFrom ∷ []
 
+-- a table that inherits from the names of a list; each of these is noted where it is not declared
 abbrev pub parse_parents : Signatures → ℕ → List ℕ → Datum → Load TableDecl
 parse_parents w at x d =
     if is_name_list d then (note_tables w (parts_of d) >>= λ u. give (record { name = x; inherit_from = names_of (parts_of d); at = at })) else refuse 6 at
@@ -41,6 +42,7 @@ parse_inheriting w at x None = give (record { name = x; inherit_from = global_ta
 parse_inheriting w at x (Some []) = refuse 6 at
 parse_inheriting w at x (Some (d ∷ ds)) = parse_parents w at x d
 
+-- a table by its name and its keys; wrong at this offset where one of them is
 abbrev pub parse_named_table : Signatures → ℕ → Option (List ℕ) → Option (List Keyed) → Load TableDecl
 parse_named_table w at None ks = refuse 6 at
 parse_named_table w at (Some x) None = refuse 6 at

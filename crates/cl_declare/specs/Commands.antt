@@ -22,6 +22,7 @@ use Rattle.cl_declare.specs.Frames.{behind}
 use Rattle.cl_declare.specs.Names.{is_list}
 use Rattle.cl_declare.specs.declared.command_shapes.CommandShape.{CommandShape}
 
+-- the arguments of a command by their names
 abbrev pub ArgumentTable : Type 0
 ArgumentTable = List (List ℕ × ArgumentDecl)
 
@@ -31,11 +32,13 @@ ArgumentTable = List (List ℕ × ArgumentDecl)
 abbrev pub parse_default_value : Signatures → Datum → Load DefaultDecl
 parse_default_value w d = parse_expression w d [] >>= λ v. give (record { value = v; at = offset d })
 
+-- the default behind its key, where the key stands
 abbrev pub parse_default : Signatures → Option (List Datum) → Load (Option DefaultDecl)
 parse_default w None = give None
 parse_default w (Some []) = give None
 parse_default w (Some (d ∷ ds)) = parse_default_value w d >>= λ v. give (Some v)
 
+-- the text behind the key of the prompt, or the one made from the name where none is given
 abbrev pub prompt_of : List ℕ → Option (Option (List ℕ)) → List ℕ
 prompt_of x None = []
 prompt_of x (Some t) = given_or_made t x
@@ -54,12 +57,14 @@ parse_argument w at (n ∷ t ∷ keys) table = parse_keyed_argument w at n t (ke
 parse_argument w at [] table = give table
 parse_argument w at (n ∷ []) table = give table
 
+-- arguments in the order of the text, behind those that were read before
 abbrev pub parse_arguments : Signatures → List Datum → ArgumentTable → Load ArgumentTable
 parse_arguments w [] table = give table
 parse_arguments w (d ∷ ds) table = parse_argument w (offset d) (parts_of d) table >>= λ more. parse_arguments w ds more
 
 -- ---- commands
 
+-- the symbol of the first of data
 abbrev pub first_symbol : List Datum → List ℕ
 first_symbol [] = []
 first_symbol (n ∷ more) = symbol_of n
@@ -69,6 +74,7 @@ abbrev pub argument_names : List Datum → Names
 argument_names [] = []
 argument_names (d ∷ ds) = first_symbol (parts_of d) ∷ argument_names ds
 
+-- the command of a shape, with its arguments and its body
 abbrev pub command_of : CommandShape → ArgumentTable → List ActTree → ℕ → CommandDecl
 command_of c arguments acts at = record {
   name = c.name;
@@ -87,6 +93,7 @@ parse_shaped w at ks arguments body (Some c) =
     note_tables w (behind key.CommandTable ks) >>= λ u. parse_arguments w arguments [] >>= λ table.
     parse_acts w (datums_of body) (in_sight (argument_names arguments) []) >>= λ acts. give (command_of c table acts at)
 
+-- a command by its head and its keys; wrong at this offset where the keys are
 abbrev pub parse_headed : Signatures → ℕ → Datum → Option (List Keyed) → List Datum → List Datum → Load CommandDecl
 parse_headed w at h None arguments body = refuse 6 at
 parse_headed w at h (Some ks) arguments body = parse_shaped w at ks arguments body (command_shape (head_name h) ks)

@@ -44,13 +44,16 @@ parse_kind w (Planned head_at) at parts s = refuse 0 head_at
 parse_kind w (Unknown head_at) at parts s = refuse 5 head_at
 parse_kind w Headless at parts s = refuse 6 at
 
+-- what an outermost form declares, behind what was declared before
 abbrev pub parse_declaration : Signatures → Outer → Declarations → Load Declarations
 parse_declaration w o s = parse_kind w o.kind o.at o.parts s
 
+-- what outermost forms declare one after another, behind what was declared before
 abbrev pub parse_each_declaration : Signatures → List Outer → Declarations → Load Declarations
 parse_each_declaration w [] s = give s
 parse_each_declaration w (o ∷ os) s = parse_declaration w o s >>= λ t. parse_each_declaration w os t
 
+-- no declaration in any table
 abbrev pub nothing_declared : Declarations
 nothing_declared = record {
   records = [];

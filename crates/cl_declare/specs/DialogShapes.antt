@@ -24,6 +24,7 @@ query_keys = key.When ∷ key.Else ∷ []
 abbrev pub is_choice : List ℕ → Bool
 is_choice x = bytes_eq x (codes "exit") || bytes_eq x (codes "abort")
 
+-- a name, and not that of one of the two choices
 abbrev pub may_name_query : Option (List ℕ) → Bool
 may_name_query None = false
 may_name_query (Some x) = not (is_choice x)
@@ -33,10 +34,12 @@ abbrev pub are_together : Option (List Keyed) → Bool
 are_together None = false
 are_together (Some ks) = not (length ks == 1)
 
+-- a name that a query may have, with both keys or none
 abbrev pub is_query : List Datum → Bool
 is_query [] = false
 is_query (n ∷ keys) = may_name_query (name_in n) && are_together (keyed_pairs query_keys [] keys)
 
+-- each of the data is a query
 abbrev pub are_queries : List Datum → Bool
 are_queries [] = true
 are_queries (d ∷ ds) = is_query (parts_of d) && are_queries ds
@@ -56,6 +59,7 @@ abbrev pub are_asked : Option Names → Names → Bool
 are_asked None xs = true
 are_asked (Some ys) xs = pointwise bytes_eq ys xs
 
+-- by the name, the command and the pane, where the queries ask for the arguments of the command
 abbrev pub shape_named : Signatures → Option (List ℕ) → Option (List ℕ) → Option (List ℕ) → Names → Option DialogShape
 shape_named w (Some x) (Some c) (Some p) xs = if are_asked (arguments_of w c) xs then Some (record { name = x; command = c; pane = p }) else None
 shape_named w (Some x) (Some c) None xs = None

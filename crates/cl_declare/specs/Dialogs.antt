@@ -29,10 +29,12 @@ abbrev pub note_pane : Signatures → ℕ → Option (List ℕ) → Load (Unit {
 note_pane w at None = give tt
 note_pane w at (Some x) = noted (pane_in w x) at
 
+-- the command that stands first is noted where it is not declared
 abbrev pub note_command_behind : Signatures → List Datum → Load (Unit {0})
 note_command_behind w [] = give tt
 note_command_behind w (d ∷ ds) = note_command w (offset d) (name_in d)
 
+-- the pane that stands first is noted where it is not declared
 abbrev pub note_pane_behind : Signatures → List Datum → Load (Unit {0})
 note_pane_behind w [] = give tt
 note_pane_behind w (d ∷ ds) = note_pane w (offset d) (name_in d)
@@ -41,6 +43,7 @@ note_pane_behind w (d ∷ ds) = note_pane w (offset d) (name_in d)
 abbrev pub note_dialog_key : Signatures → Keyed → Load (Unit {0})
 note_dialog_key w k = if same_key k.key key.Command then note_command_behind w k.values else note_pane_behind w k.values
 
+-- the same for each key, in their order
 abbrev pub note_dialog_keys : Signatures → List Keyed → Load (Unit {0})
 note_dialog_keys w [] = give tt
 note_dialog_keys w (k ∷ ks) = note_dialog_key w k >>= λ u. note_dialog_keys w ks
@@ -61,6 +64,7 @@ parse_else w (d ∷ ds) c = parse_default_value w d >>= λ v. give (record c { o
 abbrev pub parse_query_key : Signatures → Names → Keyed → Condition → Load Condition
 parse_query_key w xs k c = if same_key k.key key.When then parse_when w xs k.values c else parse_else w k.values c
 
+-- the condition that the keys say, in their order
 abbrev pub parse_query_keys : Signatures → Names → List Keyed → Condition → Load Condition
 parse_query_keys w xs [] c = give c
 parse_query_keys w xs (k ∷ ks) c = parse_query_key w xs k c >>= λ more. parse_query_keys w xs ks more
@@ -69,14 +73,17 @@ parse_query_keys w xs (k ∷ ks) c = parse_query_key w xs k c >>= λ more. parse
 abbrev pub no_condition : Condition
 no_condition = record { when = None; otherwise = None }
 
+-- a condition with its value otherwise, where both are there
 abbrev pub condition_with : Option ExprTree → Option DefaultDecl → Option ConditionDecl
 condition_with (Some e) (Some v) = Some (record { when = e; otherwise = v.value; otherwise_at = v.at })
 condition_with (Some e) None = None
 condition_with None otherwise = None
 
+-- the condition that was read; None where a key of it does not stand
 abbrev pub condition_of : Condition → Option ConditionDecl
 condition_of c = condition_with c.when c.otherwise
 
+-- the queries of a dialog by their names
 abbrev pub QueryTable : Type 0
 QueryTable = List (List ℕ × QueryDecl)
 
@@ -92,12 +99,14 @@ abbrev pub parse_query : Signatures → Names → ℕ → List Datum → QueryTa
 parse_query w xs at [] table = give table
 parse_query w xs at (n ∷ keys) table = parse_keyed_query w xs at n (keyed_pairs query_keys [] keys) table
 
+-- queries in the order of the text, behind those that were read before
 abbrev pub parse_queries : Signatures → Names → List Datum → QueryTable → Load QueryTable
 parse_queries w xs [] table = give table
 parse_queries w xs (d ∷ ds) table = parse_query w xs (offset d) (parts_of d) table >>= λ more. parse_queries w xs ds more
 
 -- ---- the whole
 
+-- the dialog of a shape, with its queries
 abbrev pub dialog_of : DialogShape → QueryTable → ℕ → DialogDecl
 dialog_of s queries at = record { name = s.name; command = s.command; pane = s.pane; queries = queries; at = at }
 
@@ -107,6 +116,7 @@ parse_shaped w at ks queries None = refuse 6 at
 parse_shaped w at ks queries (Some s) =
     note_dialog_keys w ks >>= λ u. parse_queries w (in_sight (first_symbols queries) []) queries [] >>= λ table. give (dialog_of s table at)
 
+-- a dialog by its keys; wrong at this offset where the keys are
 abbrev pub parse_keyed : Signatures → ℕ → Datum → Option (List Keyed) → List Datum → Load DialogDecl
 parse_keyed w at n None queries = refuse 6 at
 parse_keyed w at n (Some ks) queries = parse_shaped w at ks queries (dialog_shape w n ks queries)

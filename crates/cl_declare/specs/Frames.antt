@@ -18,6 +18,7 @@ use Rattle.cl_declare.specs.declared.frames.Size.{Size}
 abbrev pub frame_keys : List Key
 frame_keys = key.Size ∷ key.Slots ∷ key.Panes ∷ key.CommandTable ∷ []
 
+-- the number that a datum is
 abbrev pub number_in : Datum → Option ℤ
 number_in (number z at) = Some z
 number_in (literal s at) = None
@@ -26,6 +27,7 @@ number_in (quoted x at name_at) = None
 number_in (stray at) = None
 number_in (list ds at) = None
 
+-- the size of these sides, where both are there
 abbrev pub size_of : Option ℤ → Option ℤ → Option Size
 size_of (Some w) (Some h) = Some (record { width = w; height = h })
 size_of (Some w) None = None
@@ -41,10 +43,12 @@ abbrev pub is_slot : List Datum → Bool
 is_slot (n ∷ t ∷ e ∷ []) = is_some (name_in n)
 is_slot parts = false
 
+-- each of the data is a slot
 abbrev pub are_slots : List Datum → Bool
 are_slots [] = true
 are_slots (d ∷ ds) = is_slot (parts_of d) && are_slots ds
 
+-- the place at this column and row with these sides, where all of them are there
 abbrev pub place_of : Option ℤ → Option ℤ → Option ℤ → Option ℤ → Option Place
 place_of (Some x) (Some y) (Some a) (Some b) = Some (record { x = x; y = y; width = a; height = b })
 place_of (Some x) (Some y) (Some a) None = None
@@ -61,6 +65,7 @@ abbrev pub takes_none : Option (Option ℕ) → Bool
 takes_none None = true
 takes_none (Some count) = fits count 0
 
+-- the pane of a name, a place and a display that takes no parameters
 abbrev pub pane_of : Signatures → ℕ → Option (List ℕ) → Option Place → Option (List ℕ) → Option PaneForm
 pane_of w at (Some n) (Some p) (Some d) =
     if takes_none (display_in w d)
@@ -76,6 +81,7 @@ pane_listed w at (n ∷ x ∷ y ∷ a ∷ b ∷ d ∷ []) =
     pane_of w at (name_in n) (place_in x y a b) (name_in d)
 pane_listed w at parts = None
 
+-- a pane before others; None where one of them is malformed
 abbrev pub pane_before : Option PaneForm → Option (List PaneForm) → Option (List PaneForm)
 pane_before None more = None
 pane_before (Some p) None = None
@@ -91,6 +97,7 @@ abbrev pub some_panes : Signatures → List Datum → Option (List PaneForm)
 some_panes w [] = None
 some_panes w (d ∷ ds) = all_panes w (d ∷ ds)
 
+-- the shape of a frame by its parts; None where one of them is not there
 abbrev pub shape_of : Option (List ℕ) → Option Size → Option (List PaneForm) → Option (Option (List ℕ)) → Option FrameShape
 shape_of (Some x) (Some s) (Some ps) (Some table) = Some (record { name = x; size = s; panes = ps; table = table_or_global table })
 shape_of (Some x) (Some s) (Some ps) None = None
@@ -98,6 +105,7 @@ shape_of (Some x) (Some s) None table = None
 shape_of (Some x) None panes table = None
 shape_of None size panes table = None
 
+-- the data, or none where there are none
 abbrev pub or_nothing : Option (List Datum) → List Datum
 or_nothing None = []
 or_nothing (Some ds) = ds

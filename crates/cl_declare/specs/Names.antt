@@ -9,6 +9,7 @@ abbrev pub names_of : List Datum → Names
 names_of [] = []
 names_of (d ∷ ds) = symbol_of d ∷ names_of ds
 
+-- a form in parentheses
 abbrev pub is_list : Datum → Bool
 is_list (list ds at) = true
 is_list (number z at) = false

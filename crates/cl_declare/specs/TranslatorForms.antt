@@ -11,6 +11,7 @@ pub record TranslatorForm : Type 0 where
   pub parameters : Datum
   pub body : Datum
 
+-- by what stands in the list of types: the from-type, the to-type or the command, and the keys
 abbrev pub form_typed : (name : Datum) → List Datum → (parameters body : Datum) → Option TranslatorForm
 form_typed n (from ∷ to ∷ keys) ps e = Some (record { name = n; from = from; to = to; keys = keys; parameters = ps; body = e })
 form_typed n (from ∷ []) ps e = None

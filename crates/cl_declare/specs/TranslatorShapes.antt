@@ -24,6 +24,7 @@ translator_keys = key.CommandTable ∷ key.Gesture ∷ key.Priority ∷ key.Docu
 
 -- ---- what the keys say
 
+-- the gesture of this name
 abbrev pub gesture_named : List ℕ → Option GestureName
 gesture_named x =
     if bytes_eq x (codes "select") then Some gesture.Select
@@ -42,6 +43,7 @@ abbrev pub priority_of : ℤ → Option ℕ
 priority_of (pos n) = if nat_lt n 100 then Some n else None
 priority_of (negsuc n) = None
 
+-- the priority that stands alone
 abbrev pub priority_alone : List Datum → Option ℕ
 priority_alone (d ∷ []) = option_and_then priority_of (number_in d)
 priority_alone ds = None
@@ -51,6 +53,7 @@ abbrev pub priority_behind : Option (List Datum) → Option ℕ
 priority_behind None = Some 0
 priority_behind (Some ds) = priority_alone ds
 
+-- what the keys say, where something fit stands behind each
 abbrev pub keys_with : List ℕ → Option (Option (List ℕ)) → Option GestureName → Option ℕ → Option (Option (List ℕ)) → Option TranslatorKeys
 keys_with x (Some table) (Some g) (Some n) (Some t) =
     Some (record { table = table_or_global table; gesture = g; priority = n; documentation = described x t })
@@ -72,6 +75,7 @@ abbrev pub command_in : TranslatorKind → Datum → Option (Option (List ℕ))
 command_in Object d = Some None
 command_in Command d = found (name_in d)
 
+-- by the name, the command and the parameter; None where one of them, or what a key says, is wrong
 abbrev pub shape_named : Option (List ℕ) → Option (Option (List ℕ)) → Option (List ℕ) → List Keyed → Option TranslatorShape
 shape_named (Some x) (Some command) (Some p) ks = option_map (λ k. record { name = x; command = command; parameter = p; keys = k }) (keys_said x ks)
 shape_named (Some x) (Some command) None ks = None

@@ -4,6 +4,7 @@ use Rattle.cl_forms.specs.DatumView.{datum_of}
 use Rattle.cl_declare.specs.TranslatorForms as form
 use Rattle.cl_declare.specs.declared.translator_forms.TranslatorForm.{TranslatorForm}
 
+-- what a `TranslatorForm` of the program is
 abbrev pub form_of : TranslatorForm → form.TranslatorForm
 form_of f = record {
   name = datum_of f.name.now;

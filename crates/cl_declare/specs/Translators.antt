@@ -34,6 +34,7 @@ parse_target w Command d = note_command w (offset d) (name_in d) >>= λ u. give 
 
 -- ---- keys
 
+-- the tester that was read, if there is one
 abbrev pub Tester : Type 0
 Tester = Option ExprTree
 
@@ -42,6 +43,7 @@ abbrev pub parse_tester : Signatures → Names → List Datum → Tester → Loa
 parse_tester w xs [] t = give t
 parse_tester w xs (d ∷ ds) t = parse_expression w d xs >>= λ e. give (Some e)
 
+-- what a key says: a tester is read, the name of a table is noted
 abbrev pub parse_translator_key : Signatures → Names → Keyed → Tester → Load Tester
 parse_translator_key w xs k t = elim k.key [
   | key.CommandTable ↦ note_tables w k.values >>= λ u. give t
@@ -76,6 +78,7 @@ parse_translator_keys w xs (k ∷ ks) t = parse_translator_key w xs k t >>= λ m
 
 -- ---- the whole
 
+-- the translator of a shape, with its types, its tester and its body
 abbrev pub translator_of : TranslatorShape → (from to : TypeSpecTree) → Tester → (body : ExprTree) → ℕ → TranslatorDecl
 translator_of s from to tester body at = record {
   name = s.name;
@@ -100,10 +103,12 @@ parse_shaped w kind at f ks (Some s) =
     parse_translator_keys w (in_sight (s.parameter ∷ []) []) ks None >>= λ tester.
     parse_expression w f.body (in_sight (s.parameter ∷ []) []) >>= λ body. give (translator_of s from to tester body at)
 
+-- a translator by its keys; wrong at this offset where the keys are
 abbrev pub parse_keyed : Signatures → TranslatorKind → ℕ → TranslatorForm → Option (List Keyed) → Load TranslatorDecl
 parse_keyed w kind at f None = refuse 6 at
 parse_keyed w kind at f (Some ks) = parse_shaped w kind at f ks (translator_shape kind f ks)
 
+-- a translator by its parts; wrong at this offset where it has others
 abbrev pub parse_formed : Signatures → TranslatorKind → ℕ → Option TranslatorForm → Load TranslatorDecl
 parse_formed w kind at None = refuse 6 at
 parse_formed w kind at (Some f) = parse_keyed w kind at f (keyed_pairs translator_keys [] f.keys)

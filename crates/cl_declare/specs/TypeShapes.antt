@@ -20,6 +20,7 @@ abbrev pub name_alone : List Datum → Option (List ℕ)
 name_alone (d ∷ []) = name_in d
 name_alone ds = None
 
+-- a name that has to be there, as one behind a key
 abbrev pub found : Option (List ℕ) → Option (Option (List ℕ))
 found None = None
 found (Some x) = Some (Some x)
@@ -34,14 +35,17 @@ abbrev pub takes_value_and : Option (Option ℕ) → ℕ → Bool
 takes_value_and None n = true
 takes_value_and (Some count) n = fits count (n + 1)
 
+-- no predicate, or a function that takes the value and so many arguments, as far as this can be told
 abbrev pub is_predicate : Signatures → Option (List ℕ) → ℕ → Bool
 is_predicate w None n = true
 is_predicate w (Some f) n = takes_value_and (function_in w f) n
 
+-- the text that is given, or this name where none is
 abbrev pub described : List ℕ → Option (List ℕ) → List ℕ
 described x None = x
 described x (Some t) = t
 
+-- the shape of a user type of this name with so many parameters; None where one of its keys is wrong
 abbrev pub shape_with : Signatures → List ℕ → ℕ → Option (Option (List ℕ)) → Option (Option (List ℕ)) → Option TypeShape
 shape_with w x n (Some f) (Some t) = if is_predicate w f n then Some (record { name = x; satisfies = f; description = described x t }) else None
 shape_with w x n (Some f) None = None

@@ -18,6 +18,7 @@ use Rattle.cl_declare.specs.declared.type_shapes.TypeShape.{TypeShape}
 
 -- ---- user types
 
+-- the type that was read of what a user type inherits from, if there is one
 abbrev pub Inherited : Type 0
 Inherited = Option TypeSpecTree
 
@@ -31,10 +32,12 @@ abbrev pub note_function : Signatures → ℕ → Option (List ℕ) → Load (Un
 note_function w at None = give tt
 note_function w at (Some x) = noted (is_some (function_in w x)) at
 
+-- the predicate that stands first is noted where it is not declared
 abbrev pub note_predicate : Signatures → List Datum → Load (Unit {0})
 note_predicate w [] = give tt
 note_predicate w (d ∷ ds) = note_function w (offset d) (name_in d)
 
+-- what a key says: a type that is inherited from is read, the name of a predicate is noted
 abbrev pub parse_type_key : Signatures → Names → Keyed → Inherited → Load Inherited
 parse_type_key w ps k i = elim k.key [
   | key.InheritFrom ↦ parse_inherited w ps k.values i
@@ -62,6 +65,7 @@ parse_type_key w ps k i = elim k.key [
   | key.Else ↦ give i
 ]
 
+-- the same for each key, in their order
 abbrev pub parse_type_keys : Signatures → Names → List Keyed → Inherited → Load Inherited
 parse_type_keys w ps [] i = give i
 parse_type_keys w ps (k ∷ ks) i = parse_type_key w ps k i >>= λ more. parse_type_keys w ps ks more
@@ -71,14 +75,17 @@ abbrev pub or_everything : Inherited → TypeSpecTree
 or_everything None = plain_type (codes "t")
 or_everything (Some t) = t
 
+-- the user type of a shape, with its parameters and what it inherits from
 abbrev pub type_of : TypeShape → Names → Inherited → ℕ → TypeDecl
 type_of t ps i at = record { name = t.name; parameters = ps; inherit_from = or_everything i; satisfies = t.satisfies; description = t.description; at = at }
 
+-- the keys of a user type of this shape; wrong at this offset where it has none
 abbrev pub parse_type_shaped : Signatures → ℕ → Datum → List Keyed → Option TypeShape → Load TypeDecl
 parse_type_shaped w at ps ks None = refuse 6 at
 parse_type_shaped w at ps ks (Some t) =
     parse_type_keys w (names_of (parts_of ps)) ks None >>= λ i. give (type_of t (names_of (parts_of ps)) i at)
 
+-- a user type by its keys; wrong at this offset where the keys are
 abbrev pub parse_type_keyed : Signatures → ℕ → Datum → Datum → Option (List Keyed) → Load TypeDecl
 parse_type_keyed w at n ps None = refuse 6 at
 parse_type_keyed w at n ps (Some ks) = parse_type_shaped w at ps ks (type_shape w n ps ks)

@@ -7,14 +7,15 @@ use Rattle.cl_application.specs.declared.declarations.QueryDecl.{QueryDecl}
 use Rattle.cl_dialog.specs.OpenDialog.{OpenDialog, Queries}
 use Rattle.cl_dialog.specs.Variables.{values_env}
 use Rattle.cl_dialog_forms.specs.Forms.{queries_of}
-use Rattle.cl_eval.specs.Evaluated.{outcome_of_eval}
+use Rattle.cl_eval.specs.Evaluated.{outcome_of_eval, own_limits, value_in}
 use Rattle.cl_eval.specs.Slots.{Slots}
-use Rattle.cl_parser.specs.Defaults.{closed_value, default_limits, value_in}
+use Rattle.cl_parser.specs.Defaults.{closed_value}
 use Rattle.cl_table.specs.Names.{named}
 use Rattle.cl_value.specs.Data.{Data, bool}
 
 -- ---- which queries are shown
 
+-- whether a value is there and is true
 abbrev pub is_true : Option Data → Bool
 is_true (Some (bool b)) = b
 is_true o = false
@@ -22,7 +23,7 @@ is_true o = false
 -- a condition ends with true; one that is not there does
 abbrev pub holds : App → Slots → Queries → Option ConditionDecl → Bool
 holds app slots queries None = true
-holds app slots queries (Some c) = is_true (value_in (outcome_of_eval default_limits app slots (values_env queries) c.when))
+holds app slots queries (Some c) = is_true (value_in (outcome_of_eval own_limits app slots (values_env queries) c.when))
 
 -- whether a query is shown on these slots and beside queries with these values
 abbrev pub shown : App → Slots → Queries → QueryDecl → Bool
@@ -30,6 +31,7 @@ shown app slots queries query = holds app slots queries query.condition
 
 -- ---- the values at an exit
 
+-- the value of a query that is there, if it is set
 abbrev pub value_held : Option (Option Data) → Option Data
 value_held None = None
 value_held (Some o) = o
@@ -43,6 +45,7 @@ abbrev pub else_value : App → Option ConditionDecl → Option Data
 else_value app None = None
 else_value app (Some c) = closed_value app c.otherwise
 
+-- the value that is held, where the query is shown, and else what stands for it
 abbrev pub value_by : Bool → (held otherwise : Option Data) → Option Data
 value_by true held otherwise = held
 value_by false held otherwise = otherwise

@@ -15,9 +15,11 @@ pub record OpenDialog : Type 0 where
 
 -- ---- how the logic stores it
 
+-- how the logic stores a name
 abbrev pub name_code : Coded (List ℕ)
 name_code = coded_list coded_ℕ
 
+-- how the logic stores an open dialog
 abbrev pub coded_dialog : Coded OpenDialog
 coded_dialog =
     code_by (List ℕ × (Queries × Option (List ℕ))) (coded× name_code (coded× (coded_list (coded× name_code (coded_option data_code))) (coded_option name_code)))

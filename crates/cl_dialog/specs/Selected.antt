@@ -30,6 +30,7 @@ with_value d dialog = record dialog { queries = set_in dialog.selected d dialog.
 
 -- ---- its type
 
+-- the type of an argument, if there is one
 abbrev pub type_of : Option ArgumentDecl → Option TypeSpecTree
 type_of None = None
 type_of (Some a) = Some a.spec

@@ -5,6 +5,7 @@ use Rattle.cl_dialog_forms.specs.Names.{set_name}
 use Rattle.cl_eval.specs.Slots.{Env}
 use Rattle.cl_value.specs.Data.{Data, bool, null}
 
+-- a value, or null where there is none
 abbrev pub or_null : Option Data → Data
 or_null None = null
 or_null (Some d) = d

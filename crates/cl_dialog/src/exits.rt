@@ -8,17 +8,11 @@ use crate::dialogs::{Dialog, Query, copy_of};
 use crate::variables::values_env;
 use cl_application::{App, DialogDecl, QueryDecl};
 use cl_dialog_forms::declared;
-use cl_eval::{Evaluated, Limits, Slots, eval};
+use cl_eval::{Evaluated, OWN_LIMITS, Slots, eval};
 use cl_outside::own_steps;
 use cl_parser::closed_value;
 use cl_value::{Text, Value, Values};
 use std::alloc::{AllocError, Global};
-
-/// The limits of a condition.
-const LIMITS: Limits = Limits {
-    budget: 10_000,
-    depth: 512,
-};
 
 /// What the exit from a dialog comes to.
 #[derive(Drop)]
@@ -98,7 +92,15 @@ fn is_shown(
     };
     let env = values_env(alloc, queries)?;
     let mut steps = own_steps();
-    match eval(alloc, app, &condition.when, &env, slots, LIMITS, &mut steps) {
+    match eval(
+        alloc,
+        app,
+        &condition.when,
+        &env,
+        slots,
+        OWN_LIMITS,
+        &mut steps,
+    ) {
         Evaluated::Value(value, _, _) => Ok(is_true(&value)),
         Evaluated::Trap(_, _) => Ok(false),
         Evaluated::Memory => Err(AllocError),

@@ -48,6 +48,7 @@ abbrev pub fields_taken : ExprTree → Along → ExprTree
 fields_taken t [] = t
 fields_taken t (f ∷ along) = fields_taken (field_taken t f) along
 
+-- a path as an expression
 abbrev pub path_expression : Path → ExprTree
 path_expression p = fields_taken (root_expression p.root) p.fields
 

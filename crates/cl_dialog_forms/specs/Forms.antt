@@ -24,6 +24,7 @@ use Rattle.cl_value.specs.Data.{symbol, text}
 abbrev pub queries_of : DialogDecl → List QueryDecl
 queries_of d = map declared_by d.queries
 
+-- the arguments of a command, if there is one
 abbrev pub arguments_in : Option CommandDecl → List (List ℕ × ArgumentDecl)
 arguments_in None = []
 arguments_in (Some c) = c.arguments
@@ -91,6 +92,7 @@ exit_forms = as_choice (codes "exit") (written (codes "[Exit]") ∷ []) ∷ writ
 
 -- ---- the form
 
+-- the queries of a dialog in their order, then the two choices
 abbrev pub dialog_form : App → DialogDecl → List ShapeTree
 dialog_form app d = query_forms app d 1 (queries_of d) ++ exit_forms
 
@@ -107,6 +109,7 @@ dialog_display app d = record { name = form_name d.name; parameters = parameters
 abbrev pub dialog_displays : App → List DisplayDecl
 dialog_displays app = map (dialog_display app) (map declared_by app.dialogs)
 
+-- the name of a display
 abbrev pub own_name : DisplayDecl → List ℕ
 own_name d = d.name
 

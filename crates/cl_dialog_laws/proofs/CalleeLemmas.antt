@@ -7,7 +7,7 @@ use Rattle.cl_application.specs.declared.declarations.FunctionDecl.{FunctionDecl
 use Rattle.cl_application.specs.declared.declarations.MethodDecl.{MethodDecl}
 use Rattle.cl_dialog_forms.specs.Forms.{with_dialog_displays}
 use Rattle.cl_eval.specs.ReadPaths.{InFunction, InInherited, InMethod, Within}
-use Rattle.cl_eval.specs.ReadPaths.{Reads, ReadsAmong, ReadsArg, ReadsArgs, ReadsBound, ReadsSpec, taken}
+use Rattle.cl_eval.specs.ReadPaths.{Reads, ReadsAmong, ReadsArg, ReadsArgs, ReadsBound, ReadsSpec, operand_fields}
 use Rattle.cl_syntax.specs.ExprTree as expr
 use Rattle.cl_syntax.specs.ExprTree.{ExprTree, ExprTrees, Bindings, none, part, unbound, binding}
 use Rattle.cl_syntax.specs.Paths.{Along}
@@ -40,7 +40,7 @@ module _ (calls more : Callee → Type 0) (g : ReadNoLess calls more) (p : Path)
     reads along (expr.Filter x t body) r = ⊎_map (reads [] t) (λ k. (k.0, reads [] body k.1)) r
     reads along (expr.Fold x t a opening body) r =
         ⊎_map (reads [] t) (⊎_map (reads [] opening) (λ k. (k.0, (k.1.0, reads [] body k.1.1)))) r
-    reads along (expr.Operation o ts) r = reads_among (taken o ts along) ts r
+    reads along (expr.Operation o ts) r = reads_among (operand_fields o ts along) ts r
     reads along (expr.Call f ts) r = ⊎_map (reads_among [] ts) (g.functions f) r
 
     reads_among : (along : Along) (ts : ExprTrees) → ReadsAmong calls p along ts → ReadsAmong more p along ts

@@ -32,7 +32,7 @@ use Rattle.cl_display.specs.Fresh.{Allowance, Draws, call_display, draws, draws_
 use Rattle.cl_display.specs.Fresh.{Bodies, Scene, bodies_on, for_members, presents_body, presents_text}
 use Rattle.cl_display.proofs.UpdateLemmas.{grows-draws_update}
 use Rattle.cl_display.specs.Place.{allowance_at, draws_at, scene_at, texts_at}
-use Rattle.cl_display.specs.Presentations.{Texts, counted, enter_presentation, label_of, leave_presentation, present_text, texts_on, write_value}
+use Rattle.cl_display.specs.Presentations.{Texts, count_in, enter_presentation, label_of, leave_presentation, present_text, texts_on, write_value}
 use Rattle.cl_display.specs.declared.places.Place.{Place}
 
 abbrev pub DrawGrows : Draw → Type 0
@@ -106,7 +106,7 @@ grows-then_body go g level env body s holds =
 abbrev pub TextsGrow : Texts → Type 0
 TextsGrow text = (level : ℕ) (spec : TypeSpecTree) (d : Data) → Grows (text level spec d)
 
-grows-counted : {A : Type 0} (level : ℕ) (o : Outcome A) → Grows (counted level o)
+grows-counted : {A : Type 0} (level : ℕ) (o : Outcome A) → Grows (count_in level o)
 grows-counted level (Gives x n l) c d = omega arith
 grows-counted level (Traps kind n l) c d = omega arith
 

@@ -22,9 +22,9 @@ use Rattle.cl_display.specs.Figures.{draw_figure}
 use Rattle.cl_display.specs.Fresh.{Allowance, Bodies, Draws, Scene, bodies_by, call_display, draws, draws_body, draws_cached, draws_keyed, draws_to, draws_update, for_each}
 use Rattle.cl_display.specs.Fresh.{for_members, in_order, left_over, presents_body, presents_text, shape_parts, within}
 use Rattle.cl_display.specs.Outcomes.{Draw, opens_none, run_of, ◌>->◌, ◌>>=◌}
-use Rattle.cl_display.specs.Presentations.{Texts, counted, enter_presentation, label_of, leave_presentation, present_text, texts_on, write_value}
+use Rattle.cl_display.specs.Presentations.{Texts, count_in, enter_presentation, label_of, leave_presentation, present_text, texts_on, write_value}
 use Rattle.cl_display.specs.Settings.{enter_room, indent, leave_room, restore_ink, restore_margin, set_ink}
-use Rattle.cl_display.specs.Updates.{KeyAt, cache_of, ended, enter_body, enter_update, id_of, key_at}
+use Rattle.cl_display.specs.Updates.{KeyAt, cache_of, end_update, enter_body, enter_update, id_of, key_at}
 
 -- bodies that keep to what is allowed to them
 abbrev BodiesKeep : Bodies → Type 0
@@ -96,7 +96,7 @@ module _ (budget depth : ℕ) where
         (λ ds. keeps-give budget depth (Some ds))
 
     keeps-ended : (key : KeyAt) (s : DrawingAt) (left c d : ℕ) (o : Outcome DrawingAt) → depth ≡ level + left → Kept (budget - c) left o
-        → c ≤ budget → d ≤ depth → Kept budget depth (ended key level s o c d)
+        → c ≤ budget → d ≤ depth → Kept budget depth (end_update key level s o c d)
     keeps-ended key s left c d (Gives t n r) deep p h k = (omega (arith, p.0, h), omega (arith, p.1, k, deep))
     keeps-ended key s left c d (Traps kind n r) deep p h k = (omega (arith, p.0, h), k)
 
@@ -163,7 +163,7 @@ module _ (budget depth : ℕ) where
 
 keeps-counted : (app : App) (presents : Presents) → AreTexts app presents → (limits : Limits) (slots : Slots) (spec : TypeSpecTree) (e : Data)
     (budget level c d : ℕ) (o : Outcome Data) → presents limits slots spec e ≡ o → limits.budget ≡ budget - c → c ≤ budget → d ≤ level + limits.depth
-    → Kept budget (level + limits.depth) (counted level o c d)
+    → Kept budget (level + limits.depth) (count_in level o c d)
 keeps-counted app presents texts limits slots spec e budget level c d (Gives x n r) q b h k =
     let paid : n ≤ limits.budget = rw (← ap cost_of q) (texts.paid limits slots spec e) in
     (omega (arith, paid, b, h), omega (arith, k, (texts.texts limits slots spec e x n r q).1))

@@ -9,7 +9,7 @@ use Rattle.cl_eval.specs.Outcome.{Outcome, Gives, Traps, cost_of}
 use Rattle.cl_eval.specs.Slots.{Slots}
 use Rattle.cl_eval.specs.TypeMeanings.{AreTexts, Presents}
 use Rattle.cl_eval.proofs.LimitLemmas.{Goes, Reaches}
-use Rattle.cl_display.specs.Presentations.{Texts, counted, texts_on}
+use Rattle.cl_display.specs.Presentations.{Texts, count_in, texts_on}
 
 -- what texts end with at a level, the others end with too, within the budget and the depth
 abbrev pub TextsGo : (budget depth level : ℕ) → Texts → Texts → Type 0
@@ -21,8 +21,8 @@ reach_at (Traps kind cost deepest) = deepest
 
 goes-counted : (app : App) (presents : Presents) → AreTexts app presents → (limits wider : Limits) (slots : Slots) (spec : TypeSpecTree) (e : Data)
     (level budget c d : ℕ) (o : Outcome Data) → presents limits slots spec e ≡ o → wider.budget ≡ budget - c → (v : Data) (n l : ℕ)
-    → counted level o c d ≡ Gives v n l
-    → Reaches (λ i j. counted level (presents wider slots spec e) i j) budget (level + wider.depth) c d v n l
+    → count_in level o c d ≡ Gives v n l
+    → Reaches (λ i j. count_in level (presents wider slots spec e) i j) budget (level + wider.depth) c d v n l
 goes-counted app presents texts limits wider slots spec e level budget c d (Gives x k r) q b v n l p =
     let cost : c + k ≡ n = ap cost_of p in
     let deepest : max d (level + r) ≡ l = ap reach_at p in

@@ -19,7 +19,7 @@ use Rattle.cl_display.specs.Drawings.{DrawingAt}
 use Rattle.cl_display.specs.Fresh.{Allowance, Bodies, draws_body, draws_cached, draws_keyed, draws_update, left_over}
 use Rattle.cl_display.specs.Outcomes.{run_of}
 use Rattle.cl_display.specs.Siblings.{Siblings, count_at}
-use Rattle.cl_display.specs.Updates.{KeyAt, cache_of, ended, enter_body, enter_update, head_at, id_of, key_at, leave_update}
+use Rattle.cl_display.specs.Updates.{KeyAt, cache_of, end_update, enter_body, enter_update, head_at, id_of, key_at, leave_update}
 
 grows-id : (value : Go) → GoGrows value → (level : ℕ) (env : Env) (siblings : Siblings) (site : Site) (t : Option ExprTree)
     → Grows (id_of value level env siblings site t)
@@ -31,7 +31,7 @@ grows-cache value v level env None = grows-give {A = Option (List Data)} None
 grows-cache value v level env (Some ts) =
     grows-then (each value level env ts []) (λ ds. give (Some ds)) (grows-each value v level env ts []) (λ ds. grows-give (Some ds))
 
-grows-ended : (key : KeyAt) (level : ℕ) (s : DrawingAt) (o : Outcome DrawingAt) → Grows (ended key level s o)
+grows-ended : (key : KeyAt) (level : ℕ) (s : DrawingAt) (o : Outcome DrawingAt) → Grows (end_update key level s o)
 grows-ended key level s (Gives t n l) c d = omega arith
 grows-ended key level s (Traps kind n l) c d = omega arith
 
@@ -94,13 +94,13 @@ stop-keyed allowed bodies level env body key s s' s'' Memory m p = grows-draws_k
 pub keyed-opened : (allowed : Allowance) (bodies : Bodies) (level : ℕ) (env : Env) (body : ShapeTrees) (key : KeyAt) (s entered : DrawingAt) (c d : ℕ)
     → enter_update allowed.weight key s ≡ Ok entered
     → (draws_keyed allowed bodies level env body s key c d).outcome
-    ≡ ended key level entered (bodies.draw (left_over allowed c entered.weight) env body (enter_body entered)).outcome c d
+    ≡ end_update key level entered (bodies.draw (left_over allowed c entered.weight) env body (enter_body entered)).outcome c d
 keyed-opened allowed bodies level env body key s entered c d p = rw p refl
 
 -- a body that stops stops the update
 pub stop-body : (key : KeyAt) (level : ℕ) (entered s s' : DrawingAt) (e : Stop) (own m : Meter) (c : ℕ) (o : Outcome DrawingAt)
     → Agrees {A = Unit {0}} (always s) (Err e) own o → m.cost ≡ c + own.cost
-    → Agrees {A = Unit {0}} (always s') (Err e) m (ended key level entered o c m.deepest)
+    → Agrees {A = Unit {0}} (always s') (Err e) m (end_update key level entered o c m.deepest)
 stop-body key level entered s s' (Trap k) own m c o p q = rw (p, q) refl
 stop-body key level entered s s' Memory own m c (Gives t n r) p q = omega (arith, p, q)
 stop-body key level entered s s' Memory own m c (Traps k n r) p q = omega (arith, p, q)
@@ -118,7 +118,7 @@ came-trap s k p = cc
 pub left-update : (key : KeyAt) (level : ℕ) (entered t after : DrawingAt) (r : Result (Unit {0}) Stop) (own m : Meter) (c d : ℕ) (o : Outcome DrawingAt)
     → o ≡ Gives t own.cost own.deepest → m.cost ≡ c + own.cost → m.deepest ≡ max d (level + own.deepest)
     → Comes (always after) r (Ok (leave_update (head_at key entered.ambient t own.cost own.deepest) t.part entered))
-    → Agrees (always after) r m (ended key level entered o c d)
+    → Agrees (always after) r m (end_update key level entered o c d)
 left-update key level entered t after (Ok u) own m c d o p q l h =
     let left = leave_update (head_at key entered.ambient t own.cost own.deepest) t.part entered in
     rw (p, q, l) (ap (λ (s : DrawingAt). Gives s (c + own.cost) (max d (level + own.deepest))) (came-same left after h))

@@ -14,7 +14,7 @@ use Rattle.cl_display.specs.Drawings.{DrawingAt}
 use Rattle.cl_display.specs.Fresh.{Allowance, Bodies, draws_body, draws_cached, draws_keyed, draws_update, left_over}
 use Rattle.cl_display.specs.Outcomes.{Draw, ◌>->◌}
 use Rattle.cl_display.specs.Siblings.{Siblings, count_at}
-use Rattle.cl_display.specs.Updates.{KeyAt, cache_of, ended, enter_body, enter_update, id_of, key_at}
+use Rattle.cl_display.specs.Updates.{KeyAt, cache_of, end_update, enter_body, enter_update, id_of, key_at}
 use Rattle.cl_display.proofs.WeightLemmas.{Keeps, Rises, keeps-enter_update, rises-enter_update}
 use Rattle.cl_display.proofs.Widening.{Extends, Widens, cost_at, deepest_at, weight_at, widens-value}
 
@@ -43,7 +43,7 @@ module _ (budget depth most : ℕ) where
       (b : BodiesWiden bodies bodies') (deep : depth ≡ level + bodies'.depth) (env : Env) (body : ShapeTrees) where
     widens-ended : (key : KeyAt) (s : DrawingAt) (c d : ℕ) (o : Outcome DrawingAt)
         → (bodies.draw (left_over allowed c s.weight) env body (enter_body s)).outcome ≡ o
-        → (t : DrawingAt) (n l : ℕ) → ended key level s o c d ≡ Gives t n l
+        → (t : DrawingAt) (n l : ℕ) → end_update key level s o c d ≡ Gives t n l
         → Extends budget depth most (draws_body allowed' bodies' level env body key s) s c d t n l
     widens-ended key s c d (Gives u i r) q t n l p =
         let cost : c + i ≡ n = ap cost_at p in

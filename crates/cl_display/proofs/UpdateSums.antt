@@ -16,7 +16,7 @@ use Rattle.cl_display.specs.Drawings.{DrawingAt, cursor_box}
 use Rattle.cl_display.specs.Fresh.{Allowance, Bodies, draws_body, draws_cached, draws_keyed, draws_update, left_over}
 use Rattle.cl_display.specs.Outcomes.{run_of}
 use Rattle.cl_display.specs.Sums.{HoldsAll, lowest_of}
-use Rattle.cl_display.specs.Updates.{KeyAt, cache_of, ended, enter_body, head_at, id_of, key_at, key_weight, leave_update, updated_part}
+use Rattle.cl_display.specs.Updates.{KeyAt, cache_of, end_update, enter_body, head_at, id_of, key_at, key_weight, leave_update, updated_part}
 use Rattle.cl_display.specs.Siblings.{is_taken, note}
 use Rattle.cl_display.proofs.CornerLemmas.{box-second, corners-of, holds-itself, holds-then, holds_all-behind, upright-around}
 use Rattle.cl_display.proofs.PartLemmas.{items-closed, members-behind, part-join, weight_of-behind}
@@ -55,7 +55,7 @@ module _ (most : ℕ) (holds : Member) where
 
   adds-ended : (key : KeyAt) (level : ℕ) (s entered : DrawingAt) (o : Outcome DrawingAt) → entered.part ≡ s.part → entered.ambient ≡ s.ambient
       → entered.weight ≡ s.weight + key_weight key → entered.weight ≤ most → AddsOut (most - entered.weight) holds (enter_body entered) o
-      → (c d : ℕ) → AddsOut most holds s (ended key level entered o c d)
+      → (c d : ℕ) → AddsOut most holds s (end_update key level entered o c d)
   adds-ended key level s entered (Gives t n reach) part ambient weight light p c d = adds-leave key s entered t n reach part ambient weight light p
   adds-ended key level s entered (Traps kind n reach) part ambient weight light p c d = tt
 

@@ -27,7 +27,7 @@ use Rattle.cl_display.specs.Fresh.{Allowance, Draws, call_display, draws, draws_
 use Rattle.cl_display.specs.Uses.{EndsWith, HasUsedMargin, IsPlain, NoBodyUses, NoneUses, UsesMargin, UsesNeither, UsesOrigin}
 use Rattle.cl_display.specs.Fresh.{Bodies, Scene, draws_body, draws_cached, draws_keyed, for_members, left_over, presents_body, presents_text}
 use Rattle.cl_display.specs.Siblings.{is_taken, note}
-use Rattle.cl_display.specs.Updates.{KeyAt, cache_of, ended, enter_body, head_at, id_of, key_at, key_weight, leave_update}
+use Rattle.cl_display.specs.Updates.{KeyAt, cache_of, end_update, enter_body, head_at, id_of, key_at, key_weight, leave_update}
 use Rattle.cl_display.specs.Presentations.{Texts, label_of, label_weight, leave_after, leave_presentation, present_text, write_inside}
 use Rattle.cl_display.specs.Presentations.{write_value}
 use Rattle.cl_eval.specs.Statements.{Member}
@@ -212,7 +212,7 @@ unused-text most label s x weight false = tt
 
 -- a body that uses nothing leaves all unused around it
 unused-ended : (key : KeyAt) (level : ℕ) (s entered : DrawingAt) (o : Outcome DrawingAt) → entered.part ≡ s.part
-    → EndsWith (UsesNeither (enter_body entered)) o → (c d : ℕ) → EndsWith (UsesNeither s) (ended key level entered o c d)
+    → EndsWith (UsesNeither (enter_body entered)) o → (c d : ℕ) → EndsWith (UsesNeither s) (end_update key level entered o c d)
 unused-ended key level s entered (Gives t n l) part p c d =
     rw part (neither s (leave_update (head_at key entered.ambient t n l) t.part (record entered { part = s.part }))
     (ap (λ (b : Bool). b || s.part.margin_used) p.margin) (ap (λ (b : Bool). b || s.part.origin_used) p.origin))

@@ -22,7 +22,7 @@ use Rattle.cl_display.specs.Figures.{draw_figure}
 use Rattle.cl_display.specs.Outcomes.{Draw, DrawOutcome, opens_none, ◌>->◌, ◌>>=◌}
 use Rattle.cl_display.specs.Presentations.{Texts, enter_presentation, label_of, leave_presentation, present_text, texts_on, write_value}
 use Rattle.cl_display.specs.Settings.{enter_room, indent, leave_room, restore_ink, restore_margin, set_ink}
-use Rattle.cl_display.specs.Updates.{KeyAt, cache_of, ended, enter_body, enter_update, id_of, key_at, opening_at}
+use Rattle.cl_display.specs.Updates.{KeyAt, cache_of, end_update, enter_body, enter_update, id_of, key_at, opening_at}
 use Rattle.cl_display.specs.Walks.{OpeningAt, done, met}
 
 -- how many forms may be entered, and how much all marks together may weigh
@@ -94,7 +94,7 @@ left_over allowed cost weight = record { budget = allowed.budget - cost; weight 
 
 -- an update whose body came to this
 abbrev pub closes : KeyAt → ℕ → DrawingAt → OpeningAt → DrawOutcome → Draw
-closes key level s opening body cost deepest = record { outcome = ended key level s body.outcome cost deepest; walk = met opening body.walk done }
+closes key level s opening body cost deepest = record { outcome = end_update key level s body.outcome cost deepest; walk = met opening body.walk done }
 
 -- the body of an update that is opened
 abbrev pub draws_body : Allowance → Bodies → ℕ → Env → ShapeTrees → KeyAt → DrawingAt → Draw

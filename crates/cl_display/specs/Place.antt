@@ -25,9 +25,11 @@ module _ {T : Type 0} (holds : T → Member) (presents : T → Presents) where
   abbrev pub texts_at : Place T → Texts
   texts_at place = texts_on (presents place.types.now) place.here.context.now.slots.now place.here.context.now.budget place.here.left
 
+  -- what the body of an update draws at this place
   abbrev pub bodies_at : Place T → Bodies
   bodies_at place = bodies_on place.here.left (scene_at place)
 
+  -- what forms draw at this place
   abbrev pub draws_at : Place T → Draws
   draws_at place = draws place.here.left (allowance_at place) (scene_at place)
 

@@ -57,9 +57,9 @@ present_text most label s x = leave_after label s.part (write_inside most x (ent
 -- ---- the texts of values
 
 -- what a text comes to by itself, counted in where it is asked for: behind the cost so far, and below a level
-abbrev pub counted : {A : Type 0} → (level : ℕ) → Outcome A → Run A
-counted level (Gives x c reach) cost deepest = Gives x (cost + c) (max deepest (level + reach))
-counted level (Traps kind c reach) cost deepest = Traps kind (cost + c) deepest
+abbrev pub count_in : {A : Type 0} → (level : ℕ) → Outcome A → Run A
+count_in level (Gives x c reach) cost deepest = Gives x (cost + c) (max deepest (level + reach))
+count_in level (Traps kind c reach) cost deepest = Traps kind (cost + c) deepest
 
 -- the texts of values, at a level
 abbrev pub Texts : Type 0
@@ -68,4 +68,4 @@ Texts = (level : ℕ) → TypeSpecTree → Data → Run Data
 -- with what is left of the budget and of the levels
 abbrev pub texts_on : Presents → Slots → (budget left : ℕ) → Texts
 texts_on presents slots budget left level spec d cost deepest =
-    counted level (presents (record { budget = budget - cost; depth = left }) slots spec d) cost deepest
+    count_in level (presents (record { budget = budget - cost; depth = left }) slots spec d) cost deepest

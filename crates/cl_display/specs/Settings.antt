@@ -1,6 +1,7 @@
 -- What a form sets for its body, and how the body is left.
 use Rattle.std.specs.Prelude.{ℕ, pos, negsuc, ◌+ℤ◌, true, false, nat_le, if◌then◌else◌, Result, Ok, Err}
 use Rattle.std.specs.Option.{unwrap_or}
+use Rattle.cl_outside.specs.Sizes.{MAX_INK}
 use Rattle.cl_region.specs.Places.{box}
 use Rattle.cl_region.specs.declared.rects.Rect.{Rect}
 use Rattle.cl_value.specs.Data as value
@@ -30,7 +31,7 @@ with_ink ink s = record s { ambient = record s.ambient { ink = ink } }
 
 -- one of the eight inks
 abbrev pub set_ink : Data → DrawingAt → Result DrawingAt ℕ
-set_ink (value.int (pos n)) s = if nat_le n 7 then Ok (with_ink n s) else Err 9
+set_ink (value.int (pos n)) s = if nat_le n MAX_INK then Ok (with_ink n s) else Err 9
 set_ink (value.int (negsuc n)) s = Err 9
 set_ink d s = Err 1
 

@@ -6,6 +6,7 @@ use Rattle.std.specs.Ordering.{is_eq}
 use Rattle.cl_syntax.specs.declared.sites.Site.{Site}
 use Rattle.cl_value.specs.Data.{Data, order_of}
 
+-- the sites and ids of the updates of a level so far
 abbrev pub Siblings : Type 0
 Siblings = List (Site × List Data)
 

@@ -105,10 +105,10 @@ leave_update head inner s = record {
 }
 
 -- what a body comes to where it stands: it is counted in behind the cost so far, and below a level
-abbrev pub ended : KeyAt → (level : ℕ) → DrawingAt → Outcome DrawingAt → Run DrawingAt
-ended key level s (Gives end n reach) cost deepest =
+abbrev pub end_update : KeyAt → (level : ℕ) → DrawingAt → Outcome DrawingAt → Run DrawingAt
+end_update key level s (Gives end n reach) cost deepest =
     Gives (leave_update (head_at key s.ambient end n reach) end.part s) (cost + n) (max deepest (level + reach))
-ended key level s (Traps kind n reach) cost deepest = Traps kind (cost + n) deepest
+end_update key level s (Traps kind n reach) cost deepest = Traps kind (cost + n) deepest
 
 -- the update as it is met: with what is left there of the budget, the weight and the depth
 abbrev pub opening_at : KeyAt → DrawingAt → (budget weight depth : ℕ) → OpeningAt

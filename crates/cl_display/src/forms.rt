@@ -9,21 +9,20 @@ ghost use Rattle.cl_eval.specs.Standpoint.{meaning_at};
 ghost use Rattle.cl_eval.specs.Agrees.{Agrees, always, itself};
 ghost use Rattle.cl_display.specs.Drawings.{drawing_of};
 ghost use Rattle.cl_display.specs.Settings.{enter_room, indent, leave_room, restore_ink, restore_margin, set_ink};
-ghost use Rattle.cl_display.specs.Fresh.{call_display, draws_in, draws_keyed, draws_to, draws_update, for_each, for_members, in_order, presents_body, shape_parts, within};
-ghost use Rattle.cl_display.specs.Updates.{key_of};
+ghost use Rattle.cl_display.specs.Fresh.{call_display, draws_in, draws_to, for_each, for_members, in_order, presents_body, shape_parts, within};
 ghost use Rattle.cl_display.specs.Place.{allowance_at, bodies_at, draw_from, draws_at, scene_at, texts_at};
 
 use crate::drawings::Drawing;
 use crate::places::Place;
 use crate::presentations::{check_member, present};
-use crate::updates::{Key, evaluate_cache, evaluate_id};
+use crate::update_forms::draw_update;
 use cl_eval::{
-    Context, Meter, Scope, Standpoint, Stop, Types, evaluate, evaluate_bindings, evaluate_each,
+    Meter, Scope, Standpoint, Stop, Types, evaluate, evaluate_bindings, evaluate_each,
     evaluate_list, evaluate_test,
 };
 use cl_outside::{Ledger, Steps};
 use cl_record::Label;
-use cl_syntax::{Binding, Presentation, Shape, ShapeChoice, ShapeKind, Shapes, Update};
+use cl_syntax::{Binding, Presentation, Shape, ShapeChoice, ShapeKind, Shapes};
 use cl_value::{Text, Value};
 
 // One form.
@@ -359,68 +358,4 @@ fn draw_presented<T: Types, L: Ledger>(
     let spec = presentation.spec().clone()?;
     let label = Label::new(object, spec, presentation.is_single_box());
     drawing.leave_presentation(alloc, label, outer)
-}
-
-// An update, by its id and its cache.
-#[cycle(draw)]
-fn draw_update<T: Types, L: Ledger>(
-    place: &Place<'_, T>,
-    update: &Update,
-    body: &[Shape],
-    drawing: &mut Drawing,
-    meter: &mut Meter,
-    steps: &mut Steps<L>,
-) -> Result<(), Stop>
-    requires { place.now.here.level + place.now.here.left ≤ 512 }
-    ensures meaning { Agrees (always (drawing_of drawing.new)) result meter.new
-        (draws_update (allowance_at place.now) (meaning_at place.now.here) (bodies_at T.holds T.presents place.now) place.now.here.level
-        (variables_of place.now.here.scope.now) update.now (shape_trees_of body.now) (drawing_of drawing.old) meter.old.cost
-        meter.old.deepest).outcome }
-    ensures ledger { steps.new + meter.old.cost ≡ steps.old + meter.new.cost }
-{
-    let id = evaluate_id(&place.here, &drawing.siblings, update, meter, steps)?;
-    let cache = evaluate_cache(&place.here, update, meter, steps)?;
-    let site = update.site();
-    draw_keyed(place, Key { site, id, cache }, body, drawing, meter, steps)
-}
-
-// An update with this key: its body is a draw of its own, with what is left of the limits.
-#[cycle(draw)]
-fn draw_keyed<T: Types, L: Ledger>(
-    place: &Place<'_, T>,
-    key: Key,
-    body: &[Shape],
-    drawing: &mut Drawing,
-    meter: &mut Meter,
-    steps: &mut Steps<L>,
-) -> Result<(), Stop>
-    requires { place.now.here.level + place.now.here.left ≤ 512 }
-    ensures meaning { Agrees (always (drawing_of drawing.new)) result meter.new
-        (draws_keyed (allowance_at place.now) (bodies_at T.holds T.presents place.now) place.now.here.level
-        (variables_of place.now.here.scope.now) (shape_trees_of body.now) (drawing_of drawing.old) (key_of key) meter.old.cost
-        meter.old.deepest).outcome }
-    ensures ledger { steps.new + meter.old.cost ≡ steps.old + meter.new.cost }
-{
-    let context = place.here.context;
-    drawing.enter_update(context.alloc, place.max_weight, &key)?;
-    let left = Context {
-        budget: context.budget.saturating_sub(meter.cost),
-        ..*context
-    };
-    let inside = Place {
-        here: Standpoint {
-            context: &left,
-            level: 0,
-            ..place.here
-        },
-        max_weight: place.max_weight.saturating_sub(drawing.weight),
-        ..*place
-    };
-    let mut inner = drawing.enter_body(context.alloc);
-    let mut own = Meter::new();
-    let drawn = draw_all(&inside, body, &mut inner, &mut own, steps);
-    meter.cost += own.cost;
-    drawn?;
-    meter.deepest = meter.deepest.max(place.here.level + own.deepest);
-    drawing.leave_update(context.alloc, key, inner, &own)
 }

@@ -13,6 +13,7 @@ mod places;
 mod presentations;
 mod settings;
 mod siblings;
+mod update_forms;
 mod updates;
 
 pub use displays::{Shown, display, trapped};

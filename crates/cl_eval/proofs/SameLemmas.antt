@@ -16,8 +16,8 @@ use Rattle.cl_eval.specs.Operators.{within_limits, or_trap, truth, elements, ope
 use Rattle.cl_eval.specs.Meaning.{Go, entering, truth_of, parts_of_list, each, every, some, bind_each, let_in, operation_on}
 use Rattle.cl_eval.specs.Meaning.{map_each, filter_each, fold_each, call_function, parts, means}
 use Rattle.cl_syntax.specs.Paths.{Along}
-use Rattle.cl_eval.specs.PathValues.{dig, field_of, placed, root_value, value_at}
-use Rattle.cl_eval.specs.ReadPaths.{Apart, ApartAll, InFunction, IsSlot, Reads, ReadsAmong, ReadsBound, Within, taken}
+use Rattle.cl_eval.specs.PathValues.{dig, field_of, part_at_place, root_value, value_at}
+use Rattle.cl_eval.specs.ReadPaths.{Apart, ApartAll, InFunction, IsSlot, Reads, ReadsAmong, ReadsBound, Within, operand_fields}
 use Rattle.cl_syntax.specs.declared.paths.Path.{Path}
 use Rattle.cl_syntax.specs.declared.paths.Root.{Root}
 use Rattle.cl_syntax.specs.declared.paths.Root.TheVariants as root
@@ -54,7 +54,7 @@ module _ (app : App) where
   whole : (m : Run Data) → (m >>= dug []) ≡ m
   whole m = λ i c d. after-give (m c d) i
 
-  placed_trap : (o : Option ℕ) (ds : List Data) → operators.value_at o ds ≡ or_trap 1 (placed o ds)
+  placed_trap : (o : Option ℕ) (ds : List Data) → operators.value_at o ds ≡ or_trap 1 (part_at_place o ds)
   placed_trap None ds = refl
   placed_trap (Some n) ds = refl
 
@@ -183,7 +183,7 @@ module _ (app : App) (s s' : Slots) where
         (λ p n h. inside_root p.root p.fields (bind_parameters f.parameters ds) e e' (λ slot. a p n (slot, h))) i
         else trap 1
 
-    same-operation : (along : Along) (e e' : Env) (o : Operator) (ts : ExprTrees) → On (InAll (taken o ts along) ts) e e'
+    same-operation : (along : Along) (e e' : Env) (o : Operator) (ts : ExprTrees) → On (InAll (operand_fields o ts along) ts) e e'
         → (operation_on app go level e o ts >>= dug app along) ≡ (operation_on app go' level e' o ts >>= dug app along)
     same-operation along e e' (operator.Record (fields.Get f)) (part t none) a =
         one_field app go level e f along t ∙ g (f ∷ along) e e' t (λ p n h. a p n (inl h)) ∙ sym (one_field app go' level e' f along t)

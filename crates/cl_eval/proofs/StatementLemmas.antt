@@ -12,7 +12,7 @@ use Rattle.cl_eval.specs.declared.metering.Stop.{Stop}
 use Rattle.cl_eval.specs.Outcome.{Gives, Traps, give, lift}
 use Rattle.cl_eval.specs.Slots.{Slots, Env}
 use Rattle.cl_eval.specs.Meaning.{Go, bind_each, entering, truth_of, parts_of_list, means}
-use Rattle.cl_eval.specs.Statements.{Member, Does, assigned, reply_with, add_switch, with_dialog, in_turn, for_each, acts_in, act_parts, does}
+use Rattle.cl_eval.specs.Statements.{Member, Does, assign_slot, reply_with, add_switch, with_dialog, in_turn, for_each, acts_in, act_parts, does}
 use Rattle.cl_eval.specs.declared.programs.Stage.{Stage}
 use Rattle.cl_eval.specs.Stage.{doing_on}
 use Rattle.cl_eval.specs.Agrees.{Agrees, always, itself}
@@ -50,7 +50,7 @@ AllGrow value = (slots : Slots) → GoGrows (value slots)
 grows-act_parts : (app : App) (member : Member) (value : Slots → Go) → AllGrow value → (go : Does) → DoesGrows go → (level : ℕ) (env : Env) (a : ActTree) (s : Effects)
     → Grows (act_parts app member value go level env a s)
 grows-act_parts app member value v go g level env (act.Setf x t) s =
-    grows-then (value s.slots level env t) (λ d. lift (assigned member x (slot_type x app) s d)) (v s.slots level env t) (λ d. grows-lift (assigned member x (slot_type x app) s d))
+    grows-then (value s.slots level env t) (λ d. lift (assign_slot member x (slot_type x app) s d)) (v s.slots level env t) (λ d. grows-lift (assign_slot member x (slot_type x app) s d))
 grows-act_parts app member value v go g level env (act.Reply t) s =
     grows-then (value s.slots level env t) (λ d. lift (reply_with s d)) (v s.slots level env t) (λ d. grows-lift (reply_with s d))
 grows-act_parts app member value v go g level env (act.Switch x on) s = grows-give (add_switch x on s)

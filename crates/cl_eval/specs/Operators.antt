@@ -144,15 +144,15 @@ abbrev pub range_of : ℤ → ℤ → Answer
 range_of x y = within_limits (list (items_of (numbers_from x (count_to (y -ℤ x)))))
 
 -- what each operator of lists makes of the values of its parts
-abbrev pub list_made : ListOperator → List Data → Answer
-list_made row.List ds = within_limits (list (items_of ds))
-list_made row.Nth (list ds ∷ int z ∷ []) = nth_of (list_of ds) z
-list_made row.Rest (list ds ∷ []) = rest_of (list_of ds)
-list_made row.Cons (d ∷ list ds ∷ []) = within_limits (list (item d ds))
-list_made row.Append (list ds ∷ list es ∷ []) = within_limits (list (items_of (list_of ds ++ list_of es)))
-list_made row.Contains (list ds ∷ d ∷ []) = Ok (bool (has_part d (list_of ds)))
-list_made row.Range (int x ∷ int y ∷ []) = range_of x y
-list_made o ds = Err 1
+abbrev pub list_answer : ListOperator → List Data → Answer
+list_answer row.List ds = within_limits (list (items_of ds))
+list_answer row.Nth (list ds ∷ int z ∷ []) = nth_of (list_of ds) z
+list_answer row.Rest (list ds ∷ []) = rest_of (list_of ds)
+list_answer row.Cons (d ∷ list ds ∷ []) = within_limits (list (item d ds))
+list_answer row.Append (list ds ∷ list es ∷ []) = within_limits (list (items_of (list_of ds ++ list_of es)))
+list_answer row.Contains (list ds ∷ d ∷ []) = Ok (bool (has_part d (list_of ds)))
+list_answer row.Range (int x ∷ int y ∷ []) = range_of x y
+list_answer o ds = Err 1
 
 -- ---- texts
 
@@ -174,12 +174,12 @@ text_of (text s) = Ok (text s)
 text_of d = Err 1
 
 -- what each operator of texts makes of the values of its parts
-abbrev pub text_made : TextOperator → List Data → Answer
-text_made written.Concat (text s ∷ text t ∷ []) = within_limits (text (s ++ t))
-text_made written.Subtext (text s ∷ int from ∷ int to ∷ []) = subtext_of s from to
-text_made written.Pad (text s ∷ int n ∷ []) = within_limits (text (pad_to s n))
-text_made written.Written (d ∷ []) = text_of d
-text_made o ds = Err 1
+abbrev pub text_answer : TextOperator → List Data → Answer
+text_answer written.Concat (text s ∷ text t ∷ []) = within_limits (text (s ++ t))
+text_answer written.Subtext (text s ∷ int from ∷ int to ∷ []) = subtext_of s from to
+text_answer written.Pad (text s ∷ int n ∷ []) = within_limits (text (pad_to s n))
+text_answer written.Written (d ∷ []) = text_of d
+text_answer o ds = Err 1
 
 -- ---- records
 
@@ -210,11 +210,11 @@ changed_at r None d ds = Err 1
 changed_at r (Some n) d ds = if nat_lt n (length ds) then within_limits (rec r (items_of (with_part n d ds))) else Err 1
 
 -- what each operator of records makes of the values of its parts
-abbrev pub record_made : App → RecordOperator → List Data → Answer
-record_made app (fields.Make r) ds = make_record r (record_named r app) ds
-record_made app (fields.Get f) (rec r ds ∷ []) = value_at (field_place f (record_named r app)) (list_of ds)
-record_made app (fields.With f) (rec r ds ∷ d ∷ []) = changed_at r (field_place f (record_named r app)) d (list_of ds)
-record_made app o ds = Err 1
+abbrev pub record_answer : App → RecordOperator → List Data → Answer
+record_answer app (fields.Make r) ds = make_record r (record_named r app) ds
+record_answer app (fields.Get f) (rec r ds ∷ []) = value_at (field_place f (record_named r app)) (list_of ds)
+record_answer app (fields.With f) (rec r ds ∷ d ∷ []) = changed_at r (field_place f (record_named r app)) d (list_of ds)
+record_answer app o ds = Err 1
 
 -- ---- all
 
@@ -258,9 +258,9 @@ is_null_of ds = Err 1
 abbrev pub operate : App → Operator → List Data → Answer
 operate app (operator.Arithmetic o) ds = arithmetic_of o ds
 operate app (operator.Comparison o) ds = comparison_of o ds
-operate app (operator.List o) ds = list_made o ds
-operate app (operator.Text o) ds = text_made o ds
-operate app (operator.Record o) ds = record_made app o ds
+operate app (operator.List o) ds = list_answer o ds
+operate app (operator.Text o) ds = text_answer o ds
+operate app (operator.Record o) ds = record_answer app o ds
 operate app operator.Not ds = not_of ds
 operate app operator.Equal ds = equal_of ds
 operate app operator.Length ds = length_of ds

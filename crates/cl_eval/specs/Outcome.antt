@@ -25,6 +25,7 @@ after (Traps kind cost deepest) f = Traps kind cost deepest
 
 -- a run, and then one that is given its value
 infixl 10 ◌>>=◌
+-- a run behind a run, from its value; a trap ends both
 abbrev pub ◌>>=◌ : {A B : Type 0} → Run A → (A → Run B) → Run B
 (m >>= f) cost deepest = after (m cost deepest) f
 

@@ -11,13 +11,13 @@ use Rattle.cl_eval.specs.Operators.{field_place, list_of, part_at}
 use Rattle.cl_eval.specs.Slots.{Slots, Env, value_named}
 
 -- the part at a place, where there is a place
-abbrev pub placed : Option ℕ → List Data → Option Data
-placed None ds = None
-placed (Some n) ds = part_at n ds
+abbrev pub part_at_place : Option ℕ → List Data → Option Data
+part_at_place None ds = None
+part_at_place (Some n) ds = part_at n ds
 
 -- the value of a field; None where the value is no record that has it
 abbrev pub field_of : App → List ℕ → Data → Option Data
-field_of app f (rec r ds) = placed (field_place f (record_named r app)) (list_of ds)
+field_of app f (rec r ds) = part_at_place (field_place f (record_named r app)) (list_of ds)
 field_of app f d = None
 
 -- the same of a value that may not be there

@@ -44,9 +44,9 @@ IsSlot (root.Variable x) = ⊥
 IsSlot (root.Slot x) = Unit {0}
 
 -- the fields that are taken of an operator's parts: its own and then those that are taken of it, where it takes a field of one part
-abbrev pub taken : Operator → ExprTrees → Along → Along
-taken (operator.Record (fields.Get f)) (part t none) along = f ∷ along
-taken o ts along = []
+abbrev pub operand_fields : Operator → ExprTrees → Along → Along
+operand_fields (operator.Record (fields.Get f)) (part t none) along = f ∷ along
+operand_fields o ts along = []
 
 -- an expression of which these fields are taken reads a path, by what is read where it calls
 abbrev mutual
@@ -62,7 +62,7 @@ abbrev mutual
   Reads calls p along (expr.Filter x t body) = Reads calls p [] t ⊎ (Apart x p.root × Reads calls p [] body)
   Reads calls p along (expr.Fold x t accumulator opening body) =
       Reads calls p [] t ⊎ (Reads calls p [] opening ⊎ (Apart x p.root × (Apart accumulator p.root × Reads calls p [] body)))
-  Reads calls p along (expr.Operation o ts) = ReadsAmong calls p (taken o ts along) ts
+  Reads calls p along (expr.Operation o ts) = ReadsAmong calls p (operand_fields o ts along) ts
   Reads calls p along (expr.Call f ts) = ReadsAmong calls p [] ts ⊎ calls (callee.Function f)
 
   -- one of these does
@@ -80,10 +80,12 @@ abbrev mutual
   pub ReadsSpec : (Callee → Type 0) → TypeSpecTree → Type 0
   ReadsSpec calls (specifier x ts o) = calls (callee.PresentMethod x) ⊎ (ReadsArgs calls ts ⊎ calls (callee.Inherited x))
 
+  -- an argument of a specifier does
   pub ReadsArgs : (Callee → Type 0) → TypeArgTrees → Type 0
   ReadsArgs calls type_spec.none = ⊥
   ReadsArgs calls (argument a ts) = ReadsArg calls a ⊎ ReadsArgs calls ts
 
+  -- this argument of a specifier does
   pub ReadsArg : (Callee → Type 0) → TypeArgTree → Type 0
   ReadsArg calls (Constant d) = ⊥
   ReadsArg calls Any = ⊥

@@ -23,9 +23,9 @@ abbrev pub Does : Type 0
 Does = ℕ → Env → ActTree → Effects → Run Effects
 
 -- a slot takes members of its type alone
-abbrev pub assigned : Member → List ℕ → Option TypeSpecTree → Effects → Data → Result Effects ℕ
-assigned member x None s d = Err 1
-assigned member x (Some spec) s d = if member d spec then Ok (record s { slots = put x d s.slots }) else Err 1
+abbrev pub assign_slot : Member → List ℕ → Option TypeSpecTree → Effects → Data → Result Effects ℕ
+assign_slot member x None s d = Err 1
+assign_slot member x (Some spec) s d = if member d spec then Ok (record s { slots = put x d s.slots }) else Err 1
 
 -- one reply more
 abbrev pub add_reply : List ℕ → Effects → Effects
@@ -60,7 +60,7 @@ acts_in value go level bs body env s = bind_each value level bs env >>= λ inner
 
 -- a statement that was entered, by the meaning of its expressions on the slots so far and of the statements inside
 abbrev pub act_parts : App → Member → (Slots → Go) → Does → ℕ → Env → ActTree → Effects → Run Effects
-act_parts app member value go level env (act.Setf x t) s = value s.slots level env t >>= λ d. lift (assigned member x (slot_type x app) s d)
+act_parts app member value go level env (act.Setf x t) s = value s.slots level env t >>= λ d. lift (assign_slot member x (slot_type x app) s d)
 act_parts app member value go level env (act.Reply t) s = value s.slots level env t >>= λ d. lift (reply_with s d)
 act_parts app member value go level env (act.Switch x on) s = give (add_switch x on s)
 act_parts app member value go level env (act.OpenDialog x) s = give (with_dialog x s)

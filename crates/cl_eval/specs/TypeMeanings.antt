@@ -20,6 +20,7 @@ Presents = Limits → Slots → TypeSpecTree → Data → Outcome Data
 abbrev pub Reads : Type 0
 Reads = Slots → TypeSpecTree → List ℕ → Option Data
 
+-- what the types of an application mean: members, texts, precedence and subtypes
 pub record TypeMeanings : Type 0 where
   pub holds : Member
   pub presents : Presents

@@ -27,7 +27,7 @@ pub use evaluating::{Evaluated, eval};
 pub use evaluation::{Context, Standpoint, evaluate, evaluate_each, evaluate_list, evaluate_test};
 pub use execution::{Executed, exec};
 pub use laws::{limits_can_be_wider, quotient_is_rounded_down, read_values_alone_matter};
-pub use metering::{Limits, Meter, Stop};
+pub use metering::{Limits, MAX_DEPTH, Meter, OWN_BUDGET, OWN_LIMITS, Stop};
 pub use programs::Program;
 pub use slot_table::Slots;
 pub use types::Types;

@@ -2,7 +2,7 @@
 ghost use Rattle.std.specs.Prelude.{◌≡◌, ℕ, ◌≤◌, pos, negsuc, ◌+ℤ◌, ◌-ℤ◌, ◌≤ℤ◌, ◌^◌, ◌++◌, ◌∷◌, [], map, Ok, OnOk, IfOk, if◌then◌else◌};
 ghost use Rattle.cl_value.specs.Data.{items_of, list};
 ghost use Rattle.cl_value.specs.Value.{data_of};
-ghost use Rattle.cl_eval.specs.Operators.{count_to, has_part, within_limits, list_made, nth_of, numbers_from, range_of, rest_of};
+ghost use Rattle.cl_eval.specs.Operators.{count_to, has_part, within_limits, list_answer, nth_of, numbers_from, range_of, rest_of};
 ghost use Rattle.cl_eval.specs.Agrees.{Comes};
 ghost use Rattle.cl_syntax.specs.declared.operators.ListOperator.TheVariants as row;
 
@@ -19,7 +19,7 @@ pub fn list_operation(
     operator: ListOperator,
     values: &[Value],
 ) -> Result<Value, Stop>
-    ensures { Comes data_of result (list_made operator (map data_of values.now)) }
+    ensures { Comes data_of result (list_answer operator (map data_of values.now)) }
 {
     match operator {
         ListOperator::List => list(alloc, values),
@@ -75,14 +75,14 @@ pub fn add_if(kept: bool, values: &mut Vec<Value>, value: &Value) -> Result<(), 
 }
 
 fn list(alloc: Global, values: &[Value]) -> Result<Value, Stop>
-    ensures { Comes data_of result (list_made row.List (map data_of values.now)) }
+    ensures { Comes data_of result (list_answer row.List (map data_of values.now)) }
 {
     limit(Value::List(copy_all(alloc, values)?))
 }
 
 #[tactic(auto, using(std::proofs::lemmas::Grind::common_steps, crate::proofs::ListLemmas::list_of_items))]
 fn nth(values: &[Value]) -> Result<Value, Stop>
-    ensures { Comes data_of result (list_made row.Nth (map data_of values.now)) }
+    ensures { Comes data_of result (list_answer row.Nth (map data_of values.now)) }
 {
     match values {
         [Value::List(parts), Value::Int(place)] => part_at(parts, *place),
@@ -104,7 +104,7 @@ fn part_at(parts: &Values, place: i64) -> Result<Value, Stop>
 
 #[tactic(auto, using(std::proofs::lemmas::Grind::common_steps, crate::proofs::ListLemmas::list_of_items))]
 fn rest(alloc: Global, values: &[Value]) -> Result<Value, Stop>
-    ensures { Comes data_of result (list_made row.Rest (map data_of values.now)) }
+    ensures { Comes data_of result (list_answer row.Rest (map data_of values.now)) }
 {
     match values {
         [Value::List(parts)] => all_but_first(alloc, parts),
@@ -122,7 +122,7 @@ fn all_but_first(alloc: Global, parts: &Values) -> Result<Value, Stop>
 }
 
 fn cons(alloc: Global, values: &[Value]) -> Result<Value, Stop>
-    ensures { Comes data_of result (list_made row.Cons (map data_of values.now)) }
+    ensures { Comes data_of result (list_answer row.Cons (map data_of values.now)) }
 {
     match values {
         [first, Value::List(rest)] => limit(Value::List(with_first(alloc, first, rest)?)),
@@ -141,7 +141,7 @@ fn with_first(alloc: Global, first: &Value, rest: &Values) -> Result<Values, All
 
 #[tactic(auto, using(std::proofs::lemmas::Grind::common_steps, crate::proofs::ListLemmas::list_of_items))]
 fn append(alloc: Global, values: &[Value]) -> Result<Value, Stop>
-    ensures { Comes data_of result (list_made row.Append (map data_of values.now)) }
+    ensures { Comes data_of result (list_answer row.Append (map data_of values.now)) }
 {
     match values {
         [Value::List(first), Value::List(second)] => {
@@ -162,7 +162,7 @@ fn joined(alloc: Global, first: &Values, second: &Values) -> Result<Values, Allo
 
 #[tactic(auto, using(std::proofs::lemmas::Grind::common_steps, crate::proofs::ListLemmas::list_of_items))]
 fn contains(values: &[Value]) -> Result<Value, Stop>
-    ensures { Comes data_of result (list_made row.Contains (map data_of values.now)) }
+    ensures { Comes data_of result (list_answer row.Contains (map data_of values.now)) }
 {
     match values {
         [Value::List(parts), value] => Ok(Value::Bool(has_part(parts.as_slice(), value))),
@@ -183,7 +183,7 @@ fn has_part(parts: &[Value], value: &Value) -> bool
 }
 
 fn range(alloc: Global, values: &[Value]) -> Result<Value, Stop>
-    ensures { Comes data_of result (list_made row.Range (map data_of values.now)) }
+    ensures { Comes data_of result (list_answer row.Range (map data_of values.now)) }
 {
     match values {
         [Value::Int(first), Value::Int(last)] => numbers(alloc, *first, *last),

@@ -14,6 +14,19 @@ pub struct Limits {
     pub depth: u32,
 }
 
+/// How many forms may be entered in what is worked out on a counter of its own: the opening value of a slot, a default, a condition of a
+/// dialog, a tester or a body of a translator, a predicate, an accept method.
+pub const OWN_BUDGET: u64 = 10_000;
+
+/// How many forms may be entered and not left.
+pub const MAX_DEPTH: u32 = 512;
+
+/// The limits of what is worked out on a counter of its own.
+pub const OWN_LIMITS: Limits = Limits {
+    budget: OWN_BUDGET,
+    depth: MAX_DEPTH,
+};
+
 /// Why a run ended with no value: a trap of some kind, or want of memory.
 #[derive(Debug, Drop)]
 pub enum Stop {

@@ -6,7 +6,7 @@ ghost use Rattle.cl_syntax.specs.Expr.{bindings_of};
 ghost use Rattle.cl_eval.specs.Scope.{variables_of};
 ghost use Rattle.cl_eval.specs.Meaning.{bind_each, parts_of_list, truth_of};
 ghost use Rattle.cl_eval.specs.Stage.{meaning_on, seen_on};
-ghost use Rattle.cl_eval.specs.Statements.{assigned};
+ghost use Rattle.cl_eval.specs.Statements.{assign_slot};
 ghost use Rattle.cl_eval.specs.Agrees.{Agrees, Comes, always, itself};
 
 use crate::bindings::evaluate_bindings;
@@ -158,7 +158,7 @@ pub fn assign<T: Types>(
     effects: &mut Effects,
 ) -> Result<(), Stop>
     ensures { Comes (always effects.new) result
-        (assigned (T.holds program.now.types.now) name.now (slot_type name.now program.now.app.now)
+        (assign_slot (T.holds program.now.types.now) name.now (slot_type name.now program.now.app.now)
         effects.old (data_of value)) }
 {
     let Some(spec) = program.app.slot_spec(name.as_slice()) else {

@@ -2,7 +2,7 @@
 ghost use Rattle.std.specs.Prelude.{◌≡◌, ◌<◌, length, map, option_map, IfOk};
 ghost use Rattle.cl_value.specs.Value.{data_of};
 ghost use Rattle.cl_application.specs.App.{record_named};
-ghost use Rattle.cl_eval.specs.Operators.{changed_at, field_place, make_record, record_made, value_at, with_part};
+ghost use Rattle.cl_eval.specs.Operators.{changed_at, field_place, make_record, record_answer, value_at, with_part};
 ghost use Rattle.cl_eval.specs.Agrees.{Comes};
 
 use crate::lists::{add_all, copy_all};
@@ -22,7 +22,7 @@ pub fn record_operation(
     operator: &RecordOperator,
     values: &[Value],
 ) -> Result<Value, Stop>
-    ensures { Comes data_of result (record_made app.now operator.now (map data_of values.now)) }
+    ensures { Comes data_of result (record_answer app.now operator.now (map data_of values.now)) }
 {
     match operator {
         RecordOperator::Make(name) => make(alloc, app, name, values),

@@ -3,7 +3,7 @@ ghost use Rattle.std.specs.Prelude.{◌≡◌, ◌<◌, ◌-◌, ◌++◌, lengt
 ghost use Rattle.std.specs.Fmt.{signed_decimal};
 ghost use Rattle.cl_value.specs.Data.{text};
 ghost use Rattle.cl_value.specs.Value.{data_of};
-ghost use Rattle.cl_eval.specs.Operators.{within_limits, pad_to, subtext_of, text_made, text_of};
+ghost use Rattle.cl_eval.specs.Operators.{within_limits, pad_to, subtext_of, text_answer, text_of};
 ghost use Rattle.cl_eval.specs.Agrees.{Comes};
 ghost use Rattle.cl_syntax.specs.declared.operators.TextOperator.TheVariants as written;
 
@@ -11,6 +11,7 @@ use crate::metering::Stop;
 use crate::operators::{MAX_VALUE_SIZE, limit};
 use cl_syntax::TextOperator;
 use cl_value::{Text, Value};
+use itoa::Buffer;
 use std::alloc::{AllocError, Global};
 
 /// What is made of texts. A place that is not in its text traps with 4, a text past the limits of a value
@@ -20,7 +21,7 @@ pub fn text_operation(
     operator: TextOperator,
     values: &[Value],
 ) -> Result<Value, Stop>
-    ensures { Comes data_of result (text_made operator (map data_of values.now)) }
+    ensures { Comes data_of result (text_answer operator (map data_of values.now)) }
 {
     match operator {
         TextOperator::Concat => concat(alloc, values),
@@ -31,7 +32,7 @@ pub fn text_operation(
 }
 
 fn concat(alloc: Global, values: &[Value]) -> Result<Value, Stop>
-    ensures { Comes data_of result (text_made written.Concat (map data_of values.now)) }
+    ensures { Comes data_of result (text_answer written.Concat (map data_of values.now)) }
 {
     match values {
         [Value::Text(first), Value::Text(second)] => {
@@ -44,13 +45,15 @@ fn concat(alloc: Global, values: &[Value]) -> Result<Value, Stop>
 fn joined(alloc: Global, first: &Text, second: &Text) -> Result<Text, AllocError>
     ensures { IfOk result (λ t. t ≡ first.now ++ second.now) }
 {
-    let mut bytes = Vec::from_slice(alloc, first.as_slice())?;
-    bytes.extend_from_slice(second.as_slice())?;
+    let (first, second) = (first.as_slice(), second.as_slice());
+    let mut bytes = Vec::with_capacity(alloc, first.len().saturating_add(second.len()))?;
+    bytes.extend_from_slice(first)?;
+    bytes.extend_from_slice(second)?;
     Text::from_vec(alloc, bytes)
 }
 
 fn subtext(alloc: Global, values: &[Value]) -> Result<Value, Stop>
-    ensures { Comes data_of result (text_made written.Subtext (map data_of values.now)) }
+    ensures { Comes data_of result (text_answer written.Subtext (map data_of values.now)) }
 {
     match values {
         [Value::Text(text), Value::Int(from), Value::Int(to)] => cut(alloc, text, *from, *to),
@@ -74,7 +77,7 @@ fn cut(alloc: Global, text: &Text, from: i64, to: i64) -> Result<Value, Stop>
 }
 
 fn pad(alloc: Global, values: &[Value]) -> Result<Value, Stop>
-    ensures { Comes data_of result (text_made written.Pad (map data_of values.now)) }
+    ensures { Comes data_of result (text_answer written.Pad (map data_of values.now)) }
 {
     match values {
         [Value::Text(text), Value::Int(width)] => pad_to(alloc, text, *width),
@@ -101,13 +104,14 @@ fn with_spaces(alloc: Global, given: &Text, width: usize) -> Result<Text, AllocE
     requires { length given.now < width }
     ensures { IfOk result (λ t. t ≡ given.now ++ replicate (width - length given.now) 32) }
 {
-    let mut bytes = Vec::from_slice(alloc, given.as_slice())?;
+    let mut bytes = Vec::with_capacity(alloc, width)?;
+    bytes.extend_from_slice(given.as_slice())?;
     bytes.resize(width, b' ')?;
     Text::from_vec(alloc, bytes)
 }
 
 fn written(alloc: Global, values: &[Value]) -> Result<Value, Stop>
-    ensures { Comes data_of result (text_made written.Written (map data_of values.now)) }
+    ensures { Comes data_of result (text_answer written.Written (map data_of values.now)) }
 {
     match values {
         [value] => write(alloc, value),
@@ -129,6 +133,5 @@ fn write(alloc: Global, value: &Value) -> Result<Value, Stop>
 fn decimal(alloc: Global, number: i64) -> Result<Text, AllocError>
     ensures { IfOk result (λ t. t ≡ signed_decimal number) }
 {
-    let digits = format!(in alloc; "{number}")?;
-    Text::from_slice(alloc, digits.as_bytes())
+    Text::from_slice(alloc, Buffer::new().format(number).as_bytes())
 }

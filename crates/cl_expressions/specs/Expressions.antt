@@ -223,6 +223,7 @@ abbrev mutual
   parse_expression w (stray at) env = refuse 6 at
   parse_expression w (list ds at) env = parse_form w at (subs w ds) env
 
+  -- each part of a form, with its expression and the bindings that it is, as it is read
   pub subs : Signatures → Datums → List Sub
   subs w none = []
   subs w (item d ds) = record { shape = d; expr = parse_expression w d; bound = parse_bindings w d } ∷ subs w ds
@@ -236,10 +237,12 @@ abbrev mutual
   parse_bindings w (quoted s d_at name_at) at env = refuse 6 at
   parse_bindings w (stray d_at) at env = refuse 6 at
 
+  -- bindings in a row, each of which sees those before it
   pub parse_each_binding : Signatures → Datums → ℕ → Names → Load Bound
   parse_each_binding w none at env = give ([], env)
   parse_each_binding w (item d ds) at env = parse_binding w d at env >>= λ b. parse_each_binding w ds at (b.name ∷ env) >>= λ r. give (b ∷ r.0, r.1)
 
+  -- the binding that a datum is
   pub parse_binding : Signatures → Datum → ℕ → Names → Load Binding
   parse_binding w (list ds list_at) at env = parse_binding_parts at (subs w ds) env
   parse_binding w (number z d_at) at env = refuse 6 at

@@ -4,6 +4,7 @@ use Rattle.cl_expressions.specs.Load.{Notes, Fault}
 use Rattle.cl_forms.specs.declared.refusals.FormRefusal.{FormRefusal}
 use Rattle.cl_forms.specs.declared.refusals.FormRefusal.TheVariants.{Refused, Memory}
 
+-- what is read, with these notes, or the fault; want of memory answers nothing
 abbrev pub Leaves : {A B : Type 0} → Result B FormRefusal → A → Notes → Result (A × Notes) Fault → Type 0
 Leaves (Ok done) x notes r = r ≡ Ok (x, notes)
 Leaves (Err (Refused number at)) x notes r = r ≡ Err (number, at)

@@ -7,6 +7,7 @@ use base.Stored.{Gv, gnil, gnum, gcons}
 use Rattle.cl_forms.specs.Tree.{bytes_code, code_head, code_tail, code_number, has_parts}
 
 mutual
+  -- a datum, by its kind, with its offset
   pub data Datum : Type 0 where
     number : ℤ → ℕ → Datum
     literal : List ℕ → ℕ → Datum
@@ -18,10 +19,12 @@ mutual
     stray : ℕ → Datum
     list : Datums → ℕ → Datum
 
+  -- data, one after another
   pub data Datums : Type 0 where
     none : Datums
     item : Datum → Datums → Datums
 
+-- a list of data as a datum holds it
 abbrev pub datums_of : List Datum → Datums
 datums_of [] = none
 datums_of (d ∷ ds) = item d (datums_of ds)
@@ -36,10 +39,12 @@ abbrev mutual
   weight (stray at) = 1
   weight (list ds at) = 1 + weights ds
 
+  -- how many atoms and lists there are in data in a row
   pub weights : Datums → ℕ
   weights none = 0
   weights (item d ds) = weight d + weights ds
 
+-- data in a row, as a list
 abbrev pub in_order : Datums → List Datum
 in_order none = []
 in_order (item d ds) = d ∷ in_order ds
@@ -65,6 +70,7 @@ offset (list ds at) = at
 -- ---- how the logic stores a datum
 
 abbrev mutual
+  -- the term of a datum
   pub code : Datum → Gv
   code (number z at) = gcons (gnum 0) (gcons (coded_ℤ.code z) (gnum at))
   code (literal s at) = gcons (gnum 1) (gcons (bytes_code s) (gnum at))
@@ -73,6 +79,7 @@ abbrev mutual
   code (stray at) = gcons (gnum 4) (gcons gnil (gnum at))
   code (list ds at) = gcons (gnum 5) (gcons (codes_of ds) (gnum at))
 
+  -- the term of data in a row
   pub codes_of : Datums → Gv
   codes_of none = gnil
   codes_of (item d ds) = gcons (code d) (codes_of ds)
@@ -87,6 +94,7 @@ kind_of (stray at) = 4
 kind_of (list ds at) = 5
 
 mutual
+  -- data of one term are one datum
   pub code-inj : (x y : Datum) → code x ≡ code y → x ≡ y
   code-inj (number z m) (number w n) p =
       let first : z ≡ w = coded_ℤ.inj z w (ap (λ g. code_head (code_tail g)) p) in
@@ -114,6 +122,7 @@ mutual
       λ i. list (first i) (at i)
   code-inj x y p = absurd (eqb-false (kind_of x) (kind_of y) refl (ap (λ g. code_number (code_head g)) p))
 
+  -- rows of one term are one row
   pub codes_of-inj : (ds es : Datums) → codes_of ds ≡ codes_of es → ds ≡ es
   codes_of-inj none none p = refl
   codes_of-inj (item d ds) (item e es) p =
@@ -123,5 +132,6 @@ mutual
   codes_of-inj none (item e es) p = absurd (eqb-false 0 1 refl (ap has_parts p))
   codes_of-inj (item d ds) none p = absurd (eqb-false 1 0 refl (ap has_parts p))
 
+-- how the logic stores a datum
 abbrev pub datum_code : Coded Datum
 datum_code = record { code = code; inj = code-inj }

@@ -3,6 +3,7 @@ use Rattle.cl_forms.specs.Datum as tree
 use Rattle.cl_forms.specs.declared.datum.Datum.{Datum}
 use Rattle.cl_forms.specs.declared.datum.Datum.TheVariants as variant
 
+-- what a datum of the program is as a tree
 abbrev pub datum_of : Datum → tree.Datum
 datum_of (variant.Number z at) = tree.number z at
 datum_of (variant.Literal s at) = tree.literal s at

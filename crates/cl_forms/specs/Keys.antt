@@ -60,19 +60,24 @@ dialog_key word =
     else (if bytes_eq word (codes ":when") then Some When
     else (if bytes_eq word (codes ":else") then Some Else else None)))
 
+-- the first key, else the other
 abbrev pub key_or : Option Key → Option Key → Option Key
 key_or (Some key) other = Some key
 key_or None other = other
 
+-- the key that a word is, if it is one
 abbrev pub key_named : List ℕ → Option Key
 key_named word = key_or (section_key word) (key_or (value_key word) (key_or (translator_key word) (key_or (update_key word) (dialog_key word))))
 
+-- two keys are one
 abbrev pub same_key : Key → Key → Bool
 same_key a b = sameb the_type a b
 
+-- a key is one of the keys
 abbrev pub is_among : List Key → Key → Bool
 is_among keys key = list_any (same_key key) keys
 
+-- a key, if it is one that the form may have
 abbrev pub allowed : List Key → Option Key → Option Key
 allowed may_have None = None
 allowed may_have (Some key) = if is_among may_have key then Some key else None
@@ -86,19 +91,23 @@ abbrev pub values_of : Key → List Keyed → Option (List Datum)
 values_of key [] = None
 values_of key (k ∷ ks) = if same_key key k.key then Some k.values else values_of key ks
 
+-- whether this key is among those of a form
 abbrev pub has_key : Key → List Keyed → Bool
 has_key key ks = is_some (values_of key ks)
 
+-- a key with its offset and what stands behind it, where there is a key
 abbrev pub keyed_as : Option Key → ℕ → List Datum → Option Keyed
 keyed_as None at ds = None
 keyed_as (Some key) at ds = Some (record { key = key; at = at; values = ds })
 
 -- ---- one section
 
+-- the key that was found is this one
 abbrev pub is_key : Key → Option Key → Bool
 is_key key None = false
 is_key key (Some found) = same_key key found
 
+-- what stands behind this key, where it stands first
 abbrev pub values_behind : Key → List Datum → List Datum
 values_behind key [] = []
 values_behind key (d ∷ ds) = if is_key key (key_named (symbol_of d)) then ds else []
@@ -114,6 +123,7 @@ abbrev pub with_keyed : Option Keyed → List Keyed → Option (List Keyed)
 with_keyed None so_far = None
 with_keyed (Some k) so_far = if has_key k.key so_far then None else Some (so_far ++ k ∷ [])
 
+-- the key that stands first, with all that stands behind it
 abbrev pub section_of : List Key → List Datum → Option Keyed
 section_of may_have [] = None
 section_of may_have (d ∷ ds) = keyed_as (key_in may_have d) (offset d) ds
@@ -122,6 +132,7 @@ section_of may_have (d ∷ ds) = keyed_as (key_in may_have d) (offset d) ds
 abbrev pub section_in : List Key → Datum → Option Keyed
 section_in may_have d = section_of may_have (parts_of d)
 
+-- the keys of sections, behind those that stand so far
 abbrev pub keyed_sections : List Key → List Keyed → List Datum → Option (List Keyed)
 keyed_sections may_have so_far [] = Some so_far
 keyed_sections may_have so_far (d ∷ ds) = option_and_then (λ more. keyed_sections may_have more ds) (with_keyed (section_in may_have d) so_far)
@@ -130,6 +141,7 @@ keyed_sections may_have so_far (d ∷ ds) = option_and_then (λ more. keyed_sect
 abbrev pub pair_in : List Key → Datum → Datum → Option Keyed
 pair_in may_have k v = keyed_as (key_in may_have k) (offset k) (v ∷ [])
 
+-- the keys of pairs, behind those that stand so far
 abbrev pub keyed_pairs : List Key → List Keyed → List Datum → Option (List Keyed)
 keyed_pairs may_have so_far [] = Some so_far
 keyed_pairs may_have so_far (k ∷ []) = None

@@ -2,9 +2,11 @@
 use Rattle.std.specs.Prelude.{ℕ, ◌-◌, Bool, true, ◌&&◌, ◌==◌, nat_le, nat_eq, if◌then◌else◌, List, [], ◌∷◌, drop, codes}
 use Rattle.std.specs.List.{starts_with}
 
+-- a letter as a capital; any other byte itself
 abbrev pub upper : ℕ → ℕ
 upper b = if nat_le 97 b && nat_le b 122 then b - 32 else b
 
+-- a hyphen as a space, and the first letter of a word as a capital
 abbrev pub line_byte : Bool → ℕ → ℕ
 line_byte first b = if b == 45 then 32 else (if first then upper b else b)
 

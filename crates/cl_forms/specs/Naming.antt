@@ -3,6 +3,7 @@ use Rattle.std.specs.Prelude.{ℕ, Bool, true, false, ◌==◌, ◌&&◌, is_som
 use Rattle.cl_forms.specs.Datum.{Datum, number, literal, word, quoted, stray, list, in_order}
 use Rattle.cl_forms.specs.Words.{is_name}
 
+-- the given, if the answer is yes
 abbrev pub some_if : {A : Type 0} → Bool → A → Option A
 some_if true x = Some x
 some_if false x = None
@@ -25,6 +26,7 @@ symbol_of (quoted s at name_at) = []
 symbol_of (stray at) = []
 symbol_of (list ds at) = []
 
+-- all are names
 abbrev pub are_names : List Datum → Bool
 are_names [] = true
 are_names (d ∷ ds) = is_some (name_in d) && are_names ds
@@ -33,6 +35,7 @@ are_names (d ∷ ds) = is_some (name_in d) && are_names ds
 abbrev pub names_counted : List Datum → Option ℕ
 names_counted ds = if are_names ds then Some (length ds) else None
 
+-- how many names a list has; None of anything else
 abbrev pub list_counted : Datum → Option ℕ
 list_counted (list ds at) = names_counted (in_order ds)
 list_counted (word s at) = None

@@ -26,6 +26,7 @@ type_declared x =
     else (if bytes_eq x (codes "define-present-method") then Some PresentMethod
     else (if bytes_eq x (codes "define-accept-method") then Some AcceptMethod else None))))
 
+-- what declares anything else
 abbrev pub declared_by : List ℕ → Option DeclarationKind
 declared_by x =
     if bytes_eq x (codes "define-function") then Some Function
@@ -37,10 +38,12 @@ declared_by x =
     else (if bytes_eq x (codes "define-dialog") then Some Dialog
     else (if bytes_eq x (codes "define-application-frame") then Some Frame else None)))))))
 
+-- the first declaration, else the other
 abbrev pub declared_or : Option DeclarationKind → Option DeclarationKind → Option DeclarationKind
 declared_or (Some kind) other = Some kind
 declared_or None other = other
 
+-- what a form declares that this word heads, if anything
 abbrev pub declaration_named : List ℕ → Option DeclarationKind
 declaration_named x = declared_or (type_declared x) (declared_by x)
 
@@ -48,6 +51,7 @@ declaration_named x = declared_or (type_declared x) (declared_by x)
 abbrev pub is_planned : List ℕ → Bool
 is_planned x = bytes_eq x (codes "define-drag-and-drop-translator")
 
+-- a declaration, where there is one, else the other
 abbrev pub kind_or : Option DeclarationKind → OuterKind → OuterKind
 kind_or (Some kind) other = Declared kind
 kind_or None other = other
@@ -58,10 +62,12 @@ kind_named x at = kind_or (declaration_named x) (if is_planned x then Planned at
 
 -- ---- names
 
+-- the first part, if there is one
 abbrev pub first_of : List Datum → Option Datum
 first_of [] = None
 first_of (d ∷ ds) = Some d
 
+-- all parts but the first
 abbrev pub behind_first : List Datum → List Datum
 behind_first [] = []
 behind_first (d ∷ ds) = ds
@@ -80,6 +86,7 @@ abbrev pub command_name : List Datum → Option Datum
 command_name [] = None
 command_name (d ∷ ds) = first_or_itself d
 
+-- what stands where the name of a form is, by what the form is
 abbrev pub outer_name : OuterKind → List Datum → Option Datum
 outer_name (Declared Command) ds = command_name ds
 outer_name (Declared Record) ds = first_of ds
@@ -102,14 +109,17 @@ outer_name Headless ds = None
 abbrev pub declared_name : Outer → Option (List ℕ)
 declared_name o = option_and_then name_in o.name
 
+-- what stands behind the name
 abbrev pub behind_name : Outer → List Datum
 behind_name o = behind_first o.parts
 
 -- ---- forms
 
+-- an outermost form without a head
 abbrev pub headless : ℕ → Outer
 headless at = record { kind = Headless; name = None; parts = []; at = at }
 
+-- the outermost form at an offset, by what stands first in it
 abbrev pub outer_headed : ℕ → Datum → List Datum → Outer
 outer_headed at (word s head_at) ds = record { kind = kind_named s head_at; name = outer_name (kind_named s head_at) ds; parts = ds; at = at }
 outer_headed at (number z head_at) ds = headless at
@@ -118,6 +128,7 @@ outer_headed at (quoted s head_at name_at) ds = headless at
 outer_headed at (stray head_at) ds = headless at
 outer_headed at (list es head_at) ds = headless at
 
+-- the outermost form at an offset, by its parts
 abbrev pub outer_listed : ℕ → List Datum → Outer
 outer_listed at [] = headless at
 outer_listed at (d ∷ ds) = outer_headed at d ds
@@ -126,5 +137,6 @@ outer_listed at (d ∷ ds) = outer_headed at d ds
 abbrev pub outer_in : Datum → Outer
 outer_in d = outer_listed (offset d) (parts_of d)
 
+-- the outermost forms of a text
 abbrev pub outers_of : List Datum → List Outer
 outers_of ds = map outer_in ds

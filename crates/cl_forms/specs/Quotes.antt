@@ -4,6 +4,7 @@ use Rattle.std.specs.Prelude.{◌≡◌, ℕ, List, [], ◌∷◌, ◌++◌, Opt
 use Rattle.cl_forms.specs.Datum.{Datum, Datums, number, literal, word, quoted, stray, list, none, item}
 use Rattle.cl_forms.specs.Tree.{Tree, Lexeme, open_at, close, number_at, literal_at, name_at, spelled}
 
+-- the token of a quote at this offset
 abbrev pub quote_at : ℕ → Lexeme
 quote_at at = name_at (codes "'") at
 
@@ -12,6 +13,7 @@ abbrev pub quotes : List ℕ → List Lexeme
 quotes [] = []
 quotes (at ∷ ats) = quote_at at ∷ quotes ats
 
+-- the tokens of a form, if there is one
 abbrev pub spelled_if : Option Tree → List Lexeme
 spelled_if None = []
 spelled_if (Some t) = spelled t
@@ -30,6 +32,7 @@ pub record IsJoined (First Rest : List Lexeme → Type 0) (ls : List Lexeme) : T
   pub is_rest : Rest rest
   pub joined : ls ≡ first ++ rest
 
+-- a list: an opening parenthesis, what is inside, and a closing one
 pub record IsForm (at : ℕ) (Inside : List Lexeme → Type 0) (ls : List Lexeme) : Type 0 where
   pub inside : List Lexeme
   pub is_inside : Inside inside
@@ -45,6 +48,7 @@ abbrev mutual
   IsWritten (stray at) ls = IsStray at ls
   IsWritten (list ds at) ls = IsForm at (AreWritten ds) ls
 
+  -- data in a row are written with these tokens
   pub AreWritten : Datums → List Lexeme → Type 0
   AreWritten none ls = ls ≡ []
   AreWritten (item d ds) ls = IsJoined (IsWritten d) (AreWritten ds) ls

@@ -23,12 +23,14 @@ lexeme_of text (Int z) start end = number_at z start
 lexeme_of text Text start end = literal_at (unescaped false (slice_range text (start + 1) (end - 1))) start
 lexeme_of text Symbol start end = name_at (map to_ascii_lowercase (slice_range text start end)) start
 
+-- tokens with their contents
 abbrev pub lexemes : List ℕ → List Token → List Lexeme
 lexemes text [] = []
 lexemes text (t ∷ ts) = lexeme_of text t.kind t.start t.end ∷ lexemes text ts
 
 -- ---- what a parser may rely on and leaves
 
+-- a token that is no parenthesis
 abbrev pub IsAtom : Kind → Type 0
 IsAtom Open = ⊥
 IsAtom Close = ⊥
@@ -37,6 +39,7 @@ IsAtom (Int z) = ⊤
 IsAtom Text = ⊤
 IsAtom Symbol = ⊤
 
+-- a token that closes a form
 abbrev pub is_close : Kind → Bool
 is_close Open = false
 is_close Close = true

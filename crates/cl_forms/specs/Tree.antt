@@ -6,16 +6,19 @@ use Rattle.std.proofs.lemmas.Bool.{eqb-false}
 use base.Stored.{Gv, gnil, gnum, gcons}
 
 mutual
+  -- a number, a literal, a name or a form, with its offset
   pub data Tree : Type 0 where
     number : ℤ → ℕ → Tree
     literal : List ℕ → ℕ → Tree
     name : List ℕ → ℕ → Tree
     form : Trees → ℕ → Tree
 
+  -- trees, one after another
   pub data Trees : Type 0 where
     none : Trees
     item : Tree → Trees → Trees
 
+-- a list of trees as a form holds it
 abbrev pub trees_of : List Tree → Trees
 trees_of [] = none
 trees_of (t ∷ ts) = item t (trees_of ts)
@@ -28,6 +31,7 @@ abbrev mutual
   weight (name s at) = 1
   weight (form ts at) = 1 + weights ts
 
+  -- how many atoms and forms there are in trees in a row
   pub weights : Trees → ℕ
   weights none = 0
   weights (item t ts) = weight t + weights ts
@@ -50,41 +54,49 @@ abbrev mutual
   spelled (name s at) = name_at s at ∷ []
   spelled (form ts at) = open_at at ∷ (spelled_all ts ++ close ∷ [])
 
+  -- forms in a row as they are written
   pub spelled_all : Trees → List Lexeme
   spelled_all none = []
   spelled_all (item t ts) = spelled t ++ spelled_all ts
 
 -- ---- how the logic stores a tree
 
+-- the term of a row of bytes
 abbrev pub bytes_code : List ℕ → Gv
 bytes_code s = (coded_list coded_ℕ).code s
 
 abbrev mutual
+  -- the term of a tree
   pub code : Tree → Gv
   code (number z at) = gcons (gnum 0) (gcons (coded_ℤ.code z) (gnum at))
   code (literal s at) = gcons (gnum 1) (gcons (bytes_code s) (gnum at))
   code (name s at) = gcons (gnum 2) (gcons (bytes_code s) (gnum at))
   code (form ts at) = gcons (gnum 3) (gcons (codes_of ts) (gnum at))
 
+  -- the term of trees in a row
   pub codes_of : Trees → Gv
   codes_of none = gnil
   codes_of (item t ts) = gcons (code t) (codes_of ts)
 
+-- the first part of a term
 abbrev pub code_head : Gv → Gv
 code_head gnil = gnil
 code_head (gnum n) = gnil
 code_head (gcons a b) = a
 
+-- what is behind the first part of a term
 abbrev pub code_tail : Gv → Gv
 code_tail gnil = gnil
 code_tail (gnum n) = gnil
 code_tail (gcons a b) = b
 
+-- the number that a term is, or 0
 abbrev pub code_number : Gv → ℕ
 code_number gnil = 0
 code_number (gnum n) = n
 code_number (gcons a b) = 0
 
+-- 1 for a term of two parts, or 0
 abbrev pub has_parts : Gv → ℕ
 has_parts gnil = 0
 has_parts (gnum n) = 0
@@ -98,6 +110,7 @@ kind_of (name s at) = 2
 kind_of (form ts at) = 3
 
 mutual
+  -- trees of one term are one tree
   pub code-inj : (x y : Tree) → code x ≡ code y → x ≡ y
   code-inj (number z m) (number w n) p =
       let first : z ≡ w = coded_ℤ.inj z w (ap (λ g. code_head (code_tail g)) p) in
@@ -117,6 +130,7 @@ mutual
       λ i. form (first i) (at i)
   code-inj x y p = absurd (eqb-false (kind_of x) (kind_of y) refl (ap (λ g. code_number (code_head g)) p))
 
+  -- rows of one term are one row
   pub codes_of-inj : (ts us : Trees) → codes_of ts ≡ codes_of us → ts ≡ us
   codes_of-inj none none p = refl
   codes_of-inj (item t ts) (item u us) p =
@@ -126,5 +140,6 @@ mutual
   codes_of-inj none (item u us) p = absurd (eqb-false 0 1 refl (ap has_parts p))
   codes_of-inj (item t ts) none p = absurd (eqb-false 1 0 refl (ap has_parts p))
 
+-- how the logic stores a tree
 abbrev pub tree_code : Coded Tree
 tree_code = record { code = code; inj = code-inj }

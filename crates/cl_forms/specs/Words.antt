@@ -7,6 +7,7 @@ use Rattle.std.specs.Str.{bytes_eq}
 abbrev pub is_key : List ℕ → Bool
 is_key word = starts_with nat_eq word (codes ":")
 
+-- `true`, `false`, `null` and `*` are constants
 abbrev pub is_constant : List ℕ → Bool
 is_constant word = bytes_eq word (codes "true") || bytes_eq word (codes "false") || bytes_eq word (codes "null") || bytes_eq word (codes "*")
 

@@ -36,7 +36,7 @@ use Rattle.cl_untouched.specs.Among.{keeps_among, touched_between}
 use Rattle.cl_untouched.proofs.PaneLemmas.{pane-cells}
 use Rattle.cl_updating.specs.Redisplays.{CanReuse}
 use Rattle.cl_frame.specs.Damages.{CanShow, IsDamage, Leaves, as_blank, as_evaluated, damage_holds, touched_with}
-use Rattle.cl_frame.specs.Frames.{ArePanesFaithful, AreShown, Evaluates, IsPaneFaithful, is_blank_pane, is_stale_under}
+use Rattle.cl_frame.specs.Frames.{ArePanesFaithful, AreShown, Evaluates, IsPaneFaithful, IsBlankPane, is_stale_under}
 use Rattle.cl_frame.specs.Panes.{PaneMarks, marks_in, marks_of, marks_of_pane, shown_of_pane}
 use Rattle.cl_frame.specs.Sending.{touched_in}
 use Rattle.cl_frame.specs.Settling.{marks_settled, met_memory, pane_draw, reused}
@@ -221,5 +221,5 @@ pub faithful-quiet : (app : App) (types : TypeMeanings) (p : Pane) → IsPaneFai
 faithful-quiet app types p h = record { faithful = h.faithful; once = h.once }
 
 -- one that was never settled
-pub faithful-blank : (app : App) (types : TypeMeanings) (p : Pane) → is_blank_pane p → IsPaneFaithful app types p
+pub faithful-blank : (app : App) (types : TypeMeanings) (p : Pane) → IsBlankPane p → IsPaneFaithful app types p
 faithful-blank app types p h = record { faithful = rw h.0 tt; once = rw h.0 tt }

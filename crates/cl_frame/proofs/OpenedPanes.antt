@@ -12,7 +12,7 @@ use Rattle.cl_redisplay.specs.Paint as paint
 use Rattle.cl_redisplay.specs.Shown.{Apart, AreApart, Shown, areas_of}
 use Rattle.cl_redisplay.specs.declared.areas.Area.{Area}
 use Rattle.cl_redisplay.proofs.ShownLemmas.{Apart-parted, Shows-blank}
-use Rattle.cl_frame.specs.Frames.{AreShown, IsFrameOf, is_blank_pane}
+use Rattle.cl_frame.specs.Frames.{AreShown, IsFrameOf, IsBlankPane}
 use Rattle.cl_frame.specs.Panes.{IsCounted, area_of, area_of_pane, marks_in, marks_of, marks_of_pane, shown_of_pane}
 use Rattle.cl_frame.specs.declared.frames.Frame.{Frame}
 use Rattle.cl_frame.specs.declared.panes.Pane.{Pane}
@@ -28,8 +28,8 @@ areas_next ds k d panes p all is e h =
     ∙ (ap (λ (a : Area). map area_of_pane panes ++ a ∷ rest) e
     ∙ (ap (λ (xs : List PaneDecl). map area_of_pane panes ++ map area_of xs) (sym (drop_at ds k d is)) ∙ h)))
 
-pub blank_next : (panes : List Pane) (p : Pane) → All is_blank_pane panes → is_blank_pane p → All is_blank_pane (panes ++ p ∷ [])
-blank_next panes p h b = All-append is_blank_pane panes (p ∷ []) h (All-cons is_blank_pane p [] b (All-nil is_blank_pane))
+pub blank_next : (panes : List Pane) (p : Pane) → All IsBlankPane panes → IsBlankPane p → All IsBlankPane (panes ++ p ∷ [])
+blank_next panes p h b = All-append IsBlankPane panes (p ∷ []) h (All-cons IsBlankPane p [] b (All-nil IsBlankPane))
 
 -- the areas of panes that are shown are their own
 areas_shown : (panes : List Pane) → areas_of (map shown_of_pane panes) ≡ map area_of_pane panes
@@ -66,15 +66,15 @@ apart_panes : (ds : List PaneDecl) → LieApart ds → AreApart (map area_of ds)
 apart_panes [] h = tt
 apart_panes (d ∷ ds) h = (apart_all d ds h.0, apart_panes ds h.1)
 
-no_marks : (p : Pane) → is_blank_pane p → marks_in (marks_of_pane p) ≡ []
+no_marks : (p : Pane) → IsBlankPane p → marks_in (marks_of_pane p) ≡ []
 no_marks p b = ap (λ h. marks_in (marks_of h)) b.0
 
-none_counted : (p : Pane) → is_blank_pane p → IsCounted p
+none_counted : (p : Pane) → IsBlankPane p → IsCounted p
 none_counted p b = b.1 ∙ sym (ap count_of (no_marks p b))
 
 -- a blank screen shows blank panes
 pub shown_blank : (app : App) (panes : List Pane) (raster : Picture) → IsPlaced app.frame → raster ≡ blank_picture app.frame.width app.frame.height
-    → map area_of_pane panes ≡ map area_of (panes_of app) → All is_blank_pane panes → AreShown panes raster
+    → map area_of_pane panes ≡ map area_of (panes_of app) → All IsBlankPane panes → AreShown panes raster
 shown_blank app panes raster placed e areas blank =
     let ds = panes_of app in
     let lies = all_more (LiesIn app.frame) (λ d. paint.LiesIn (area_of d) raster) ds
@@ -84,8 +84,8 @@ shown_blank app panes raster placed e areas blank =
       lie = all_of_map (λ a. paint.LiesIn a raster) area_of_pane panes (subst (λ (xs : List Area). All (λ a. paint.LiesIn a raster) xs) (sym areas) lie_areas);
       apart = subst AreApart (sym (areas_shown panes ∙ areas)) (apart_panes ds placed.apart);
       shows = rw e (Shows-blank app.frame.width app.frame.height (map shown_of_pane panes)
-          (map_of_all (λ (s : Shown). s.marks ≡ []) shown_of_pane panes (all_more is_blank_pane (λ p. marks_in (marks_of_pane p) ≡ []) panes no_marks blank)));
-      counted = all_more is_blank_pane IsCounted panes none_counted blank;
+          (map_of_all (λ (s : Shown). s.marks ≡ []) shown_of_pane panes (all_more IsBlankPane (λ p. marks_in (marks_of_pane p) ≡ []) panes no_marks blank)));
+      counted = all_more IsBlankPane IsCounted panes none_counted blank;
     }
 
 -- a frame has as many panes as its application

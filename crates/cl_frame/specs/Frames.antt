@@ -56,9 +56,9 @@ pub record IsFrameOf (app : App) (f : Frame) : Type 0 where
   pub areas : map area_of_pane f.panes.items ≡ map area_of (panes_of app)
   pub shown : AreShown f.panes.items f.screen.raster
 
--- a pane that was never settled
-abbrev pub is_blank_pane : Pane → Type 0
-is_blank_pane p = (p.history ≡ None) × (p.items ≡ 0)
+-- a pane without a history
+abbrev pub IsBlankPane : Pane → Type 0
+IsBlankPane p = (p.history ≡ None) × (p.items ≡ 0)
 
 -- the history of a pane, where it has one, is faithful: what it says of its updates is what their bodies come to, and no level of it has two
 -- updates of one site and id

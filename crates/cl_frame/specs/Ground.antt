@@ -13,6 +13,7 @@ pub record Ground : Type 0 where
   pub hierarchy : Hierarchy
   pub limits : Limits
 
+-- a ground of these parts
 abbrev pub ground : App → TypeMeanings → Reads → Hierarchy → Limits → Ground
 ground app types reads hierarchy limits = record { app = app; types = types; reads = reads; hierarchy = hierarchy; limits = limits }
 

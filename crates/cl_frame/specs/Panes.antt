@@ -35,12 +35,15 @@ shown_panes (d ∷ ds) (m ∷ ms) = record { area = area_of d; marks = marks_in 
 
 -- ---- the panes of the program
 
+-- the marks of a pane's history
 abbrev pub marks_of_pane : Pane → PaneMarks
 marks_of_pane p = marks_of p.history
 
+-- the area of the screen that a pane has
 abbrev pub area_of_pane : Pane → Area
 area_of_pane p = p.area
 
+-- the report of a pane
 abbrev pub report_of_pane : Pane → PaneReport
 report_of_pane p = p.report
 

@@ -26,6 +26,7 @@ pub record Wire : Type 0 where
   pub faults : ℕ
   pub told : Bool
 
+-- a wire of these parts
 abbrev pub wire_of : Option (List ℕ) → (faults : ℕ) → (told : Bool) → Wire
 wire_of bytes faults told = record { bytes = bytes; faults = faults; told = told }
 

@@ -80,9 +80,11 @@ settle_panes g which state (d ∷ ds) [] mets = []
 settle_panes g which state (d ∷ ds) (o ∷ os) [] = settle_pane g which state d o false ∷ settle_panes g which state ds os []
 settle_panes g which state (d ∷ ds) (o ∷ os) (m ∷ ms) = settle_pane g which state d o m ∷ settle_panes g which state ds os ms
 
+-- the marks of a pane after its step
 abbrev pub marks_after : PaneStep → PaneMarks
 marks_after s = s.marks
 
+-- the report of a pane after its step
 abbrev pub report_after : PaneStep → PaneReport
 report_after s = s.report
 
@@ -91,6 +93,7 @@ abbrev pub costs : List PaneStep → ℕ
 costs [] = 0
 costs (s ∷ ss) = s.cost + costs ss
 
+-- the report says that a pane met want of memory
 abbrev pub met_memory : PaneReport → Bool
 met_memory (report.Shown r) = false
 met_memory (report.Trapped k) = false

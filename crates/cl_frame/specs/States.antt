@@ -15,13 +15,16 @@ pub record FillingAt : Type 0 where
   pub display : List ℕ
   pub env : Env
 
+-- the slots, and what fills a pane, if anything does
 pub record StateAt : Type 0 where
   pub slots : Slots
   pub filling : Option FillingAt
 
+-- a filling of the program, as it is now
 abbrev pub filling_of : Filling → FillingAt
 filling_of f = record { pane = f.pane.now; display = f.display.now; env = f.env.now }
 
+-- a state of the program, as it is now
 abbrev pub state_of : State → StateAt
 state_of s = record { slots = s.slots.now; filling = option_map filling_of s.filling }
 
@@ -35,6 +38,7 @@ abbrev pub forms_by : App → PaneDecl → Option FillingAt → List ShapeTree
 forms_by app d None = forms_of d app
 forms_by app d (Some f) = body_of (display_named f.display app)
 
+-- the forms that a pane shows: those of its display, or of the display that fills it
 abbrev pub shown_forms : App → PaneDecl → StateAt → List ShapeTree
 shown_forms app d s = forms_by app d (filling_in d s.filling)
 
@@ -43,5 +47,6 @@ abbrev pub env_by : Option FillingAt → Env
 env_by None = []
 env_by (Some f) = f.env
 
+-- the variables of the forms that a pane shows
 abbrev pub shown_env : PaneDecl → StateAt → Env
 shown_env d s = env_by (filling_in d s.filling)

@@ -3,7 +3,7 @@ ghost use Rattle.std.specs.Prelude.{◌≡◌, ◌<◌, true, false, not, All, I
 ghost use Rattle.cl_application.specs.Panes.{IsPlaced, panes_of};
 ghost use Rattle.cl_application.specs.declared.applications.App.{App};
 ghost use Rattle.cl_eval.specs.TypeMeanings.{TypeMeanings};
-ghost use Rattle.cl_frame.specs.Frames.{ArePanesFaithful, AreShown, IsFrameOf, is_blank_pane, pane_met};
+ghost use Rattle.cl_frame.specs.Frames.{ArePanesFaithful, AreShown, IsFrameOf, IsBlankPane, pane_met};
 ghost use Rattle.cl_frame.specs.Panes.{area_of, area_of_pane, shown_of_pane};
 ghost use Rattle.std.specs.List.{list_any};
 ghost use Rattle.cl_frame.specs.Sending.{SendsOn, wire_of};
@@ -32,7 +32,7 @@ impl Frame {
     pub fn open(alloc: Global, app: &App) -> Result<Frame, AllocError>
         requires { IsPlaced app.now.frame }
         ensures frame { IfOk result (IsFrameOf app.now) }
-        ensures blank { IfOk result (λ f. All is_blank_pane f.panes.items) }
+        ensures blank { IfOk result (λ f. All IsBlankPane f.panes.items) }
         ensures faithful { IfOk result (λ f. (types : TypeMeanings) → ArePanesFaithful app.now types f.panes.items) }
         ensures stale { IfOk result (λ f. f.screen.stale ≡ true) }
     {
@@ -97,7 +97,7 @@ impl Frame {
 // A blank pane in each place where the application has one.
 fn blank_panes(alloc: Global, app: &App) -> Result<Vec<Pane>, AllocError>
     ensures areas { IfOk result (λ ps. map area_of_pane ps.items ≡ map area_of (panes_of app.now)) }
-    ensures blank { IfOk result (λ ps. All is_blank_pane ps.items) }
+    ensures blank { IfOk result (λ ps. All IsBlankPane ps.items) }
 {
     let mut panes = Vec::new(alloc);
     for place in 0..app.frame.panes.len() {

@@ -44,6 +44,7 @@ sets_to (suc n) = sets_to n ++ set_lines (suc n)
 abbrev pub front_lines : List (List ℕ)
 front_lines = codes "type Front 0 z" ∷ codes "return" ∷ []
 
+-- each item gets another label, and one comes in front
 abbrev pub gesture_lines : ℕ → List (List ℕ)
 gesture_lines n = sets_to n ++ front_lines
 

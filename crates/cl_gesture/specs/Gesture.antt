@@ -23,6 +23,7 @@ abbrev pub is_idle : List ℕ → Bool
 is_idle [] = true
 is_idle (byte ∷ bytes) = nat_eq byte 35
 
+-- a byte from 32 to 126
 abbrev pub is_printable : ℕ → Bool
 is_printable byte = nat_le 32 byte && nat_le byte 126
 
@@ -30,9 +31,11 @@ is_printable byte = nat_le 32 byte && nat_le byte 126
 abbrev pub is_typable : List ℕ → Bool
 is_typable bytes = not (length bytes == 0) && list_all is_printable bytes
 
+-- a byte is a space
 abbrev pub is_space : ℕ → Bool
 is_space byte = nat_eq byte 32
 
+-- a byte is no space
 abbrev pub is_no_space : ℕ → Bool
 is_no_space byte = not (is_space byte)
 
@@ -109,9 +112,11 @@ kind_of (long bytes) = bad
 
 -- ---- law of the grammar
 
+-- a byte from 32 to 126
 abbrev pub IsPrintable : ℕ → Type 0
 IsPrintable byte = (32 ≤ byte) × (byte ≤ 126)
 
+-- a byte is no space
 abbrev pub IsNoSpace : ℕ → Type 0
 IsNoSpace byte = byte ≢ 32
 

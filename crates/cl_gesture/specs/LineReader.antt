@@ -9,6 +9,7 @@ use Rattle.cl_gesture.specs.declared.lines.NextLine.TheVariants as next
 use Rattle.cl_gesture.specs.Lines.{line, long, ended, Reads}
 use Rattle.cl_gesture.specs.Progress.{Progress, Passes, stop_at, most_lines}
 
+-- the source that lines are read from
 abbrev pub source_of : {G : Type 0} → LineReader G → G
 source_of s = s.source
 

@@ -72,6 +72,7 @@ abbrev pub bytes_of : Piece → List ℕ
 bytes_of (line bytes) = bytes ++ line_feed ∷ []
 bytes_of (long bytes) = bytes
 
+-- a byte is no line feed
 abbrev pub IsNoFeed : ℕ → Type 0
 IsNoFeed byte = byte ≢ line_feed
 

@@ -48,6 +48,7 @@ name_of name.Delete = codes "delete"
 abbrev pub IsNameOf : GestureName → List ℕ → Type 0
 IsNameOf gesture word = str_to_ascii_lowercase word ≡ name_of gesture
 
+-- a byte is a decimal digit
 abbrev pub IsDigit : ℕ → Type 0
 IsDigit byte = (48 ≤ byte) × (byte ≤ 57)
 

@@ -22,6 +22,7 @@ pub record Passes (old new : Progress) (finished : Bool) (ps : List Piece) : Typ
   pub lines : Lines old.left new.left old.ahead new.ahead finished ps
   pub counted : new.count ≡ old.count + length ps
 
+-- the source has ended, or more may come
 abbrev pub stop_at : Bool → Stop
 stop_at false = stop.Going
 stop_at true = stop.AtEnd

@@ -5,6 +5,7 @@ use Rattle.cl_gesture.specs.declared.reader.Gestures.{Gestures}
 use Rattle.cl_gesture.specs.LineReader as lines
 use Rattle.cl_gesture.specs.Progress.{Progress}
 
+-- the source that gestures are read from
 abbrev pub source_of : {G : Type 0} → Gestures G → G
 source_of s = lines.source_of s.lines
 

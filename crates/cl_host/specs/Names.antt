@@ -7,5 +7,6 @@ use Rattle.std.specs.Map.{lookup}
 abbrev pub first_named : List ℕ → List (List ℕ × ℤ) → Option ℤ
 first_named text names = lookup (pointwise ◌==◌ text) names
 
+-- a number lies from the first to the second
 abbrev pub IsWithin : ℤ → ℤ → ℤ → Type 0
 IsWithin low high z = (int_le low z ≡ true) × (int_le z high ≡ true)

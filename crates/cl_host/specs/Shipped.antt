@@ -7,6 +7,7 @@ weekday_entries =
     (codes "Monday", pos 0) ∷ (codes "Tuesday", pos 1) ∷ (codes "Wednesday", pos 2) ∷ (codes "Thursday", pos 3) ∷ (codes "Friday", pos 4)
     ∷ (codes "Saturday", pos 5) ∷ (codes "Sunday", pos 6) ∷ []
 
+-- the months from July on
 abbrev pub later_months : List (List ℕ × ℤ)
 later_months =
     (codes "July", pos 7) ∷ (codes "August", pos 8) ∷ (codes "September", pos 9) ∷ (codes "October", pos 10) ∷ (codes "November", pos 11)

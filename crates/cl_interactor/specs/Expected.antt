@@ -17,6 +17,7 @@ use Rattle.cl_table.specs.Names.{declared_at, named}
 use Rattle.cl_tables.specs.Lookups.{Sight, line_command}
 use Rattle.cl_tables.specs.declared.declarations.CommandPlace.{CommandPlace}
 
+-- the declaration of a command that a table sees
 abbrev pub declared_by : App → Option CommandPlace → Option CommandDecl
 declared_by app None = None
 declared_by app (Some p) = command_named p.name app
@@ -45,6 +46,7 @@ words_at command Name = codes "a command"
 words_at command (Arg number) = numbered_words command number
 words_at command Past = codes "return"
 
+-- what is expected of a line, by the command that it names
 abbrev pub words_of_line : List Element → Option CommandDecl → List ℕ
 words_of_line line None = codes "a command"
 words_of_line line (Some command) = words_at command (line_slot (Some (named_in command line)) line)
@@ -55,10 +57,12 @@ expected_in_line app sight line = words_of_line line (command_seen app sight lin
 
 -- ---- while a dialog is open
 
+-- the argument of this name of a dialog's command
 abbrev pub argument_declared : App → List ℕ → Option DialogDecl → Option ArgumentDecl
 argument_declared app x None = None
 argument_declared app x (Some d) = named x (arguments_of app d)
 
+-- the argument of a name, if one is given, of a dialog's command
 abbrev pub argument_named : App → Option DialogDecl → Option (List ℕ) → Option ArgumentDecl
 argument_named app d None = None
 argument_named app d (Some x) = argument_declared app x d
@@ -72,6 +76,7 @@ abbrev pub query_words : Option ArgumentDecl → List ℕ
 query_words None = codes "a query"
 query_words (Some a) = a.prompt
 
+-- what is expected of the open dialog: the prompt of the selected query
 abbrev pub expected_in_dialog : App → OpenDialog → List ℕ
 expected_in_dialog app dialog = query_words (argument_selected app dialog)
 

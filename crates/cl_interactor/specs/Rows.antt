@@ -16,6 +16,7 @@ begin_row y = csi (decimal (y + 1) ++ codes ";1H")
 abbrev pub row_bytes : (y : ℕ) → (text : List ℕ) → List ℕ
 row_bytes y text = begin_row y ++ (map shown_byte (take 78 text) ++ csi (codes "K"))
 
+-- a byte that is a line feed
 abbrev pub is_feed : ℕ → Bool
 is_feed byte = nat_eq byte 10
 

@@ -11,6 +11,7 @@ use Rattle.cl_invocation.specs.Words.{Text, Parts}
 abbrev pub positional_rule : Text → Rule
 positional_rule id = record (new_rule id) { action = Some Append }
 
+-- an option of this name that keeps all its values
 abbrev pub option_rule : Text → Rule
 option_rule id = record (positional_rule id) { long = Some id }
 
@@ -18,6 +19,7 @@ option_rule id = record (positional_rule id) { long = Some id }
 abbrev pub empty_app : App
 empty_app = record { top = record (new_shape (codes "clim")) { no_binary_name = true; disable_help_flag = true }; subs = [] }
 
+-- the words of a command, with the options `--wire` and `--budget`
 abbrev pub app : App
 app = with_rule (with_rule (with_rule empty_app (positional_rule (codes "words"))) (option_rule (codes "wire")))
     (option_rule (codes "budget"))

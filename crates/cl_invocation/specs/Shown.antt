@@ -9,9 +9,11 @@ use Rattle.cl_invocation.specs.Words.{Text, Invocation, run, check, bench}
 abbrev pub texts : List (Bor Text) → List Text
 texts = map (λ word. word.now)
 
+-- the text behind a reference, if there is one
 abbrev pub text : Option (Bor Text) → Option Text
 text = option_map (λ word. word.now)
 
+-- an invocation as it is shown to callers
 abbrev pub invocation : code.Invocation → Invocation
 invocation (variant.Run application wire budget) = run application.now (text wire) budget
 invocation (variant.Check application) = check application.now

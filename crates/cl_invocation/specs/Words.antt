@@ -39,10 +39,12 @@ pub data Said : Type 0 where
   gives : Name → Text → Said
   nothing : Said
 
+-- a word says something
 abbrev pub is_said : Said → Bool
 is_said nothing = false
 is_said _ = true
 
+-- the name gives this value; else what another reading says
 abbrev pub given : Name → Option Text → Said → Said
 given name (Some value) other = gives name value
 given name None other = other
@@ -75,6 +77,7 @@ pub record Parts : Type 0 where
   pub wires : List Text
   pub budgets : List Text
 
+-- no word and no value
 abbrev pub no_parts : Parts
 no_parts = record { positional = []; wires = []; budgets = [] }
 
@@ -82,6 +85,7 @@ no_parts = record { positional = []; wires = []; budgets = [] }
 abbrev pub one_positional : Text → Parts
 one_positional word = record no_parts { positional = word ∷ [] }
 
+-- one value of an option
 abbrev pub one_value : Name → Text → Parts
 one_value wire value = record no_parts { wires = value ∷ [] }
 one_value budget value = record no_parts { budgets = value ∷ [] }
@@ -131,6 +135,7 @@ number_in least most text = if is_number least most text then Some (digits_value
 abbrev pub budget_in : Text → Option ℕ
 budget_in text = number_in 1 100000000 text
 
+-- how many items a bench has: from 1 to 1,000
 abbrev pub items_in : Text → Option ℕ
 items_in text = number_in 1 1000 text
 
@@ -145,6 +150,7 @@ abbrev pub budget_given : Option Text → Option (Option ℕ)
 budget_given None = Some None
 budget_given (Some text) = option_map (λ number. Some number) (budget_in text)
 
+-- a run of an application, with at most one wire and one budget
 abbrev pub run_of : Text → List Text → List Text → Option Invocation
 run_of application wires budgets = option_and_then (λ file. option_map (λ forms. run application file forms)
     (option_and_then budget_given (at_most_one budgets))) (at_most_one wires)

@@ -18,7 +18,7 @@ pub enum Invocation<'a> {
         application: &'a str,
         /// The name of the file that its wire goes to.
         wire: Option<&'a str>,
-        /// How many forms it may read.
+        /// How many forms a display or a command may enter.
         budget: Option<u32>,
     },
     /// To load an application and say so.

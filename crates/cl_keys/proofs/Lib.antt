@@ -1,5 +1,6 @@
 pub mod Cutting
 pub mod Numbers
+pub mod Others
 pub mod Presses
 pub mod Reading
 pub mod Sending

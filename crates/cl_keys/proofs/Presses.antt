@@ -12,15 +12,11 @@ use Rattle.cl_keys.specs.declared.keys.Key.TheVariants as key
 use Rattle.cl_keys.specs.declared.keys.Press.{Press}
 use Rattle.cl_keys.specs.Decoding.{Step, at_rest, before_keys, collecting, is_part, keys_from, keys_of, state_after, step}
 use Rattle.cl_keys.specs.Reports.{button_of, coordinate_of, from_zero, is_semicolon, press_in, press_of}
-use Rattle.cl_keys.specs.Spelling.{IsDigit, SpellsPress, WritesNumber, digit_of}
+use Rattle.cl_keys.specs.Spelling.{IsDigit, IsPart, SpellsPress, WritesNumber, digit_of}
 use Rattle.cl_keys.proofs.Cutting.{keys-append, state-append}
 use Rattle.cl_keys.proofs.Numbers.{is_number-yes}
 
 -- ---- a control sequence is kept
-
--- a byte that stands within a control sequence
-abbrev pub IsPart : ℕ → Type 0
-IsPart byte = (32 ≤ byte) × (byte ≤ 63)
 
 part-kept : (kept : List ℕ) (b : ℕ) → IsPart b → length kept < 16 → step (collecting kept) b ≡ record { state = collecting (kept ++ b ∷ []); key = None }
 part-kept kept b part room =

@@ -2,7 +2,7 @@
 use Rattle.std.specs.Prelude.{◌≡◌, ℕ, List, [], ◌∷◌, ◌++◌, Some}
 use Rattle.cl_keys.specs.declared.keys.Key.{Key}
 use Rattle.cl_keys.specs.Decoding.{State, at_rest, keys_from, keys_of, state_after, step}
-use Rattle.cl_keys.specs.Spelling.{AreSpelledBy, EndWith, IsSpelledBy}
+use Rattle.cl_keys.specs.Spelling.{AreSpelledBy, EndWith, IsSequence, IsSpelledBy}
 
 -- a cut changes nothing: the keys are those of the first part and then those of the second, which goes on where the first left off
 abbrev pub CutsAreFree : Type 0
@@ -21,3 +21,8 @@ SpellingsGiveAllKeys = (keys : List Key) (bytes : List ℕ) → AreSpelledBy key
 -- no byte ends a key, but where the bytes up to it end with what is sent for this key
 abbrev pub KeysAreSpelled : Type 0
 KeysAreSpelled = (bytes : List ℕ) (byte : ℕ) (k : Key) → (step (state_after at_rest bytes) byte).key ≡ Some k → EndWith k (bytes ++ byte ∷ [])
+
+-- a sequence that is sent for no key makes none, however long it is
+abbrev pub OtherSequencesDoNothing : Type 0
+OtherSequencesDoNothing = (bytes : List ℕ) → IsSequence bytes → ((k : Key) → IsSpelledBy k bytes → ⊥)
+    → (keys_of bytes ≡ []) × (state_after at_rest bytes ≡ at_rest)

@@ -59,3 +59,18 @@ pub record EndWith (k : Key) (bytes : List ℕ) : Type 0 where
   pub sent : List ℕ
   pub whole : bytes ≡ before ++ sent
   pub spelled : IsSpelledBy k sent
+
+-- ---- sequences
+
+-- a byte within a control sequence
+abbrev pub IsPart : ℕ → Type 0
+IsPart byte = (32 ≤ byte) × (byte ≤ 63)
+
+-- a byte that ends a control sequence; an escape does not, since it begins anew
+abbrev pub IsLast : ℕ → Type 0
+IsLast byte = ((byte < 32) ⊎ (63 < byte)) × (byte ≢ 27)
+
+-- an escape, `[`, zero or more bytes within a control sequence, and one that ends it; or an escape, `O` and one byte
+pub data IsSequence : List ℕ → Type 0 where
+  control : (parts : List ℕ) (last : ℕ) → All IsPart parts → IsLast last → IsSequence (27 ∷ codes "[" ++ (parts ++ last ∷ []))
+  shift : (byte : ℕ) → IsSequence (27 ∷ codes "O" ++ byte ∷ [])

@@ -19,6 +19,7 @@ given [] vs = []
 given (x ∷ xs) [] = []
 given (x ∷ xs) (v ∷ vs) = (x, v) ∷ given xs vs
 
+-- what was found for a parameter; None for `*`, and where nothing was found
 abbrev pub known : Option (Option Data) → Option Data
 known None = None
 known (Some v) = v
@@ -31,6 +32,7 @@ value_of g (Param x) = known (named x g)
 value_of g (Spec s) = None
 value_of g (Names xs) = None
 
+-- the constants that arguments are, one by one; None for each that is none
 abbrev pub values_of : Given → TypeArgTrees → List (Option Data)
 values_of g none = []
 values_of g (argument a ts) = value_of g a ∷ values_of g ts
@@ -40,10 +42,12 @@ abbrev pub constant_before : Option Data → List Data → List Data
 constant_before None ds = ds
 constant_before (Some d) ds = d ∷ ds
 
+-- the constants among values, in their order
 abbrev pub constants : List (Option Data) → List Data
 constants [] = []
 constants (v ∷ vs) = constant_before v (constants vs)
 
+-- the number that a value is; None where it is no number, or there is no value
 abbrev pub number_in : Option Data → Option ℤ
 number_in None = None
 number_in (Some (int z)) = Some z
@@ -59,6 +63,7 @@ abbrev pub first_number : List (Option Data) → Option ℤ
 first_number [] = None
 first_number (v ∷ vs) = number_in v
 
+-- the number of the second value; None where it is no number, or there is no such value
 abbrev pub second_number : List (Option Data) → Option ℤ
 second_number [] = None
 second_number (v ∷ vs) = first_number vs
@@ -71,6 +76,7 @@ tokens_before (Param x) xs = xs
 tokens_before (Spec s) xs = xs
 tokens_before (Names ts) xs = ts
 
+-- the tokens of the first argument that has any; none where no argument has
 abbrev pub tokens_in : TypeArgTrees → List (List ℕ)
 tokens_in none = []
 tokens_in (argument a ts) = tokens_before a (tokens_in ts)

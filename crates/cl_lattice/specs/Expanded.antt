@@ -3,6 +3,7 @@ use Rattle.std.specs.Prelude.{ℕ, ℤ, ◌+◌, List, Option}
 use Rattle.cl_value.specs.Data.{Data}
 
 mutual
+  -- an expanded type, by its kind
   pub data Expanded : Type 0 where
     -- t
     everything : Expanded
@@ -37,6 +38,7 @@ mutual
     -- a name that is not declared, or a standard type whose arguments are not those of its row
     unknown : List ℕ → List (Option Data) → Expanded
 
+  -- expanded types, one after another
   pub data ExpandedTypes : Type 0 where
     none : ExpandedTypes
     part : Expanded → ExpandedTypes → ExpandedTypes
@@ -65,6 +67,7 @@ abbrev mutual
   weight (user x vs p t) = weight t + 1
   weight (unknown x vs) = 1
 
+  -- a size of types in a row that is greater than that of each
   pub weight_all : ExpandedTypes → ℕ
   weight_all none = 0
   weight_all (part t ts) = weight t + 1 + weight_all ts

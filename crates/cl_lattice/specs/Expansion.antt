@@ -63,6 +63,7 @@ abbrev mutual
   expand_parts w own g none = type.none
   expand_parts w own g (argument a ts) = expand_part w own g a (expand_parts w own g ts)
 
+  -- the specifier that an argument is, before the parts behind it
   pub expand_part : World → Own → Given → TypeArgTree → ExpandedTypes → ExpandedTypes
   expand_part w own g (Constant d) more = more
   expand_part w own g Any more = more

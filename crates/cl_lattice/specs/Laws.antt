@@ -12,10 +12,12 @@ use Rattle.cl_lattice.specs.declared.lattices.Precedence.{Precedence}
 pub record AllFit (w : World) : Type 0 where
   pub fits_each : (x : List ℕ) (u : UserType) → IsUserType w x u → fits w u.inherit_from ≡ true
 
+-- the names of a precedence list, where there is one
 abbrev pub names_listed : Option Precedence → Option (List (List ℕ))
 names_listed None = None
 names_listed (Some p) = Some p.names
 
+-- what user types inherit from is within the limits, and the precedence list of each name stands in the table
 pub record IsLattice (w : World) (precedences : List (List ℕ × Precedence)) : Type 0 where
   pub fit : AllFit w
   pub listed : (x : List ℕ) → names_listed (named x precedences) ≡ precedence w x

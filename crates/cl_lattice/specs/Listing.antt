@@ -7,9 +7,11 @@ use Rattle.cl_lattice.specs.World.{World}
 use Rattle.cl_lattice.specs.declared.declared_types.DeclaredType.{DeclaredType}
 use Rattle.cl_lattice.specs.declared.lattices.Precedence.{Precedence}
 
+-- precedence lists by the name of the type
 abbrev pub Lists : Type 0
 Lists = List (List ℕ × Precedence)
 
+-- with a list under a name, where there is a list and none stands there yet
 abbrev pub with_names : Lists → List ℕ → Option (List (List ℕ)) → Lists
 with_names table x None = table
 with_names table x (Some xs) = with_first (λ p. p.name) table (record { name = x; names = xs })
@@ -18,6 +20,7 @@ with_names table x (Some xs) = with_first (λ p. p.name) table (record { name = 
 abbrev pub with_list : World → Lists → List ℕ → Lists
 with_list w table x = with_names table x (precedence w x)
 
+-- with the list of each of these names, where there is one
 abbrev pub with_lists : World → List (List ℕ) → Lists → Lists
 with_lists w [] table = table
 with_lists w (x ∷ xs) table = with_lists w xs (with_list w table x)

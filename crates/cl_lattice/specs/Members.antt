@@ -24,6 +24,7 @@ Membership = Expanded → Bool
 
 -- ---- data by themselves
 
+-- an order of two that are equal
 abbrev pub is_equal : Ordering → Bool
 is_equal Less = false
 is_equal Equal = true
@@ -33,6 +34,7 @@ is_equal Greater = false
 abbrev pub is_same : Data → Data → Bool
 is_same d e = is_equal (order_of d e)
 
+-- a value is the same as one of the constants
 abbrev pub is_among : Data → List Data → Bool
 is_among d [] = false
 is_among d (e ∷ es) = is_same d e || is_among d es
@@ -47,22 +49,27 @@ abbrev pub are_among : Items → List Data → Bool
 are_among none ds = true
 are_among (item d more) ds = is_among d ds && are_among more ds
 
+-- a value is the same as one of the parts
 abbrev pub is_part : Data → Items → Bool
 is_part d none = false
 is_part d (item e es) = is_same d e || is_part d es
 
+-- no two parts are the same
 abbrev pub differ : Items → Bool
 differ none = true
 differ (item d ds) = not (is_part d ds) && differ ds
 
+-- a number is no less than the lower bound; None is no bound
 abbrev pub is_at_least : Option ℤ → ℤ → Bool
 is_at_least None z = true
 is_at_least (Some low) z = int_le low z
 
+-- a number is no greater than the upper bound; None is no bound
 abbrev pub is_at_most : Option ℤ → ℤ → Bool
 is_at_most None z = true
 is_at_most (Some high) z = int_le z high
 
+-- a number within two bounds
 abbrev pub is_within : Option ℤ → Option ℤ → Data → Bool
 is_within low high (int z) = is_at_least low z && is_at_most high z
 is_within low high (bool b) = false
@@ -72,6 +79,7 @@ is_within low high null = false
 is_within low high (list ds) = false
 is_within low high (rec x ds) = false
 
+-- a truth value
 abbrev pub is_boolean : Data → Bool
 is_boolean (int z) = false
 is_boolean (bool b) = true
@@ -81,10 +89,12 @@ is_boolean null = false
 is_boolean (list ds) = false
 is_boolean (rec x ds) = false
 
+-- a length is the one that is asked for; None asks for none
 abbrev pub has_length : Option ℤ → ℕ → Bool
 has_length None n = true
 has_length (Some z) n = int_le z (pos n) && int_le (pos n) z
 
+-- a text of the length that is asked for
 abbrev pub is_text : Option ℤ → Data → Bool
 is_text n (int z) = false
 is_text n (bool b) = false
@@ -94,6 +104,7 @@ is_text n null = false
 is_text n (list ds) = false
 is_text n (rec x ds) = false
 
+-- a symbol
 abbrev pub is_symbol : Data → Bool
 is_symbol (int z) = false
 is_symbol (bool b) = false
@@ -103,6 +114,7 @@ is_symbol null = false
 is_symbol (list ds) = false
 is_symbol (rec x ds) = false
 
+-- a list of some of the constants, each at most once
 abbrev pub is_subset : List Data → Data → Bool
 is_subset cs (int z) = false
 is_subset cs (bool b) = false
@@ -112,6 +124,7 @@ is_subset cs null = false
 is_subset cs (list ds) = are_among ds cs && differ ds
 is_subset cs (rec x ds) = false
 
+-- null itself
 abbrev pub is_null : Data → Bool
 is_null (int z) = false
 is_null (bool b) = false
@@ -121,10 +134,12 @@ is_null null = true
 is_null (list ds) = false
 is_null (rec x ds) = false
 
+-- a name is one of the names
 abbrev pub is_token : List (List ℕ) → List ℕ → Bool
 is_token [] s = false
 is_token (x ∷ xs) s = bytes_eq x s || is_token xs s
 
+-- a symbol that is one of the tokens
 abbrev pub is_one_of : List (List ℕ) → Data → Bool
 is_one_of xs (int z) = false
 is_one_of xs (bool b) = false
@@ -134,6 +149,7 @@ is_one_of xs null = false
 is_one_of xs (list ds) = false
 is_one_of xs (rec x ds) = false
 
+-- a record of this name
 abbrev pub is_of_record : List ℕ → Data → Bool
 is_of_record x (int z) = false
 is_of_record x (bool b) = false
@@ -143,6 +159,7 @@ is_of_record x null = false
 is_of_record x (list ds) = false
 is_of_record x (rec y ds) = bytes_eq x y
 
+-- a number
 abbrev pub is_number : Data → Bool
 is_number (int z) = true
 is_number (bool b) = false
@@ -152,14 +169,17 @@ is_number null = false
 is_number (list ds) = false
 is_number (rec x ds) = false
 
+-- there are no parts
 abbrev pub is_end : Items → Bool
 is_end none = true
 is_end (item d ds) = false
 
+-- one number and nothing behind it
 abbrev pub is_one_number : Items → Bool
 is_one_number none = false
 is_one_number (item d ds) = is_number d && is_end ds
 
+-- two numbers and nothing behind them
 abbrev pub are_two_numbers : Items → Bool
 are_two_numbers none = false
 are_two_numbers (item d ds) = is_number d && is_one_number ds
@@ -169,6 +189,7 @@ abbrev pub is_place : Items → Bool
 is_place none = false
 is_place (item d ds) = is_symbol d && are_two_numbers ds
 
+-- a list of a pane's symbol and a place in it
 abbrev pub is_blank_area : Data → Bool
 is_blank_area (int z) = false
 is_blank_area (bool b) = false
@@ -180,6 +201,7 @@ is_blank_area (rec x ds) = false
 
 -- ---- members of expanded types
 
+-- a list
 abbrev pub is_list : Data → Bool
 is_list (int z) = false
 is_list (bool b) = false
@@ -215,6 +237,7 @@ abbrev pub argument_given : Option Data → Data
 argument_given None = null
 argument_given (Some d) = d
 
+-- the arguments of a predicate, in their order
 abbrev pub arguments_given : List (Option Data) → List Data
 arguments_given [] = []
 arguments_given (v ∷ vs) = argument_given v ∷ arguments_given vs
@@ -248,10 +271,12 @@ abbrev mutual
   is_in w p d ms (type.user x vs f t) = is_in w p d ms t && is_satisfied p f d vs
   is_in w p d ms (type.unknown x vs) = false
 
+  -- whether a value is a member of some of the types
   pub is_in_some : World → Answers → Data → List Membership → ExpandedTypes → Bool
   is_in_some w p d ms type.none = false
   is_in_some w p d ms (type.part t ts) = is_in w p d ms t || is_in_some w p d ms ts
 
+  -- whether a value is a member of each of the types
   pub is_in_each : World → Answers → Data → List Membership → ExpandedTypes → Bool
   is_in_each w p d ms type.none = true
   is_in_each w p d ms (type.part t ts) = is_in w p d ms t && is_in_each w p d ms ts
@@ -267,6 +292,7 @@ abbrev mutual
   is_member w p (list ds) t = is_in w p (list ds) (memberships w p ds) t
   is_member w p (rec x ds) t = is_in w p (rec x ds) [] t
 
+  -- for each of the parts, of which types it is a member
   pub memberships : World → Answers → Items → List Membership
   memberships w p none = []
   memberships w p (item d ds) = is_member w p d ∷ memberships w p ds
@@ -313,14 +339,17 @@ abbrev mutual
   asks c (type.user x vs f t) = asks c t || is_some f
   asks c (type.unknown x vs) = false
 
+  -- whether a predicate may be asked for some of the types
   pub any_asks : Bool → ExpandedTypes → Bool
   any_asks c type.none = false
   any_asks c (type.part t ts) = asks c t || any_asks c ts
 
+-- whether a predicate may be asked for some of the arguments of a command
 abbrev pub args_ask : World → List TypeSpecTree → Bool
 args_ask w [] = false
 args_ask w (s ∷ ss) = asks false (expansion w [] s) || args_ask w ss
 
+-- whether a predicate may be asked for the arguments of some of the commands
 abbrev pub any_command_asks : World → List (List ℕ × CommandType) → Bool
 any_command_asks w [] = false
 any_command_asks w (e ∷ es) = args_ask w e.1.args || any_command_asks w es

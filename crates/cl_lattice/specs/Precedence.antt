@@ -50,12 +50,14 @@ joined list_of (x ∷ xs) = listed (list_of x) ++ joined list_of xs
 abbrev pub behind_own : (List ℕ → Option (List (List ℕ))) → List ℕ → List (List ℕ) → List (List ℕ)
 behind_own list_of x supers = last_kept (x ∷ joined list_of supers)
 
+-- the precedence list of a declared type, by its kind; None where the name is not declared
 abbrev pub declared_precedence : (List ℕ → Option (List (List ℕ))) → Option TypeKind → List ℕ → Option (List (List ℕ))
 declared_precedence list_of None x = None
 declared_precedence list_of (Some kind.Record) x = Some (x ∷ codes "t" ∷ [])
 declared_precedence list_of (Some (kind.Host low high)) x = Some (x ∷ codes "integer" ∷ codes "t" ∷ [])
 declared_precedence list_of (Some (kind.User u)) x = Some (behind_own list_of x (supertypes u.inherit_from))
 
+-- the precedence list of a standard type, or of a declared one
 abbrev pub precedence_by : (List ℕ → Option (List (List ℕ))) → Option StandardType → Option TypeKind → List ℕ → Option (List (List ℕ))
 precedence_by list_of (Some t) k x = Some (standard_precedence x)
 precedence_by list_of None k x = declared_precedence list_of k x

@@ -19,10 +19,12 @@ Found = List (List ℕ × Mentioned)
 abbrev pub with_mention : World → List ℕ → Found → Found
 with_mention w x found = if is_some (inherited w x) then with_first (λ m. m.name) found (record { name = x }) else found
 
+-- with each of these names that is a user type and was not found before
 abbrev pub with_mentions : World → List (List ℕ) → Found → Found
 with_mentions w [] found = found
 with_mentions w (x ∷ xs) found = with_mentions w xs (with_mention w x found)
 
+-- what a user type that was found inherits from, if one was found
 abbrev pub inherited_of : World → Option Mentioned → Option TypeSpecTree
 inherited_of w None = None
 inherited_of w (Some m) = inherited w m.name

@@ -12,10 +12,12 @@ abbrev mutual
   pub names_in : TypeSpecTree → List (List ℕ)
   names_in (specifier x ts o) = x ∷ names_in_all ts
 
+  -- the names of types in arguments
   pub names_in_all : TypeArgTrees → List (List ℕ)
   names_in_all none = []
   names_in_all (argument a ts) = names_in_arg a ++ names_in_all ts
 
+  -- the names of types in an argument
   pub names_in_arg : TypeArgTree → List (List ℕ)
   names_in_arg (Constant d) = []
   names_in_arg Any = []

@@ -22,6 +22,7 @@ inherited_by None (Some kind.Record) = None
 inherited_by None (Some (kind.Host low high)) = None
 inherited_by None (Some (kind.User u)) = Some u.inherit_from
 
+-- the size of what a user type inherits from; 0 for every other type
 abbrev pub inherited_size : (TypeSpecTree → Option ℕ) → Option TypeSpecTree → Option ℕ
 inherited_size size None = Some 0
 inherited_size size (Some s) = size s
@@ -34,6 +35,7 @@ sized_arg size (Param x) = Some 1
 sized_arg size (Spec s) = size s
 sized_arg size (Names xs) = Some (length xs)
 
+-- the sizes of arguments together
 abbrev pub sized_args : (TypeSpecTree → Option ℕ) → TypeArgTrees → Option ℕ
 sized_args size none = Some 0
 sized_args size (argument a ts) = both (sized_arg size a) (sized_args size ts)
@@ -44,12 +46,15 @@ nodes_within zero w s = None
 nodes_within (suc n) w (specifier x ts o) =
     both (Some 1) (both (sized_args (nodes_within n w) ts) (inherited_size (nodes_within n w) (inherited_by (standard_named x) (kind_named x w))))
 
+-- how many names may nest one inside another
 abbrev pub most_depth : ℕ
 most_depth = 8
 
+-- how many nodes an expanded specifier may have
 abbrev pub most_nodes : ℕ
 most_nodes = 256
 
+-- a size that is there and within the limit
 abbrev pub is_small : Option ℕ → Bool
 is_small None = false
 is_small (Some n) = nat_le n most_nodes

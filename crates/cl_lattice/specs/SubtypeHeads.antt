@@ -13,6 +13,7 @@ use Rattle.cl_lattice.specs.declared.declared_types.UserType.{UserType}
 use Rattle.cl_lattice.specs.declared.heads.Head.{Head}
 use Rattle.cl_lattice.specs.declared.heads.Head.TheVariants as head
 
+-- the specifier that an argument is, else the one behind it
 abbrev pub part_before : TypeArgTree → Option TypeSpecTree → Option TypeSpecTree
 part_before (Constant d) more = more
 part_before Any more = more

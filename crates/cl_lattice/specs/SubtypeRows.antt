@@ -16,6 +16,7 @@ abbrev mutual
   parts_of (token_or xs t) = parts_of t ++ token_or xs t ∷ []
   parts_of t = t ∷ []
 
+  -- the parts of types in a row, each behind its own parts
   pub parts_of_all : ExpandedTypes → List Expanded
   parts_of_all none = []
   parts_of_all (part t ts) = parts_of t ++ parts_of_all ts
@@ -64,11 +65,13 @@ pub data RowOf : Type 0 where
   always : RowOf
   known : List Bool → RowOf
 
+-- what a row of the program says
 abbrev pub row_of : Row → RowOf
 row_of row.Never = never
 row_of row.Always = always
 row_of (row.Known v) = known v.items
 
+-- what is known of types tells of which of them the question is true
 abbrev pub RowTells : (Expanded → Type 0) → List Expanded → RowOf → Type 0
 RowTells P qs never = (q : Expanded) → P q → ⊥
 RowTells P qs always = (q : Expanded) → P q
@@ -80,16 +83,19 @@ RowTellsFrom P qs n never = (q : Expanded) → P q → ⊥
 RowTellsFrom P qs n always = (q : Expanded) → P q
 RowTellsFrom P qs n (known rs) = Tells P qs (drop n rs)
 
+-- of two rows of answers, where both say so, as far as both go
 abbrev pub zip_and : List Bool → List Bool → List Bool
 zip_and [] ys = []
 zip_and (x ∷ xs) [] = []
 zip_and (x ∷ xs) (y ∷ ys) = (x && y) ∷ zip_and xs ys
 
+-- of two rows of answers, where one of them says so, as far as both go
 abbrev pub zip_or : List Bool → List Bool → List Bool
 zip_or [] ys = []
 zip_or (x ∷ xs) [] = []
 zip_or (x ∷ xs) (y ∷ ys) = (x || y) ∷ zip_or xs ys
 
+-- what is known of both of two questions
 abbrev pub both_rows : RowOf → RowOf → RowOf
 both_rows never b = never
 both_rows always b = b
@@ -97,6 +103,7 @@ both_rows (known xs) never = never
 both_rows (known xs) always = known xs
 both_rows (known xs) (known ys) = known (zip_and xs ys)
 
+-- what is known of one or the other of two questions
 abbrev pub either_row : RowOf → RowOf → RowOf
 either_row always b = always
 either_row never b = b
@@ -119,6 +126,7 @@ pub record FillsSome (a : Expanded) (ts : ExpandedTypes) (old new : List Bool) (
   pub told : (r ≡ true) ↔ ((so_far ≡ true) ⊎ BelowSome a ts)
   pub adds : Adds (IsSubtype a) (parts_of_all ts) old new
 
+-- an answer for each part of an `and`, and the one for all of them and those before them
 pub record FillsEach (a : Expanded) (ts : ExpandedTypes) (old new : List Bool) (so_far r : Bool) : Type 0 where
   pub told : (r ≡ true) ↔ ((so_far ≡ true) × BelowEach a ts)
   pub adds : Adds (IsSubtype a) (parts_of_all ts) old new

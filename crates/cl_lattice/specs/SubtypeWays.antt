@@ -63,6 +63,7 @@ abbrev mutual
   BySecond a (token_or ys b) = ByHeads a (token_or ys b) ⊎ BySecond a b
   BySecond a b = ByHeads a b
 
+  -- by some of the second types
   pub BySomeSecond : Expanded → ExpandedTypes → Type 0
   BySomeSecond a none = ⊥
   BySomeSecond a (part b qs) = BySecond a b ⊎ BySomeSecond a qs

@@ -10,6 +10,7 @@ is_low_within low None = true
 is_low_within None (Some other) = false
 is_low_within (Some low) (Some other) = int_le other low
 
+-- the first upper bound lies within the second; None is no bound
 abbrev pub is_high_within : Option ℤ → Option ℤ → Bool
 is_high_within high None = true
 is_high_within None (Some other) = false
@@ -49,6 +50,7 @@ is_whole (user x vs f t) = true
 is_whole (unknown x vs) = true
 
 mutual
+  -- one type is a subtype of another
   pub data IsSubtype : Expanded → Expanded → Type 0 where
     -- everything is a subtype of t
     in_everything : (a : Expanded) → IsSubtype a everything

@@ -11,6 +11,7 @@ use Rattle.cl_lattice.specs.declared.declared_types.TypeKind.{TypeKind}
 use Rattle.cl_lattice.specs.declared.declared_types.TypeKind.TheVariants as kind
 use Rattle.cl_lattice.specs.declared.declared_types.UserType.{UserType}
 
+-- a declaration has no parameters
 abbrev pub is_none_given : List (List ℕ) → Bool
 is_none_given [] = true
 is_none_given (x ∷ xs) = false
@@ -34,6 +35,7 @@ standard_stands_alone standard.BlankArea = true
 standard_stands_alone standard.Command = true
 standard_stands_alone standard.DialogChoice = true
 
+-- whether the name of a type may stand alone, by what it stands for
 abbrev pub stands_alone_by : Option StandardType → Option TypeKind → Bool
 stands_alone_by (Some t) k = standard_stands_alone t
 stands_alone_by None None = false
@@ -45,6 +47,7 @@ stands_alone_by None (Some (kind.User u)) = is_none_given u.parameters
 abbrev pub stands_alone : World → List ℕ → Bool
 stands_alone w x = stands_alone_by (standard_named x) (kind_named x w)
 
+-- there are no arguments
 abbrev pub is_empty : TypeArgTrees → Bool
 is_empty none = true
 is_empty (argument a ts) = false
@@ -57,9 +60,11 @@ is_bare_by None (Some kind.Record) ts = true
 is_bare_by None (Some (kind.Host low high)) ts = true
 is_bare_by None (Some (kind.User u)) ts = if is_none_given u.parameters then is_empty ts else true
 
+-- a specifier gives a user type without parameters no arguments
 abbrev pub is_bare : World → TypeSpecTree → Bool
 is_bare w (specifier x ts o) = is_bare_by (standard_named x) (kind_named x w) ts
 
+-- the same of each specifier among arguments
 abbrev pub parts_bare : World → TypeArgTrees → Bool
 parts_bare w none = true
 parts_bare w (argument (Constant d) ts) = parts_bare w ts

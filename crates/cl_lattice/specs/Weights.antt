@@ -6,10 +6,12 @@ use Rattle.cl_lattice.specs.Expanded.{ExpandedTypes, none, part, weight}
 use Rattle.cl_lattice.specs.Expansion.{expansion}
 use Rattle.cl_lattice.specs.World.{World}
 
+-- a number above the size of each argument of a command
 abbrev pub args_weight : World → List TypeSpecTree → ℕ
 args_weight w [] = 0
 args_weight w (s ∷ ss) = weight (expansion w [] s) + 1 + args_weight w ss
 
+-- such numbers of all commands together
 abbrev pub all_weights : World → List (List ℕ × CommandType) → ℕ
 all_weights w [] = 0
 all_weights w (e ∷ es) = args_weight w e.1.args + all_weights w es
@@ -22,6 +24,7 @@ span w = 4 * all_weights w w.commands + 4
 abbrev pub falling : World → ℕ → ℕ → ℕ
 falling w size more = size * span w + more
 
+-- the size of the first part; 0 where there is no part
 abbrev pub first_weight : ExpandedTypes → ℕ
 first_weight none = 0
 first_weight (part t ts) = weight t

@@ -15,6 +15,7 @@ pub record World : Type 0 where
   pub types : List (List ℕ × DeclaredType)
   pub commands : List (List ℕ × CommandType)
 
+-- the kind of a declared type, where there is one
 abbrev pub kind_in : Option DeclaredType → Option TypeKind
 kind_in None = None
 kind_in (Some d) = Some d.kind
@@ -25,12 +26,15 @@ kind_named x w = kind_in (named x w.types)
 
 -- ---- the world of some declarations
 
+-- a record as a declared type
 abbrev pub record_entry : List ℕ × RecordDecl → DeclaredType
 record_entry e = record { name = e.1.name; kind = kind.Record }
 
+-- a user type as a declared type
 abbrev pub user_entry : List ℕ × TypeDecl → DeclaredType
 user_entry e = record { name = e.1.name; kind = kind.User (record { parameters = e.1.parameters; inherit_from = e.1.inherit_from; satisfies = e.1.satisfies }) }
 
+-- a host type as a declared type
 abbrev pub host_entry : List ℕ × HostBound → DeclaredType
 host_entry e = record { name = e.1.name; kind = kind.Host e.1.low e.1.high }
 
@@ -46,5 +50,6 @@ world_with records types hosts commands = record {
   commands = commands;
 }
 
+-- the world of some declarations
 abbrev pub world_of : TypeDecls → World
 world_of ds = world_with ds.records.now ds.types.now ds.hosts.now ds.commands.now

@@ -8,9 +8,9 @@ ghost use Rattle.cl_syntax.specs.StandardTypes.{standard_named};
 use crate::declared_types::{DeclaredType, DeclaredTypes, TypeKind, UserType};
 use cl_syntax::{
     CommandTypes, HostBound, HostBounds, RecordDecl, Records, StandardType, TypeDecl, TypeDecls,
-    TypeName, TypeSpec, UserTypes, standard_named,
+    TypeName, TypeSpec, UserTypes, copy_names, standard_named,
 };
-use cl_table::{Names, Table};
+use cl_table::Table;
 use std::alloc::{AllocError, Global};
 use std::marker::Model;
 
@@ -172,15 +172,4 @@ fn user_type(alloc: Global, decl: &TypeDecl) -> Result<DeclaredType, AllocError>
             satisfies,
         }),
     })
-}
-
-// The same names.
-fn copy_names(alloc: Global, names: &Names) -> Result<Names, AllocError>
-    ensures { IfOk result (λ n. n ≡ names.now) }
-{
-    let mut copied = Names::new(alloc);
-    for name in names.as_slice() {
-        copied.push(name.copy()?)?;
-    }
-    Ok(copied)
 }

@@ -3,6 +3,7 @@ use Rattle.std.specs.Prelude.{ℕ, Bool, true, false, not, ◌==◌, List, [], �
 use Rattle.cl_line.specs.declared.elements.Element.{Element}
 use Rattle.cl_line.specs.declared.elements.Element.TheVariants.{Char, Object}
 
+-- a character, and no object
 abbrev pub is_character : Element → Bool
 is_character (Char b) = true
 is_character (Object v) = false

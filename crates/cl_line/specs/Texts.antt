@@ -44,5 +44,6 @@ object_by kind.Quoted es = None
 object_by kind.Open es = None
 object_by kind.Object es = first_object es
 
+-- the object of a token in its line
 abbrev pub object_of : List Element → Token → Option Value
 object_of line t = object_by t.kind (elements_of line t)

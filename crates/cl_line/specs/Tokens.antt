@@ -33,6 +33,7 @@ lexeme (Char b) es =
     if b == 34 then quote_lexeme (quote_length false es) es
     else record { kind = kind.Plain; count = 1 + prefix_len is_in_word es }
 
+-- the token that begins at a place, by its kind and how many elements it takes
 abbrev pub token_at : ℕ → Lexeme → Token
 token_at at l = record { kind = l.kind; start = at; end = at + l.count }
 

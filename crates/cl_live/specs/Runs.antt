@@ -6,7 +6,7 @@ use Rattle.cl_frame.specs.Ground.{Ground}
 use Rattle.cl_live.specs.Words.{IsLive, IsNoLive, as_run, usage_line}
 use Rattle.cl_live.specs.declared.ends.How.{How}
 use Rattle.cl_live.specs.declared.ends.How.TheVariants as how
-use Rattle.cl_load.specs.Opening.{opening_slots}
+use Rattle.cl_opening.specs.Opening.{opening_slots}
 use Rattle.cl_load.specs.Types.{Bounds}
 use Rattle.cl_load.specs.declared.refusals.LoadRefusal.{LoadRefusal}
 use Rattle.cl_outside.specs.Causes.{Rose}

@@ -22,5 +22,6 @@ IsLive words name budget = IsRunHere (as_run words) name budget
 abbrev pub IsNoLive : (words : List (List ℕ)) → Type 0
 IsNoLive words = IsNoRun (as_run words)
 
+-- the line of how the program is used
 abbrev pub usage_line : List ℕ
 usage_line = codes "usage: clim_term APP [--budget N]" ++ 10 ∷ []

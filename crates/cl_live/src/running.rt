@@ -5,7 +5,7 @@ ghost use Rattle.cl_frame.specs.Ground.{ground, ground_of, meanings_of};
 ghost use Rattle.cl_frame.specs.Sending.{wire_of};
 ghost use Rattle.cl_live.specs.Runs.{RanOn, RanText, Went};
 ghost use Rattle.cl_live.specs.Words.{IsLive, IsNoLive};
-ghost use Rattle.cl_load.specs.Opening.{opening_slots};
+ghost use Rattle.cl_opening.specs.Opening.{opening_slots};
 ghost use Rattle.cl_program.specs.Commands.{KeepsFiles};
 ghost use Rattle.cl_program.specs.Hosts.{hosts_of, meanings_in, reads_in};
 ghost use Rattle.cl_program.specs.Surroundings.{placed, streams};

@@ -7,7 +7,7 @@ use Rattle.cl_forms.specs.Datum.{Datum}
 use Rattle.cl_forms.specs.declared.refusals.FormRefusal.{FormRefusal}
 use Rattle.cl_forms.specs.declared.refusals.FormRefusal.TheVariants.{Refused, Memory}
 use Rattle.cl_declare.specs.declared.declarations.Declarations.{Declarations}
-use Rattle.cl_load.specs.Answers.{Passes}
+use Rattle.cl_opening.specs.Answers.{Passes}
 use Rattle.cl_load.specs.Loads.{Concludes}
 use Rattle.cl_load.specs.Outcome.{Comes, IsVerdict, Settled, parse}
 use Rattle.cl_lattice.specs.World.{World}

@@ -8,8 +8,8 @@ use Rattle.cl_forms.specs.declared.refusals.FormRefusal.{FormRefusal}
 use Rattle.cl_forms.specs.declared.refusals.FormRefusal.TheVariants.{Refused, Memory}
 use Rattle.cl_declare.specs.declared.declarations.Declarations.{Declarations}
 use Rattle.cl_declare.specs.declared.frames.FrameForm.{FrameForm}
-use Rattle.cl_load.specs.Answers.{Makes}
-use Rattle.cl_load.specs.Placing.{place_frame}
+use Rattle.cl_opening.specs.Answers.{Makes}
+use Rattle.cl_opening.specs.Placing.{place_frame}
 use Rattle.cl_load.specs.Refusals.{app_of}
 use Rattle.cl_load.specs.Settling.{AppFramed, FramesApp, TakesFrame}
 

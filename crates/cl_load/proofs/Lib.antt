@@ -1,13 +1,7 @@
-pub mod ReadingLemmas
-pub mod OpeningLemmas
-pub mod PlacingLemmas
 pub mod SettlingLemmas
 pub mod ConcludeLemmas
 pub mod TypeLemmas
 pub mod RingLemmas
-pub mod DefaultLemmas
-pub mod ElseLemmas
-pub mod DialogReadings
 pub mod FramingLemmas
 pub mod OneOutcome
 pub mod LoadLemmas

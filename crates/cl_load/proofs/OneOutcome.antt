@@ -20,7 +20,7 @@ use Rattle.cl_load.specs.Outcome.{Comes, IsVerdict, Outcome, Settled, parse}
 use Rattle.cl_lattice.specs.Firsts.{offset_of}
 use Rattle.cl_phases.specs.Earlier.{earlier}
 use Rattle.cl_load.specs.Reason.{Reason, refused, uncovered}
-use Rattle.cl_load.specs.Readings.{CommandReads, DialogReads, Finds, FindsReading, IsFirstReading, NoneReads, TypeReads, command_offset, dialog_offset}
+use Rattle.cl_opening.specs.Readings.{CommandReads, DialogReads, Finds, FindsReading, IsFirstReading, NoneReads, TypeReads, command_offset, dialog_offset}
 use Rattle.cl_load.specs.Refusals.{app_in, faults, first_fault, form_faults, frame_faults, numbered, type_faults}
 use Rattle.cl_load.specs.Types.{Bounds}
 use Rattle.cl_load.proofs.TypeLemmas.{large_once, list_once, misfit_once}

@@ -7,12 +7,12 @@ use Rattle.cl_expressions.specs.Load.{Fault}
 use Rattle.cl_forms.specs.declared.refusals.FormRefusal.{FormRefusal}
 use Rattle.cl_forms.specs.declared.refusals.FormRefusal.TheVariants.{Refused, Memory}
 use Rattle.cl_declare.specs.declared.declarations.Declarations.{Declarations}
-use Rattle.cl_load.specs.Answers.{Passes}
+use Rattle.cl_opening.specs.Answers.{Passes}
 use Rattle.cl_lattice.specs.World.{World}
 use Rattle.cl_eval.specs.Slots.{Slots}
-use Rattle.cl_load.specs.Opening.{OpensSlots, first_unfit}
+use Rattle.cl_opening.specs.Opening.{OpensSlots, first_unfit}
 use Rattle.cl_load.specs.Outcome.{IsVerdict}
-use Rattle.cl_load.specs.Readings.{FindsReading}
+use Rattle.cl_opening.specs.Readings.{FindsReading}
 use Rattle.cl_load.specs.Refusals.{app_in, app_placed, first_fault, frame_missed, no_place, numbered, unfit}
 use Rattle.cl_load.specs.Settling.{AppFramed, FramesApp, Opens, OpensLast, Settles, last_faults}
 use Rattle.cl_load.specs.Types.{Bounds, declared_types, first_missing, holds_in, types_in}

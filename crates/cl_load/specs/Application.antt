@@ -41,6 +41,7 @@ pub record ComesTo (bounds : Bounds) (bytes : List ℕ) (o : Result App (ℕ × 
   pub read : AreForms bytes forms
   pub comes : Outcome bounds (length bytes) (data_of forms) o
 
+-- the text is too long, or has a fault where its tokens would be
 abbrev pub IsUnreadable : List ℕ → (number at : ℕ) → Type 0
 IsUnreadable bytes number at = IsTooLong bytes number at ⊎ IsUnread bytes number at
 
@@ -56,6 +57,7 @@ LoadsAs bounds bytes (Ok app) = HasOutcome bounds bytes (Ok app) × (uncovered_o
 LoadsAs bounds bytes (Err (refused number at)) = HasOutcome bounds bytes (Err (number, at))
 LoadsAs bounds bytes (Err (uncovered u)) = (app : App) × (HasOutcome bounds bytes (Ok app) × (uncovered_of app ≡ Some u))
 
+-- a text loads as this application
 abbrev pub IsApplication : Bounds → List ℕ → App → Type 0
 IsApplication bounds bytes app = LoadsAs bounds bytes (Ok app)
 

@@ -1,12 +1,8 @@
 pub mod Types
-pub mod Opening
-pub mod Placing
 pub mod Apart
-pub mod Readings
 pub mod Refusals
 pub mod Outcome
 pub mod Reason
 pub mod Application
-pub mod Answers
 pub mod Settling
 pub mod Loads

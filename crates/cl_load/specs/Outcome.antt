@@ -7,7 +7,7 @@ use Rattle.cl_words.specs.Signatures.{signatures_of}
 use Rattle.cl_expressions.specs.Load.{Load, Fault, Notes, nothing_noted}
 use Rattle.cl_declare.specs.Declarations.{parse_declarations}
 use Rattle.cl_declare.specs.declared.declarations.Declarations.{Declarations}
-use Rattle.cl_load.specs.Readings.{FindsReading}
+use Rattle.cl_opening.specs.Readings.{FindsReading}
 use Rattle.cl_load.specs.Refusals.{app_in, faults, first_fault, form_faults}
 use Rattle.cl_load.specs.Types.{Bounds, FindsLarge, FindsMisfit, FindsRing}
 

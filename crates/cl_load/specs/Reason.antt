@@ -6,6 +6,7 @@ use Rattle.cl_forms.specs.declared.refusals.FormRefusal.TheVariants as form_refu
 use Rattle.cl_load.specs.declared.refusals.LoadRefusal.{LoadRefusal}
 use Rattle.cl_load.specs.declared.refusals.LoadRefusal.TheVariants as load_refusal
 
+-- why a text does not load
 pub data Reason : Type 0 where
   -- a refusal of this number, at this offset
   refused : (number at : ℕ) → Reason

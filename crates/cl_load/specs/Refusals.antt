@@ -10,8 +10,8 @@ use Rattle.cl_declare.specs.declared.declarations.Declarations.{Declarations}
 use Rattle.cl_declare.specs.declared.frames.FrameForm.{FrameForm}
 use Rattle.cl_phases.specs.Limits.{first_past}
 use Rattle.cl_phases.specs.Twice.{first_twice}
-use Rattle.cl_load.specs.Opening.{first_unfit}
-use Rattle.cl_load.specs.Placing.{place_frame}
+use Rattle.cl_opening.specs.Opening.{first_unfit}
+use Rattle.cl_opening.specs.Placing.{place_frame}
 use Rattle.cl_load.specs.Types.{Bounds, first_missing, holds_in, types_in}
 
 -- a fault of this number, where there is an offset for it
@@ -31,6 +31,7 @@ frame_missed length [] = Some length
 frame_missed length (f ∷ []) = None
 frame_missed length (f ∷ g ∷ more) = Some g.at
 
+-- the fault of a result, if it is one
 abbrev pub fault_in : {A : Type 0} → Result A Fault → Option Fault
 fault_in (Ok x) = None
 fault_in (Err fault) = Some fault
@@ -61,6 +62,7 @@ declared_app s f = record {
 abbrev pub app_of : Declarations → FrameDecl → App
 app_of s f = with_dialog_displays (declared_app s f)
 
+-- the application with its frame at its place, where it has one
 abbrev pub app_placed : Declarations → Result FrameDecl Fault → Option App
 app_placed s (Ok f) = Some (app_of s f)
 app_placed s (Err fault) = None

@@ -9,10 +9,10 @@ use Rattle.cl_declare.specs.declared.frames.FrameForm.{FrameForm}
 use Rattle.cl_eval.specs.Slots.{Slots}
 use Rattle.cl_lattice.specs.Laws.{AllFit}
 use Rattle.cl_lattice.specs.World.{World}
-use Rattle.cl_load.specs.Opening.{first_unfit, opening_slots}
+use Rattle.cl_opening.specs.Opening.{first_unfit, opening_slots}
 use Rattle.cl_load.specs.Outcome.{IsVerdict}
-use Rattle.cl_load.specs.Placing.{place_frame}
-use Rattle.cl_load.specs.Readings.{FindsReading}
+use Rattle.cl_opening.specs.Placing.{place_frame}
+use Rattle.cl_opening.specs.Readings.{FindsReading}
 use Rattle.cl_load.specs.Refusals.{app_in, app_of, first_fault, frame_faults, frame_missed, no_place, numbered}
 use Rattle.cl_load.specs.Types.{Bounds, FindsLarge, FindsMisfit, FindsRing, FindsTypeRing, declared_types, first_missing, holds_in, types_in}
 use Rattle.cl_tables.specs.Rings.{HasNoRing}
@@ -24,6 +24,7 @@ pub record FrameSettled (bounds : Bounds) (length : ℕ) (s : Declarations) (o :
   pub found : FindsReading s reading
   pub verdict : IsVerdict (first_fault (frame_faults bounds length s reading)) (app_in s s.frames) o
 
+-- the application with its types, or the first fault of its frame; want of memory answers nothing
 abbrev pub Settles : Result Opened FormRefusal → Bounds → ℕ → Declarations → Type 0
 Settles (Ok opened) bounds length s = FrameSettled bounds length s (Ok opened.app) × (opened.lattice ≡ types_in bounds opened.app)
 Settles (Err (Refused number at)) bounds length s = FrameSettled bounds length s (Err (number, at))
@@ -42,6 +43,7 @@ pub record AppFramed (s : Declarations) (app : App) : Type 0 where
   pub placed : place_frame form ≡ Ok app.frame
   pub made : app ≡ app_of s app.frame
 
+-- the application with its frame, or the fault of the frame; want of memory answers nothing
 abbrev pub FramesApp : Result App FormRefusal → ℕ → Declarations → Type 0
 FramesApp (Ok app) length s = AppFramed s app
 FramesApp (Err (Refused number at)) length s = first_fault (numbered 14 (frame_missed length s.frames) ∷ no_place s.frames ∷ []) ≡ Some (number, at)

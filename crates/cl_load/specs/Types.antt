@@ -28,9 +28,11 @@ abbrev pub bound_with : HostDecl → Option (ℤ × ℤ) → HostBound
 bound_with h None = record { name = h.name; low = pos 0; high = pos 0; at = h.at }
 bound_with h (Some b) = record { name = h.name; low = b.0; high = b.1; at = h.at }
 
+-- the bounds of a host type, as they are handed in
 abbrev pub host_bound : Bounds → HostDecl → HostBound
 host_bound bounds h = bound_with h (bounds h.name)
 
+-- those of all host types, by their names
 abbrev pub host_bounds : Bounds → List (List ℕ × HostDecl) → List (List ℕ × HostBound)
 host_bounds bounds hosts = map (λ e. (e.0, host_bound bounds e.1)) hosts
 
@@ -42,6 +44,7 @@ argument_types arguments = map (λ e. e.1.spec) arguments
 abbrev pub command_type : CommandDecl → CommandType
 command_type c = record { name = c.name; args = argument_types c.arguments; at = c.at }
 
+-- all commands with the types of their arguments
 abbrev pub command_types : List (List ℕ × CommandDecl) → List (List ℕ × CommandType)
 command_types commands = map (λ e. (e.0, command_type e.1)) commands
 

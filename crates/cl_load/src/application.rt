@@ -5,7 +5,7 @@ ghost use Rattle.cl_application.specs.Panes.{IsPlaced};
 ghost use Rattle.cl_cover.specs.Updates.{AreCovered};
 ghost use Rattle.cl_load.specs.Apart.{LieApart-prop};
 ghost use Rattle.cl_load.specs.Application.{IsOfText};
-ghost use Rattle.cl_load.specs.Opening.{opening_slots};
+ghost use Rattle.cl_opening.specs.Opening.{opening_slots};
 ghost use Rattle.cl_tables.specs.Rings.{HasNoRing};
 
 use cl_application::App;

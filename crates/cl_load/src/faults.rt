@@ -1,7 +1,7 @@
 //! What the forms of a text are looked through for once they are read.
 ghost use Rattle.std.specs.Prelude.{map};
 ghost use Rattle.cl_forms.specs.DatumView.{datum_of};
-ghost use Rattle.cl_load.specs.Answers.{Passes};
+ghost use Rattle.cl_opening.specs.Answers.{Passes};
 ghost use Rattle.cl_load.specs.Refusals.{first_fault, form_faults, numbered};
 
 use cl_expressions::Notes;

@@ -2,14 +2,9 @@
 #![tactic(auto)]
 
 mod application;
-mod defaults;
-mod elses;
 mod faults;
 mod laws;
 mod loading;
-mod opening;
-mod placing;
-mod readings;
 mod refusals;
 mod rings;
 mod settling;

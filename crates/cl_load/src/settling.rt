@@ -8,9 +8,6 @@ ghost use Rattle.cl_tables.specs.Rings.{HasNoRing};
 
 use crate::application::Opened;
 use crate::faults::pass;
-use crate::opening::opening_slots;
-use crate::placing::place_frame;
-use crate::readings::first_reading;
 use crate::types::first_missing;
 use cl_application::{App, FrameDecl};
 use cl_declare::{Declarations, FrameForm, FrameForms};
@@ -18,6 +15,7 @@ use cl_dialog_forms::with_dialog_displays;
 use cl_eval::Slots;
 use cl_forms::FormRefusal;
 use cl_lattice::Lattice;
+use cl_opening::{first_reading, opening_slots, place_frame};
 use cl_ptext::{Hosts, TypeBook};
 use std::alloc::{AllocError, Global};
 

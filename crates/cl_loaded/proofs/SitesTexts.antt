@@ -36,7 +36,7 @@ use Rattle.cl_grammar.proofs.Lying.{LieList, datum_earlier, datum_rises, list_li
 use Rattle.cl_grammar.proofs.TextLies.{text_lies}
 use Rattle.cl_load.specs.Application.{ComesTo, LoadsAs, data_of}
 use Rattle.cl_load.specs.Outcome.{Comes, IsVerdict, parse}
-use Rattle.cl_load.specs.Placing.{place_frame}
+use Rattle.cl_opening.specs.Placing.{place_frame}
 use Rattle.cl_load.specs.Refusals.{app_in, app_of, app_placed, declared_app, faults, first_fault}
 use Rattle.cl_load.specs.Types.{Bounds}
 use Rattle.cl_reuse.specs.Sited.{AreApart, InDisplays}

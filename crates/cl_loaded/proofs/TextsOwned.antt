@@ -30,7 +30,7 @@ use Rattle.cl_declare.specs.declared.frames.FrameForm.{FrameForm}
 use Rattle.cl_declare.specs.declared.translator_shapes.TranslatorKind.TheVariants as translator
 use Rattle.cl_load.specs.Application.{LoadsAs, data_of}
 use Rattle.cl_load.specs.Outcome.{Comes, IsVerdict, parse}
-use Rattle.cl_load.specs.Placing.{place_frame}
+use Rattle.cl_opening.specs.Placing.{place_frame}
 use Rattle.cl_load.specs.Refusals.{app_in, app_of, app_placed, faults, first_fault}
 use Rattle.cl_load.specs.Types.{Bounds}
 use Rattle.cl_loaded.specs.Texts.{StandUnderTheirNames}

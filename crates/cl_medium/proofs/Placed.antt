@@ -8,7 +8,7 @@ use Rattle.cl_region.specs.declared.rects.Shift.{Shift}
 use Rattle.cl_medium.specs.declared.areas.Area.{Area}
 use Rattle.cl_medium.specs.Ambients.{AmbientAt, CursorMoved, IsAmbient, OriginMoved}
 use Rattle.cl_medium.specs.Drawing.{shape_area, text_area, text_leaf}
-use Rattle.cl_medium.specs.ItemLaws.{swapped}
+use Rattle.cl_medium.specs.ItemLaws.{last_two_swap}
 use Rattle.cl_medium.specs.Items.{IsArea, move_area, move_item}
 use Rattle.cl_medium.proofs.Sizes.{area_is}
 
@@ -30,7 +30,7 @@ placed_text m n p q k l am a b d e x2 y2 = (
 )
 
 pub shapes_move : (v : Shift) (a b : AmbientAt) (x y w h : ℤ) → OriginMoved v a b → shape_area b x y w h ≡ move_area v (shape_area a x y w h)
-shapes_move v a b x y w h m = rw (m.x, m.y, m.ink, swapped a.origin_x v.dx x, swapped a.origin_y v.dy y) refl
+shapes_move v a b x y w h m = rw (m.x, m.y, m.ink, last_two_swap a.origin_x v.dx x, last_two_swap a.origin_y v.dy y) refl
 
 pub text_moves : (v : Shift) (a b : AmbientAt) → CursorMoved v a b → (text : List ℕ) → text_leaf b text ≡ move_item v (text_leaf a text)
 text_moves v a b m text = rw (m.x, m.y, m.ink) refl

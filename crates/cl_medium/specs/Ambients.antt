@@ -1,6 +1,7 @@
 -- The state from which items are drawn.
 use Rattle.std.specs.Prelude.{◌≡◌, ℕ, ◌≤◌, ℤ, pos, ◌+ℤ◌, Bool, true, false, Option, Some, None}
 use Rattle.std.specs.Int.{int_max}
+use Rattle.cl_outside.specs.Sizes.{MAX_INK}
 use Rattle.cl_region.specs.Places.{IsNear}
 use Rattle.cl_region.specs.declared.rects.Shift.{Shift}
 
@@ -20,7 +21,7 @@ pub record IsAmbient (a : AmbientAt) : Type 0 where
   pub margin : IsNear a.margin
   pub origin_x : IsNear a.origin_x
   pub origin_y : IsNear a.origin_y
-  pub ink : a.ink ≤ 7
+  pub ink : a.ink ≤ MAX_INK
 
 -- that of the start of a pane
 abbrev pub ambient_start : AmbientAt

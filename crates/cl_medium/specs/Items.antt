@@ -1,6 +1,7 @@
 -- Items: an area, and what is painted in it.
 use Rattle.std.specs.Prelude.{◌≡◌, ℕ, ◌≤◌, ℤ, pos, negsuc, ◌+ℤ◌, ◌-ℤ◌, ◌≤ℤ◌, ◌<ℤ◌, int_le, Bool, true, false, ◌&&◌, ◌||◌, nat_le, if◌then◌else◌, List, length, Option, Some, None, option_map, slice_get}
 use Rattle.cl_outside.specs.declared.cells.Cell.{Cell}
+use Rattle.cl_outside.specs.Sizes.{MAX_INK}
 use Rattle.cl_region.specs.Places.{IsInRange, holds}
 use Rattle.cl_region.specs.declared.rects.Rect.{Rect}
 use Rattle.cl_region.specs.declared.rects.Shift.{Shift}
@@ -23,7 +24,7 @@ pub record IsArea (a : Area) : Type 0 where
   pub range : IsInRange (bounds_of a)
   pub width : pos 0 ≤ℤ a.width
   pub height : pos 0 ≤ℤ a.height
-  pub ink : a.ink ≤ 7
+  pub ink : a.ink ≤ MAX_INK
 
 -- how far from the corner a place of the area lies
 abbrev pub IsDistance : Area → ℤ → ℤ → Option (ℤ × ℤ) → Type 0

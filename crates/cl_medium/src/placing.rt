@@ -5,6 +5,9 @@ ghost use Rattle.cl_medium.specs.Drawing.{IsFit, IsPlaced, IsStart, shape_area, 
 use crate::ambients::{Ambient, near_sum};
 use crate::areas::Area;
 
+/// No two near places are further from each other.
+const WIDEST: usize = 2_000_000;
+
 // An area of cells, none, or one that may not be.
 pub enum Fit {
     Within(Area),
@@ -16,7 +19,7 @@ pub enum Fit {
 pub(crate) fn place_text(ambient: &Ambient, count: usize) -> Option<Area>
     ensures { IsPlaced (text_area ambient.now count) result }
 {
-    if count > 2_000_000 {
+    if count > WIDEST {
         return None;
     }
     let width = count as i64;

@@ -3,6 +3,7 @@ use Rattle.std.specs.Prelude.{◌≡◌, ℕ, ◌+◌, ◌-◌, ◌≤◌, ◌<�
 use Rattle.cl_outside.specs.Causes.{Rose}
 use Rattle.cl_outside.specs.declared.answers.Sent.{Sent}
 use Rattle.cl_outside.specs.declared.answers.Sent.TheVariants.{Done, Failed}
+use Rattle.cl_outside.specs.Sizes.{MAX_INK}
 
 -- columns, rows, and the glyph and the ink at column x of row y, where x is below the width and y below the height
 pub record Picture : Type 0 where
@@ -17,7 +18,7 @@ IsGlyph byte = (32 ≤ byte) × (byte ≤ 126)
 
 -- what a span may hold: at least one glyph, and one of the eight inks
 abbrev pub IsSpan : ℕ → List ℕ → Type 0
-IsSpan ink glyphs = (ink ≤ 7) × (0 < length glyphs) × All IsGlyph glyphs
+IsSpan ink glyphs = (ink ≤ MAX_INK) × (0 < length glyphs) × All IsGlyph glyphs
 
 -- a picture of this size, each of its cells a space with ink 0
 pub record IsBlank (width height : ℕ) (picture : Picture) : Type 0 where
@@ -39,6 +40,7 @@ pub record IsPainted (old new : Picture) (from_x from_y ink : ℕ) (glyphs : Lis
   pub ink_is : (x y : ℕ) → x < old.width → y < old.height
       → new.ink_at x y ≡ (if in_span from_x from_y (length glyphs) x y then ink else old.ink_at x y)
 
+-- a picture that is told is blank, of this size
 abbrev pub Blanks : ℕ → ℕ → Option Picture → Type 0
 Blanks width height None = ⊤
 Blanks width height (Some p) = IsBlank width height p
@@ -60,6 +62,7 @@ abbrev pub ClearSent : ℕ → ℕ → Option Picture → Bool → Bool → Sent
 ClearSent width height new broken cleared Done = Blanks width height new × (broken ≡ false) × (cleared ≡ true)
 ClearSent width height new broken cleared Failed = broken ≡ true
 
+-- a device that sent a span shows it where it was cleared, and is not broken; nothing is said of one that failed
 abbrev pub SpanSent : Bool → Option Picture → Option Picture → ℕ → ℕ → ℕ → List ℕ → Bool → Sent → Type 0
 SpanSent cleared old new x y ink glyphs broken Done = PaintsWhereCleared cleared old new x y ink glyphs × (broken ≡ false)
 SpanSent cleared old new x y ink glyphs broken Failed = broken ≡ true

@@ -11,9 +11,11 @@ pub record Lent : Type 0 where
   pub app_faults : List ℕ → ℕ
   pub making_faults : ℕ
 
+-- no file is told
 abbrev pub no_file_told : List ℕ → Option (Option (List ℕ))
 no_file_told name = None
 
+-- there was no fault at any name
 abbrev pub no_faults : List ℕ → ℕ
 no_faults name = 0
 

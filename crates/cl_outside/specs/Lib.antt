@@ -12,6 +12,7 @@ pub mod Outside
 pub mod Place
 pub mod Play
 pub mod Sending
+pub mod Sizes
 pub mod Told
 pub mod Untied
 pub mod Writing

@@ -44,6 +44,7 @@ pub record MemorySink : Type 0 where
   pub plan : Plan
   pub faults : ℕ
 
+-- each of the numbers is greater than 0
 abbrev pub AllPositive : List ℕ → Type 0
 AllPositive numbers = (k : ℕ) → k < length numbers → 0 < slice_index numbers k
 
@@ -52,6 +53,7 @@ abbrev pub next_piece : List ℕ → ℕ → ℕ
 next_piece [] offered = offered
 next_piece (piece ∷ pieces) offered = min piece offered
 
+-- the lengths of the pieces behind the first
 abbrev pub later_pieces : List ℕ → List ℕ
 later_pieces [] = []
 later_pieces (piece ∷ pieces) = pieces

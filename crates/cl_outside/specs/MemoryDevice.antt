@@ -4,11 +4,14 @@ use Rattle.cl_outside.specs.Device.{Picture, IsGlyph}
 use Rattle.cl_outside.specs.Memory.{Plan, one_more}
 use Rattle.cl_outside.specs.declared.answers.Sent.{Sent}
 use Rattle.cl_outside.specs.declared.answers.Sent.TheVariants.{Done, Failed}
+use Rattle.cl_outside.specs.Sizes.{CELL_COUNT, MAX_COLUMNS, MAX_INK}
 
+-- the glyphs of all cells, and their inks
 pub record Cells : Type 0 where
   pub glyphs : List ℕ
   pub inks : List ℕ
 
+-- the cells with the size that is shown of them, whether the device is broken and was cleared, and its faults
 pub record MemoryDevice : Type 0 where
   pub cells : Cells
   pub width : ℕ
@@ -20,14 +23,17 @@ pub record MemoryDevice : Type 0 where
 
 -- the place of a cell
 abbrev pub place_of : ℕ → ℕ → ℕ
-place_of x y = y * 512 + x
+place_of x y = y * MAX_COLUMNS + x
 
+-- the glyph at column x of row y
 abbrev pub glyph_in : Cells → ℕ → ℕ → ℕ
 glyph_in cells x y = slice_index cells.glyphs (place_of x y)
 
+-- the ink at column x of row y
 abbrev pub ink_in : Cells → ℕ → ℕ → ℕ
 ink_in cells x y = slice_index cells.inks (place_of x y)
 
+-- the cells as a picture of this size
 abbrev pub picture_in : Cells → ℕ → ℕ → Picture
 picture_in cells width height = record {
   width = width;
@@ -36,6 +42,7 @@ picture_in cells width height = record {
   ink_at = ink_in cells;
 }
 
+-- the picture that a device shows
 abbrev pub picture_of : MemoryDevice → Picture
 picture_of device = picture_in device.cells device.width device.height
 
@@ -46,10 +53,10 @@ told_picture false picture = Some picture
 
 -- each cell may stand in a picture
 pub record IsCells (glyphs inks : List ℕ) : Type 0 where
-  pub glyph_places : length glyphs ≡ 131072
-  pub ink_places : length inks ≡ 131072
-  pub glyph_range : (k : ℕ) → k < 131072 → IsGlyph (slice_index glyphs k)
-  pub ink_range : (k : ℕ) → k < 131072 → slice_index inks k ≤ 7
+  pub glyph_places : length glyphs ≡ CELL_COUNT
+  pub ink_places : length inks ≡ CELL_COUNT
+  pub glyph_range : (k : ℕ) → k < CELL_COUNT → IsGlyph (slice_index glyphs k)
+  pub ink_range : (k : ℕ) → k < CELL_COUNT → slice_index inks k ≤ MAX_INK
 
 -- the values stand from a place on, and all else is as it was
 pub record IsPut (old new : List ℕ) (at : ℕ) (values : List ℕ) : Type 0 where
@@ -65,8 +72,8 @@ pub record IsFilled (old new : List ℕ) (at count value : ℕ) : Type 0 where
 
 -- each glyph is a space and each ink 0
 pub record AllBlank (cells : Cells) : Type 0 where
-  pub glyphs_are : (k : ℕ) → k < 131072 → slice_index cells.glyphs k ≡ 32
-  pub inks_are : (k : ℕ) → k < 131072 → slice_index cells.inks k ≡ 0
+  pub glyphs_are : (k : ℕ) → k < CELL_COUNT → slice_index cells.glyphs k ≡ 32
+  pub inks_are : (k : ℕ) → k < CELL_COUNT → slice_index cells.inks k ≡ 0
 
 -- a count of faults rises by one where the operation failed
 abbrev pub CountsFailure : ℕ → ℕ → Sent → Type 0

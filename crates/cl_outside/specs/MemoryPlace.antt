@@ -32,6 +32,7 @@ abbrev pub named_source : List (List ℕ × List ℕ) → Option Reading → Opt
 named_source files None = None
 named_source files (Some r) = Some (record { name = name_at files r.file; at = r.at })
 
+-- the name of the made sink, if one was made
 abbrev pub named_sink : List (List ℕ × List ℕ) → Option ℕ → Option (List ℕ)
 named_sink files None = None
 named_sink files (Some place) = Some (name_at files place)
@@ -55,6 +56,7 @@ abbrev pub ReadsAllOf : Option (List ℕ) → List ℕ → Took → Type 0
 ReadsAllOf None buf answer = Unit {0}
 ReadsAllOf (Some left) buf answer = ReadsAll left buf answer
 
+-- the source that is open has this name
 abbrev pub Reads : Option OpenSource → List ℕ → Type 0
 Reads None name = ⊥
 Reads (Some source) name = source.name ≡ name

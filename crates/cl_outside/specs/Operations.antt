@@ -2,6 +2,7 @@
 use Rattle.std.specs.Prelude.{ℕ, Bool, true, false, ◌&&◌, nat_le, List, [], ◌∷◌, ◌++◌, length, map}
 use Rattle.std.specs.Fmt.{decimal}
 use Rattle.cl_outside.specs.Writing.{joined}
+use Rattle.cl_outside.specs.Sizes.{MAX_COLUMNS, MAX_INK, MAX_ROWS}
 
 -- an operation of a device: a blank picture of a width and a height; glyphs of one ink, from column x of row y on
 pub data Op : Type 0 where
@@ -20,8 +21,8 @@ all_glyphs (byte ∷ bytes) = nat_le 32 byte && nat_le byte 126 && all_glyphs by
 
 -- a picture of 1 to 512 columns and 1 to 256 rows; at least one glyph, in one of eight inks
 abbrev pub may_stand : Op → Bool
-may_stand (clears width height) = nat_le 1 width && nat_le width 512 && nat_le 1 height && nat_le height 256
-may_stand (shows x y ink glyphs) = nat_le ink 7 && nat_le 1 (length glyphs) && all_glyphs glyphs
+may_stand (clears width height) = nat_le 1 width && nat_le width MAX_COLUMNS && nat_le 1 height && nat_le height MAX_ROWS
+may_stand (shows x y ink glyphs) = nat_le ink MAX_INK && nat_le 1 (length glyphs) && all_glyphs glyphs
 
 -- the line with the line feed that ends it
 abbrev pub op_bytes : Op → List ℕ

@@ -70,6 +70,7 @@ pub record Playing : Type 0 where
   pub shown : Option Picture
   pub line : List ℕ
 
+-- nothing is shown, and no byte was played
 abbrev pub at_start : Playing
 at_start = record { shown = None; line = [] }
 
@@ -77,10 +78,12 @@ at_start = record { shown = None; line = [] }
 abbrev pub with_byte : Playing → ℕ → Playing
 with_byte s b = if b == 10 then record { shown = acted s.shown (op_of s.line); line = [] } else record { shown = s.shown; line = s.line ++ b ∷ [] }
 
+-- each byte in turn
 abbrev pub played : Playing → List ℕ → Playing
 played s [] = s
 played s (b ∷ bs) = played (with_byte s b) bs
 
+-- what is shown, or a blank picture of one cell where nothing is
 abbrev pub shown_picture : Option Picture → Picture
 shown_picture shown = unwrap_or shown (blank_picture 1 1)
 

@@ -6,6 +6,7 @@ use Rattle.cl_outside.specs.Device.{Picture}
 use Rattle.cl_outside.specs.Play.{play}
 use Rattle.cl_outside.specs.Writing.{Says}
 
+-- the operation did not fail
 abbrev pub is_done : Sent → Bool
 is_done Done = true
 is_done Failed = false

@@ -8,10 +8,12 @@ use Rattle.cl_outside.specs.Named.{found}
 use Rattle.cl_outside.specs.Place.{IsTold}
 use Rattle.cl_outside.specs.MemoryPlace.{taken_in, other_file}
 
+-- a file is told by what it holds
 pub told_same : (file : Option (List ℕ)) → IsTold None file (Some file)
 told_same None = tt
 told_same (Some bytes) = refl
 
+-- the file of each name is told, the made sink's by what the sink took
 pub told_files : (files : List (List ℕ × List ℕ)) (sink : Option (List ℕ)) (name : List ℕ) → IsTold (other_file files sink name) (taken_in files sink) (Some (found files name))
 told_files files None name = refl
 told_files files (Some made) name =

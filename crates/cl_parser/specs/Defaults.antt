@@ -3,23 +3,13 @@ use Rattle.std.specs.Prelude.{[], Option, Some, None}
 use Rattle.cl_application.specs.declared.applications.App.{App}
 use Rattle.cl_application.specs.declared.declarations.ArgumentDecl.{ArgumentDecl}
 use Rattle.cl_application.specs.declared.declarations.DefaultDecl.{DefaultDecl}
-use Rattle.cl_eval.specs.Evaluated.{outcome_of_eval}
-use Rattle.cl_eval.specs.Outcome.{Outcome, Gives, Traps}
-use Rattle.cl_eval.specs.declared.metering.Limits.{Limits}
+use Rattle.cl_eval.specs.Evaluated.{outcome_of_eval, own_limits, value_in}
 use Rattle.cl_syntax.specs.ExprTree.{ExprTree}
 use Rattle.cl_value.specs.Data.{Data}
 
--- the limits of a default
-abbrev pub default_limits : Limits
-default_limits = record { budget = 10000; depth = 512 }
-
-abbrev pub value_in : Outcome Data → Option Data
-value_in (Gives d cost deepest) = Some d
-value_in (Traps kind cost deepest) = None
-
 -- the value of an expression on no slots and no variables; none where it traps
 abbrev pub closed_value : App → ExprTree → Option Data
-closed_value app t = value_in (outcome_of_eval default_limits app [] [] t)
+closed_value app t = value_in (outcome_of_eval own_limits app [] [] t)
 
 -- the value of a default; none where there is no default, or where it traps
 abbrev pub value_if : App → Option DefaultDecl → Option Data

@@ -16,15 +16,18 @@ pub data OneAt : Type 0 where
   Bad : OneAt
   Surplus : OneAt
 
+-- what a `One` of the program is
 abbrev pub one_at : One → OneAt
 one_at (one.Object v) = Object (data_of v)
 one_at one.Bad = Bad
 one_at one.Surplus = Surplus
 
+-- this object, where no more tokens stand behind its own
 abbrev pub only : Data → List Token → OneAt
 only d [] = Object d
 only d (t ∷ ts) = Surplus
 
+-- what the first token gives, with these tokens behind it
 abbrev pub one_behind : List Token → Option Data → OneAt
 one_behind ts None = Bad
 one_behind ts (Some d) = only d ts
@@ -34,5 +37,6 @@ abbrev pub one_in : Scene → TypeSpecTree → List Element → List Token → O
 one_in s spec line [] = Bad
 one_in s spec line (t ∷ ts) = one_behind ts (token_value s spec line t)
 
+-- what a line is read as, as the one token of a type
 abbrev pub one_of : Scene → TypeSpecTree → List Element → OneAt
 one_of s spec line = one_in s spec line (tokens_behind 0 line)

@@ -24,6 +24,7 @@ pub record Scene : Type 0 where
 abbrev pub scene_of : {T : Type 0} → (T → Member) → (T → Reads) → Parser T → Scene
 scene_of holds reads p = record { app = p.app.now; holds = holds p.types.now; reads = reads p.types.now; slots = p.slots.now }
 
+-- an object, where a test holds
 abbrev pub if_holds : Bool → Data → Option Data
 if_holds true d = Some d
 if_holds false d = None

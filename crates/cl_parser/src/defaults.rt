@@ -4,17 +4,11 @@ ghost use Rattle.cl_parser.specs.Defaults.{closed_value, default_value};
 ghost use Rattle.cl_value.specs.Value.{data_of};
 
 use cl_application::{App, ArgumentDecl};
-use cl_eval::{Env, Evaluated, Limits, Slots, eval};
+use cl_eval::{Env, Evaluated, OWN_LIMITS, Slots, eval};
 use cl_outside::own_steps;
 use cl_syntax::Expr;
 use cl_value::Value;
 use std::alloc::{AllocError, Global};
-
-/// The limits of a default.
-const LIMITS: Limits = Limits {
-    budget: 10_000,
-    depth: 512,
-};
 
 /// The value of an argument's default, evaluated anew, if it has one that does not trap.
 pub fn default_value(
@@ -36,7 +30,7 @@ pub fn closed_value(alloc: Global, app: &App, expr: &Expr) -> Result<Option<Valu
 {
     let env = Env::new(alloc);
     let slots = Slots::new(alloc);
-    match eval(alloc, app, expr, &env, &slots, LIMITS, &mut own_steps()) {
+    match eval(alloc, app, expr, &env, &slots, OWN_LIMITS, &mut own_steps()) {
         Evaluated::Value(value, _, _) => Ok(Some(value)),
         Evaluated::Trap(_, _) => Ok(None),
         Evaluated::Memory => Err(AllocError),

@@ -10,7 +10,7 @@ use Rattle.cl_syntax.specs.declared.paths.Path.{Path}
 use Rattle.cl_application.specs.App.{function_named}
 use Rattle.cl_application.specs.declared.applications.App.{App}
 use Rattle.cl_application.specs.declared.declarations.FunctionDecl.{FunctionDecl}
-use Rattle.cl_eval.specs.ReadPaths.{InFunction, IsRead, IsSlot, Reads, ReadsAmong, ReadsBound, Within, taken}
+use Rattle.cl_eval.specs.ReadPaths.{InFunction, IsRead, IsSlot, Reads, ReadsAmong, ReadsBound, Within, operand_fields}
 use Rattle.cl_phases.specs.SlotReads.{FunctionsWithin, ReadsSlot}
 
 -- by what is read where functions are called
@@ -30,7 +30,7 @@ module _ (from to : Callee → Type 0) (p : Path) (more : (f : List ℕ) → fro
     through_calls along (expr.Fold x t accumulator opening body) r =
         ⊎_elim (λ q. inl (through_calls [] t q))
         (λ q. inr (⊎_elim (λ k. inl (through_calls [] opening k)) (λ k. inr (k.0, (k.1.0, through_calls [] body k.1.1))) q)) r
-    through_calls along (expr.Operation o ts) r = through_among (taken o ts along) ts r
+    through_calls along (expr.Operation o ts) r = through_among (operand_fields o ts along) ts r
     through_calls along (expr.Call f ts) r = ⊎_elim (λ q. inl (through_among [] ts q)) (λ c. inr (more f c)) r
 
     through_among : (along : Along) (ts : ExprTrees) → ReadsAmong from p along ts → ReadsAmong to p along ts

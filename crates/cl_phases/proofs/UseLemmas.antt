@@ -12,7 +12,7 @@ use Rattle.cl_syntax.specs.declared.callees.Callee.TheVariants as callee
 use Rattle.cl_syntax.specs.declared.paths.Path.{Path}
 use Rattle.cl_syntax.specs.declared.paths.Root.{Root}
 use Rattle.cl_syntax.specs.declared.paths.Root.TheVariants as root
-use Rattle.cl_eval.specs.ReadPaths.{Apart, ApartAll, InFunction, IsSlot, Reads, ReadsAmong, ReadsBound, taken}
+use Rattle.cl_eval.specs.ReadPaths.{Apart, ApartAll, InFunction, IsSlot, Reads, ReadsAmong, ReadsBound, operand_fields}
 use Rattle.cl_phases.specs.SlotReads.{Functions, FunctionsWithin, ReadsSlot}
 use Rattle.cl_phases.specs.SlotSearch.{names_slot, names_slot_among, names_slot_bound, calls, calls_among, calls_bound}
 
@@ -83,7 +83,7 @@ module _ (has : Callee → Type 0) (p : Path) (is : IsSlot p.root) where
     split along (expr.Filter y t body) r = two t body (⊎_elim (λ q. inl (split [] t q)) (λ q. inr (split [] body q.1)) r)
     split along (expr.Fold y t accumulator opening body) r =
         three t opening body (⊎_elim (λ q. inl (split [] t q)) (λ q. inr (⊎_elim (λ k. inl (split [] opening k)) (λ k. inr (split [] body k.1.1)) q)) r)
-    split along (expr.Operation o ts) r = split_among (taken o ts along) ts r
+    split along (expr.Operation o ts) r = split_among (operand_fields o ts along) ts r
     split along (expr.Call f ts) r =
         ⊎_elim (λ q. one_more f (names_slot_among ts) (calls_among ts) (split_among [] ts q))
         (λ c. inr (f, (Contains-append_left (f ∷ []) (calls_among ts) f (Contains-push [] f), c))) r
@@ -164,7 +164,7 @@ mutual
       (λ a. let n = named_use [] opening a in (n.0, (n.1.0, λ has. inr (inl (n.1.1 has))))) (or_cases (names_slot t) (names_slot opening) k))
       (λ a. let n = named_use [] body a in
       (n.0, (n.1.0, λ has. inr (inr (apart y n.0.root n.1.0, (apart accumulator n.0.root n.1.0, n.1.1 has)))))) (or_cases (names_slot t || names_slot opening) (names_slot body) h)
-  named_use along (expr.Operation o ts) h = named_among (taken o ts along) ts h
+  named_use along (expr.Operation o ts) h = named_among (operand_fields o ts along) ts h
   named_use along (expr.Call f ts) h = let n = named_among [] ts h in (n.0, (n.1.0, λ has. inl (n.1.1 has)))
 
   named_among : (along : Along) (ts : ExprTrees) → names_slot_among ts ≡ true → Named (λ has p. ReadsAmong has p along ts)
@@ -204,7 +204,7 @@ module _ (has : Callee → Type 0) (p : Path) (is : IsSlot p.root) where
         (λ k. ⊎_elim (λ a. inl (called_use [] t f a r)) (λ a. inr (inl (called_use [] opening f a r))) (Contains-append_cases (calls t) (calls opening) f k))
         (λ a. inr (inr (apart y p.root is, (apart accumulator p.root is, called_use [] body f a r))))
         (Contains-append_cases (calls t ++ calls opening) (calls body) f c)
-    called_use along (expr.Operation o ts) f c r = called_among (taken o ts along) ts f c r
+    called_use along (expr.Operation o ts) f c r = called_among (operand_fields o ts along) ts f c r
     called_use along (expr.Call g ts) f c r =
         ⊎_elim
         (λ a. inr (⊎_elim (λ k. absurd (nothing_here f k)) (λ (e : g ≡ f). subst (λ (x : List ℕ). has (callee.Function x)) (sym e) r) (Contains-push_cases [] g f a)))

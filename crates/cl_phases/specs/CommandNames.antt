@@ -31,6 +31,7 @@ head_value key o = if is_in Commands o.kind then paired key (head_keys o.parts) 
 
 -- ---- tables
 
+-- the table of this name, or the one that each text has where none is written
 abbrev pub table_named : Option Datum → List ℕ
 table_named None = global_table
 table_named (Some d) = symbol_of d
@@ -43,14 +44,17 @@ table_of o = table_named (head_value key.CommandTable o)
 abbrev pub joined : List ℕ → List ℕ → List ℕ
 joined table name = table ++ 32 ∷ name
 
+-- a name put in a table, at the same offset
 abbrev pub joined_at : List ℕ → NameAt → NameAt
 joined_at table n = record { name = joined table n.name; at = n.at }
 
+-- names put in a table
 abbrev pub in_table : List ℕ → List NameAt → List NameAt
 in_table table ns = map (joined_at table) ns
 
 -- ---- command-line names
 
+-- the text that a datum is, at its offset
 abbrev pub text_at : Datum → List NameAt
 text_at (literal s at) = record { name = s; at = at } ∷ []
 text_at (number z at) = []
@@ -59,6 +63,7 @@ text_at (quoted s at name_at) = []
 text_at (stray at) = []
 text_at (list ds at) = []
 
+-- what is made of a symbol, where the symbol stands
 abbrev pub line_named : NameAt → NameAt
 line_named n = record { name = line_name_of n.name; at = n.at }
 
@@ -71,6 +76,7 @@ abbrev pub given_or_made : Option Datum → List NameAt → List NameAt
 given_or_made None ns = line_names ns
 given_or_made (Some d) ns = text_at d
 
+-- the command-line name of a command
 abbrev pub line_of : Outer → List NameAt
 line_of o = given_or_made (head_value key.Name o) (declares Commands o)
 
@@ -81,6 +87,7 @@ lines_in (o ∷ os) = in_table (table_of o) (line_of o) ++ lines_in os
 
 -- ---- keystrokes
 
+-- the keystroke of a command, if it has one
 abbrev pub stroke_of : Outer → List NameAt
 stroke_of o = own_name_at (head_value key.Keystroke o)
 

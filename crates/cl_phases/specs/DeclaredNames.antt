@@ -15,6 +15,7 @@ use Rattle.cl_phases.specs.declared.declared_names.Space.{Space}
 use Rattle.cl_phases.specs.declared.declared_names.Space.TheVariants as space
 use Rattle.cl_phases.specs.contracts.declared_names.Space.{the_type}
 
+-- the name that a datum is, at its offset
 abbrev pub word_at : Datum → List NameAt
 word_at (word s at) = record { name = s; at = at } ∷ []
 word_at (number z at) = []
@@ -23,6 +24,7 @@ word_at (quoted s at name_at) = []
 word_at (stray at) = []
 word_at (list ds at) = []
 
+-- the name that stands first
 abbrev pub first_at : List Datum → List NameAt
 first_at [] = []
 first_at (d ∷ ds) = word_at d
@@ -31,10 +33,12 @@ first_at (d ∷ ds) = word_at d
 abbrev pub name_at : Datum → List NameAt
 name_at d = word_at d ++ first_at (parts_of d)
 
+-- those of data in a row
 abbrev pub names_at : List Datum → List NameAt
 names_at [] = []
 names_at (d ∷ ds) = name_at d ++ names_at ds
 
+-- two spaces are one
 abbrev pub same_space : Space → Space → Bool
 same_space a b = sameb the_type a b
 
@@ -82,6 +86,7 @@ own_name_at (Some d) = word_at d
 abbrev pub declares : Space → Outer → List NameAt
 declares s o = if is_in s o.kind then own_name_at o.name else []
 
+-- the names that outermost forms declare in a space, in the order of the text
 abbrev pub declared_in : Space → List Outer → List NameAt
 declared_in s [] = []
 declared_in s (o ∷ os) = declares s o ++ declared_in s os

@@ -21,10 +21,12 @@ abbrev mutual
   long_in (stray at) = None
   long_in (list ds at) = long_among ds
 
+  -- the first in data in a row that is too long
   pub long_among : Datums → Option ℕ
   long_among none = None
   long_among (item d ds) = earlier (long_in d) (long_among ds)
 
+-- the offset of a datum, if there is one
 abbrev pub offset_in : Option Datum → Option ℕ
 offset_in None = None
 offset_in (Some d) = Some (offset d)
@@ -42,6 +44,7 @@ past_parameters (d ∷ ds) = past 16 (parts_of d)
 abbrev pub past_section : Datum → Option ℕ
 past_section d = earlier (past 256 (section_values Slots d)) (past 16 (section_values Panes d))
 
+-- the first that is past a limit in the sections of a frame
 abbrev pub past_sections : List Datum → Option ℕ
 past_sections [] = None
 past_sections (d ∷ ds) = earlier (past_section d) (past_sections ds)
@@ -66,12 +69,14 @@ past_kind CommandTranslator more = None
 past_kind Dialog more = past_queries more
 past_kind Frame more = past_sections more
 
+-- the first that is past a limit in an outermost form, by what it declares
 abbrev pub past_outer : OuterKind → List Datum → Option ℕ
 past_outer (Declared kind) more = past_kind kind more
 past_outer (Planned at) more = None
 past_outer (Unknown at) more = None
 past_outer Headless more = None
 
+-- a text that is too long for a command-line name
 abbrev pub long_line : Datum → Option ℕ
 long_line (literal s at) = at_if (nat_lt 64 (length s)) at
 long_line (number z at) = None
@@ -85,9 +90,11 @@ abbrev pub past_line : Option Datum → Option ℕ
 past_line None = None
 past_line (Some d) = long_line d
 
+-- the first that is past a limit in a declaration
 abbrev pub past_declaration : Outer → Option ℕ
 past_declaration o = earlier (past_line (head_value Name o)) (past_outer o.kind (behind_name o))
 
+-- the first in declarations in a row
 abbrev pub past_declarations : List Datum → Option ℕ
 past_declarations [] = None
 past_declarations (d ∷ ds) = earlier (past_declaration (outer_in d)) (past_declarations ds)

@@ -11,6 +11,7 @@ abbrev pub repeated : List (List ℕ) → List NameAt → Option ℕ
 repeated before [] = None
 repeated before (n ∷ ns) = if list_any (bytes_eq n.name) before then Some n.at else repeated (before ++ n.name ∷ []) ns
 
+-- the first name that stands before among these
 abbrev pub first_repeated : List NameAt → Option ℕ
 first_repeated ns = repeated [] ns
 

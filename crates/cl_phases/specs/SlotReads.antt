@@ -71,6 +71,7 @@ pub record FunctionReads (fs : Functions) (x : List ℕ) : Type 0 where
 
 -- ---- what the program answers
 
+-- whether one of the slots' opening values reads a slot
 abbrev pub Tells : Functions → List (List ℕ × SlotDecl) → Bool → Type 0
 Tells fs slots true = AnyReads fs slots
 Tells fs slots false = AnyReads fs slots → ⊥

@@ -24,10 +24,12 @@ abbrev mutual
   names_slot (expr.Operation o ts) = names_slot_among ts
   names_slot (expr.Call f ts) = names_slot_among ts
 
+  -- a slot stands in one of the expressions
   pub names_slot_among : ExprTrees → Bool
   names_slot_among none = false
   names_slot_among (part t ts) = names_slot t || names_slot_among ts
 
+  -- a slot stands in the value of one of the bindings
   pub names_slot_bound : Bindings → Bool
   names_slot_bound unbound = false
   names_slot_bound (binding x t bs) = names_slot t || names_slot_bound bs
@@ -48,10 +50,12 @@ abbrev mutual
   calls (expr.Operation o ts) = calls_among ts
   calls (expr.Call f ts) = f ∷ calls_among ts
 
+  -- the functions that expressions in a row call
   pub calls_among : ExprTrees → List (List ℕ)
   calls_among none = []
   calls_among (part t ts) = calls t ++ calls_among ts
 
+  -- the functions that the values of bindings call
   pub calls_bound : Bindings → List (List ℕ)
   calls_bound unbound = []
   calls_bound (binding x t bs) = calls t ++ calls_bound bs
@@ -66,14 +70,17 @@ Found = List (List ℕ × Reached)
 abbrev pub with_call : Functions → List ℕ → Found → Found
 with_call fs x found = if is_some (named x fs) then with_first (λ r. r.name) found (record { name = x }) else found
 
+-- the same for several, one after another
 abbrev pub with_calls : Functions → List (List ℕ) → Found → Found
 with_calls fs [] found = found
 with_calls fs (x ∷ xs) found = with_calls fs xs (with_call fs x found)
 
+-- the body of a function, if there is one
 abbrev pub body_of : Option FunctionDecl → Option ExprTree
 body_of None = None
 body_of (Some f) = Some f.body
 
+-- the body of a function that was found
 abbrev pub body_named : Functions → Option Reached → Option ExprTree
 body_named fs None = None
 body_named fs (Some r) = body_of (named r.name fs)

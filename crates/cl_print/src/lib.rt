@@ -1,4 +1,4 @@
-//! Values as texts: the printed form, which tells every two kinds of values apart, and the plain form, as people read it.
+//! Values as texts: the printed form, with a text in quotes and a record behind `#`, and the plain form, as people read it.
 #![tactic(auto)]
 
 mod plain;

@@ -19,7 +19,7 @@ use Rattle.cl_outside.specs.Place.{IsTold}
 use Rattle.cl_ptext.specs.Subtyping.{hierarchy_in}
 use Rattle.cl_updating.specs.Redisplays.{CanReuse}
 use Rattle.cl_program.specs.Command.{IsCheck, IsRun, application_of}
-use Rattle.cl_program.specs.Commands.{Checked, KeepsFiles, RanOn, RanText, RefusesText, SaysLine, Stands, Tells}
+use Rattle.cl_program.specs.Commands.{Checked, KeepsFiles, MakesNoneAt, RanOn, RanText, RefusesText, SaysLine, Stands, Tells}
 use Rattle.cl_program.specs.Hosts.{HostMeanings, meanings_in, reads_in}
 use Rattle.cl_program.specs.Run.{IsRefused, NamesText, OfBench, Opens, Ran, RanLoaded, RanOutBenching, RanOutServing, SaysCut, SaysWhole, ground_in, limits_of}
 use Rattle.cl_program.specs.Surroundings.{IsMade, Placed, Streams, UsesDevice, no_device}
@@ -286,3 +286,52 @@ told_other other taken file bytes e h = rw e at h
 pub none_by : {A B : Type 0} (f : A → B) (o : Option A) → ((x : A) → o ≡ Some x → ⊥) → option_map f o ≡ None
 none_by f None no_one = refl
 none_by f (Some x) no_one = absurd (no_one x refl)
+
+-- ---- where no sink is made
+
+-- each part of the place is as it was
+pub makes-kept : (old new : Placed) (h : How) → ((name : List ℕ) → new.file name ≡ old.file name) → new.making_faults ≡ old.making_faults
+    → new.sink ≡ old.sink → MakesNoneAt h old new
+makes-kept old new how.Usage files making sink = tt
+makes-kept old new how.UsageCut files making sink = tt
+makes-kept old new how.AppFault files making sink = record { files = files; making = making; sink = sink }
+makes-kept old new how.Refused files making sink = record { files = files; making = making; sink = sink }
+makes-kept old new how.RefusalCut files making sink = record { files = files; making = making; sink = sink }
+makes-kept old new how.Loads files making sink = tt
+makes-kept old new how.LoadsCut files making sink = tt
+makes-kept old new how.WireFault files making sink = tt
+makes-kept old new how.Memory files making sink = tt
+makes-kept old new how.Benched files making sink = tt
+makes-kept old new how.BenchCut files making sink = tt
+makes-kept old new (how.Ended end) files making sink = tt
+
+-- a file was read before
+pub makes-read : (old mid new : Placed) (h : How) → ((name : List ℕ) → mid.file name ≡ old.file name) → mid.making_faults ≡ old.making_faults
+    → mid.sink ≡ old.sink → MakesNoneAt h mid new → MakesNoneAt h old new
+makes-read old mid new how.Usage files making sink m = tt
+makes-read old mid new how.UsageCut files making sink m = tt
+makes-read old mid new how.AppFault files making sink m = record { files = λ name. m.files name ∙ files name; making = m.making ∙ making; sink = m.sink ∙ sink }
+makes-read old mid new how.Refused files making sink m = record { files = λ name. m.files name ∙ files name; making = m.making ∙ making; sink = m.sink ∙ sink }
+makes-read old mid new how.RefusalCut files making sink m = record { files = λ name. m.files name ∙ files name; making = m.making ∙ making; sink = m.sink ∙ sink }
+makes-read old mid new how.Loads files making sink m = tt
+makes-read old mid new how.LoadsCut files making sink m = tt
+makes-read old mid new how.WireFault files making sink m = tt
+makes-read old mid new how.Memory files making sink m = tt
+makes-read old mid new how.Benched files making sink m = tt
+makes-read old mid new how.BenchCut files making sink m = tt
+makes-read old mid new (how.Ended end) files making sink m = tt
+
+-- an application that was loaded is neither unread nor refused
+pub makes-ran : (wire : Option (List ℕ)) (g : Ground) (p q : Placed) (s t : Streams) (h : How) → RanOn wire g p q s t h → MakesNoneAt h p q
+makes-ran wire g p q s t how.Usage r = tt
+makes-ran wire g p q s t how.UsageCut r = tt
+makes-ran wire g p q s t how.AppFault r = absurd r
+makes-ran wire g p q s t how.Refused r = absurd r
+makes-ran wire g p q s t how.RefusalCut r = absurd r
+makes-ran wire g p q s t how.Loads r = tt
+makes-ran wire g p q s t how.LoadsCut r = tt
+makes-ran wire g p q s t how.WireFault r = tt
+makes-ran wire g p q s t how.Memory r = tt
+makes-ran wire g p q s t how.Benched r = tt
+makes-ran wire g p q s t how.BenchCut r = tt
+makes-ran wire g p q s t (how.Ended end) r = tt

@@ -4,7 +4,7 @@ use Rattle.cl_eval.specs.Slots.{Slots}
 use Rattle.cl_frame.specs.Ground.{Ground}
 use Rattle.cl_frame.specs.Panes.{PaneMarks}
 use Rattle.cl_frame.specs.Sending.{SendsOn, ShowsPanes, Wire, frame_ops}
-use Rattle.cl_load.specs.Opening.{opening_slots}
+use Rattle.cl_opening.specs.Opening.{opening_slots}
 use Rattle.cl_outside.specs.Operations.{mended, ops_bytes}
 use Rattle.cl_session.specs.Session.{cost_of_panes}
 use Rattle.cl_session.specs.Transcript.{RoseIf}

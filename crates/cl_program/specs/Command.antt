@@ -18,6 +18,7 @@ IsCheck words name = invocation_of words ≡ Some (check name)
 abbrev pub IsBench : (words : List (List ℕ)) → (items : ℕ) → Type 0
 IsBench words items = invocation_of words ≡ Some (bench items)
 
+-- these words are no command
 abbrev pub IsNoCommand : List (List ℕ) → Type 0
 IsNoCommand words = invocation_of words ≡ None
 
@@ -31,12 +32,15 @@ application_of (bench items) = None
 abbrev pub Names : (words : List (List ℕ)) → (name : List ℕ) → Type 0
 Names words name = option_and_then application_of (invocation_of words) ≡ Some name
 
+-- the line of how the program is used
 abbrev pub usage_line : List ℕ
 usage_line = codes "usage: clim_run run APP [--wire NAME] [--budget N] | check APP | bench N" ++ 10 ∷ []
 
+-- the line of an application that loads
 abbrev pub loads_line : List ℕ
 loads_line = codes "loads" ++ 10 ∷ []
 
+-- the line of a refusal of this number, at this offset of the text
 abbrev pub refusal_line : ℕ → ℕ → List ℕ
 refusal_line number offset = codes "refused " ++ decimal number ++ codes " at " ++ decimal offset ++ 10 ∷ []
 

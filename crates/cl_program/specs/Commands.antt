@@ -45,6 +45,27 @@ KeptBy (Some (run application wire budget)) by_name old new = KeepsFiles applica
 KeptBy (Some (check application)) by_name old new = KeepsFiles application None by_name old new
 KeptBy (Some (bench items)) by_name old new = new ≡ old
 
+-- no sink was made: each file, the count of making and the sink that was made last are as they were
+pub record MakesNone (old new : Placed) : Type 0 where
+  pub files : (name : List ℕ) → new.file name ≡ old.file name
+  pub making : new.making_faults ≡ old.making_faults
+  pub sink : new.sink ≡ old.sink
+
+-- no sink is made where the application cannot be read, or its text is refused
+abbrev pub MakesNoneAt : How → (old new : Placed) → Type 0
+MakesNoneAt how.Usage old new = Unit {0}
+MakesNoneAt how.UsageCut old new = Unit {0}
+MakesNoneAt how.AppFault old new = MakesNone old new
+MakesNoneAt how.Refused old new = MakesNone old new
+MakesNoneAt how.RefusalCut old new = MakesNone old new
+MakesNoneAt how.Loads old new = Unit {0}
+MakesNoneAt how.LoadsCut old new = Unit {0}
+MakesNoneAt how.WireFault old new = Unit {0}
+MakesNoneAt how.Memory old new = Unit {0}
+MakesNoneAt how.Benched old new = Unit {0}
+MakesNoneAt how.BenchCut old new = Unit {0}
+MakesNoneAt (how.Ended end) old new = Unit {0}
+
 -- ---- an application that was loaded
 
 -- the gestures were served on the device of the run
@@ -55,6 +76,7 @@ pub record Went (wire : Option (List ℕ)) (g : Ground) (place_old place_new : P
   pub totals : Totals
   pub went : EndsAs g old new device_old device_new totals how
 
+-- the command `run` went so on an application that was loaded
 abbrev pub RanOn : (wire : Option (List ℕ)) → Ground → (place_old place_new : Placed) → (old new : Streams) → How → Type 0
 RanOn wire g place_old place_new old new how.Usage = ⊥
 RanOn wire g place_old place_new old new how.UsageCut = ⊥

@@ -19,6 +19,7 @@ pub record HostMeanings : Type 0 where
   pub bounds : Bounds
   pub names : HostNames
 
+-- what host types mean, by their least and greatest numbers and by their names
 abbrev pub hosts_of : {H : Type 0} → (H → List ℕ → Option (ℤ × ℤ)) → (H → List ℕ → NameEntries) → H → HostMeanings
 hosts_of bounds names hosts = record { bounds = bounds hosts; names = names hosts }
 

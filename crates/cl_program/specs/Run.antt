@@ -5,13 +5,14 @@ use Rattle.cl_outside.specs.Causes.{Rose}
 use Rattle.cl_outside.specs.Operations.{ops_bytes}
 use Rattle.cl_application.specs.declared.applications.App.{App}
 use Rattle.cl_eval.specs.declared.metering.Limits.{Limits}
+use Rattle.cl_eval.specs.declared.metering.TheConstants.{MAX_DEPTH}
 use Rattle.cl_frame.specs.Ground.{Ground, ground}
 use Rattle.cl_frame.specs.Sending.{SendsOn, ShowsPanes, Wire, frame_ops}
 use Rattle.cl_gesture.specs.Lines.{Piece, pieces, ended, held_from}
 use Rattle.cl_gesture.specs.Next.{most_lines}
 use Rattle.cl_gen.specs.Workload.{application_text, gestures_text}
 use Rattle.cl_load.specs.Application.{IsApplication, IsReason}
-use Rattle.cl_load.specs.Opening.{opening_slots}
+use Rattle.cl_opening.specs.Opening.{opening_slots}
 use Rattle.cl_load.specs.Reason.{Reason}
 use Rattle.cl_load.specs.Types.{Bounds, types_in}
 use Rattle.cl_outside.specs.Writing.{Says}
@@ -33,7 +34,7 @@ use Rattle.cl_program.specs.declared.running.How.TheVariants as how
 
 -- the limits of a display and of a command
 abbrev pub limits_of : (budget : Option ℕ) → Limits
-limits_of budget = record { budget = unwrap_or budget 1000000; depth = 512 }
+limits_of budget = record { budget = unwrap_or budget 1000000; depth = MAX_DEPTH }
 
 -- ---- the opening
 
@@ -221,6 +222,7 @@ pub record RanOutServing (hosts : HostMeanings) (words : List (List ℕ)) (place
 abbrev pub SaysWhole : Streams → Streams → List ℕ → Type 0
 SaysWhole old new line = IsUnread old new × Says true old.taken new.taken line old.output_faults new.output_faults
 
+-- the output failed behind the first bytes of the line
 abbrev pub SaysCut : Streams → Streams → List ℕ → Type 0
 SaysCut old new line = IsUnread old new × Says false old.taken new.taken line old.output_faults new.output_faults
 

@@ -9,6 +9,7 @@ use Rattle.cl_load.specs.Reason.{Reason}
 use Rattle.cl_load.specs.Types.{Bounds}
 use Rattle.cl_session.specs.declared.serving.End.TheVariants as end
 use Rattle.cl_program.specs.Texts.{first_bytes}
+use Rattle.cl_program.specs.Commands.{MakesNoneAt}
 use Rattle.cl_program.specs.Hosts.{HostMeanings}
 use Rattle.cl_program.specs.Run.{Ran}
 use Rattle.cl_program.specs.Surroundings.{Placed, Streams}
@@ -38,6 +39,7 @@ pub record EndsWith (hosts : HostMeanings) (words : List (List ℕ)) (place_old 
   pub how : How
   pub status_is : status ≡ status_of how
   pub ran : Ran hosts words place_old place_new old new how
+  pub makes : MakesNoneAt how place_old place_new
 
 -- a file that is told, whose text declares an application on host types of these bounds
 abbrev pub DeclaresApplication : Bounds → Option (Option (List ℕ)) → Type 0

@@ -11,6 +11,7 @@ pub record Placed : Type 0 where
   pub making_faults : ℕ
   pub sink : Wire
 
+-- a place of these parts
 abbrev pub placed : (List ℕ → Option (Option (List ℕ))) → (List ℕ → ℕ) → ℕ → Wire → Placed
 placed file app_faults making_faults sink = record { file = file; app_faults = app_faults; making_faults = making_faults; sink = sink }
 
@@ -22,6 +23,7 @@ pub record Streams : Type 0 where
   pub output_faults : ℕ
   pub spent : ℕ
 
+-- streams of these parts
 abbrev pub streams : Option (List ℕ) → ℕ → Option (List ℕ) → ℕ → ℕ → Streams
 streams left gesture_faults taken output_faults spent =
     record { left = left; gesture_faults = gesture_faults; taken = taken; output_faults = output_faults; spent = spent }

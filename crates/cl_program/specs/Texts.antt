@@ -29,6 +29,7 @@ pub record Grows (left_old left_new : Option (List ℕ)) (old new : List ℕ) : 
   pub same : new ≡ old ++ bytes
   pub short : length new ≤ most_bytes
 
+-- what one read of a file comes to
 abbrev pub PieceOf : Option (List ℕ) → Option (List ℕ) → List ℕ → List ℕ → PieceRead → Type 0
 PieceOf left_old left_new old new piece.More = Grows left_old left_new old new
 PieceOf left_old left_new old new piece.End = Consumes left_old left_new [] × IsAtEnd left_new × (new ≡ old)
@@ -48,16 +49,19 @@ pub record ReadsAll (left_old left_new : Option (List ℕ)) (bytes : List ℕ) :
   pub short : length bytes ≤ most_bytes
   pub all : IsAtEnd left_new ⊎ (length bytes ≡ most_bytes)
 
+-- what the reading of an opened file comes to
 abbrev pub ReadsOpened : Option (List ℕ) → Option (List ℕ) → TextRead → Type 0
 ReadsOpened left_old left_new (text.Text bytes) = ReadsAll left_old left_new bytes.items
 ReadsOpened left_old left_new text.Failed = Unit {0}
 ReadsOpened left_old left_new text.Memory = Unit {0}
 
+-- what the reading of a text by its name comes to
 abbrev pub ReadsText : Option (Option (List ℕ)) → TextRead → Type 0
 ReadsText file (text.Text bytes) = IsTextOf file bytes.items
 ReadsText file text.Failed = Unit {0}
 ReadsText file text.Memory = Unit {0}
 
+-- no count falls, and one rose where the reading failed
 abbrev pub TextRose : ℕ → ℕ → TextRead → Type 0
 TextRose before now (text.Text bytes) = before ≤ now
 TextRose before now text.Failed = Rose before now

@@ -4,8 +4,8 @@ ghost use Rattle.cl_application.specs.Panes.{IsPlaced};
 ghost use Rattle.cl_frame.specs.Ground.{ground, ground_of, meanings_of};
 ghost use Rattle.cl_frame.specs.Sending.{wire_of};
 ghost use Rattle.cl_invocation.specs.Words.{invocation_of};
-ghost use Rattle.cl_load.specs.Opening.{opening_slots};
-ghost use Rattle.cl_program.specs.Commands.{Checked, Judges, KeepsFiles, KeptBy, RanOn, RanText, Tells};
+ghost use Rattle.cl_opening.specs.Opening.{opening_slots};
+ghost use Rattle.cl_program.specs.Commands.{Checked, Judges, KeepsFiles, KeptBy, MakesNoneAt, RanOn, RanText, Tells};
 ghost use Rattle.cl_program.specs.Hosts.{hosts_of, meanings_in, reads_in};
 ghost use Rattle.cl_program.specs.Run.{Ran, RanLoaded};
 ghost use Rattle.cl_program.specs.Surroundings.{placed, streams};
@@ -54,6 +54,10 @@ pub fn run_words<H: Hosts, P: Place, G: Source, O: Sink, L: Ledger>(
         (O.faults out.new) steps.new) result }
     ensures keeps { KeptBy (invocation_of (map (λ w. w.now) words.now)) (P.by_name place.old)
         (placed (P.file place.old) (P.app_faults place.old) (P.making_faults place.old)
+        (wire_of (P.taken place.old) (P.writing_faults place.old) (P.tells place.old)))
+        (placed (P.file place.new) (P.app_faults place.new) (P.making_faults place.new)
+        (wire_of (P.taken place.new) (P.writing_faults place.new) (P.tells place.new))) }
+    ensures makes { MakesNoneAt result (placed (P.file place.old) (P.app_faults place.old) (P.making_faults place.old)
         (wire_of (P.taken place.old) (P.writing_faults place.old) (P.tells place.old)))
         (placed (P.file place.new) (P.app_faults place.new) (P.making_faults place.new)
         (wire_of (P.taken place.new) (P.writing_faults place.new) (P.tells place.new))) }
@@ -126,6 +130,10 @@ fn run_text<H: Hosts, P: Place, G: Source, O: Sink, L: Ledger>(
     ensures keeps { (application : List ℕ) → KeepsFiles application
         (option_map (λ name. name.now) setting.entry.wire) (P.by_name place.old)
         (placed (P.file place.old) (P.app_faults place.old) (P.making_faults place.old)
+        (wire_of (P.taken place.old) (P.writing_faults place.old) (P.tells place.old)))
+        (placed (P.file place.new) (P.app_faults place.new) (P.making_faults place.new)
+        (wire_of (P.taken place.new) (P.writing_faults place.new) (P.tells place.new))) }
+    ensures makes { MakesNoneAt result (placed (P.file place.old) (P.app_faults place.old) (P.making_faults place.old)
         (wire_of (P.taken place.old) (P.writing_faults place.old) (P.tells place.old)))
         (placed (P.file place.new) (P.app_faults place.new) (P.making_faults place.new)
         (wire_of (P.taken place.new) (P.writing_faults place.new) (P.tells place.new))) }

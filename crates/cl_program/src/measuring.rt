@@ -3,7 +3,7 @@ ghost use Rattle.std.specs.Prelude.{◌≡◌, ◌≤◌, None, length};
 ghost use Rattle.cl_application.specs.Panes.{IsPlaced};
 ghost use Rattle.cl_frame.specs.Ground.{ground, ground_of, meanings_of};
 ghost use Rattle.cl_gesture.specs.Lines.{pieces};
-ghost use Rattle.cl_load.specs.Opening.{opening_slots};
+ghost use Rattle.cl_opening.specs.Opening.{opening_slots};
 ghost use Rattle.cl_program.specs.Commands.{Measures};
 ghost use Rattle.cl_program.specs.Hosts.{meanings_in, reads_in};
 ghost use Rattle.cl_program.specs.Run.{limits_of};

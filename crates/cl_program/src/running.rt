@@ -3,17 +3,17 @@ ghost use Rattle.std.specs.Prelude.{◌≡◌, ◌≤◌, ◌+◌, ℕ, [], IfOk
 ghost use Rattle.cl_application.specs.Panes.{IsPlaced};
 ghost use Rattle.cl_frame.specs.Ground.{ground_of, meanings_of};
 ghost use Rattle.cl_frame.specs.Sending.{Wire, wire_of};
-ghost use Rattle.cl_load.specs.Opening.{opening_slots};
+ghost use Rattle.cl_opening.specs.Opening.{opening_slots};
 ghost use Rattle.cl_redisplay.specs.Screens.{Agree};
 ghost use Rattle.cl_program.specs.Run.{EndsAs, IsOpening, OpensOn, RanLoaded, limits_of, opening_cost};
 ghost use Rattle.cl_program.specs.Surroundings.{streams};
 ghost use Rattle.cl_tables.specs.Rings.{HasNoRing};
 ghost use Rattle.cl_updating.specs.Redisplays.{CanReuse};
 
-use cl_eval::{Limits, Program, Slots, Types};
+use cl_eval::{Limits, MAX_DEPTH, Program, Slots, Types};
 use cl_gesture::{Ahead, Gestures};
 use cl_outside::{Device, Ledger, LentSource, Sink, Source, Steps};
-use cl_session::{DEPTH, End, Session};
+use cl_session::{End, Session};
 use std::alloc::AllocError;
 
 /// How many forms a display or a command may enter, where the words give no budget.
@@ -65,7 +65,7 @@ pub fn limits_of(budget: Option<u32>) -> Limits
     };
     Limits {
         budget: u64::from(budget),
-        depth: DEPTH,
+        depth: MAX_DEPTH,
     }
 }
 

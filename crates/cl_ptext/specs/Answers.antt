@@ -16,6 +16,7 @@ ReadsAs (Ok None) r = r ≡ Nothing
 ReadsAs (Err (stop.Trap kind)) r = r ≡ Trap kind
 ReadsAs (Err stop.Memory) r = Unit {0}
 
+-- what accepting a text answers is this reading
 abbrev pub Accepts : Accepted → Reading → Type 0
 Accepts (accepted.Object v) r = r ≡ Object (data_of v)
 Accepts accepted.Refused r = r ≡ Nothing

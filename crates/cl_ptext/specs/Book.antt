@@ -8,6 +8,7 @@ use Rattle.cl_lattice.specs.declared.declared_types.TypeKind.{TypeKind}
 use Rattle.cl_lattice.specs.declared.declared_types.TypeKind.TheVariants as kind
 use Rattle.cl_syntax.specs.TypeSpecTree.{TypeSpecTree, specifier, plain_type, TypeArgTrees, none}
 
+-- an application, its types, and the names of its host types
 pub record Book : Type 0 where
   pub app : App
   pub world : World
@@ -16,9 +17,11 @@ pub record Book : Type 0 where
 
 -- ---- specifiers beside their expansions
 
+-- the arguments of a specifier
 abbrev pub args_of : TypeSpecTree → TypeArgTrees
 args_of (specifier x ts o) = ts
 
+-- the separator that is given, else a comma
 abbrev pub separator_given : Option ℕ → ℕ
 separator_given None = 44
 separator_given (Some b) = b
@@ -32,6 +35,7 @@ abbrev pub spec_there : Option (TypeSpecTree × TypeArgTrees) → TypeSpecTree
 spec_there None = plain_type []
 spec_there (Some p) = p.0
 
+-- the arguments there; none where there is no specifier
 abbrev pub args_there : Option (TypeSpecTree × TypeArgTrees) → TypeArgTrees
 args_there None = none
 args_there (Some p) = p.1
@@ -48,6 +52,7 @@ behind_first args = args_there (next_spec args)
 abbrev pub inner_spec : TypeSpecTree → TypeSpecTree
 inner_spec s = first_spec (args_of s)
 
+-- what a user type inherits from; a specifier itself for every other kind
 abbrev pub inherited_in : TypeSpecTree → Option TypeKind → TypeSpecTree
 inherited_in s None = s
 inherited_in s (Some kind.Record) = s

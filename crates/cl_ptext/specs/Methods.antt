@@ -7,6 +7,7 @@ use Rattle.cl_application.specs.declared.declarations.MethodDecl.{MethodDecl}
 use Rattle.cl_eval.specs.Meaning.{Go, call_function, means}
 use Rattle.cl_eval.specs.Outcome.{Outcome, Gives, Traps, Run, lift, ◌>>=◌}
 use Rattle.cl_eval.specs.Slots.{Slots}
+use Rattle.cl_eval.specs.declared.metering.TheConstants.{MAX_DEPTH, OWN_BUDGET}
 use Rattle.cl_lattice.specs.Members.{Answers}
 
 -- what a text reads as: an object, nothing, or the trap of an accept method
@@ -23,7 +24,7 @@ read_object (Trap kind) = None
 
 -- the meaning of expressions on a counter of its own
 unfoldable pub own_meaning : App → Slots → Go
-own_meaning app slots = means 512 10000 app slots
+own_meaning app slots = means MAX_DEPTH OWN_BUDGET app slots
 
 -- the value of a run by itself, or the kind of its trap
 abbrev pub ending : Outcome Data → Result Data ℕ
@@ -81,6 +82,7 @@ object_in null = Nothing
 object_in (list ds) = object_alone ds
 object_in (rec x ds) = Trap 1
 
+-- what an accept method reads, by the value of its run or the kind of its trap
 abbrev pub object_of : Result Data ℕ → Reading
 object_of (Ok d) = object_in d
 object_of (Err kind) = Trap kind

@@ -75,6 +75,7 @@ part_in piece = trimmed_part (without_end (behind_spaces piece))
 abbrev pub is_mark : ℕ → Bool
 is_mark b = b == 32 || b == 44 || b == 34 || b == 92
 
+-- a text with such a byte
 abbrev pub has_mark : List ℕ → Bool
 has_mark x = list_any is_mark x
 

@@ -34,6 +34,7 @@ book_of entries k = record { app = k.app.now; world = k.lattice.now; hosts = ent
 
 -- ---- specifiers with what is given for the parameters of the declaration around them
 
+-- the expansion of a specifier
 abbrev pub expanded : {H : Type 0} → TypeBook H → Bound → TypeSpecTree → Expanded
 expanded k bound s = expansion k.lattice.now (given_by bound) s
 
@@ -68,13 +69,16 @@ abbrev pub sequence_by : {H : Type 0} → (H → List ℕ → NameEntries) → P
 sequence_by entries p none separator s d = plain d
 sequence_by entries p (part t ts) separator s d = list_text separator (text_by entries p t s) d
 
+-- plain for what is taken beside the first part, else by that part
 abbrev pub beside_by : {H : Type 0} → (H → List ℕ → NameEntries) → Presenter H → Bool → ExpandedTypes → TypeSpecTree → Data → Writes
 beside_by entries p beside none s d = plain d
 beside_by entries p beside (part t ts) s d = if beside then plain d else text_by entries p t (inner_spec s) d
 
+-- by the first part of which the value is a member
 abbrev pub some_by : {H : Type 0} → (H → List ℕ → NameEntries) → Presenter H → ExpandedTypes → TypeArgTrees → Data → Writes
 some_by entries p ts args d = text_by_some (book_of entries p.book.now) (meaning_at p.here.now) p.here.now.level ts args d
 
+-- by the first part
 abbrev pub first_by : {H : Type 0} → (H → List ℕ → NameEntries) → Presenter H → ExpandedTypes → TypeArgTrees → Data → Writes
 first_by entries p ts args d = text_by_first (book_of entries p.book.now) (meaning_at p.here.now) p.here.now.level ts args d
 
@@ -96,9 +100,11 @@ record_by p x d = method_or (meaning_at p.here.now) p.here.now.level (present_me
 abbrev pub reading_by : {H : Type 0} → (H → List ℕ → NameEntries) → Reader H → Expanded → TypeSpecTree → Reads
 reading_by entries r t s x = reading (book_of entries r.book.now) r.slots.now t s x
 
+-- what a text reads as by the row of an expanded type, a member or not
 abbrev pub row_by : {H : Type 0} → (H → List ℕ → NameEntries) → Reader H → Expanded → TypeSpecTree → Reads
 row_by entries r t s x = row_read (book_of entries r.book.now) r.slots.now t s x
 
+-- an object that is no member of the expanded type is nothing
 abbrev pub only_by : {H : Type 0} → (H → List ℕ → NameEntries) → Reader H → Expanded → Reading → Reading
 only_by entries r t x = only_members (book_of entries r.book.now) t x
 
@@ -112,13 +118,16 @@ abbrev pub sequence_read : {H : Type 0} → (H → List ℕ → NameEntries) →
 sequence_read entries r none s x = Nothing
 sequence_read entries r (part t ts) s x = each_read (reading_by entries r t (inner_spec s)) (pieces (separator_of s) x) []
 
+-- what is taken beside the first part, else what that part reads
 abbrev pub beside_read : {H : Type 0} → (H → List ℕ → NameEntries) → Reader H → Option Data → ExpandedTypes → TypeSpecTree → Reads
 beside_read entries r beside none s x = Nothing
 beside_read entries r beside (part t ts) s x = or_else beside (reading_by entries r t (inner_spec s) x)
 
+-- by the first part that reads it, or that traps
 abbrev pub some_read : {H : Type 0} → (H → List ℕ → NameEntries) → Reader H → ExpandedTypes → TypeArgTrees → Reads
 some_read entries r ts args x = read_by_some (book_of entries r.book.now) r.slots.now ts args x
 
+-- by the first part
 abbrev pub first_read : {H : Type 0} → (H → List ℕ → NameEntries) → Reader H → ExpandedTypes → TypeArgTrees → Reads
 first_read entries r ts args x = read_by_first (book_of entries r.book.now) r.slots.now ts args x
 
@@ -126,5 +135,6 @@ first_read entries r ts args x = read_by_first (book_of entries r.book.now) r.sl
 abbrev pub user_read : {H : Type 0} → (H → List ℕ → NameEntries) → Reader H → List ℕ → Expanded → TypeSpecTree → Reads
 user_read entries r n t s x = method_read (book_of entries r.book.now) r.slots.now (accept_method n r.book.now.app.now) (reading_by entries r t s) x
 
+-- by the accept method of a record, else nothing
 abbrev pub record_read : {H : Type 0} → (H → List ℕ → NameEntries) → Reader H → List ℕ → Reads
 record_read entries r n x = method_read (book_of entries r.book.now) r.slots.now (accept_method n r.book.now.app.now) nothing_read x

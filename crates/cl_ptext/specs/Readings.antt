@@ -20,6 +20,7 @@ use Rattle.cl_ptext.specs.Words.{constant_in, number_in, same_word, symbol_in, t
 abbrev pub Reads : Type 0
 Reads = List ℕ → Reading
 
+-- the object that was found, or nothing
 abbrev pub found : Option Data → Reading
 found None = Nothing
 found (Some d) = Object d
@@ -29,6 +30,7 @@ abbrev pub or_else : Option Data → Reading → Reading
 or_else None other = other
 or_else (Some d) other = Object d
 
+-- an object, if something is true of it, or nothing
 abbrev pub if_holds : Bool → Data → Reading
 if_holds true d = Object d
 if_holds false d = Nothing
@@ -47,6 +49,7 @@ boolean_in x = if same_word (codes "Yes") x then Some (bool true) else (if same_
 abbrev pub null_in : List ℕ → Option Data
 null_in x = if same_word (codes "None") x then Some null else None
 
+-- the number of a name, where there is one, as a value
 abbrev pub number_of_name : Option ℤ → Option Data
 number_of_name None = None
 number_of_name (Some z) = Some (int z)
@@ -61,6 +64,7 @@ and_then (Object d) f = f d
 and_then Nothing f = Nothing
 and_then (Trap kind) f = Trap kind
 
+-- what a part reads as; nothing where its text is wrong
 abbrev pub part_read : Reads → Option (List ℕ) → Reading
 part_read read None = Nothing
 part_read read (Some x) = read x
@@ -70,6 +74,7 @@ abbrev pub each_read : Reads → List (List ℕ) → List Data → Reading
 each_read read [] ds = Object (list (items_of ds))
 each_read read (p ∷ ps) ds = and_then (part_read read (part_in p)) (λ d. each_read read ps (ds ++ d ∷ []))
 
+-- the constant that a text is, or nothing
 abbrev pub constant_read : List Data → Reads
 constant_read cs x = found (constant_in cs x)
 
@@ -78,6 +83,7 @@ abbrev pub method_read : Book → Slots → Option MethodDecl → Reads → Read
 method_read b slots None other x = other x
 method_read b slots (Some m) other x = accepted b.app slots m x
 
+-- each text reads as nothing
 abbrev pub nothing_read : Reads
 nothing_read x = Nothing
 

@@ -14,6 +14,7 @@ use Rattle.cl_lattice.specs.World.{World}
 
 -- ---- the same type
 
+-- two that are the same, or none on both sides
 abbrev pub are_same : {A : Type 0} → (A → A → Bool) → Option A → Option A → Bool
 are_same same None None = true
 are_same same (Some a) (Some b) = same a b
@@ -25,6 +26,7 @@ abbrev pub are_same_arguments : List (Option Data) → List (Option Data) → Bo
 are_same_arguments vs ws = pointwise (are_same is_same) vs ws
 
 abbrev mutual
+  -- whether two types are equal
   pub is_same_type : Expanded → Expanded → Bool
   is_same_type everything everything = true
   is_same_type nothing nothing = true
@@ -48,6 +50,7 @@ abbrev mutual
   is_same_type (unknown x vs) (unknown y ws) = bytes_eq x y && are_same_arguments vs ws
   is_same_type a b = false
 
+  -- whether types are equal, one by one
   pub are_same_types : ExpandedTypes → ExpandedTypes → Bool
   are_same_types none none = true
   are_same_types (part a ps) (part b qs) = is_same_type a b && are_same_types ps qs
@@ -77,10 +80,12 @@ abbrev mutual
   is_by_second kind first (token_or ys b) = kind (token_or ys b) || is_by_second kind first b
   is_by_second kind first b = kind b
 
+  -- by some of the second types
   pub is_by_some : (kind first : Expanded → Bool) → ExpandedTypes → Bool
   is_by_some kind first none = false
   is_by_some kind first (part b qs) = is_by_second kind first b || is_by_some kind first qs
 
+  -- by each of the second types, or by the first type for it
   pub is_by_each : (kind first : Expanded → Bool) → ExpandedTypes → Bool
   is_by_each kind first none = true
   is_by_each kind first (part b qs) = (is_by_second kind first b || first b) && is_by_each kind first qs
@@ -129,6 +134,7 @@ abbrev mutual
   is_some_below none b = false
   is_some_below (part a ps) b = is_in_some_way (is_by_kind a) (is_by_first a) b || is_some_below ps b
 
+-- whether one type is a subtype of another
 abbrev pub is_subtype : Expanded → Expanded → Bool
 is_subtype a b = is_in_some_way (is_by_kind a) (is_by_first a) b
 

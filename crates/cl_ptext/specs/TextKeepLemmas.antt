@@ -21,9 +21,11 @@ use Rattle.cl_ptext.specs.Texts.{Writes, before_part, each_joined, host_text, li
 abbrev pub WritesKeep : ℕ → ℕ → (Data → Writes) → Type 0
 WritesKeep budget depth write = (d : Data) (out : List ℕ) → Keeps budget depth (write d out)
 
+-- the plain form keeps to the limits
 plain-keeps : (budget depth : ℕ) → WritesKeep budget depth plain
 plain-keeps budget depth d out = keeps-give budget depth (out ++ plain_of d)
 
+-- joined texts keep to the limits, if what puts each does
 joined-keeps : (budget depth : ℕ) (first : Bool) (s : ℕ) (write : Data → Writes) → WritesKeep budget depth write → (ds : Items) (out : List ℕ) → Keeps budget depth
     (each_joined first s write ds out)
 joined-keeps budget depth first s write g none out = keeps-give budget depth out
@@ -31,6 +33,7 @@ joined-keeps budget depth first s write g (item d ds) out =
     keeps-then budget depth (write d (before_part first s out)) (λ more. each_joined false s write ds more) (g d (before_part first s out))
     (λ more. joined-keeps budget depth false s write g ds more)
 
+-- the text of a list keeps to the limits, if what puts each part does
 list-keeps : (budget depth : ℕ) (s : ℕ) (write : Data → Writes) → WritesKeep budget depth write → WritesKeep budget depth (list_text s write)
 list-keeps budget depth s write g (int z) out = plain-keeps budget depth (int z) out
 list-keeps budget depth s write g (bool b) out = plain-keeps budget depth (bool b) out
@@ -40,6 +43,7 @@ list-keeps budget depth s write g null out = plain-keeps budget depth null out
 list-keeps budget depth s write g (list ds) out = joined-keeps budget depth true s write g ds out
 list-keeps budget depth s write g (rec x ds) out = plain-keeps budget depth (rec x ds) out
 
+-- a text by `string` keeps to the limits
 string-keeps : (budget depth : ℕ) → WritesKeep budget depth string_text
 string-keeps budget depth (int z) out = plain-keeps budget depth (int z) out
 string-keeps budget depth (bool b) out = plain-keeps budget depth (bool b) out
@@ -49,10 +53,12 @@ string-keeps budget depth null out = plain-keeps budget depth null out
 string-keeps budget depth (list ds) out = plain-keeps budget depth (list ds) out
 string-keeps budget depth (rec x ds) out = plain-keeps budget depth (rec x ds) out
 
+-- a name, or else the plain form, keeps to the limits
 name-keeps : (budget depth : ℕ) (o : Option (List ℕ)) → WritesKeep budget depth (name_or_plain o)
 name-keeps budget depth None d out = plain-keeps budget depth d out
 name-keeps budget depth (Some x) d out = keeps-give budget depth (out ++ x)
 
+-- a text by a host type keeps to the limits
 host-keeps : (budget depth : ℕ) (names : NameEntries) → WritesKeep budget depth (host_text names)
 host-keeps budget depth names (int z) out = name-keeps budget depth (name_of_number z names) (int z) out
 host-keeps budget depth names (bool b) out = plain-keeps budget depth (bool b) out
@@ -62,6 +68,7 @@ host-keeps budget depth names null out = plain-keeps budget depth null out
 host-keeps budget depth names (list ds) out = plain-keeps budget depth (list ds) out
 host-keeps budget depth names (rec x ds) out = plain-keeps budget depth (rec x ds) out
 
+-- a text by a present method keeps to the limits, if the other way does too
 method-keeps : (budget depth : ℕ) (go : Go) (level : ℕ) → GoKeeps budget depth level go → (m : Option MethodDecl) (other : Data → Writes) → WritesKeep budget depth other
     → WritesKeep budget depth (method_or go level m other)
 method-keeps budget depth go level g None other h d out = h d out
@@ -70,6 +77,7 @@ method-keeps budget depth go level g (Some m) other h d out =
     (keeps-then budget depth (go level ((m.parameter, d) ∷ []) m.body) (λ e. lift (bytes_in e)) (g ((m.parameter, d) ∷ []) m.body) (λ e. keeps-lift budget depth (bytes_in e))) (λ x. keeps-give budget depth (out ++ x))
 
 mutual
+  -- a text by a type keeps to the limits
   pub text-keeps : (budget depth : ℕ) (b : Book) (go : Go) (level : ℕ) → GoKeeps budget depth level go → (t : Expanded) (s : TypeSpecTree) → WritesKeep budget depth
       (text_of b go level t s)
   text-keeps budget depth b go level g type.everything s d out = plain-keeps budget depth d out
@@ -100,6 +108,7 @@ mutual
       (text-keeps budget depth b go level g t (inherited_spec b x s)) d out
   text-keeps budget depth b go level g (type.unknown x vs) s d out = plain-keeps budget depth d out
 
+  -- a text by the first part of which the value is a member keeps to the limits
   pub some-keeps : (budget depth : ℕ) (b : Book) (go : Go) (level : ℕ) → GoKeeps budget depth level go → (ts : ExpandedTypes) (args : TypeArgTrees)
       → WritesKeep budget depth (text_by_some b go level ts args)
   some-keeps budget depth b go level g type.none args d out = plain-keeps budget depth d out
@@ -108,6 +117,7 @@ mutual
       (text_by_some b go level ts (behind_first args) d out) (text-keeps budget depth b go level g t (first_spec args) d out)
       (some-keeps budget depth b go level g ts (behind_first args) d out)
 
+  -- a text by the first part keeps to the limits
   pub first-keeps : (budget depth : ℕ) (b : Book) (go : Go) (level : ℕ) → GoKeeps budget depth level go → (ts : ExpandedTypes) (args : TypeArgTrees)
       → WritesKeep budget depth (text_by_first b go level ts args)
   first-keeps budget depth b go level g type.none args d out = plain-keeps budget depth d out

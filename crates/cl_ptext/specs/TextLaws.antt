@@ -21,6 +21,7 @@ use Rattle.cl_ptext.specs.TextLimitLemmas.{text-goes}
 use Rattle.cl_ptext.specs.TextSlotLemmas.{text-same}
 use Rattle.cl_ptext.specs.TextKeepLemmas.{text-keeps}
 
+-- a text is the same under all limits that its cost and its reach do not pass
 pub wider_text : (b : Book) (limits wider : Limits) (slots : Slots) (t : Expanded) (s : TypeSpecTree) (d x : Data) (cost reach : ℕ)
     → outcome_of_text b limits slots t s d ≡ Gives x cost reach → cost ≤ wider.budget → reach ≤ wider.depth → outcome_of_text b wider slots t s d ≡ Gives x cost reach
 unfolding outcome_of_text
@@ -32,6 +33,7 @@ wider_text b limits wider slots t s d x cost reach p cheap shallow =
     (text-goes wider.budget (0 + wider.depth) b go go' 0 (goes-means limits.depth limits.budget wider.depth wider.budget b.app slots 0) t s d [])
     (λ y. goes-give wider.budget (0 + wider.depth) (text y)) 0 0 x cost reach p).same cheap within
 
+-- a text is the same on slots that agree on what present methods read
 pub same_slots : (b : Book) (limits : Limits) (slots other : Slots)
     → ((x : List ℕ) (m : MethodDecl) → present_method x b.app ≡ Some m → (d : Data) → AgreeOn b.app m.body slots ((m.parameter, d) ∷ []) other ((m.parameter, d) ∷ []))
     → (t : Expanded) (s : TypeSpecTree) (d : Data) → outcome_of_text b limits slots t s d ≡ outcome_of_text b limits other t s d
@@ -54,12 +56,14 @@ kept_run b limits slots t s d =
     (text-keeps limits.budget (0 + limits.depth) b go 0 (keeps-means limits.depth limits.budget b.app slots 0) t s d [])
     (λ y. keeps-give limits.budget (0 + limits.depth) (text y)) 0 0 (omega arith) (omega arith)
 
+-- neither the cost nor the reach of a text passes the limits
 pub kept_text : (b : Book) (limits : Limits) (slots : Slots) (t : Expanded) (s : TypeSpecTree) (d x : Data) (cost reach : ℕ)
     → outcome_of_text b limits slots t s d ≡ Gives x cost reach → (cost ≤ limits.budget) × (reach ≤ limits.depth)
 kept_text b limits slots t s d x cost reach p =
     let kept : (cost ≤ limits.budget) × (reach ≤ 0 + limits.depth) = subst (Kept limits.budget (0 + limits.depth)) p (kept_run b limits slots t s d) in
     (kept.0, omega (arith, kept.1))
 
+-- a run that keeps to the limits costs no more than the budget
 cost_kept : (budget depth : ℕ) (o : Outcome Data) → Kept budget depth o → cost_of o ≤ budget
 cost_kept budget depth (Gives x c d) k = k.0
 cost_kept budget depth (Traps kind c d) k = k.0
@@ -68,6 +72,7 @@ cost_kept budget depth (Traps kind c d) k = k.0
 pub paid_text : (b : Book) (limits : Limits) (slots : Slots) (t : Expanded) (s : TypeSpecTree) (d : Data) → cost_of (outcome_of_text b limits slots t s d) ≤ limits.budget
 paid_text b limits slots t s d = cost_kept limits.budget (0 + limits.depth) (outcome_of_text b limits slots t s d) (kept_run b limits slots t s d)
 
+-- a run of bytes that is given as a text gives a text
 text_behind : (o : Outcome (List ℕ)) (x : Data) (cost reach : ℕ) → after o (λ y. give (text y)) ≡ Gives x cost reach → IsText x
 text_behind (Gives y c d) x cost reach p =
     let same : text y ≡ x = ap given_or p in
@@ -78,6 +83,7 @@ text_behind (Gives y c d) x cost reach p =
     given_or (Traps kind c d) = text []
 text_behind (Traps kind c d) x cost reach p = cc
 
+-- what is given as the text of a value is a text
 pub is_text : (b : Book) (limits : Limits) (slots : Slots) (t : Expanded) (s : TypeSpecTree) (d x : Data) (cost reach : ℕ)
     → outcome_of_text b limits slots t s d ≡ Gives x cost reach → IsText x
 unfolding outcome_of_text

@@ -21,9 +21,11 @@ use Rattle.cl_ptext.specs.Texts.{Writes, before_part, each_joined, host_text, li
 abbrev pub WritesGo : ℕ → ℕ → (Data → Writes) → (Data → Writes) → Type 0
 WritesGo budget depth write write' = (d : Data) (out : List ℕ) → Goes budget depth (write d out) (write' d out)
 
+-- the plain form goes the same way under both limits
 plain-goes : (budget depth : ℕ) → WritesGo budget depth plain plain
 plain-goes budget depth d out = goes-give budget depth (out ++ plain_of d)
 
+-- joined texts go the same way under both limits, if what puts each does
 joined-goes : (budget depth : ℕ) (first : Bool) (s : ℕ) (write write' : Data → Writes) → WritesGo budget depth write write' → (ds : Items) (out : List ℕ)
     → Goes budget depth (each_joined first s write ds out) (each_joined first s write' ds out)
 joined-goes budget depth first s write write' g none out = goes-give budget depth out
@@ -32,6 +34,7 @@ joined-goes budget depth first s write write' g (item d ds) out =
     (λ more. each_joined false s write' ds more)
     (g d (before_part first s out)) (λ more. joined-goes budget depth false s write write' g ds more)
 
+-- the text of a list goes the same way under both limits, if what puts each part does
 list-goes : (budget depth : ℕ) (s : ℕ) (write write' : Data → Writes) → WritesGo budget depth write write' → WritesGo budget depth (list_text s write) (list_text s write')
 list-goes budget depth s write write' g (int z) out = plain-goes budget depth (int z) out
 list-goes budget depth s write write' g (bool b) out = plain-goes budget depth (bool b) out
@@ -41,6 +44,7 @@ list-goes budget depth s write write' g null out = plain-goes budget depth null 
 list-goes budget depth s write write' g (list ds) out = joined-goes budget depth true s write write' g ds out
 list-goes budget depth s write write' g (rec x ds) out = plain-goes budget depth (rec x ds) out
 
+-- a text by `string` goes the same way under both limits
 string-goes : (budget depth : ℕ) → WritesGo budget depth string_text string_text
 string-goes budget depth (int z) out = plain-goes budget depth (int z) out
 string-goes budget depth (bool b) out = plain-goes budget depth (bool b) out
@@ -50,10 +54,12 @@ string-goes budget depth null out = plain-goes budget depth null out
 string-goes budget depth (list ds) out = plain-goes budget depth (list ds) out
 string-goes budget depth (rec x ds) out = plain-goes budget depth (rec x ds) out
 
+-- a name, or else the plain form, goes the same way under both limits
 name-goes : (budget depth : ℕ) (o : Option (List ℕ)) → WritesGo budget depth (name_or_plain o) (name_or_plain o)
 name-goes budget depth None d out = plain-goes budget depth d out
 name-goes budget depth (Some x) d out = goes-give budget depth (out ++ x)
 
+-- a text by a host type goes the same way under both limits
 host-goes : (budget depth : ℕ) (names : NameEntries) → WritesGo budget depth (host_text names) (host_text names)
 host-goes budget depth names (int z) out = name-goes budget depth (name_of_number z names) (int z) out
 host-goes budget depth names (bool b) out = plain-goes budget depth (bool b) out
@@ -63,6 +69,7 @@ host-goes budget depth names null out = plain-goes budget depth null out
 host-goes budget depth names (list ds) out = plain-goes budget depth (list ds) out
 host-goes budget depth names (rec x ds) out = plain-goes budget depth (rec x ds) out
 
+-- a text by a present method goes the same way under both limits, if the other way does too
 method-goes : (budget depth : ℕ) (go go' : Go) (level : ℕ) → GoGoes budget depth level go go' → (m : Option MethodDecl) (other other' : Data → Writes)
     → WritesGo budget depth other other'
     → WritesGo budget depth (method_or go level m other) (method_or go' level m other')
@@ -74,6 +81,7 @@ method-goes budget depth go go' level g (Some m) other other' h d out =
     (λ x. goes-give budget depth (out ++ x))
 
 mutual
+  -- a text by a type goes the same way under both limits
   pub text-goes : (budget depth : ℕ) (b : Book) (go go' : Go) (level : ℕ) → GoGoes budget depth level go go' → (t : Expanded) (s : TypeSpecTree)
       → WritesGo budget depth (text_of b go level t s) (text_of b go' level t s)
   text-goes budget depth b go go' level g type.everything s d out = plain-goes budget depth d out
@@ -106,6 +114,7 @@ mutual
       (text-goes budget depth b go go' level g t (inherited_spec b x s)) d out
   text-goes budget depth b go go' level g (type.unknown x vs) s d out = plain-goes budget depth d out
 
+  -- a text by the first part of which the value is a member goes the same way under both limits
   pub some-goes : (budget depth : ℕ) (b : Book) (go go' : Go) (level : ℕ) → GoGoes budget depth level go go' → (ts : ExpandedTypes) (args : TypeArgTrees)
       → WritesGo budget depth (text_by_some b go level ts args) (text_by_some b go' level ts args)
   some-goes budget depth b go go' level g type.none args d out = plain-goes budget depth d out
@@ -114,6 +123,7 @@ mutual
       (text_by_some b go level ts (behind_first args) d out) (text_by_some b go' level ts (behind_first args) d out)
       (text-goes budget depth b go go' level g t (first_spec args) d out) (some-goes budget depth b go go' level g ts (behind_first args) d out)
 
+  -- a text by the first part goes the same way under both limits
   pub first-goes : (budget depth : ℕ) (b : Book) (go go' : Go) (level : ℕ) → GoGoes budget depth level go go' → (ts : ExpandedTypes) (args : TypeArgTrees)
       → WritesGo budget depth (text_by_first b go level ts args) (text_by_first b go' level ts args)
   first-goes budget depth b go go' level g type.none args d out = plain-goes budget depth d out

@@ -32,6 +32,7 @@ plain d out = give (out ++ plain_of d)
 abbrev pub quoted : List ℕ → List ℕ
 quoted x = if is_empty x || has_mark x then 34 ∷ (escape x ++ 34 ∷ []) else x
 
+-- a text, in quotes where it has to be; the plain form of any other value
 abbrev pub string_text : Data → Writes
 string_text (int z) out = plain (int z) out
 string_text (bool b) out = plain (bool b) out
@@ -61,6 +62,7 @@ list_text separator write null out = plain null out
 list_text separator write (list ds) out = each_joined true separator write ds out
 list_text separator write (rec x ds) out = plain (rec x ds) out
 
+-- the name, where there is one, else the plain form
 abbrev pub name_or_plain : Option (List ℕ) → Data → Writes
 name_or_plain None d out = plain d out
 name_or_plain (Some x) d out = give (out ++ x)

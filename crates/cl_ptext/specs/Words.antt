@@ -13,6 +13,7 @@ use Rattle.cl_value.specs.Data.{Data, int, symbol}
 abbrev pub same_word : List ℕ → List ℕ → Bool
 same_word x y = str_eq_ignore_ascii_case x y
 
+-- there are no bytes
 abbrev pub is_empty : List ℕ → Bool
 is_empty [] = true
 is_empty (b ∷ bs) = false

@@ -10,17 +10,13 @@ ghost use Rattle.cl_ptext.specs.Answers.{ReadsAs};
 ghost use Rattle.cl_ptext.specs.Methods.{accepted, ending, object_alone, object_in, object_of, own_meaning};
 
 use cl_application::{App, FunctionDecl, MethodDecl};
-use cl_eval::{Context, Env, Meter, Scope, Slots, Standpoint, Stop, evaluate};
+use cl_eval::{
+    Context, Env, MAX_DEPTH, Meter, OWN_BUDGET, Scope, Slots, Standpoint, Stop, evaluate,
+};
 use cl_outside::own_steps;
 use cl_syntax::Expr;
 use cl_value::{Text, Value, Values};
 use std::alloc::{AllocError, Global};
-
-/// How many forms a predicate or an accept method may enter in all.
-const OWN_BUDGET: u64 = 10_000;
-
-/// How many forms may be entered and not left.
-const DEPTH: u32 = 512;
 
 // The value of an expression on a counter of its own.
 #[tactic(auto, unfolding(crate::specs::Methods::own_meaning))]
@@ -42,7 +38,7 @@ fn evaluate_alone(
     let here = Standpoint {
         context: &context,
         scope,
-        left: DEPTH,
+        left: MAX_DEPTH,
         level: 0,
     };
     evaluate(&here, body, &mut Meter::new(), &mut own_steps())

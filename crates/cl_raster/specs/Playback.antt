@@ -4,6 +4,7 @@ use Rattle.std.specs.Fmt.{decimal}
 use Rattle.cl_outside.specs.Device as device
 use Rattle.cl_outside.specs.Operations.{Op, clears, shows}
 use Rattle.cl_outside.specs.Play.{acted}
+use Rattle.cl_outside.specs.Sizes.{MAX_COLUMNS, MAX_ROWS}
 use Rattle.cl_raster.specs.Raster.{Picture, glyph_at, ink_at}
 
 -- ---- the cells of a raster
@@ -21,7 +22,7 @@ pub record HasCellsOf (r : Picture) (p : device.Picture) : Type 0 where
 
 -- 1 to 512 columns and 1 to 256 rows
 abbrev pub IsSize : (width height : ℕ) → Type 0
-IsSize width height = ((1 ≤ width) × (width ≤ 512)) × ((1 ≤ height) × (height ≤ 256))
+IsSize width height = ((1 ≤ width) × (width ≤ MAX_COLUMNS)) × ((1 ≤ height) × (height ≤ MAX_ROWS))
 
 -- a raster shows a picture; or none is shown yet
 abbrev pub IsShown : Option Picture → Option device.Picture → Type 0
@@ -53,4 +54,4 @@ BeginsNoNumber bytes = (n : ℕ) → n < 2 ^ 16 → (rest : List ℕ) → bytes 
 abbrev pub ShowsNothing : Option Op → Type 0
 ShowsNothing None = ⊤
 ShowsNothing (Some (clears width height)) = ⊥
-ShowsNothing (Some (shows x y ink glyphs)) = (512 ≤ x) ⊎ (256 ≤ y)
+ShowsNothing (Some (shows x y ink glyphs)) = (MAX_COLUMNS ≤ x) ⊎ (MAX_ROWS ≤ y)

@@ -1,6 +1,7 @@
 -- Cells in rows: the glyphs of all rows one after another, and their inks.
 use Rattle.std.specs.Prelude.{◌≡◌, ℕ, ◌+◌, ◌*◌, ◌<◌, ◌≤◌, ◌⊎◌, ◌==◌, ◌&&◌, if◌then◌else◌, ℤ, pos, negsuc, min, List, All, length, slice_index, slice_range, replicate}
 use Rattle.cl_outside.specs.Device.{IsGlyph}
+use Rattle.cl_outside.specs.Sizes.{MAX_COLUMNS, MAX_INK, MAX_ROWS}
 use Rattle.cl_region.specs.Places.{holds}
 use Rattle.cl_region.specs.declared.rects.Rect.{Rect}
 
@@ -13,12 +14,12 @@ pub record Picture : Type 0 where
 
 -- a number from 0 to 7
 abbrev pub IsInk : ℕ → Type 0
-IsInk n = n ≤ 7
+IsInk n = n ≤ MAX_INK
 
 -- 1 to 512 columns and 1 to 256 rows, and as many cells as these have, each a glyph and an ink
 pub record AreCells (width height : ℕ) (glyphs inks : List ℕ) : Type 0 where
-  pub columns : (1 ≤ width) × (width ≤ 512)
-  pub rows : (1 ≤ height) × (height ≤ 256)
+  pub columns : (1 ≤ width) × (width ≤ MAX_COLUMNS)
+  pub rows : (1 ≤ height) × (height ≤ MAX_ROWS)
   pub glyph_places : length glyphs ≡ width * height
   pub ink_places : length inks ≡ width * height
   pub are_glyphs : All IsGlyph glyphs

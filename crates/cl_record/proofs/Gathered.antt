@@ -10,7 +10,7 @@ use Rattle.cl_record.specs.Ranges.{ArePlaced}
 use Rattle.cl_record.specs.Replays.{items_drawn}
 use Rattle.cl_record.specs.Seen.{forest_of, tree_of}
 use Rattle.cl_record.specs.Shifts.{join_shifts, still}
-use Rattle.cl_record.specs.Touches.{TouchAt, touch_of_label, touched, touches}
+use Rattle.cl_record.specs.Touches.{TouchAt, touch_of_label, touched_labels, touches}
 use Rattle.cl_record.specs.Trees.{Trees, presentation, size_of, size_of_all}
 use Rattle.cl_record.specs.declared.nodes.Node.{Node}
 use Rattle.cl_record.proofs.Ends.{marks-last, placed-before, size-last}
@@ -75,5 +75,5 @@ module _ {A : Type 0} (bounds : A → Rect) (x y : ℤ) (move : Shift → A → 
         ∙ ap (λ (ls : List LabelAt). was ++ map touch_of_label ls) (sym (latest-shown bounds x y move twice v p l ts))))
 
   module _ (stays : (a : A) → move (record { dx = pos 0; dy = pos 0 }) a ≡ a) where
-    pub gathered-still : (ms : List (Mark A)) → map touch_of_label (latest bounds x y move still ms) ≡ map touch_of_label (reverse (touched bounds x y ms))
-    gathered-still ms = ap (λ (ks : List (Mark A)). map touch_of_label (reverse (touched bounds x y ks))) (all-still move stays ms)
+    pub gathered-still : (ms : List (Mark A)) → map touch_of_label (latest bounds x y move still ms) ≡ map touch_of_label (reverse (touched_labels bounds x y ms))
+    gathered-still ms = ap (λ (ks : List (Mark A)). map touch_of_label (reverse (touched_labels bounds x y ks))) (all-still move stays ms)

@@ -12,7 +12,7 @@ use Rattle.cl_record.specs.Labels.{LabelAt}
 use Rattle.cl_record.specs.Marks.{Mark, move_marks, open_update, close, marks_of, marks_of_all, open_presentation}
 use Rattle.cl_record.specs.Replays.{items_drawn}
 use Rattle.cl_record.specs.Shifts.{join_shifts, still}
-use Rattle.cl_record.specs.Touches.{box_holds, item_holds, touch_of_label, touched, touched_at, touches}
+use Rattle.cl_record.specs.Touches.{box_holds, item_holds, touch_of_label, touched_labels, touched_at, touches}
 use Rattle.cl_record.specs.TouchWalks.{Sought, found, passed, seek}
 use Rattle.cl_record.specs.Trees.{Tree, Trees, leaf, none, update, presentation, tree}
 use Rattle.cl_record.proofs.Moves.{all-still, all_moved-append, all_twice}
@@ -71,7 +71,7 @@ module _ {A : Type 0} (bounds : A → Rect) (x y : ℤ) (move : Shift → A → 
 
   -- the labels of what marks, moved, have of touched presentations, from the latest on
   abbrev pub latest : Shift → List (Mark A) → List LabelAt
-  latest v ms = reverse (touched bounds x y (move_marks move v ms))
+  latest v ms = reverse (touched_labels bounds x y (move_marks move v ms))
 
   module _ (twice : (v w : Shift) (a : A) → move w (move v a) ≡ move (record { dx = v.dx +ℤ w.dx; dy = v.dy +ℤ w.dy }) a) where
     pub held-shown : (v p : Shift) (l : LabelAt) (ts : Trees A) → held v (marks_of move (presentation l p ts)) ≡ held (join_shifts p v) (marks_of_all move ts)
@@ -121,14 +121,14 @@ module _ {A : Type 0} (bounds : A → Rect) (x y : ℤ) (move : Shift → A → 
         ++ (if touches bounds x y l (items_drawn (move_marks move (join_shifts p v) (marks_of_all move ts))) then l ∷ [] else [])
     latest-shown v p l ts =
         let inside = move_marks move (join_shifts p v) (marks_of_all move ts) in
-        ap (λ (ms : List (Mark A)). reverse (touched bounds x y ms)) (shown-marks v p l ts)
+        ap (λ (ms : List (Mark A)). reverse (touched_labels bounds x y ms)) (shown-marks v p l ts)
         ∙ (ap (λ (ls : List LabelAt). reverse ls) (begun-alone bounds x y l inside (whole-row (join_shifts p v) ts))
-        ∙ reverse-label (touches bounds x y l (items_drawn inside)) l (touched bounds x y inside))
+        ∙ reverse-label (touches bounds x y l (items_drawn inside)) l (touched_labels bounds x y inside))
 
     pub latest-piece : (v p : Shift) (h : HeadAt) (ts : Trees A) → latest v (marks_of move (update h p ts)) ≡ latest (join_shifts p v) (marks_of_all move ts)
     latest-piece v p h ts =
         let inside = move_marks move (join_shifts p v) (marks_of_all move ts) in
-        ap (λ (ms : List (Mark A)). reverse (touched bounds x y ms)) (piece-marks v p h ts)
+        ap (λ (ms : List (Mark A)). reverse (touched_labels bounds x y ms)) (piece-marks v p h ts)
         ∙ ap (λ (ls : List LabelAt). reverse ls) (closed-labels bounds x y inside (whole-row (join_shifts p v) ts))
 
     pub latest-outside : (v : Shift) (ts : Trees A) → box_holds (items_box bounds (items_drawn (move_marks move v (marks_of_all move ts)))) x y ≡ false
@@ -139,9 +139,9 @@ module _ {A : Type 0} (bounds : A → Rect) (x y : ℤ) (move : Shift → A → 
     pub latest-append : (v : Shift) (ts : Trees A) (ms : List (Mark A)) → latest v (marks_of_all move ts ++ ms) ≡ latest v ms ++ latest v (marks_of_all move ts)
     latest-append v ts ms =
         let first = move_marks move v (marks_of_all move ts) in
-        ap (λ (ks : List (Mark A)). reverse (touched bounds x y ks)) (all_moved-append move v (marks_of_all move ts) ms)
+        ap (λ (ks : List (Mark A)). reverse (touched_labels bounds x y ks)) (all_moved-append move v (marks_of_all move ts) ms)
         ∙ (ap (λ (ls : List LabelAt). reverse ls) ((whole-row v ts).labels (move_marks move v ms))
-        ∙ reverse-append (touched bounds x y first) (touched bounds x y (move_marks move v ms)))
+        ∙ reverse-append (touched_labels bounds x y first) (touched_labels bounds x y (move_marks move v ms)))
 
     own-label : (p : Shift) (l : LabelAt) (ts : Trees A)
         → items_drawn (marks_of move (presentation l p ts)) ≡ items_drawn (move_marks move p (marks_of_all move ts))
@@ -151,30 +151,30 @@ module _ {A : Type 0} (bounds : A → Rect) (x y : ℤ) (move : Shift → A → 
 
     -- a presentation is touched by what it draws, and begins before those inside it
     pub shown-labels : (l : LabelAt) (p : Shift) (ts : Trees A)
-        → touched bounds x y (marks_of move (presentation l p ts))
-        ≡ with_label (touches bounds x y l (items_drawn (marks_of move (presentation l p ts)))) l (touched bounds x y (move_marks move p (marks_of_all move ts)))
+        → touched_labels bounds x y (marks_of move (presentation l p ts))
+        ≡ with_label (touches bounds x y l (items_drawn (marks_of move (presentation l p ts)))) l (touched_labels bounds x y (move_marks move p (marks_of_all move ts)))
     shown-labels l p ts =
         let inside = move_marks move p (marks_of_all move ts) in
-        ap (λ (ms : List (Mark A)). touched bounds x y (open_presentation l ∷ ms)) (all_moved-append move p (marks_of_all move ts) (close ∷ []))
+        ap (λ (ms : List (Mark A)). touched_labels bounds x y (open_presentation l ∷ ms)) (all_moved-append move p (marks_of_all move ts) (close ∷ []))
         ∙ (begun-alone bounds x y l inside (whole-row p ts)
-        ∙ ap (λ (items : List A). with_label (touches bounds x y l items) l (touched bounds x y inside)) (sym (own-label p l ts)))
+        ∙ ap (λ (items : List A). with_label (touches bounds x y l items) l (touched_labels bounds x y inside)) (sym (own-label p l ts)))
 
     module _ (stays : (a : A) → move (record { dx = pos 0; dy = pos 0 }) a ≡ a) where
-      pub none-outside : (ts : Trees A) → box_holds (items_box bounds (items_drawn (marks_of_all move ts))) x y ≡ false → touched bounds x y (marks_of_all move ts) ≡ []
+      pub none-outside : (ts : Trees A) → box_holds (items_box bounds (items_drawn (marks_of_all move ts))) x y ≡ false → touched_labels bounds x y (marks_of_all move ts) ≡ []
       none-outside ts e =
           (subst (λ (ms : List (Mark A)). AreWhole bounds x y ms) (all-still move stays (marks_of_all move ts)) (whole-row still ts)).outside e
 
   module _ (stays : (a : A) → move (record { dx = pos 0; dy = pos 0 }) a ≡ a) where
-    latest-still : (ms : List (Mark A)) → latest still ms ≡ reverse (touched bounds x y ms)
-    latest-still ms = ap (λ (ks : List (Mark A)). reverse (touched bounds x y ks)) (all-still move stays ms)
+    latest-still : (ms : List (Mark A)) → latest still ms ≡ reverse (touched_labels bounds x y ms)
+    latest-still ms = ap (λ (ks : List (Mark A)). reverse (touched_labels bounds x y ks)) (all-still move stays ms)
 
     -- what a search through all of a history comes to
     pub found_at : (k : ℕ) (ms : List (Mark A)) (l : LabelAt) → found l ≡ seek k (latest still ms) → Some (touch_of_label l) ≡ touched_at bounds x y k ms
     found_at k ms l e =
-        let there = seek-found k (reverse (touched bounds x y ms)) l (e ∙ ap (λ (ls : List LabelAt). seek k ls) (latest-still ms)) in
+        let there = seek-found k (reverse (touched_labels bounds x y ms)) l (e ∙ ap (λ (ls : List LabelAt). seek k ls) (latest-still ms)) in
         sym (ap (λ (o : Option LabelAt). option_map touch_of_label o) there)
 
     pub passed_at : (k : ℕ) (ms : List (Mark A)) (left : ℕ) → passed left ≡ seek k (latest still ms) → None ≡ touched_at bounds x y k ms
     passed_at k ms left e =
-        let nowhere = seek-passed k (reverse (touched bounds x y ms)) left (e ∙ ap (λ (ls : List LabelAt). seek k ls) (latest-still ms)) in
+        let nowhere = seek-passed k (reverse (touched_labels bounds x y ms)) left (e ∙ ap (λ (ls : List LabelAt). seek k ls) (latest-still ms)) in
         sym (ap (λ (o : Option LabelAt). option_map touch_of_label o) nowhere)

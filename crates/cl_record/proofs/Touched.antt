@@ -11,7 +11,7 @@ use Rattle.cl_record.specs.Heads.{HeadAt}
 use Rattle.cl_record.specs.Labels.{LabelAt}
 use Rattle.cl_record.specs.Marks.{Mark, open_update, close, draw, open_presentation}
 use Rattle.cl_record.specs.Replays.{items_drawn}
-use Rattle.cl_record.specs.Touches.{box_holds, item_holds, items_inside, touched, touches}
+use Rattle.cl_record.specs.Touches.{box_holds, item_holds, items_inside, touched_labels, touches}
 use Rattle.cl_record.proofs.Boxes.{items_box-append}
 use Rattle.cl_record.proofs.Replayed.{drawn-append}
 
@@ -93,8 +93,8 @@ module _ {A : Type 0} (bounds : A → Rect) (x y : ℤ) where
   -- marks that can stand before any others: what is open in them is closed in them
   pub record AreWhole (ms : List (Mark A)) : Type 0 where
     pub items : (levels : ℕ) (rest : List (Mark A)) → items_inside levels (ms ++ rest) ≡ items_drawn ms ++ items_inside levels rest
-    pub labels : (rest : List (Mark A)) → touched bounds x y (ms ++ rest) ≡ touched bounds x y ms ++ touched bounds x y rest
-    pub outside : box_holds (items_box bounds (items_drawn ms)) x y ≡ false → touched bounds x y ms ≡ []
+    pub labels : (rest : List (Mark A)) → touched_labels bounds x y (ms ++ rest) ≡ touched_labels bounds x y ms ++ touched_labels bounds x y rest
+    pub outside : box_holds (items_box bounds (items_drawn ms)) x y ≡ false → touched_labels bounds x y ms ≡ []
 
   pub whole-none : AreWhole []
   whole-none = record { items = λ levels rest. refl; labels = λ rest. refl; outside = λ e. refl }
@@ -112,15 +112,15 @@ module _ {A : Type 0} (bounds : A → Rect) (x y : ℤ) where
       ∙ ap (λ (items : List A). items ++ items_inside levels rest) (sym (drawn-append ms ns)))))
 
   both-labels : (ms ns : List (Mark A)) → AreWhole ms → AreWhole ns → (rest : List (Mark A))
-      → touched bounds x y ((ms ++ ns) ++ rest) ≡ touched bounds x y (ms ++ ns) ++ touched bounds x y rest
+      → touched_labels bounds x y ((ms ++ ns) ++ rest) ≡ touched_labels bounds x y (ms ++ ns) ++ touched_labels bounds x y rest
   both-labels ms ns h k rest =
-      ap (λ (ks : List (Mark A)). touched bounds x y ks) (append_assoc ms ns rest)
+      ap (λ (ks : List (Mark A)). touched_labels bounds x y ks) (append_assoc ms ns rest)
       ∙ (h.labels (ns ++ rest)
-      ∙ (ap (λ (ls : List LabelAt). touched bounds x y ms ++ ls) (k.labels rest)
-      ∙ (sym (append_assoc (touched bounds x y ms) (touched bounds x y ns) (touched bounds x y rest))
-      ∙ ap (λ (ls : List LabelAt). ls ++ touched bounds x y rest) (sym (h.labels ns)))))
+      ∙ (ap (λ (ls : List LabelAt). touched_labels bounds x y ms ++ ls) (k.labels rest)
+      ∙ (sym (append_assoc (touched_labels bounds x y ms) (touched_labels bounds x y ns) (touched_labels bounds x y rest))
+      ∙ ap (λ (ls : List LabelAt). ls ++ touched_labels bounds x y rest) (sym (h.labels ns)))))
 
-  both-outside : (ms ns : List (Mark A)) → AreWhole ms → AreWhole ns → box_holds (items_box bounds (items_drawn (ms ++ ns))) x y ≡ false → touched bounds x y (ms ++ ns) ≡ []
+  both-outside : (ms ns : List (Mark A)) → AreWhole ms → AreWhole ns → box_holds (items_box bounds (items_drawn (ms ++ ns))) x y ≡ false → touched_labels bounds x y (ms ++ ns) ≡ []
   both-outside ms ns h k e =
       let out : box_holds (items_box bounds (items_drawn ms ++ items_drawn ns)) x y ≡ false =
       ap (λ (items : List A). box_holds (items_box bounds items) x y) (sym (drawn-append ms ns)) ∙ e in
@@ -141,11 +141,11 @@ module _ {A : Type 0} (bounds : A → Rect) (x y : ℤ) where
       ∙ ap (λ (items : List A). items ++ items_inside levels rest) (sym (drawn-close ms)))
 
   around-labels : (ms : List (Mark A)) → AreWhole ms → (rest : List (Mark A))
-      → touched bounds x y ((ms ++ close ∷ []) ++ rest) ≡ touched bounds x y ms ++ touched bounds x y rest
-  around-labels ms h rest = ap (λ (ks : List (Mark A)). touched bounds x y ks) (append_assoc ms (close ∷ []) rest) ∙ h.labels (close ∷ rest)
+      → touched_labels bounds x y ((ms ++ close ∷ []) ++ rest) ≡ touched_labels bounds x y ms ++ touched_labels bounds x y rest
+  around-labels ms h rest = ap (λ (ks : List (Mark A)). touched_labels bounds x y ks) (append_assoc ms (close ∷ []) rest) ∙ h.labels (close ∷ rest)
 
-  pub closed-labels : (ms : List (Mark A)) → AreWhole ms → touched bounds x y (ms ++ close ∷ []) ≡ touched bounds x y ms
-  closed-labels ms h = h.labels (close ∷ []) ∙ append-nil (touched bounds x y ms)
+  pub closed-labels : (ms : List (Mark A)) → AreWhole ms → touched_labels bounds x y (ms ++ close ∷ []) ≡ touched_labels bounds x y ms
+  closed-labels ms h = h.labels (close ∷ []) ∙ append-nil (touched_labels bounds x y ms)
 
   -- the items of a presentation are those before its closing
   own-items : (ms : List (Mark A)) → AreWhole ms → (rest : List (Mark A)) → items_inside 0 ((ms ++ close ∷ []) ++ rest) ≡ items_drawn ms
@@ -154,37 +154,37 @@ module _ {A : Type 0} (bounds : A → Rect) (x y : ℤ) where
       ∙ (h.items 0 (close ∷ rest) ∙ append-nil (items_drawn ms))
 
   begun : (l : LabelAt) (ms : List (Mark A)) → AreWhole ms → (rest : List (Mark A))
-      → touched bounds x y (open_presentation l ∷ ((ms ++ close ∷ []) ++ rest))
-      ≡ with_label (touches bounds x y l (items_drawn ms)) l (touched bounds x y ms ++ touched bounds x y rest)
+      → touched_labels bounds x y (open_presentation l ∷ ((ms ++ close ∷ []) ++ rest))
+      ≡ with_label (touches bounds x y l (items_drawn ms)) l (touched_labels bounds x y ms ++ touched_labels bounds x y rest)
   begun l ms h rest =
       let items = own-items ms h rest in
       let labels = around-labels ms h rest in
       λ i. with_label (touches bounds x y l (items i)) l (labels i)
 
   pub begun-alone : (l : LabelAt) (ms : List (Mark A)) → AreWhole ms
-      → touched bounds x y (open_presentation l ∷ (ms ++ close ∷ [])) ≡ with_label (touches bounds x y l (items_drawn ms)) l (touched bounds x y ms)
+      → touched_labels bounds x y (open_presentation l ∷ (ms ++ close ∷ [])) ≡ with_label (touches bounds x y l (items_drawn ms)) l (touched_labels bounds x y ms)
   begun-alone l ms h =
-      ap (λ (ks : List (Mark A)). touched bounds x y (open_presentation l ∷ ks)) (sym (append-nil (ms ++ close ∷ [])))
+      ap (λ (ks : List (Mark A)). touched_labels bounds x y (open_presentation l ∷ ks)) (sym (append-nil (ms ++ close ∷ [])))
       ∙ (begun l ms h []
-      ∙ ap (λ (ls : List LabelAt). with_label (touches bounds x y l (items_drawn ms)) l ls) (append-nil (touched bounds x y ms)))
+      ∙ ap (λ (ls : List LabelAt). with_label (touches bounds x y l (items_drawn ms)) l ls) (append-nil (touched_labels bounds x y ms)))
 
   shown-labels : (l : LabelAt) (ms : List (Mark A)) → AreWhole ms → (rest : List (Mark A))
-      → touched bounds x y (open_presentation l ∷ ((ms ++ close ∷ []) ++ rest))
-      ≡ touched bounds x y (open_presentation l ∷ (ms ++ close ∷ [])) ++ touched bounds x y rest
+      → touched_labels bounds x y (open_presentation l ∷ ((ms ++ close ∷ []) ++ rest))
+      ≡ touched_labels bounds x y (open_presentation l ∷ (ms ++ close ∷ [])) ++ touched_labels bounds x y rest
   shown-labels l ms h rest =
       begun l ms h rest
-      ∙ (with_label-append (touches bounds x y l (items_drawn ms)) l (touched bounds x y ms) (touched bounds x y rest)
-      ∙ ap (λ (ls : List LabelAt). ls ++ touched bounds x y rest) (sym (begun-alone l ms h)))
+      ∙ (with_label-append (touches bounds x y l (items_drawn ms)) l (touched_labels bounds x y ms) (touched_labels bounds x y rest)
+      ∙ ap (λ (ls : List LabelAt). ls ++ touched_labels bounds x y rest) (sym (begun-alone l ms h)))
 
   closed-outside : (ms : List (Mark A)) → box_holds (items_box bounds (items_drawn (ms ++ close ∷ []))) x y ≡ false
       → box_holds (items_box bounds (items_drawn ms)) x y ≡ false
   closed-outside ms e = ap (λ (items : List A). box_holds (items_box bounds items) x y) (sym (drawn-close ms)) ∙ e
 
   shown-outside : (l : LabelAt) (ms : List (Mark A)) → AreWhole ms → box_holds (items_box bounds (items_drawn (ms ++ close ∷ []))) x y ≡ false
-      → touched bounds x y (open_presentation l ∷ (ms ++ close ∷ [])) ≡ []
+      → touched_labels bounds x y (open_presentation l ∷ (ms ++ close ∷ [])) ≡ []
   shown-outside l ms h e =
       let out = closed-outside ms e in
-      begun-alone l ms h ∙ without_label (touches bounds x y l (items_drawn ms)) l (touched bounds x y ms) (touches-outside l (items_drawn ms) out) (h.outside out)
+      begun-alone l ms h ∙ without_label (touches bounds x y l (items_drawn ms)) l (touched_labels bounds x y ms) (touches-outside l (items_drawn ms) out) (h.outside out)
 
   pub whole-shown : (l : LabelAt) (ms : List (Mark A)) → AreWhole ms → AreWhole (open_presentation l ∷ (ms ++ close ∷ []))
   whole-shown l ms h = record { items = around-items ms h; labels = shown-labels l ms h; outside = shown-outside l ms h }
@@ -192,6 +192,6 @@ module _ {A : Type 0} (bounds : A → Rect) (x y : ℤ) where
   pub whole-piece : (k : HeadAt) (ms : List (Mark A)) → AreWhole ms → AreWhole (open_update k ∷ (ms ++ close ∷ []))
   whole-piece k ms h = record {
     items = around-items ms h;
-    labels = λ rest. around-labels ms h rest ∙ ap (λ (ls : List LabelAt). ls ++ touched bounds x y rest) (sym (closed-labels ms h));
+    labels = λ rest. around-labels ms h rest ∙ ap (λ (ls : List LabelAt). ls ++ touched_labels bounds x y rest) (sym (closed-labels ms h));
     outside = λ e. closed-labels ms h ∙ h.outside (closed-outside ms e);
   }

@@ -21,11 +21,13 @@ pub record UpdateAt (A : Type 0) : Type 0 where
 -- ---- how the logic stores them
 
 module _ {A : Type 0} (c : Coded A) where
+  -- how the logic stores a presentation
   abbrev pub presentation_code : Coded (PresentationAt A)
   presentation_code =
       code_by (LabelAt × (Shift × List (Tree A))) (coded× label_code (coded× shift_code (coded_list (tree_code c))))
       (λ s. (s.label, (s.place, s.inside))) (λ p. record { label = p.0; place = p.1.0; inside = p.1.1 }) (λ _. refl)
 
+  -- how the logic stores an update
   abbrev pub update_code : Coded (UpdateAt A)
   update_code =
       code_by (HeadAt × (Shift × List (Tree A))) (coded× head_code (coded× shift_code (coded_list (tree_code c))))

@@ -80,26 +80,33 @@ move_head v h = record h { measures = move_measures v h.measures }
 
 -- ---- how the logic stores heads
 
+-- how the logic stores a point
 abbrev pub point_code : Coded Point
 point_code = code_by (ℤ × ℤ) (coded× coded_ℤ coded_ℤ) (λ q. (q.x, q.y)) (λ p. record { x = p.0; y = p.1 }) (λ _. refl)
 
+-- how the logic stores a rectangle
 abbrev pub rect_code : Coded Rect
 rect_code =
     code_by ((ℤ × ℤ) × (ℤ × ℤ)) (coded× (coded× coded_ℤ coded_ℤ) (coded× coded_ℤ coded_ℤ)) (λ r. ((r.x1, r.y1), (r.x2, r.y2)))
     (λ p. record { x1 = p.0.0; y1 = p.0.1; x2 = p.1.0; y2 = p.1.1 }) (λ _. refl)
 
+-- the numbers of what was measured
 abbrev pub Numbers : Type 0
 Numbers = ℕ × (ℕ × (ℕ × ℕ))
 
+-- how the logic stores the numbers
 abbrev pub numbers_code : Coded Numbers
 numbers_code = coded× coded_ℕ (coded× coded_ℕ (coded× coded_ℕ coded_ℕ))
 
+-- what stood before and after
 abbrev pub States : Type 0
 States = Point × (Point × (Option ℤ × Option Point))
 
+-- how the logic stores what stood before and after
 abbrev pub states_code : Coded States
 states_code = coded× point_code (coded× point_code (coded× (coded_option coded_ℤ) (coded_option point_code)))
 
+-- how the logic stores what was measured
 abbrev pub measures_code : Coded MeasuresAt
 measures_code =
     code_by (Numbers × (Rect × States)) (coded× numbers_code (coded× rect_code states_code))
@@ -116,6 +123,7 @@ measures_code =
       origin = p.1.1.1.1.1;
     }) (λ _. refl)
 
+-- how the logic stores a head
 abbrev pub head_code : Coded HeadAt
 head_code =
     code_by (Site × (Data × (Option (List Data) × MeasuresAt)))

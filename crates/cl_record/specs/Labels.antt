@@ -13,6 +13,7 @@ pub record LabelAt : Type 0 where
 
 -- ---- how the logic stores labels
 
+-- how the logic stores a label
 abbrev pub label_code : Coded LabelAt
 label_code =
     code_by (Data × (TypeSpecTree × Bool)) (coded× data_code (coded× coded_type_spec_tree coded_bool)) (λ l. (l.object, (l.spec, l.single_box)))

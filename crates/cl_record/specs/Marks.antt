@@ -32,6 +32,7 @@ module _ {A : Type 0} (move : Shift → A → A) where
     marks_of (presentation l p ts) = move_marks p (open_presentation l ∷ (marks_of_all ts ++ close ∷ []))
     marks_of (update h p ts) = move_marks p (open_update h ∷ (marks_of_all ts ++ close ∷ []))
 
+    -- the marks of a row of trees, one tree after another
     pub marks_of_all : Trees A → List (Mark A)
     marks_of_all none = []
     marks_of_all (tree t ts) = marks_of t ++ marks_of_all ts

@@ -56,6 +56,7 @@ module _ {A : Type 0} (bounds : A → Rect) (move : Shift → A → A) where
     IsSound (presentation l p ts) = AreSound ts × IsPlaceOf p (extent_box bounds (marks_of_all move ts))
     IsSound (update h p ts) = AreSound ts × (IsMeasured h ts × IsInRange (move_rect p h.measures.extent))
 
+    -- each tree of a row is sound
     pub AreSound : Trees A → Type 0
     AreSound none = Unit {0}
     AreSound (tree t ts) = IsSound t × AreSound ts

@@ -44,13 +44,13 @@ module _ {A : Type 0} (bounds : A → Rect) (x y : ℤ) where
   touches l items = if l.single_box then box_holds (items_box bounds items) x y else item_holds items
 
   -- the labels of the presentations that the place touches, in the order in which they begin
-  abbrev pub touched : List (Mark A) → List LabelAt
-  touched [] = []
-  touched (draw a ∷ ms) = touched ms
-  touched (open_presentation l ∷ ms) = if touches l (items_inside 0 ms) then l ∷ touched ms else touched ms
-  touched (open_update h ∷ ms) = touched ms
-  touched (close ∷ ms) = touched ms
+  abbrev pub touched_labels : List (Mark A) → List LabelAt
+  touched_labels [] = []
+  touched_labels (draw a ∷ ms) = touched_labels ms
+  touched_labels (open_presentation l ∷ ms) = if touches l (items_inside 0 ms) then l ∷ touched_labels ms else touched_labels ms
+  touched_labels (open_update h ∷ ms) = touched_labels ms
+  touched_labels (close ∷ ms) = touched_labels ms
 
   -- what the presentation with number k of them presents, where the one that began latest has number 0
   abbrev pub touched_at : (k : ℕ) → List (Mark A) → Option TouchAt
-  touched_at k ms = option_map touch_of_label (slice_get (reverse (touched ms)) k)
+  touched_at k ms = option_map touch_of_label (slice_get (reverse (touched_labels ms)) k)

@@ -47,6 +47,7 @@ module _ {A : Type 0} where
     is_bare (presentation l p ts) = are_bare ts
     is_bare (update h p ts) = false
 
+    -- a row of trees holds neither an item nor an update
     pub are_bare : Trees A → Bool
     are_bare none = true
     are_bare (tree t ts) = is_bare t && are_bare ts
@@ -60,37 +61,44 @@ module _ {A : Type 0} where
   -- ---- measure
 
   abbrev mutual
+    -- how large a tree is, by which a recursion over it ends
     pub size_of : Tree A → ℕ
     size_of (leaf a) = 1
     size_of (presentation l p ts) = 4 + size_of_all ts
     size_of (update h p ts) = 4 + size_of_all ts
 
+    -- the sizes of a row of trees together
     pub size_of_all : Trees A → ℕ
     size_of_all none = 0
     size_of_all (tree t ts) = size_of t + size_of_all ts
 
 -- ---- how the logic stores trees
 
+-- how the logic stores a move
 abbrev pub shift_code : Coded Shift
 shift_code = code_by (ℤ × ℤ) (coded× coded_ℤ coded_ℤ) (λ v. (v.dx, v.dy)) (λ p. record { dx = p.0; dy = p.1 }) (λ _. refl)
 
 module _ {A : Type 0} (c : Coded A) where
+  -- the number of a tree's kind
   abbrev kind_of : Tree A → ℕ
   kind_of (leaf a) = 0
   kind_of (presentation l p ts) = 1
   kind_of (update h p ts) = 2
 
   abbrev mutual
+    -- the term of a tree
     code : Tree A → Gv
     code (leaf a) = gcons (gnum 0) (c.code a)
     code (presentation l p ts) = gcons (gnum 1) (gcons (label_code.code l) (gcons (shift_code.code p) (code_all ts)))
     code (update h p ts) = gcons (gnum 2) (gcons (head_code.code h) (gcons (shift_code.code p) (code_all ts)))
 
+    -- the term of a row of trees
     code_all : Trees A → Gv
     code_all none = gnil
     code_all (tree t ts) = gcons (code t) (code_all ts)
 
   mutual
+    -- trees of one term are one tree
     pub code-inj : (x y : Tree A) → code x ≡ code y → x ≡ y
     code-inj (leaf a) (leaf b) e = ap leaf (c.inj a b (ap code_tail e))
     code-inj (presentation l p ts) (presentation m q us) e =
@@ -105,6 +113,7 @@ module _ {A : Type 0} (c : Coded A) where
         λ i. update (heads i) (places i) (inside i)
     code-inj x y e = absurd (eqb-false (kind_of x) (kind_of y) refl (ap code_kind e))
 
+    -- rows of one term are one row
     pub code_all-inj : (ts us : Trees A) → code_all ts ≡ code_all us → ts ≡ us
     code_all-inj none none e = refl
     code_all-inj (tree t ts) (tree u us) e =
@@ -114,5 +123,6 @@ module _ {A : Type 0} (c : Coded A) where
     code_all-inj none (tree u us) e = absurd (eqb-false 0 1 refl (ap has_parts e))
     code_all-inj (tree t ts) none e = absurd (eqb-false 1 0 refl (ap has_parts e))
 
+  -- how the logic stores a tree
   abbrev pub tree_code : Coded (Tree A)
   tree_code = record { code = code; inj = code-inj }

@@ -4,7 +4,7 @@ ghost use Rattle.cl_record.specs.Marks.{move_marks, marks_of, marks_of_all};
 ghost use Rattle.cl_record.specs.Ranges.{ArePlaced, IsPlaced};
 ghost use Rattle.cl_record.specs.Replays.{items_drawn};
 ghost use Rattle.cl_record.specs.Seen.{tree_of};
-ghost use Rattle.cl_record.specs.Touches.{touch_of_label, touched, touches};
+ghost use Rattle.cl_record.specs.Touches.{touch_of_label, touched_labels, touches};
 ghost use Rattle.cl_record.specs.TouchWalks.{touch_of};
 ghost use Rattle.cl_record.specs.Trees.{trees_of};
 
@@ -46,7 +46,7 @@ fn gather_node<'a, L: Leaf>(
 ) -> Result<(), AllocError>
     requires { IsPlaced L.bounds L.moved_by at (tree_of node.now) }
     ensures { OnOk result (map touch_of gathered.new.items ≡ map touch_of gathered.old.items
-        ++ map touch_of_label (reverse (touched L.bounds spot.x spot.y
+        ++ map touch_of_label (reverse (touched_labels L.bounds spot.x spot.y
         (move_marks L.moved_by at (marks_of L.moved_by (tree_of node.now)))))) }
 {
     match node {
@@ -74,7 +74,7 @@ pub(crate) fn gather_row<'a, L: Leaf>(
 ) -> Result<(), AllocError>
     requires { ArePlaced L.bounds L.moved_by at (trees_of inside.now) }
     ensures { OnOk result (map touch_of gathered.new.items ≡ map touch_of gathered.old.items
-        ++ map touch_of_label (reverse (touched L.bounds spot.x spot.y (move_marks L.moved_by at
+        ++ map touch_of_label (reverse (touched_labels L.bounds spot.x spot.y (move_marks L.moved_by at
         (marks_of_all L.moved_by (trees_of inside.now)))))) }
 {
     if !row_box_holds(inside, at, spot) {

@@ -5,7 +5,7 @@ ghost use Rattle.cl_record.specs.Counts.{count_of};
 ghost use Rattle.cl_record.specs.Lines.{history_lines};
 ghost use Rattle.cl_record.specs.Marks.{history_marks};
 ghost use Rattle.cl_record.specs.Replays.{Paints, items_drawn, cell_after, items_touching};
-ghost use Rattle.cl_record.specs.Touches.{touch_of_label, touched, touched_at};
+ghost use Rattle.cl_record.specs.Touches.{touch_of_label, touched_labels, touched_at};
 ghost use Rattle.cl_record.specs.TouchWalks.{touch_of};
 
 use crate::canvases::Canvas;
@@ -56,13 +56,6 @@ impl<L: Leaf> History<L> {
         ensures { result ≡ nodes }
     {
         History { nodes }
-    }
-
-    /// The outermost records, which are not copied.
-    pub fn into_nodes(self) -> Nodes<L>
-        ensures { result ≡ self }
-    {
-        self.nodes
     }
 
     /// The outermost records.
@@ -139,7 +132,7 @@ impl<L: Leaf> History<L> {
     /// All presentations that this place touches, the one that began latest first, in one walk.
     pub fn touches(&self, alloc: Global, x: i64, y: i64) -> Result<Vec<Touch<'_>>, AllocError>
         ensures { IfOk result (λ ts. map touch_of ts.items
-            ≡ map touch_of_label (reverse (touched L.bounds x y (history_marks L.moved_by self.now)))) }
+            ≡ map touch_of_label (reverse (touched_labels L.bounds x y (history_marks L.moved_by self.now)))) }
     {
         // What the rows keep is known from here on.
         let _ = self.nodes.summary();

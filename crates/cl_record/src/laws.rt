@@ -9,7 +9,7 @@ ghost use Rattle.cl_record.specs.Marks.{move_marks, marks_of, marks_of_all};
 ghost use Rattle.cl_record.specs.Ranges.{AreInRange, IsSound, StaysInRange};
 ghost use Rattle.cl_record.specs.Replays.{items_drawn};
 ghost use Rattle.cl_record.specs.Shifts.{join_shifts};
-ghost use Rattle.cl_record.specs.Touches.{box_holds, touched, touches};
+ghost use Rattle.cl_record.specs.Touches.{box_holds, touched_labels, touches};
 ghost use Rattle.cl_record.specs.Trees.{Tree, Trees, presentation, update};
 
 use cl_medium::Leaf;
@@ -38,10 +38,10 @@ pub fn touches_lie_in_boxes<L: Leaf>()
 /// A presentation is touched by what it draws, and begins before those inside it.
 pub fn presentations_are_touched_by_what_they_draw<L: Leaf>()
     ensures { (x y : ℤ) (l : LabelAt) (p : Shift) (ts : Trees L)
-        → touched L.bounds x y (marks_of L.moved_by (presentation l p ts))
+        → touched_labels L.bounds x y (marks_of L.moved_by (presentation l p ts))
         ≡ (if touches L.bounds x y l (items_drawn (marks_of L.moved_by (presentation l p ts)))
-        then l ∷ touched L.bounds x y (move_marks L.moved_by p (marks_of_all L.moved_by ts))
-        else touched L.bounds x y (move_marks L.moved_by p (marks_of_all L.moved_by ts))) }
+        then l ∷ touched_labels L.bounds x y (move_marks L.moved_by p (marks_of_all L.moved_by ts))
+        else touched_labels L.bounds x y (move_marks L.moved_by p (marks_of_all L.moved_by ts))) }
 {}
 
 /// Where the box of all items of records does not hold a place, the place touches no presentation among
@@ -49,5 +49,5 @@ pub fn presentations_are_touched_by_what_they_draw<L: Leaf>()
 pub fn nothing_is_touched_outside_of_the_box<L: Leaf>()
     ensures { (x y : ℤ) (ts : Trees L)
         → box_holds (items_box L.bounds (items_drawn (marks_of_all L.moved_by ts))) x y ≡ false
-        → touched L.bounds x y (marks_of_all L.moved_by ts) ≡ [] }
+        → touched_labels L.bounds x y (marks_of_all L.moved_by ts) ≡ [] }
 {}

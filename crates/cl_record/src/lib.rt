@@ -30,6 +30,6 @@ pub use laws::{
 pub use lines::Printable;
 pub use measuring::is_measured;
 pub use nodes::{Node, Nodes};
-pub use shifts::STILL;
+pub use shifts::{STILL, join_shifts};
 pub use summaries::{Summary, around};
 pub use touches::Touch;

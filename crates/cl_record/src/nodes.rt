@@ -169,14 +169,6 @@ impl<L: Leaf> Nodes<L> {
         self.items.as_slice()
     }
 
-    /// The records in their order, which are not copied.
-    pub fn into_vec(self) -> Vec<Node<L>>
-        ensures nodes { map tree_of result.items ≡ self }
-        ensures sound { AreSound L.bounds L.moved_by (forest_of result.items) }
-    {
-        self.items
-    }
-
     /// What they come to, without a walk through them.
     pub fn summary(&self) -> Summary
         ensures value { result ≡ summary_of L.bounds (history_marks L.moved_by self.now) }

@@ -7,8 +7,9 @@ use cl_region::Shift;
 /// No move.
 pub const STILL: Shift = Shift { dx: 0, dy: 0 };
 
-/// One move after the other.
-pub(crate) fn join_shifts(first: Shift, second: Shift) -> Shift
+/// One move after the other, which is no further than two near numbers are from each other.
+#[inline(always)]
+pub fn join_shifts(first: Shift, second: Shift) -> Shift
     requires { IsShift (join_shifts first second) }
     ensures { result ≡ join_shifts first second }
 {

@@ -7,7 +7,7 @@ ghost use Rattle.cl_record.specs.Marks.{move_marks, marks_of, marks_of_all};
 ghost use Rattle.cl_record.specs.Ranges.{ArePlaced, IsPlaced};
 ghost use Rattle.cl_record.specs.Replays.{items_drawn};
 ghost use Rattle.cl_record.specs.Seen.{tree_of};
-ghost use Rattle.cl_record.specs.Touches.{box_holds, item_holds, touch_of_label, touched, touches};
+ghost use Rattle.cl_record.specs.Touches.{box_holds, item_holds, touch_of_label, touched_labels, touches};
 ghost use Rattle.cl_record.specs.TouchWalks.{seek, sought_of, touch_of};
 ghost use Rattle.cl_record.specs.Trees.{trees_of};
 
@@ -164,7 +164,7 @@ fn visit<L: Leaf>(presented: &Presented<L>, at: Shift, spot: Spot, k: u32) -> Se
 #[cycle(seek)]
 fn seek_node<L: Leaf>(node: &Node<L>, at: Shift, spot: Spot, k: u32) -> Search<'_>
     requires { IsPlaced L.bounds L.moved_by at (tree_of node.now) }
-    ensures { sought_of result ≡ seek k (reverse (touched L.bounds spot.x spot.y
+    ensures { sought_of result ≡ seek k (reverse (touched_labels L.bounds spot.x spot.y
         (move_marks L.moved_by at (marks_of L.moved_by (tree_of node.now))))) }
 {
     match node {
@@ -188,7 +188,7 @@ fn seek_node<L: Leaf>(node: &Node<L>, at: Shift, spot: Spot, k: u32) -> Search<'
 #[cycle(seek)]
 pub(crate) fn seek_row<L: Leaf>(inside: &Nodes<L>, at: Shift, spot: Spot, k: u32) -> Search<'_>
     requires { ArePlaced L.bounds L.moved_by at (trees_of inside.now) }
-    ensures { sought_of result ≡ seek k (reverse (touched L.bounds spot.x spot.y (move_marks L.moved_by at
+    ensures { sought_of result ≡ seek k (reverse (touched_labels L.bounds spot.x spot.y (move_marks L.moved_by at
         (marks_of_all L.moved_by (trees_of inside.now))))) }
 {
     if !row_box_holds(inside, at, spot) {

@@ -1,5 +1,6 @@
 -- Painting in an area of a screen: each of its places has the cell of the last item that paints it, else a space with ink 0.
 use Rattle.std.specs.Prelude.{◌≡◌, ℕ, ◌+◌, ◌-◌, ◌<◌, ◌≤◌, pos, Bool, true, false, ◌&&◌, nat_le, nat_lt, List}
+use Rattle.cl_outside.specs.Sizes.{MAX_COLUMNS, MAX_ROWS}
 use Rattle.cl_medium.specs.Items.{Painted, item_cell, Item}
 use Rattle.cl_raster.specs.Raster.{Picture, SameSize, glyph_at, ink_at}
 use Rattle.cl_region.specs.declared.rects.Rect.{Rect}
@@ -31,8 +32,8 @@ own_rect area = record { x1 = pos 0; y1 = pos 0; x2 = pos area.width; y2 = pos a
 pub record LiesIn (area : Area) (p : Picture) : Type 0 where
   pub columns : area.x + area.width ≤ p.width
   pub rows : area.y + area.height ≤ p.height
-  pub most_columns : p.width ≤ 512
-  pub most_rows : p.height ≤ 256
+  pub most_columns : p.width ≤ MAX_COLUMNS
+  pub most_rows : p.height ≤ MAX_ROWS
 
 -- what the marks of a pane paint at a place of the screen, where this area shows the pane and the place was blank
 abbrev pub pane_cell : Area → List (Mark Item) → (x y : ℕ) → Painted

@@ -12,9 +12,11 @@ pub record Keeps (old new : Window) : Type 0 where
   pub area : new.area ≡ old.area
   pub others : KeepsOthers old.raster.now new.raster.now old.area
 
+-- a picture keeps its own cells outside of an area
 others_kept : (p : Picture) (area : Area) → KeepsOthers p p area
 others_kept p area = record { size = record { width = refl; height = refl }; cells = λ x y hx hy no. refl }
 
+-- what is kept in two steps outside of an area is kept in both together
 pub others_through : (p q r : Picture) (area : Area) → KeepsOthers p q area → KeepsOthers q r area → KeepsOthers p r area
 others_through p q r area h k = record {
   size = record { width = k.size.width ∙ h.size.width; height = k.size.height ∙ h.size.height };
@@ -22,9 +24,11 @@ others_through p q r area h k = record {
       k.cells x y (omega (arith, h.size.width, hx)) (omega (arith, h.size.height, hy)) no ∙ h.cells x y hx hy no;
 }
 
+-- a window keeps to itself
 pub keeps_itself : (window : Window) → Keeps window window
 keeps_itself window = record { reference = refl; area = refl; others = others_kept window.raster.now window.area }
 
+-- what is kept in two steps of a window is kept in both together
 pub keeps_through : (first second third : Window) → Keeps first second → Keeps second third → Keeps first third
 keeps_through first second third h k = record {
   reference = k.reference ∙ h.reference;

@@ -6,7 +6,6 @@ ghost use Rattle.cl_record.specs.Marks.{history_marks, marks_of, marks_of_all, m
 ghost use Rattle.cl_record.specs.Ranges.{ArePlaced, IsPlaced};
 ghost use Rattle.cl_record.specs.Replays.{items_drawn};
 ghost use Rattle.cl_record.specs.Seen.{tree_of};
-ghost use Rattle.cl_record.specs.Shifts.{IsShift, join_shifts};
 ghost use Rattle.cl_record.specs.Trees.{trees_of};
 ghost use Rattle.cl_spans.specs.SpanRows.{spans_hold};
 ghost use Rattle.cl_redisplay.specs.Paint.{LiesIn};
@@ -19,7 +18,7 @@ use crate::patches::{blank_touched, meets, paint_there};
 use cl_medium::{AnyLeaf, Leaf};
 use cl_outside::Cell;
 use cl_raster::Raster;
-use cl_record::{History, Node, Nodes, STILL};
+use cl_record::{History, Node, Nodes, STILL, join_shifts};
 use cl_region::Shift;
 use cl_spans::Spans;
 
@@ -51,17 +50,6 @@ fn patch_history<L: Leaf>(raster: &mut Raster, area: Area, touched: &Spans, hist
     patch_inside(raster, area, touched, nodes, STILL, &mut [None; WIDEST]);
 }
 
-// One move after the other.
-fn joined(first: Shift, second: Shift) -> Shift
-    requires { IsShift (join_shifts first second) }
-    ensures { result ≡ join_shifts first second }
-{
-    Shift {
-        dx: first.dx + second.dx,
-        dy: first.dy + second.dy,
-    }
-}
-
 // Paints the items of a record, moved by `at`, at the touched places of the area.
 #[cycle(patch)]
 fn patch_node<L: Leaf>(
@@ -80,11 +68,11 @@ fn patch_node<L: Leaf>(
     match node {
         Node::Leaf(leaf) => paint_there(raster, area, touched, leaf, at, cells),
         Node::Presentation(presented) => {
-            let at = joined(presented.place(), at);
+            let at = join_shifts(presented.place(), at);
             patch_inside(raster, area, touched, presented.inside(), at, cells)
         }
         Node::Update(piece) => {
-            let at = joined(piece.place(), at);
+            let at = join_shifts(piece.place(), at);
             patch_inside(raster, area, touched, piece.inside(), at, cells)
         }
     }

@@ -15,7 +15,7 @@ use Rattle.cl_eval.specs.Meaning.{Go, each, entering, means, parts}
 use Rattle.cl_eval.specs.Operators as operators
 use Rattle.cl_eval.specs.Operators.{list_of, operate, or_trap}
 use Rattle.cl_eval.specs.Outcome.{Gives, Outcome, Run, Traps, after, give, lift}
-use Rattle.cl_eval.specs.PathValues.{dig, field_of, placed, value_at}
+use Rattle.cl_eval.specs.PathValues.{dig, field_of, part_at_place, value_at}
 use Rattle.cl_eval.specs.Slots.{Env, Slots, value_named}
 use Rattle.cl_eval.proofs.LimitLemmas.{never}
 use Rattle.cl_display.specs.Updates.{cache_of}
@@ -43,7 +43,7 @@ none-some p e = cc
 some-is : (q p : Path) → ◌≡◌ {A = Option Path} (Some q) (Some p) → q ≡ p
 some-is q p e = cc
 
-placed_trap : (o : Option ℕ) (ds : List Data) → operators.value_at o ds ≡ or_trap 1 (placed o ds)
+placed_trap : (o : Option ℕ) (ds : List Data) → operators.value_at o ds ≡ or_trap 1 (part_at_place o ds)
 placed_trap None ds = refl
 placed_trap (Some n) ds = refl
 

@@ -20,7 +20,7 @@ use Rattle.cl_display.specs.Drawings.{DrawingAt}
 use Rattle.cl_display.specs.Fresh.{Allowance, bodies_on, draws_body, draws_keyed, left_over}
 use Rattle.cl_display.specs.Outcomes.{Draw, DrawOutcome, opens_none, run_of, walk_after, ◌>->◌, ◌>>=◌}
 use Rattle.cl_display.specs.Siblings.{is_taken, note}
-use Rattle.cl_display.specs.Updates.{KeyAt, ended, enter_body, enter_update, head_at, key_weight, opening_at}
+use Rattle.cl_display.specs.Updates.{KeyAt, end_update, enter_body, enter_update, head_at, key_weight, opening_at}
 use Rattle.cl_display.specs.Walks.{OpeningAt, Walk, done, ◌then◌}
 use Rattle.cl_reuse.specs.Keeping.{EndsAs, kept_part, may_keep, shift_at}
 use Rattle.cl_reuse.specs.Kept.{KeptAt, OldUpdate, found, items_kept, kept_at, kept_here, kept_of}
@@ -205,7 +205,7 @@ module _ (app : App) (types : TypeMeanings) where
       (counts : (inner : Allowance) (s : DrawingAt) → drawn_in s ≡ 0 → BodyCounts ((bodies_on left (scene_on app slots types)).draw inner env body s))
       (at : Shift) (old : Trees Item) (f : AreFaithful app types old) where
     ended-counts : (s : DrawingAt) (kept : ℕ) (o : Outcome DrawingAt) → ((t : DrawingAt) (n l : ℕ) → o ≡ Gives t n l → kept ≤ drawn_in t) → (c d : ℕ)
-        → (t : DrawingAt) (n l : ℕ) → ended key level s o c d ≡ Gives t n l → kept + drawn_in s ≤ drawn_in t
+        → (t : DrawingAt) (n l : ℕ) → end_update key level s o c d ≡ Gives t n l → kept + drawn_in s ≤ drawn_in t
     ended-counts s kept (Gives u i r) h c d t n l p =
         let head = head_at key s.ambient u i r in
         let inside = h u i r refl in

@@ -25,7 +25,7 @@ use Rattle.cl_display.specs.Outcomes.{Draw, opens_none, run_of, ◌>->◌, ◌>>
 use Rattle.cl_display.specs.Presentations.{Texts, label_of, label_weight, leave_presentation, present_text, texts_on, write_value}
 use Rattle.cl_display.specs.Settings.{enter_room, indent, leave_room, restore_ink, restore_margin, set_ink}
 use Rattle.cl_display.specs.Siblings.{is_taken, note}
-use Rattle.cl_display.specs.Updates.{KeyAt, cache_of, ended, enter_body, head_at, id_of, key_at, key_weight}
+use Rattle.cl_display.specs.Updates.{KeyAt, cache_of, end_update, enter_body, head_at, id_of, key_at, key_weight}
 use Rattle.cl_reuse.specs.ReadValues.{scene_on}
 use Rattle.cl_reuse.specs.Recorded.{IsRecorded}
 use Rattle.cl_reuse.specs.Sited.{HoldCache}
@@ -100,7 +100,7 @@ module _ (app : App) (types : TypeMeanings) where
   opened key s = record s { weight = s.weight + key_weight key; siblings = note key.site key.id s.siblings }
 
   updated-run : (key : KeyAt) (level : ℕ) (s : DrawingAt) → is_taken key.site key.id s.siblings ≡ false → (o : Outcome DrawingAt) (c d : ℕ)
-      → (t : DrawingAt) (n l : ℕ) → ended key level (opened key s) o c d ≡ Gives t n l
+      → (t : DrawingAt) (n l : ℕ) → end_update key level (opened key s) o c d ≡ Gives t n l
       → ((u : DrawingAt) (i r : ℕ) → o ≡ Gives u i r
       → Draws app types [] u.siblings [] u.part.marks × IfSome key.cache (IsRecorded app types (head_at key s.ambient u i r) u.part.marks))
       → DrawsTo app types s t

@@ -25,7 +25,7 @@ use Rattle.cl_display.specs.Drawings.{DrawingAt, is_in_range, is_near}
 use Rattle.cl_display.specs.Fresh.{Allowance, Scene, bodies_on, closes, draws_body}
 use Rattle.cl_display.specs.Outcomes.{DrawOutcome}
 use Rattle.cl_display.specs.Sums.{lowest_of}
-use Rattle.cl_display.specs.Updates.{KeyAt, ended, leave_update, measures_at, opening_at}
+use Rattle.cl_display.specs.Updates.{KeyAt, end_update, leave_update, measures_at, opening_at}
 use Rattle.cl_display.specs.Walks.{OpeningAt}
 use Rattle.cl_display.proofs.DisplayLemmas.{adds-body}
 use Rattle.cl_reuse.specs.Bodies.{body_from, body_start, motion_between}
@@ -264,6 +264,6 @@ pub kept-joined : (h : HeadAt) (inside : List (Mark Item)) (v : Shift) (key : Ke
     → (closes key level s o b cost deepest).outcome
     ≡ Gives (leave_update (kept_head v key h) (kept_part v h inside) s) (cost + h.measures.cost) (max deepest (level + h.measures.reach))
 kept-joined h inside v key level s o b cost deepest e =
-    ap (λ (x : Outcome DrawingAt). ended key level s x cost deepest) e.is
+    ap (λ (x : Outcome DrawingAt). end_update key level s x cost deepest) e.is
     ∙ (λ i. Gives (leave_update (record { site = key.site; id = key.id; cache = key.cache; measures = e.measures i }) (e.part i) s)
     (cost + h.measures.cost) (max deepest (level + h.measures.reach)))

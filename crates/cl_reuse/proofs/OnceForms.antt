@@ -26,7 +26,7 @@ use Rattle.cl_display.specs.Outcomes.{Draw, DrawOutcome, opens_none, run_of, wal
 use Rattle.cl_display.specs.Presentations.{enter_presentation, label_weight, leave_after, present_text, write_inside, write_value}
 use Rattle.cl_display.specs.Settings.{indent, set_ink}
 use Rattle.cl_display.specs.Siblings.{Siblings, is_taken, note, same_site}
-use Rattle.cl_display.specs.Updates.{KeyAt, ended, enter_body, key_weight}
+use Rattle.cl_display.specs.Updates.{KeyAt, end_update, enter_body, key_weight}
 use Rattle.cl_display.specs.Walks.{Walk, done, met, ◌then◌}
 use Rattle.cl_display.specs.declared.figures.FigureParts.{FigureParts}
 use Rattle.cl_display.proofs.SiblingLaws.{taken-noted}
@@ -181,7 +181,7 @@ opens-give s = opens-lift s.siblings (Ok s) refl
 -- ---- updates
 
 ended-siblings : (key : KeyAt) (level : ℕ) (s : DrawingAt) (o : Outcome DrawingAt) (c d : ℕ) (t : DrawingAt) (i j : ℕ)
-    → ended key level s o c d ≡ Gives t i j → t.siblings ≡ s.siblings
+    → end_update key level s o c d ≡ Gives t i j → t.siblings ≡ s.siblings
 ended-siblings key level s (Gives u n r) c d t i j p = sym (ap (λ (o : Outcome DrawingAt). siblings_of s.siblings o) p)
 ended-siblings key level s (Traps k n r) c d t i j p = absurd (no_value k (c + n) d t i j p)
 

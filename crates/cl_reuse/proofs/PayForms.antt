@@ -29,7 +29,7 @@ use Rattle.cl_display.specs.Fresh.{Allowance, Scene, bodies_on, draws_body, draw
 use Rattle.cl_display.specs.Fresh.{left_over}
 use Rattle.cl_display.specs.Outcomes.{DrawOutcome}
 use Rattle.cl_display.specs.Siblings.{same_site}
-use Rattle.cl_display.specs.Updates.{KeyAt, ended, enter_body, enter_update, key_at, opening_at}
+use Rattle.cl_display.specs.Updates.{KeyAt, end_update, enter_body, enter_update, key_at, opening_at}
 use Rattle.cl_display.specs.Walks.{OpeningAt}
 use Rattle.cl_reuse.specs.Bodies.{body_from}
 use Rattle.cl_reuse.specs.Keeping.{EndsAs, may_keep, measures_fit, same_cache, shift_at}
@@ -78,7 +78,7 @@ module _ (app : App) (types : TypeMeanings) (site : Site) (id : Data) where
 
 -- ---- updates
 
-ended-cost : (key : KeyAt) (level : ℕ) (s : DrawingAt) (o : Outcome DrawingAt) (c d : ℕ) → cost_of (ended key level s o c d) ≡ c + cost_of o
+ended-cost : (key : KeyAt) (level : ℕ) (s : DrawingAt) (o : Outcome DrawingAt) (c d : ℕ) → cost_of (end_update key level s o c d) ≡ c + cost_of o
 ended-cost key level s (Gives t n r) c d = refl
 ended-cost key level s (Traps k n r) c d = refl
 

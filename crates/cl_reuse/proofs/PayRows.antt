@@ -28,7 +28,7 @@ use Rattle.cl_display.specs.Figures.{draw_figure}
 use Rattle.cl_display.specs.Fresh.{Allowance, Draws, bodies_on, call_display, draws, draws_cached, draws_keyed, draws_to, draws_update, for_each}
 use Rattle.cl_display.specs.Fresh.{for_members, in_order, presents_body, presents_text, shape_parts, within}
 use Rattle.cl_display.specs.Outcomes.{opens_none}
-use Rattle.cl_display.specs.Presentations.{Texts, counted, enter_presentation, label_of, leave_presentation, present_text, texts_on, write_value}
+use Rattle.cl_display.specs.Presentations.{Texts, count_in, enter_presentation, label_of, leave_presentation, present_text, texts_on, write_value}
 use Rattle.cl_display.specs.Settings.{enter_room, indent, leave_room, restore_ink, restore_margin, set_ink}
 use Rattle.cl_display.specs.Siblings.{Siblings, count_at}
 use Rattle.cl_display.specs.Updates.{cache_of, id_of, key_at}
@@ -40,7 +40,7 @@ use Rattle.cl_reuse.proofs.DisplayNames.{display-declared}
 use Rattle.cl_reuse.proofs.PayForms.{BodyPays, keeps-cached, pays-keyed}
 use Rattle.cl_reuse.proofs.PayLemmas.{Pays, pays-choice, pays-come, pays-give, pays-lift, pays-then, pays-trap, pays-value}
 
-grows-counted : {A : Type 0} (level : ℕ) (o : Outcome A) → Grows (counted level o)
+grows-counted : {A : Type 0} (level : ℕ) (o : Outcome A) → Grows (count_in level o)
 grows-counted level (Gives x n r) c d = omega arith
 grows-counted level (Traps k n r) c d = omega arith
 

@@ -16,7 +16,7 @@ use Rattle.cl_eval.proofs.LimitLemmas.{GoGoes, Goes, goes-each, goes-give, goes-
 use Rattle.cl_display.specs.Drawings.{DrawingAt}
 use Rattle.cl_display.specs.Fresh.{Allowance, Bodies, draws_body, draws_cached, draws_keyed, draws_update, left_over}
 use Rattle.cl_display.specs.Siblings.{Siblings, count_at, is_taken, note}
-use Rattle.cl_display.specs.Updates.{KeyAt, cache_of, ended, enter_body, enter_update, head_at, id_of, key_at, key_weight, leave_update}
+use Rattle.cl_display.specs.Updates.{KeyAt, cache_of, end_update, enter_body, enter_update, head_at, id_of, key_at, key_weight, leave_update}
 use Rattle.cl_display.proofs.CornerLemmas.{box-first, box-second, holds-itself}
 use Rattle.cl_display.proofs.Widening.{cost_at, deepest_at}
 use Rattle.cl_reuse.specs.Motions.{Motion, move_ambient, move_drawing, move_part}
@@ -79,7 +79,7 @@ module _ (m : Motion) (budget depth most : ℕ) where
       (b : BodiesCarry bodies bodies') (deep : depth ≡ level + bodies'.depth) (env : Env) (body : ShapeTrees) where
     carries-ended : (key : KeyAt) (s : DrawingAt) (c d : ℕ) (o : Outcome DrawingAt)
         → (bodies.draw (left_over allowed c s.weight) env body (enter_body s)).outcome ≡ o
-        → (t : DrawingAt) (n l : ℕ) → ended key level s o c d ≡ Gives t n l
+        → (t : DrawingAt) (n l : ℕ) → end_update key level s o c d ≡ Gives t n l
         → Carries m budget depth most (draws_body allowed' bodies' level env body key (move_drawing m s)) s c d t n l
     carries-ended key s c d (Gives u i r) q t n l p =
         let cost : c + i ≡ n = ap cost_at p in

@@ -17,7 +17,7 @@ use Rattle.cl_eval.specs.ReadPaths.{Apart, IsSlot, Reads, ReadsAmong, ReadsCache
 use Rattle.cl_eval.specs.Slots.{Env, Slots, is_name, value_named}
 use Rattle.cl_eval.specs.TypeMeanings.{Presents}
 use Rattle.cl_eval.proofs.SameLemmas.{same-whole}
-use Rattle.cl_display.specs.Presentations.{counted, texts_on}
+use Rattle.cl_display.specs.Presentations.{count_in, texts_on}
 use Rattle.cl_display.specs.Siblings.{Siblings}
 use Rattle.cl_display.specs.Updates.{cache_of, id_of}
 use Rattle.cl_reuse.specs.ReadValues.{SeesReads}
@@ -90,5 +90,5 @@ module _ (app : App) (slots other : Slots) where
       → On (λ p n. ReadsSpec (Within n app p) spec) e e' → (d : Data)
       → texts_on presents slots budget left level spec d ≡ texts_on presents other budget left level spec d
   same-texts presents sees budget left level spec e e' a d = λ i cost deepest.
-      counted level (sees.same (record { budget = budget - cost; depth = left }) slots other spec
+      count_in level (sees.same (record { budget = budget - cost; depth = left }) slots other spec
       (inside (λ p n. ReadsSpec (Within n app p) spec) [] e e' (λ p n slot h. a p n h)) d i) cost deepest

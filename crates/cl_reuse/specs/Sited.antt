@@ -60,7 +60,7 @@ IsUpdateOf app u = InDisplays u app.displays
 abbrev pub AreOwn : App → ShapeTrees → Type 0
 AreOwn app fs = (u : Sited) → HaveIt u fs → IsUpdateOf app u
 
--- no two updates of an application have the same site
+-- no two updates of an application that have a cache have the same site
 pub record AreApart (app : App) : Type 0 where
   pub same : (u w : Sited) → IsUpdateOf app u → IsUpdateOf app w → u.site ≡ w.site → u ≡ w
 

@@ -32,7 +32,8 @@ use Rattle.cl_parser.specs.declared.parsing.Parsed.TheVariants as parsed
 use Rattle.cl_session.specs.Dialogs.{abort, answer, choose, choose_named, dialog_contexts, exit_command, exit_declared, exit_dialog, exit_with}
 use Rattle.cl_session.specs.Dialogs.{read_line, return_read, select_query, set_query, set_selected}
 use Rattle.cl_session.specs.Naming.{command_of_line, command_of_stroke}
-use Rattle.cl_session.specs.Pointing.{TypedArgument, chosen_at, contexts_of, is_within, line_with, typed_in, values_in}
+use Rattle.cl_eval.specs.Operators.{list_of}
+use Rattle.cl_session.specs.Pointing.{TypedArgument, chosen_at, contexts_of, is_within, line_with, typed_in}
 use Rattle.cl_session.specs.Runs.{Handled, bad_line, command_outcome, command_trap_line}
 use Rattle.cl_session.specs.Step.{finish_by, finish_named, finish_parsed, handled}
 use Rattle.cl_session.specs.Runs.{is_on, refuse, run_command, tell}
@@ -150,7 +151,7 @@ keeps_run_named g w ds None = keeps_none w
 keeps_run_named g w ds (Some command) = keeps_run g.app command.line_name w (command_outcome g command ds w.slots)
 
 keeps_chosen : (g : Ground) (w : World) (d : Data) → Keeps w (run_chosen g w d)
-keeps_chosen g w (list (item (symbol x) ds)) = keeps_run_named g w (values_in ds) (command_named x g.app)
+keeps_chosen g w (list (item (symbol x) ds)) = keeps_run_named g w (list_of ds) (command_named x g.app)
 keeps_chosen g w d = keeps_none w
 
 keeps_acted : (g : Ground) (w : World) (t : Option TypedArgument) (r : Option Given) → Keeps w (act_on g w t r)

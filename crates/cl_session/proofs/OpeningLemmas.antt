@@ -10,7 +10,7 @@ use Rattle.cl_dialog.specs.OpenDialog.{OpenDialog}
 use Rattle.cl_display.specs.Outcomes.{DrawOutcome}
 use Rattle.cl_eval.specs.Outcome.{RisesBy, cost_of}
 use Rattle.cl_eval.specs.Slots.{Slots}
-use Rattle.cl_frame.specs.Frames.{IsFrameOf, Settles, is_blank_pane, marks_of_frame, pane_met, reports_of_frame}
+use Rattle.cl_frame.specs.Frames.{IsFrameOf, Settles, IsBlankPane, marks_of_frame, pane_met, reports_of_frame}
 use Rattle.cl_frame.specs.Ground.{Ground}
 use Rattle.cl_frame.specs.Panes.{PaneMarks, area_of, area_of_pane, marks_of, marks_of_pane, report_of_pane}
 use Rattle.cl_frame.specs.Settling.{PaneStep, SpendsPanes, costs, marks_after, met_memory, pane_draw, settle_pane, settle_panes}
@@ -69,10 +69,10 @@ none_told (p ∷ ps) e =
 abbrev pub AreBlank : List PaneMarks → Type 0
 AreBlank = All (λ m. m ≡ None)
 
-pub blank_marks : (ps : List Pane) → All is_blank_pane ps → AreBlank (map marks_of_pane ps)
+pub blank_marks : (ps : List Pane) → All IsBlankPane ps → AreBlank (map marks_of_pane ps)
 blank_marks [] h = All-nil (λ m. m ≡ None)
 blank_marks (p ∷ ps) h =
-    All-cons (λ m. m ≡ None) (marks_of_pane p) (map marks_of_pane ps) (ap marks_of (All-head is_blank_pane p ps h).0) (blank_marks ps (All-tail is_blank_pane p ps h))
+    All-cons (λ m. m ≡ None) (marks_of_pane p) (map marks_of_pane ps) (ap marks_of (All-head IsBlankPane p ps h).0) (blank_marks ps (All-tail IsBlankPane p ps h))
 
 -- over no old records the whole display is drawn
 work_whole : (o : DrawOutcome) → work [] o ≡ cost_of o.outcome

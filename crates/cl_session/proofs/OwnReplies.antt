@@ -25,7 +25,8 @@ use Rattle.cl_parser.specs.declared.parsing.Parsed.TheVariants as parsed
 use Rattle.cl_session.specs.Dialogs.{abort, answer, choose, choose_named, dialog_contexts, exit_command, exit_declared, exit_dialog, exit_with}
 use Rattle.cl_session.specs.Dialogs.{read_line, return_read, select_query, set_query, set_selected}
 use Rattle.cl_session.specs.Naming.{command_of_line, command_of_stroke}
-use Rattle.cl_session.specs.Pointing.{TypedArgument, chosen_at, contexts_of, is_within, line_with, typed_in, values_in}
+use Rattle.cl_eval.specs.Operators.{list_of}
+use Rattle.cl_session.specs.Pointing.{TypedArgument, chosen_at, contexts_of, is_within, line_with, typed_in}
 use Rattle.cl_session.specs.Step.{act_on, got_line, point_at, point_within, press_by, return_by, run_chosen, run_named, take_object, with_pane}
 use Rattle.cl_session.specs.Runs.{Handled, bad_line, command_outcome, command_trap_line, is_on}
 use Rattle.cl_session.specs.Step.{finish_by, finish_parsed, need_line, parsed_line}
@@ -129,7 +130,7 @@ not_run_named g w ds None = not_none
 not_run_named g w ds (Some command) = not_run g.app command.line_name w (command_outcome g command ds w.slots)
 
 not_chosen : (g : Ground) (w : World) (d : Data) → IsNotMemory (run_chosen g w d).replies
-not_chosen g w (list (item (symbol x) ds)) = not_run_named g w (values_in ds) (command_named x g.app)
+not_chosen g w (list (item (symbol x) ds)) = not_run_named g w (list_of ds) (command_named x g.app)
 not_chosen g w d = not_none
 
 not_acted : (g : Ground) (w : World) (t : Option TypedArgument) (r : Option Given) → IsNotMemory (act_on g w t r).replies

@@ -13,13 +13,14 @@ use Rattle.cl_line.specs.declared.elements.Element.{Element}
 use Rattle.cl_line.specs.declared.lines.TheConstants.{MAX_ELEMENTS}
 use Rattle.cl_medium.specs.Items.{Item, item_bounds}
 use Rattle.cl_record.specs.Marks.{Mark}
-use Rattle.cl_record.specs.Touches.{touched}
+use Rattle.cl_record.specs.Touches.{touched_labels}
 use Rattle.cl_session.specs.Accessible.{IsAccessible}
 use Rattle.cl_session.specs.Handling.{enabled_in}
 use Rattle.cl_session.specs.declared.accessible.Accessible.{Accessible}
 use Rattle.cl_dialog.specs.OpenDialog.{OpenDialog}
 use Rattle.cl_session.specs.Dialogs.{answer, dialog_contexts}
-use Rattle.cl_session.specs.Pointing.{TypedArgument, chosen_by, contexts_of, line_with, scene_by, typed_in, value_of, values_in}
+use Rattle.cl_eval.specs.Operators.{list_of}
+use Rattle.cl_session.specs.Pointing.{TypedArgument, chosen_by, contexts_of, line_with, scene_by, typed_in, value_of}
 use Rattle.cl_session.specs.Runs.{Handled, command_outcome, run_command, tell}
 use Rattle.cl_session.specs.Step.{act_on, got_line, point_within, run_chosen, run_named, take_object}
 use Rattle.cl_session.specs.World.{Enabled, World}
@@ -34,7 +35,7 @@ use Rattle.cl_value.specs.declared.Value.TheVariants as value
 
 -- ---- objects
 
-same_values : (ds : List Data) → values_in (items_of ds) ≡ ds
+same_values : (ds : List Data) → list_of (items_of ds) ≡ ds
 same_values [] = refl
 same_values (d ∷ ds) = ap (λ es. d ∷ es) (same_values ds)
 
@@ -95,9 +96,9 @@ same_scene g slots states a is = λ i. record {
 pub same_choice : (g : Ground) (slots : Slots) (enabled : Enabled) (types : List TypeSpecTree) (p : PointAt) (d : PaneDecl) (m : PaneMarks)
     (s : Scene) (contexts : List TypeSpecTree) (marks : List (Mark Item)) (x y : ℤ) (o : Option Given)
     → s ≡ scene_by g slots enabled → contexts ≡ types → marks ≡ marks_in m → x ≡ p.x → y ≡ p.y
-    → o ≡ chosen s p.gesture contexts (candidates (touched item_bounds x y marks) (blank_area d.name x y)) → o ≡ chosen_by g slots enabled types p d m
+    → o ≡ chosen s p.gesture contexts (candidates (touched_labels item_bounds x y marks) (blank_area d.name x y)) → o ≡ chosen_by g slots enabled types p d m
 same_choice g slots enabled types p d m s contexts marks x y o scenes same shown across down is =
-    is ∙ (λ i. chosen (scenes i) p.gesture (same i) (candidates (touched item_bounds (across i) (down i) (shown i)) (blank_area d.name (across i) (down i))))
+    is ∙ (λ i. chosen (scenes i) p.gesture (same i) (candidates (touched_labels item_bounds (across i) (down i) (shown i)) (blank_area d.name (across i) (down i))))
 
 -- what is typed and what is chosen decide
 pub acted_on : (g : Ground) (w : World) (p : PointAt) (d : PaneDecl) (m : PaneMarks) (t : Option TypedArgument) (contexts : List TypeSpecTree) (r : Option Given)

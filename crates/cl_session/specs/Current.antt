@@ -18,5 +18,6 @@ AreCurrent g state [] (m ∷ ms) = ⊥
 AreCurrent g state (d ∷ ds) [] = ⊥
 AreCurrent g state (d ∷ ds) (m ∷ ms) = IsPaneCurrent g state d m × AreCurrent g state ds ms
 
+-- each pane of the world is blank, or has the script of its display in the world's state
 abbrev pub IsCurrent : Ground → World → Type 0
 IsCurrent g w = AreCurrent g (state_in g.app w) (panes_of g.app) w.panes

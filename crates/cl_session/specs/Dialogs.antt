@@ -27,6 +27,7 @@ use Rattle.cl_value.specs.Data.{Data, symbol}
 abbrev pub choice_type : TypeSpecTree
 choice_type = plain_type (codes "dialog-choice")
 
+-- the type of the selected query, if one is selected
 abbrev pub selected_contexts : Option TypeSpecTree → List TypeSpecTree
 selected_contexts None = []
 selected_contexts (Some spec) = spec ∷ []
@@ -47,10 +48,12 @@ set_query w o (Some x) d = record {
   cost = 0;
 }
 
+-- the selected query of the open dialog is set; refused where none is open
 abbrev pub set_selected : World → Option OpenDialog → Data → Handled
 set_selected w None d = refuse w 0 (codes "! none")
 set_selected w (Some o) d = set_query w o o.selected d
 
+-- what the line is read as by a type, if there is one
 abbrev pub read_by : Ground → Slots → List Element → Option TypeSpecTree → Option OneAt
 read_by g slots line None = None
 read_by g slots line (Some spec) = Some (one_of (scene_at g slots) spec line)
@@ -67,6 +70,7 @@ return_read w dialog (Some (one.Object d)) = set_selected w dialog d
 return_read w dialog (Some one.Bad) = refuse w 0 (codes "! bad 1")
 return_read w dialog (Some one.Surplus) = refuse w 0 (codes "! surplus")
 
+-- the line is the value of the selected query
 abbrev pub return_in_dialog : Ground → World → OpenDialog → Handled
 return_in_dialog g w o = return_read w (Some o) (read_line g w.slots w.line o)
 
@@ -81,6 +85,7 @@ select_query w (Some o) x = tell (record w { dialog = Some (with_selected x o) }
 abbrev pub abort : World → Handled
 abort w = record { replies = codes "aborted" ∷ []; world = record w { dialog = None }; after = after.Commit; cost = 0 }
 
+-- a command is run with these values; refused where there is none, or where it is disabled
 abbrev pub exit_command : Ground → World → List Data → Option CommandDecl → Handled
 exit_command g w ds None = refuse w 0 (codes "! none")
 exit_command g w ds (Some command) =
@@ -91,10 +96,12 @@ abbrev pub exit_with : Ground → World → DialogDecl → ExitAt → Handled
 exit_with g w d (exit.Unset x) = refuse w 0 (codes "! unset " ++ x)
 exit_with g w d (exit.Runs ds) = exit_command g w ds (command_named d.command g.app)
 
+-- the open dialog ends with its command; refused where it is not declared
 abbrev pub exit_declared : Ground → World → OpenDialog → Option DialogDecl → Handled
 exit_declared g w o None = refuse w 0 (codes "! none")
 exit_declared g w o (Some d) = exit_with g w d (exit_of g.app d w.slots o)
 
+-- the open dialog, if one is open, ends with its command
 abbrev pub exit_dialog : Ground → World → Option OpenDialog → Handled
 exit_dialog g w None = refuse w 0 (codes "! none")
 exit_dialog g w (Some o) = exit_declared g w o (dialog_named o.name g.app)
@@ -104,6 +111,7 @@ abbrev pub choose_named : Ground → World → Option OpenDialog → List ℕ �
 choose_named g w dialog x =
     if bytes_eq x (codes "abort") then abort w else (if bytes_eq x (codes "exit") then exit_dialog g w dialog else select_query w dialog x)
 
+-- a choice is a symbol; what is none is refused
 abbrev pub choose : Ground → World → Option OpenDialog → Data → Handled
 choose g w dialog (symbol x) = choose_named g w dialog x
 choose g w dialog d = refuse w 0 (codes "! none")

@@ -44,6 +44,7 @@ HandlesTo h frame (handling.Replied replies next) slots_old slots_new desk_old d
     (h ≡ record { replies = replies; world = world_at slots_new desk_new frame; after = next; cost = h.cost }) × KeepsSlots next slots_old slots_new
 HandlesTo h frame handling.Memory slots_old slots_new desk_old desk_new = (slots_new ≡ slots_old) × (desk_new ≡ desk_old)
 
+-- the handling met want of memory
 abbrev pub handling_met : Handling → Bool
 handling_met (handling.Replied replies next) = false
 handling_met handling.Memory = true

@@ -28,6 +28,7 @@ pub record AreCurrentAlways : Type 0 where
 
 -- ---- want of memory is all freedom
 
+-- each of them is false
 abbrev pub AllFalse : List Bool → Type 0
 AllFalse mets = All (λ met. met ≡ false) mets
 
@@ -90,6 +91,7 @@ wires_in bad went = 0
 wires_in (does act) lost = 0
 wires_in (does act) (stepped met) = if met.wire then 1 else 0
 
+-- how many gestures met a failed device
 abbrev pub wires_told : List Piece → List Went → ℕ
 wires_told [] wents = 0
 wires_told (p ∷ ps) [] = 0

@@ -16,6 +16,7 @@ use Rattle.cl_tables.specs.declared.declarations.CommandPlace.{CommandPlace}
 abbrev pub place_of : CommandDecl → CommandPlace
 place_of c = record { name = c.name; line_name = c.line_name; table = c.table; keystroke = c.keystroke }
 
+-- what tables see of commands
 abbrev pub places_of : List (List ℕ × CommandDecl) → CommandPlaces
 places_of commands = map (λ e. (e.0, place_of e.1)) commands
 
@@ -23,10 +24,12 @@ places_of commands = map (λ e. (e.0, place_of e.1)) commands
 abbrev pub sight_in : App → Sight
 sight_in app = sight_of app.tables (places_of app.commands) app.frame.table
 
+-- the command of a name, if one is given
 abbrev pub named_by : App → Option (List ℕ) → Option CommandDecl
 named_by app None = None
 named_by app (Some x) = command_named x app
 
+-- the declaration of a command that a table sees
 abbrev pub declared_by : App → Option CommandPlace → Option CommandDecl
 declared_by app None = None
 declared_by app (Some p) = command_named p.name app

@@ -4,6 +4,7 @@ use Rattle.cl_application.specs.declared.applications.App.{App}
 use Rattle.cl_application.specs.declared.declarations.ArgumentDecl.{ArgumentDecl}
 use Rattle.cl_application.specs.declared.declarations.CommandDecl.{CommandDecl}
 use Rattle.cl_application.specs.declared.declarations.PaneDecl.{PaneDecl}
+use Rattle.cl_eval.specs.Operators.{list_of}
 use Rattle.cl_eval.specs.Slots.{Slots}
 use Rattle.cl_frame.specs.Ground.{Ground}
 use Rattle.cl_frame.specs.Panes.{PaneMarks, marks_in}
@@ -15,7 +16,7 @@ use Rattle.cl_line.specs.declared.places.LineSlot.{LineSlot}
 use Rattle.cl_line.specs.declared.places.LineSlot.TheVariants.{Name, Arg, Past}
 use Rattle.cl_line.specs.declared.places.Named.{Named}
 use Rattle.cl_medium.specs.Items.{item_bounds}
-use Rattle.cl_record.specs.Touches.{TouchAt, touched}
+use Rattle.cl_record.specs.Touches.{TouchAt, touched_labels}
 use Rattle.cl_session.specs.Naming.{command_of_line, sight_in}
 use Rattle.cl_session.specs.TranslatorPlaces.{translators_in}
 use Rattle.cl_session.specs.World.{Enabled, World}
@@ -24,15 +25,11 @@ use Rattle.cl_table.specs.Names.{declared_at}
 use Rattle.cl_translate.specs.Applies.{command_type}
 use Rattle.cl_translate.specs.Choices.{Given, blank_area, candidates, chosen}
 use Rattle.cl_translate.specs.Scenes.{Scene}
-use Rattle.cl_value.specs.Data.{Data, int, bool, text, symbol, null, list, rec, Items, none, item}
+use Rattle.cl_value.specs.Data.{Data, int, bool, text, symbol, null, list, rec}
 use Rattle.cl_value.specs.declared.Value.{Value}
 use Rattle.cl_value.specs.declared.Value.TheVariants as value
 
 -- ---- objects as values of the program
-
-abbrev pub values_in : Items → List Data
-values_in none = []
-values_in (item d ds) = d ∷ values_in ds
 
 -- the value that is this data
 abbrev pub value_of : Data → Value
@@ -41,8 +38,8 @@ value_of (bool b) = value.Bool b
 value_of (text x) = value.Text x
 value_of (symbol x) = value.Symbol x
 value_of null = value.Null
-value_of (list ds) = value.List (values_in ds)
-value_of (rec x ds) = value.Record x (values_in ds)
+value_of (list ds) = value.List (list_of ds)
+value_of (rec x ds) = value.Record x (list_of ds)
 
 -- ---- input contexts
 
@@ -52,11 +49,13 @@ pub record TypedArgument : Type 0 where
   pub number : ℕ
   pub argument : ArgumentDecl
 
+-- the argument of a command with this number, counted from 1
 abbrev pub argument_numbered : CommandDecl → ℕ → Option TypedArgument
 argument_numbered command zero = None
 argument_numbered command (suc place) =
     option_map (λ a. record { command = command; number = suc place; argument = a }) (declared_at place command.arguments)
 
+-- the argument of a command that is typed in a slot of the line
 abbrev pub argument_in : CommandDecl → LineSlot → Option TypedArgument
 argument_in command Name = None
 argument_in command (Arg number) = argument_numbered command number
@@ -66,6 +65,7 @@ argument_in command Past = None
 abbrev pub named_in : CommandDecl → List Element → Named
 named_in command line = record { end = front_start line + length command.line_name; arguments = length command.arguments }
 
+-- the argument that is typed next, by the command that the line names
 abbrev pub typed_by : List Element → Option CommandDecl → Option TypedArgument
 typed_by line None = None
 typed_by line (Some command) = argument_in command (line_slot (Some (named_in command line)) line)
@@ -103,7 +103,7 @@ is_within d x y = (int_le (pos 0) x && int_lt x (pos d.width)) && (int_le (pos 0
 
 -- what stands at a place of a pane that shows these marks
 abbrev pub candidates_at : PaneDecl → PaneMarks → (x y : ℤ) → List TouchAt
-candidates_at d marks x y = candidates (touched item_bounds x y (marks_in marks)) (blank_area d.name x y)
+candidates_at d marks x y = candidates (touched_labels item_bounds x y (marks_in marks)) (blank_area d.name x y)
 
 -- what is chosen at a place of a pane in these contexts
 abbrev pub chosen_by : Ground → Slots → Enabled → List TypeSpecTree → PointAt → PaneDecl → PaneMarks → Option Given

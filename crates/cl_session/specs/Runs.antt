@@ -39,6 +39,7 @@ abbrev pub text_lines : List (List ℕ) → List (List ℕ)
 text_lines [] = []
 text_lines (t ∷ ts) = (codes "= " ++ t) ∷ text_lines ts
 
+-- the lines of a command that was run: `ok NAME` and its texts
 abbrev pub ok_lines : List ℕ → List (List ℕ) → List (List ℕ)
 ok_lines name replies = (codes "ok " ++ name) ∷ text_lines replies
 
@@ -86,7 +87,7 @@ bound (a ∷ arguments) (d ∷ ds) env = bound arguments ds ((a.1.name, d) ∷ e
 abbrev pub command_outcome : Ground → CommandDecl → List Data → Slots → Outcome Effects
 command_outcome g command ds slots = outcome_of_exec g.limits g.app g.types.holds command.body (bound command.arguments ds []) slots
 
--- a token that gives no value for its argument
+-- the line of a token that gives no value for its argument, or of a line that is no gesture, with its number
 abbrev pub bad_line : ℕ → List ℕ
 bad_line number = codes "! bad " ++ decimal number
 

@@ -70,6 +70,7 @@ module _ {World Choice Meters : Type 0} (said : World → ℕ → Piece → Choi
     pub answer : IsTranscript said after Spends between new.world (old.progress.count + length earlier) (last ∷ []) (begun ++ lost) stood new.meters
     pub appended : Appends old.taken new.taken (whole ++ begun)
 
+  -- pieces were served from one stand to another, up to this end
   abbrev pub Serves : (old new : Stand World Meters) → End → Type 0
   Serves old new end.Done = Served old new true
   Serves old new end.ReadFault = Faulted old new
@@ -78,12 +79,15 @@ module _ {World Choice Meters : Type 0} (said : World → ℕ → Piece → Choi
 
 -- ---- a session
 
+-- a stand of these parts
 abbrev pub stand : World → Meters → Progress → Option (List ℕ) → ℕ → Stand World Meters
 stand world meters progress taken out_faults =
     record { world = world; meters = meters; progress = progress; taken = taken; out_faults = out_faults }
 
+-- pieces of a session were read and answered on the way from one stand to another
 abbrev pub GoesOn : Ground → (old new : Stand World Meters) → Type 0
 GoesOn g old new = Going (said_of_piece g) (world_after_piece g) (SpentOfPiece g) old new
 
+-- a session was served from one stand to another, up to this end
 abbrev pub ServesTo : Ground → (old new : Stand World Meters) → End → Type 0
 ServesTo g old new how = Serves (said_of_piece g) (world_after_piece g) (SpentOfPiece g) old new how

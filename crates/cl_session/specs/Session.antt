@@ -18,6 +18,7 @@ use Rattle.cl_session.specs.Totals.{with_gesture}
 use Rattle.cl_session.specs.World.{World, cost_of_pane}
 use Rattle.cl_updating.specs.Redisplays.{CanReuse}
 
+-- the world of a session and slots
 abbrev pub world_of : Session → Slots → World
 world_of session slots = world_at slots session.desk session.frame
 

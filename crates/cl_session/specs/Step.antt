@@ -34,7 +34,8 @@ use Rattle.cl_session.specs.declared.handling.After.{After}
 use Rattle.cl_session.specs.declared.handling.After.TheVariants as after
 use Rattle.cl_session.specs.Naming.{command_of_line, command_of_stroke, tokens_of_line}
 use Rattle.cl_session.specs.Dialogs.{answer, dialog_contexts, return_in_dialog}
-use Rattle.cl_session.specs.Pointing.{TypedArgument, chosen_at, contexts_of, is_within, line_with, typed_in, values_in}
+use Rattle.cl_eval.specs.Operators.{list_of}
+use Rattle.cl_session.specs.Pointing.{TypedArgument, chosen_at, contexts_of, is_within, line_with, typed_in}
 use Rattle.cl_session.specs.Runs.{Handled, bad_line, command_outcome, is_on, refuse, run_command, scene_at, tell}
 use Rattle.cl_session.specs.World.{World, state_in}
 use Rattle.cl_table.specs.Names.{declared_at}
@@ -64,6 +65,7 @@ rub_out w = tell (record w { line = without_last w.line }) 0 []
 abbrev pub clear_line : World → Handled
 clear_line w = tell (record w { line = [] }) 0 []
 
+-- the name of an argument; empty where there is none
 abbrev pub name_of : Option ArgumentDecl → List ℕ
 name_of None = []
 name_of (Some a) = a.name
@@ -83,6 +85,7 @@ finish_parsed g w command parsed.Surplus = refuse w 0 (codes "! surplus")
 abbrev pub parsed_line : Ground → Slots → List Element → CommandDecl → Parsed
 parsed_line g slots line command = parse (scene_at g slots) line (tokens_of_line command line) (decls_of command.arguments)
 
+-- the line of a command is run, where the command is enabled
 abbrev pub finish_named : Ground → World → CommandDecl → Handled
 finish_named g w command =
     if is_on w command then finish_parsed g w command (parsed_line g w.slots w.line command) else refuse w 0 (codes "! disabled")
@@ -92,6 +95,7 @@ abbrev pub finish_by : Ground → World → Option CommandDecl → Handled
 finish_by g w None = refuse w 0 (codes "! unknown")
 finish_by g w (Some command) = finish_named g w command
 
+-- the line is run as a command
 abbrev pub finish_line : Ground → World → Handled
 finish_line g w = finish_by g w (command_of_line g.app w.line)
 
@@ -119,6 +123,7 @@ abbrev pub stroke_by : Ground → World → Option CommandDecl → Handled
 stroke_by g w None = refuse w 0 (codes "! stroke")
 stroke_by g w (Some command) = stroke_named g w command
 
+-- the command of this keystroke is run
 abbrev pub press : Ground → World → List ℕ → Handled
 press g w stroke = stroke_by g w (command_of_stroke g.app stroke)
 
@@ -130,6 +135,7 @@ shown_in g w = shown_panes (panes_of g.app) w.panes
 abbrev pub glyph_rows : Ground → World → List (List ℕ)
 glyph_rows g w = shown_rows (shown_in g w) g.app.frame.width g.app.frame.height
 
+-- the rows of the screen by their inks
 abbrev pub ink_rows : Ground → World → List (List ℕ)
 ink_rows g w = shown_ink_rows (shown_in g w) g.app.frame.width g.app.frame.height
 
@@ -164,13 +170,14 @@ take_object w t d =
     then tell (record w { line = line_with t d w.line }) 0 (got_line t.number ∷ [])
     else refuse w 0 (codes "! full")
 
+-- a command is run with these values; refused where there is none
 abbrev pub run_named : Ground → World → List Data → Option CommandDecl → Handled
 run_named g w ds None = refuse w 0 (codes "! none")
 run_named g w ds (Some command) = run_command g.app command.line_name w (command_outcome g command ds w.slots)
 
 -- a command with all its arguments is run; what is none is not
 abbrev pub run_chosen : Ground → World → Data → Handled
-run_chosen g w (list (item (symbol x) ds)) = run_named g w (values_in ds) (command_named x g.app)
+run_chosen g w (list (item (symbol x) ds)) = run_named g w (list_of ds) (command_named x g.app)
 run_chosen g w d = refuse w 0 (codes "! none")
 
 -- what is chosen for an argument is put into the line, and a command is run
@@ -184,6 +191,7 @@ abbrev pub point_within : Ground → World → PointAt → PaneDecl → PaneMark
 point_within g w p d m None = act_on g w (typed_in g.app w.line) (chosen_at g w (contexts_of (typed_in g.app w.line)) p d m)
 point_within g w p d m (Some o) = answer g w (Some o) (chosen_at g w (dialog_contexts g.app o) p d m)
 
+-- a place of a pane is pointed at; refused where it lies outside
 abbrev pub point_at : Ground → World → PointAt → PaneDecl → PaneMarks → Handled
 point_at g w p d m = if is_within d p.x p.y then point_within g w p d m w.dialog else refuse w 0 (codes "! outside")
 
@@ -201,6 +209,7 @@ abbrev pub press_by : Ground → World → List ℕ → Option OpenDialog → Ha
 press_by g w name None = press g w name
 press_by g w name (Some o) = refuse w 0 (codes "! dialog")
 
+-- what the handling of a gesture does
 abbrev pub handled : Ground → World → Gesture → Handled
 handled g w (gesture.«Type» text) = type_text w text
 handled g w gesture.Return = return_by g w w.dialog
@@ -242,9 +251,11 @@ report_tail drawn erased = codes " drawn " ++ decimal drawn ++ codes " erased " 
 abbrev pub report_line : List ℕ → (kept moved drawn erased : ℕ) → List ℕ
 report_line name kept moved drawn erased = report_head name kept moved ++ report_tail drawn erased
 
+-- the line of a pane whose display trapped
 abbrev pub trap_line : List ℕ → ℕ → List ℕ
 trap_line name kind = codes "pane " ++ name ++ codes " trap " ++ decimal kind
 
+-- the line of a pane that met want of memory
 abbrev pub memory_line : List ℕ → List ℕ
 memory_line name = codes "pane " ++ name ++ codes " memory"
 
@@ -268,6 +279,7 @@ wire_lines false = []
 
 -- ---- the step
 
+-- what a gesture comes to: the next world, the lines that are said, and the cost
 pub record Next : Type 0 where
   pub world : World
   pub lines : List (List ℕ)
@@ -282,6 +294,7 @@ next_behind g h steps failed = record {
   cost = h.cost + costs steps;
 }
 
+-- what a gesture comes to, by what met want of memory in it
 abbrev pub next : Ground → World → Gesture → Met → Next
 next g w act met =
     next_behind g (handled_or_not g w act met.handling) (settled_behind g (handled_or_not g w act met.handling) met.panes) met.wire

@@ -9,6 +9,7 @@ use Rattle.cl_session.specs.declared.totals.Totals.{Totals}
 abbrev pub stays : ℕ → ℕ → ℕ
 stays a b = min (a + b) 18446744073709551615
 
+-- the sums at the start, which are all 0
 abbrev pub no_totals : Totals
 no_totals = record { kept = 0; moved = 0; drawn = 0; erased = 0; memory = 0 }
 

@@ -1,6 +1,5 @@
 -- The transcript of a session: what is said of the pieces of a stream, one after another.
 use Rattle.std.specs.Prelude.{◌≡◌, ◌≤◌, ℕ, ◌+◌, Bool, true, false, not, List, [], ◌∷◌, ◌++◌, codes, map}
-use Rattle.std.specs.Fmt.{decimal}
 use Rattle.cl_outside.specs.Causes.{Rose}
 use Rattle.cl_outside.specs.Writing.{joined}
 use Rattle.cl_gesture.specs.Lines.{Piece}
@@ -11,6 +10,7 @@ use Rattle.cl_frame.specs.Sending.{SendsOn, ShowsPanes, Wire}
 use Rattle.cl_frame.specs.Settling.{report_after}
 use Rattle.cl_session.specs.World.{World}
 use Rattle.cl_session.specs.Step.{Met, Spends, gesture_bytes, handled_or_not, next, settled_behind}
+use Rattle.cl_session.specs.Runs.{bad_line}
 use Rattle.cl_session.specs.Streams as streams
 use Rattle.cl_session.specs.Totals.{with_gesture, with_memory}
 use Rattle.cl_session.specs.declared.totals.Totals.{Totals}
@@ -22,9 +22,6 @@ ended_line bytes = bytes ++ 10 ∷ []
 -- lines, each with its line feed
 abbrev pub line_bytes : List (List ℕ) → List ℕ
 line_bytes lines = joined (map ended_line lines)
-
-abbrev pub bad_line : ℕ → List ℕ
-bad_line number = codes "! bad " ++ decimal number
 
 -- How a gesture's line went: it was lost for want of memory, or it was handled, whatever met want of memory then.
 pub data Went : Type 0 where
@@ -38,6 +35,7 @@ said_of g w before bad went = line_bytes (bad_line (before + 1) ∷ [])
 said_of g w before (does act) lost = line_bytes (codes "! memory" ∷ [])
 said_of g w before (does act) (stepped met) = line_bytes (next g w act met).lines
 
+-- the world after a line
 abbrev pub world_after : Ground → World → LineKind → Went → World
 world_after g w idle went = w
 world_after g w bad went = w
@@ -50,6 +48,7 @@ pub record Meters : Type 0 where
   pub device : Wire
   pub totals : Totals
 
+-- meters of these parts
 abbrev pub meters : (spent : ℕ) → (device : Wire) → (totals : Totals) → Meters
 meters spent device totals = record { spent = spent; device = device; totals = totals }
 
@@ -82,12 +81,15 @@ Spent g w (does act) (stepped met) old new = SpendsStep g w act met old new
 
 -- ---- the session as a machine over a stream
 
+-- what is said of a piece
 abbrev pub said_of_piece : Ground → World → ℕ → Piece → Went → List ℕ
 said_of_piece g w before p went = said_of g w before (kind_of p) went
 
+-- the world after a piece
 abbrev pub world_after_piece : Ground → World → Piece → Went → World
 world_after_piece g w p went = world_after g w (kind_of p) went
 
+-- the meters went from old to new with a piece
 abbrev pub SpentOfPiece : Ground → World → Piece → Went → (old new : Meters) → Type 0
 SpentOfPiece g w p went old new = Spent g w (kind_of p) went old new
 

@@ -11,6 +11,7 @@ use Rattle.cl_translators.specs.declared.declarations.TranslatorPlace.{Translato
 abbrev pub place_of : TranslatorDecl → TranslatorPlace
 place_of t = record { name = t.name; table = t.table; gesture = t.gesture; from = name_of t.from; priority = t.priority }
 
+-- what tables see of translators
 abbrev pub places_of : List (List ℕ × TranslatorDecl) → TranslatorPlaces
 places_of translators = map (λ e. (e.0, place_of e.1)) translators
 

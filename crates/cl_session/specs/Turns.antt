@@ -29,6 +29,7 @@ IsSame gestures_old gestures_new out_old out_new device_old device_new spent_old
     (gestures_new ≡ gestures_old) × (out_new ≡ out_old) × (device_new ≡ device_old) × (spent_new ≡ spent_old) × (totals_new ≡ totals_old)
     × (to ≡ from)
 
+-- no end where this holds, and else that of a failed output
 abbrev pub end_unless : Bool → Option End
 end_unless true = None
 end_unless false = Some end.OutputFault

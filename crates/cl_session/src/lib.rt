@@ -19,11 +19,9 @@ mod writing;
 
 pub use accessible::{Accessible, accessible_of};
 pub use answers::Replies;
-pub use cl_eval::Lines;
-pub use cl_frame::{PaneReport, Report};
 pub use handling::Desk;
 pub use naming::enabled_of;
 pub use serving::End;
-pub use sessions::{DEPTH, Session};
+pub use sessions::Session;
 pub use speaking::say_replies;
 pub use totals::Totals;

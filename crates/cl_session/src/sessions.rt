@@ -28,9 +28,6 @@ use cl_outside::{Device, Ledger, Steps};
 use cl_redisplay::Painted;
 use std::alloc::{AllocError, Global};
 
-/// How many forms may be entered and not left.
-pub const DEPTH: u32 = 512;
-
 /// An application's frame between two gestures, what lies on its desk, what is accessible from its command table, and the sums
 /// over what was told of its panes. The slots stand apart.
 #[derive(Drop)]

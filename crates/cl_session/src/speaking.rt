@@ -5,7 +5,8 @@ ghost use Rattle.cl_frame.specs.Frames.{reports_of_frame};
 ghost use Rattle.cl_outside.specs.Writing.{Says};
 ghost use Rattle.cl_session.specs.Replies.{lines_of, own_lines};
 ghost use Rattle.cl_session.specs.Step.{pane_lines, report_head, report_line, report_lines, report_tail, wire_lines};
-ghost use Rattle.cl_session.specs.Transcript.{bad_line, line_bytes};
+ghost use Rattle.cl_session.specs.Runs.{bad_line};
+ghost use Rattle.cl_session.specs.Transcript.{line_bytes};
 ghost use Rattle.cl_session.specs.Writing.{Puts};
 
 use crate::answers::Replies;

@@ -32,7 +32,7 @@ impl Totals {
     }
 
     /// Want of memory was told once more.
-    pub fn with_memory(self) -> Totals
+    pub(crate) fn with_memory(self) -> Totals
         ensures { result ≡ with_memory self }
     {
         Totals {
@@ -42,7 +42,7 @@ impl Totals {
     }
 
     /// A gesture was answered: whether its handling met want of memory, and the reports that stand in the frame.
-    pub fn with_gesture(self, memory: bool, frame: &Frame) -> Totals
+    pub(crate) fn with_gesture(self, memory: bool, frame: &Frame) -> Totals
         ensures { result ≡ with_gesture self memory (reports_of_frame frame.now) }
     {
         self.with_handling(memory)

@@ -14,6 +14,7 @@ abbrev pub Refuses : ReadRefusal → Result (List Token) (ℕ × ℕ) → Type 0
 Refuses (Refused number at) r = r ≡ Err (number, at)
 Refuses Memory r = ⊤
 
+-- the tokens, or what the refusal answers
 abbrev pub Gives : Result (Vec Token Global) ReadRefusal → Result (List Token) (ℕ × ℕ) → Type 0
 Gives (Ok v) r = r ≡ Ok v.items
 Gives (Err e) r = Refuses e r

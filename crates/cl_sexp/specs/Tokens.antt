@@ -55,6 +55,7 @@ KeepsNest (Int z) depth = ⊤
 KeepsNest Text depth = ⊤
 KeepsNest Symbol depth = ⊤
 
+-- a list put before another, where there is one
 abbrev pub with_front : {A E : Type 0} → List A → Result (List A) E → Result (List A) E
 with_front xs (Ok ys) = Ok (xs ++ ys)
 with_front xs (Err e) = Err e
@@ -70,6 +71,7 @@ tokens_from zero depth at (b ∷ bs) =
       | Fault number n ↦ Err (number, at + n)
     ]
 
+-- the tokens of a text; or the first refusal and its place
 abbrev pub tokens_of : List ℕ → Result (List Token) (ℕ × ℕ)
 tokens_of text = tokens_from 0 0 0 text
 

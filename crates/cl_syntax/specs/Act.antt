@@ -5,6 +5,7 @@ use Rattle.cl_syntax.specs.Expr.{bindings_of}
 use Rattle.cl_syntax.specs.declared.statements.ActKind.{ActKind}
 use Rattle.cl_syntax.specs.declared.statements.ActKind.TheVariants as kind
 
+-- the tree of a statement
 abbrev pub act_tree_of : ActKind → ActTree
 act_tree_of (kind.Setf x t) = act.Setf x t
 act_tree_of (kind.Reply t) = act.Reply t

@@ -8,10 +8,12 @@ use Rattle.cl_syntax.specs.declared.statements.ActKind.TheVariants as kind
 use Rattle.cl_syntax.specs.declared.statements.Act.TheDeep.{deep-ActKind}
 use denote.Param.Weighed.{most}
 
+-- no statement of a row is larger than the row
 pub most-nodes : (ss : List ActTree) → most (λ s. nodes s + 1) ss ≤ nodes_all (act_trees_of ss)
 most-nodes [] = omega arith
 most-nodes (s ∷ ss) = omega (arith, most-nodes ss)
 
+-- a statement is no deeper than its tree is large
 pub kind-nodes : (k : ActKind) → deep-ActKind k ≤ nodes (act_tree_of k)
 kind-nodes (kind.Setf x t) = omega arith
 kind-nodes (kind.Reply t) = omega arith

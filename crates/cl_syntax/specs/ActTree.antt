@@ -3,6 +3,7 @@ use Rattle.std.specs.Prelude.{ℕ, ◌+◌, Bool, List, [], ◌∷◌}
 use Rattle.cl_syntax.specs.ExprTree.{ExprTree, Bindings}
 
 mutual
+  -- a statement, by its kind
   pub data ActTree : Type 0 where
     -- (setf (slot NAME) E)
     Setf : List ℕ → ExprTree → ActTree
@@ -23,10 +24,12 @@ mutual
     -- (progn STATEMENT ...)
     Progn : ActTrees → ActTree
 
+  -- statements, one after another
   pub data ActTrees : Type 0 where
     none : ActTrees
     statement : ActTree → ActTrees → ActTrees
 
+-- a list of statements as a tree holds it
 abbrev pub act_trees_of : List ActTree → ActTrees
 act_trees_of [] = none
 act_trees_of (s ∷ ss) = statement s (act_trees_of ss)
@@ -44,6 +47,7 @@ abbrev mutual
   nodes (Dolist x t ss) = nodes_all ss + 1
   nodes (Progn ss) = nodes_all ss + 1
 
+  -- the sizes of statements together
   pub nodes_all : ActTrees → ℕ
   nodes_all none = 0
   nodes_all (statement s ss) = nodes s + 1 + nodes_all ss

@@ -20,6 +20,7 @@ row (Switch x on) = 7
 row (OpenDialog x) = 8
 
 abbrev mutual
+  -- the term of a statement
   pub code : ActTree → Gv
   code (Setf x t) = gcons (gnum 0) (gcons (name_code x) (coded_expr_tree.code t))
   code (Reply t) = gcons (gnum 1) (coded_expr_tree.code t)
@@ -31,11 +32,13 @@ abbrev mutual
   code (Switch x on) = gcons (gnum 7) (gcons (name_code x) (coded_bool.code on))
   code (OpenDialog x) = gcons (gnum 8) (name_code x)
 
+  -- the term of a row of statements
   pub code_all : ActTrees → Gv
   code_all none = gnil
   code_all (statement s ss) = gcons (code s) (code_all ss)
 
 mutual
+  -- statements of one term are one statement
   pub code-inj : (x y : ActTree) → code x ≡ code y → x ≡ y
   code-inj (Setf x t) (Setf x' t') p =
       let px : x ≡ x' = name_code-inj x x' (ap (λ g. head (tail g)) p) in
@@ -68,6 +71,7 @@ mutual
   code-inj (OpenDialog x) (OpenDialog x') p = ap OpenDialog (name_code-inj x x' (ap tail p))
   code-inj x y p = absurd (eqb-false (row x) (row y) refl (ap tag p))
 
+  -- rows of one term are one row
   pub code_all-inj : (xs ys : ActTrees) → code_all xs ≡ code_all ys → xs ≡ ys
   code_all-inj none none p = refl
   code_all-inj (statement x xs) (statement y ys) p =
@@ -77,5 +81,6 @@ mutual
   code_all-inj none (statement y ys) p = absurd (eqb-false 0 1 refl (ap has_parts p))
   code_all-inj (statement x xs) none p = absurd (eqb-false 1 0 refl (ap has_parts p))
 
+-- how the logic stores a statement
 abbrev pub coded_act_tree : Coded ActTree
 coded_act_tree = record { code = code; inj = code-inj }

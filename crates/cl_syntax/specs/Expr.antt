@@ -7,10 +7,12 @@ use Rattle.cl_syntax.specs.declared.expressions.Binding.{Binding}
 use Rattle.cl_syntax.specs.declared.expressions.ExprKind.{ExprKind}
 use Rattle.cl_syntax.specs.declared.expressions.ExprKind.TheVariants as kind
 
+-- a list of bindings as a tree holds it
 abbrev pub bindings_of : List Binding → Bindings
 bindings_of [] = unbound
 bindings_of (b ∷ bs) = binding b.name b.value (bindings_of bs)
 
+-- the tree of an expression
 abbrev pub expr_tree_of : ExprKind → ExprTree
 expr_tree_of (kind.Constant v) = expr.Constant (data_of v)
 expr_tree_of (kind.Variable x) = expr.Variable x

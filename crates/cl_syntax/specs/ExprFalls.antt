@@ -9,14 +9,17 @@ use Rattle.cl_syntax.specs.declared.expressions.ExprKind.TheVariants as kind
 use Rattle.cl_syntax.specs.declared.expressions.Expr.TheDeep.{deep-Binding, deep-ExprKind}
 use denote.Param.Weighed.{most}
 
+-- no expression of a row is larger than the row
 pub most-nodes : (ts : List ExprTree) → most (λ t. nodes t + 1) ts ≤ nodes_all (expr_trees_of ts) + 1
 most-nodes [] = omega arith
 most-nodes (t ∷ ts) = omega (arith, most-nodes ts)
 
+-- no binding of a row is deeper than the row is large
 pub most-bound : (bs : List Binding) → most deep-Binding bs ≤ nodes_bound (bindings_of bs) + 1
 most-bound [] = omega arith
 most-bound (b ∷ bs) = omega (arith, most-bound bs)
 
+-- an expression is no deeper than its tree is large
 pub kind-nodes : (k : ExprKind) → deep-ExprKind k ≤ nodes (expr_tree_of k)
 kind-nodes (kind.Constant v) = omega arith
 kind-nodes (kind.Variable x) = omega arith

@@ -4,6 +4,7 @@ use Rattle.cl_value.specs.Data.{Data}
 use Rattle.cl_syntax.specs.declared.operators.Operator.{Operator}
 
 mutual
+  -- an expression, by its kind
   pub data ExprTree : Type 0 where
     -- a number, a text, true, false, null or a quoted name
     Constant : Data → ExprTree
@@ -29,6 +30,7 @@ mutual
     -- (FUNCTION E ...)
     Call : List ℕ → ExprTrees → ExprTree
 
+  -- expressions, one after another
   pub data ExprTrees : Type 0 where
     none : ExprTrees
     part : ExprTree → ExprTrees → ExprTrees
@@ -38,6 +40,7 @@ mutual
     unbound : Bindings
     binding : List ℕ → ExprTree → Bindings → Bindings
 
+-- a list of expressions as a tree holds it
 abbrev pub expr_trees_of : List ExprTree → ExprTrees
 expr_trees_of [] = none
 expr_trees_of (t ∷ ts) = part t (expr_trees_of ts)
@@ -58,10 +61,12 @@ abbrev mutual
   nodes (Operation o ts) = nodes_all ts + 1
   nodes (Call f ts) = nodes_all ts + 1
 
+  -- the sizes of expressions together
   pub nodes_all : ExprTrees → ℕ
   nodes_all none = 0
   nodes_all (part t ts) = nodes t + nodes_all ts
 
+  -- the sizes of what is bound together
   pub nodes_bound : Bindings → ℕ
   nodes_bound unbound = 0
   nodes_bound (binding x t bs) = nodes t + nodes_bound bs

@@ -24,6 +24,7 @@ row (Operation o ts) = 10
 row (Call f ts) = 11
 
 abbrev mutual
+  -- the term of an expression
   pub code : ExprTree → Gv
   code (Constant d) = gcons (gnum 0) (data_code.code d)
   code (Variable x) = gcons (gnum 1) (name_code x)
@@ -38,15 +39,18 @@ abbrev mutual
   code (Operation o ts) = gcons (gnum 10) (gcons (operator.the_row.coded.code o) (code_all ts))
   code (Call f ts) = gcons (gnum 11) (gcons (name_code f) (code_all ts))
 
+  -- the term of a row of expressions
   pub code_all : ExprTrees → Gv
   code_all none = gnil
   code_all (part t ts) = gcons (code t) (code_all ts)
 
+  -- the term of a row of bindings
   pub code_bound : Bindings → Gv
   code_bound unbound = gnil
   code_bound (binding x t bs) = gcons (name_code x) (gcons (code t) (code_bound bs))
 
 mutual
+  -- expressions of one term are one expression
   pub code-inj : (x y : ExprTree) → code x ≡ code y → x ≡ y
   code-inj (Constant d) (Constant d') p = ap Constant (data_code.inj d d' (ap tail p))
   code-inj (Variable x) (Variable x') p = ap Variable (name_code-inj x x' (ap tail p))
@@ -89,6 +93,7 @@ mutual
       λ i. Call (pf i) (pts i)
   code-inj x y p = absurd (eqb-false (row x) (row y) refl (ap tag p))
 
+  -- rows of one term are one row
   pub code_all-inj : (ts us : ExprTrees) → code_all ts ≡ code_all us → ts ≡ us
   code_all-inj none none p = refl
   code_all-inj (part t ts) (part u us) p =
@@ -98,6 +103,7 @@ mutual
   code_all-inj none (part u us) p = absurd (eqb-false 0 1 refl (ap has_parts p))
   code_all-inj (part t ts) none p = absurd (eqb-false 1 0 refl (ap has_parts p))
 
+  -- bindings of one term are one row of bindings
   pub code_bound-inj : (bs cs : Bindings) → code_bound bs ≡ code_bound cs → bs ≡ cs
   code_bound-inj unbound unbound p = refl
   code_bound-inj (binding x t bs) (binding y u cs) p =
@@ -108,11 +114,14 @@ mutual
   code_bound-inj unbound (binding y u cs) p = absurd (eqb-false 0 1 refl (ap has_parts p))
   code_bound-inj (binding x t bs) unbound p = absurd (eqb-false 1 0 refl (ap has_parts p))
 
+-- how the logic stores an expression
 abbrev pub coded_expr_tree : Coded ExprTree
 coded_expr_tree = record { code = code; inj = code-inj }
 
+-- how the logic stores a row of expressions
 abbrev pub coded_expr_trees : Coded ExprTrees
 coded_expr_trees = record { code = code_all; inj = code_all-inj }
 
+-- how the logic stores bindings
 abbrev pub coded_bindings : Coded Bindings
 coded_bindings = record { code = code_bound; inj = code_bound-inj }

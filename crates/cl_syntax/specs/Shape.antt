@@ -6,6 +6,7 @@ use Rattle.cl_syntax.specs.Expr.{bindings_of}
 use Rattle.cl_syntax.specs.declared.display_forms.ShapeKind.{ShapeKind}
 use Rattle.cl_syntax.specs.declared.display_forms.ShapeKind.TheVariants as kind
 
+-- the tree of a display form
 abbrev pub shape_tree_of : ShapeKind → ShapeTree
 shape_tree_of (kind.WriteText t) = shape.WriteText t
 shape_tree_of kind.Newline = shape.Newline

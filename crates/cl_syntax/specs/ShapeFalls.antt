@@ -8,10 +8,12 @@ use Rattle.cl_syntax.specs.declared.display_forms.ShapeKind.TheVariants as kind
 use Rattle.cl_syntax.specs.declared.display_forms.Shape.TheDeep.{deep-ShapeKind}
 use denote.Param.Weighed.{most}
 
+-- no display form of a row is larger than the row
 pub most-nodes : (fs : List ShapeTree) → most (λ f. nodes f + 1) fs ≤ nodes_all (shape_trees_of fs)
 most-nodes [] = omega arith
 most-nodes (f ∷ fs) = omega (arith, most-nodes fs)
 
+-- a display form is no deeper than its tree is large
 pub kind-nodes : (k : ShapeKind) → deep-ShapeKind k ≤ nodes (shape_tree_of k)
 kind-nodes (kind.WriteText t) = omega arith
 kind-nodes kind.Newline = omega arith

@@ -7,6 +7,7 @@ use Rattle.cl_syntax.specs.UpdateTree.{UpdateTree}
 use Rattle.cl_syntax.specs.declared.figures.Figure.{Figure}
 
 mutual
+  -- a display form, by its kind
   pub data ShapeTree : Type 0 where
     -- (write-text E)
     WriteText : ExprTree → ShapeTree
@@ -38,10 +39,12 @@ mutual
     -- (DISPLAY E ...)
     Call : List ℕ → ExprTrees → ShapeTree
 
+  -- display forms, one after another
   pub data ShapeTrees : Type 0 where
     none : ShapeTrees
     form : ShapeTree → ShapeTrees → ShapeTrees
 
+-- a list of display forms as a tree holds it
 abbrev pub shape_trees_of : List ShapeTree → ShapeTrees
 shape_trees_of [] = none
 shape_trees_of (f ∷ fs) = form f (shape_trees_of fs)
@@ -65,6 +68,7 @@ abbrev mutual
   nodes (Progn fs) = nodes_all fs + 1
   nodes (Call d ts) = 1
 
+  -- the sizes of display forms together
   pub nodes_all : ShapeTrees → ℕ
   nodes_all none = 0
   nodes_all (form f fs) = nodes f + 1 + nodes_all fs

@@ -31,6 +31,7 @@ row (Progn fs) = 13
 row (Call d ts) = 14
 
 abbrev mutual
+  -- the term of a display form
   pub code : ShapeTree → Gv
   code (WriteText t) = gcons (gnum 0) (coded_expr_tree.code t)
   code Newline = gcons (gnum 1) gnil
@@ -48,11 +49,13 @@ abbrev mutual
   code (Progn fs) = gcons (gnum 13) (code_all fs)
   code (Call d ts) = gcons (gnum 14) (gcons (name_code d) (coded_expr_trees.code ts))
 
+  -- the term of a row of display forms
   pub code_all : ShapeTrees → Gv
   code_all none = gnil
   code_all (form f fs) = gcons (code f) (code_all fs)
 
 mutual
+  -- display forms of one term are one form
   pub code-inj : (x y : ShapeTree) → code x ≡ code y → x ≡ y
   code-inj (WriteText t) (WriteText t') p = ap WriteText (coded_expr_tree.inj t t' (ap tail p))
   code-inj Newline Newline p = refl
@@ -106,6 +109,7 @@ mutual
       λ i. Call (pd i) (pts i)
   code-inj x y p = absurd (eqb-false (row x) (row y) refl (ap tag p))
 
+  -- rows of one term are one row
   pub code_all-inj : (xs ys : ShapeTrees) → code_all xs ≡ code_all ys → xs ≡ ys
   code_all-inj none none p = refl
   code_all-inj (form x xs) (form y ys) p =
@@ -115,5 +119,6 @@ mutual
   code_all-inj none (form y ys) p = absurd (eqb-false 0 1 refl (ap has_parts p))
   code_all-inj (form x xs) none p = absurd (eqb-false 1 0 refl (ap has_parts p))
 
+-- how the logic stores a display form
 abbrev pub coded_shape_tree : Coded ShapeTree
 coded_shape_tree = record { code = code; inj = code-inj }

@@ -28,6 +28,7 @@ built_named name =
     else (if bytes_eq name (codes "null-or-type") then Some standard.NullOrType
     else (if bytes_eq name (codes "token-or-type") then Some standard.TokenOrType else None))))))
 
+-- the first of two types that is there
 abbrev pub first_of : Option StandardType → Option StandardType → Option StandardType
 first_of (Some t) other = Some t
 first_of None other = other

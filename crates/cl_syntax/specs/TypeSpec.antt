@@ -7,6 +7,7 @@ use Rattle.cl_syntax.specs.TypeSpecTree.{TypeSpecTree, TypeArgTree, Constant, An
 use Rattle.cl_syntax.specs.declared.type_specs.TypeArg.{TypeArg}
 use Rattle.cl_syntax.specs.declared.type_specs.TypeArg.TheVariants as arg
 
+-- the tree of an argument of a specifier
 abbrev pub arg_tree_of : TypeArg → TypeArgTree
 arg_tree_of (arg.Constant v) = Constant (data_of v)
 arg_tree_of arg.Any = Any

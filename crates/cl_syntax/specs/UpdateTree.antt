@@ -13,9 +13,11 @@ pub record UpdateTree : Type 0 where
 
 -- ---- how the logic stores them
 
+-- how the logic stores a site
 abbrev pub site_code : Coded Site
 site_code = code_by (ℕ × ℕ) (coded× coded_ℕ coded_ℕ) (λ s. (s.form, s.query)) (λ p. record { form = p.0; query = p.1 }) (λ _. refl)
 
+-- how the logic stores an update
 abbrev pub coded_update : Coded UpdateTree
 coded_update =
     code_by (Site × (Option ExprTree × Option ExprTrees)) (coded× site_code (coded× (coded_option coded_expr_tree) (coded_option coded_expr_trees)))

@@ -11,6 +11,7 @@ place_of x names = position (pointwise ◌==◌ x) names
 abbrev pub named : {D : Type 0} → List ℕ → List (List ℕ × D) → Option D
 named x table = lookup (pointwise ◌==◌ x) table
 
+-- what is declared in an entry, where there is one
 abbrev pub declared_in : {D : Type 0} → Option (List ℕ × D) → Option D
 declared_in None = None
 declared_in (Some p) = Some p.1

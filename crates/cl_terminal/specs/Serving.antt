@@ -19,6 +19,7 @@ pub record Standing : Type 0 where
   pub state : State
   pub world : World
 
+-- a standing of these parts
 abbrev pub standing : State → World → Standing
 standing state world = record { state = state; world = world }
 

@@ -49,6 +49,7 @@ pub record Sighted : Type 0 where
   pub shape : Datum
   pub seen : List TypePart
 
+-- the data of the arguments
 abbrev pub shapes_sighted : List Sighted → List Datum
 shapes_sighted ss = map (λ s. s.shape) ss
 
@@ -63,6 +64,7 @@ strays_seen (d ∷ ds) = if is_stray d then refused 6 (offset d) ∷ strays_seen
 abbrev pub constants_seen : Names → Wanted → ℕ → List Datum → List TypePart
 constants_seen ps kind at ds = if may_all_stand ps kind ds then strays_seen ds else wrong at
 
+-- so many arguments at most, each a constant of this kind
 abbrev pub at_most_seen : ℕ → Names → Wanted → ℕ → List Datum → List TypePart
 at_most_seen most ps kind at ds = if nat_le (length ds) most then constants_seen ps kind at ds else wrong at
 
@@ -70,6 +72,7 @@ at_most_seen most ps kind at ds = if nat_le (length ds) most then constants_seen
 abbrev pub given_seen : Option ℕ → Names → ℕ → List Datum → List TypePart
 given_seen count ps at ds = if fits count (length ds) then constants_seen ps wanted.ConstantOrStar at ds else wrong at
 
+-- no argument at all
 abbrev pub nothing_seen : ℕ → List Datum → List TypePart
 nothing_seen at [] = []
 nothing_seen at (d ∷ ds) = wrong at
@@ -79,9 +82,11 @@ abbrev pub each_type_seen : List Sighted → List TypePart
 each_type_seen [] = []
 each_type_seen (s ∷ ss) = s.seen ++ each_type_seen ss
 
+-- one specifier
 abbrev pub one_type_seen : ℕ → List Sighted → List TypePart
 one_type_seen at ss = if length ss == 1 then each_type_seen ss else wrong at
 
+-- one specifier or more
 abbrev pub some_types_seen : ℕ → List Sighted → List TypePart
 some_types_seen at ss = if length ss == 0 then wrong at else each_type_seen ss
 
@@ -136,10 +141,12 @@ abbrev mutual
   type_seen w ps (stray at) = wrong at
   type_seen w ps (list ds at) = listed_type_seen w ps at ds
 
+  -- a specifier in parentheses, by its first part
   pub listed_type_seen : Signatures → Names → ℕ → Datums → List TypePart
   listed_type_seen w ps at none = wrong at
   listed_type_seen w ps at (item d more) = first_type_seen w ps at d (inner_type_seen w ps at d) (types_seen w ps more)
 
+  -- a name with its arguments, as the first part of a specifier
   pub inner_type_seen : Signatures → Names → ℕ → Datum → List TypePart
   inner_type_seen w ps at (list es inner_at) = type_parts_seen w ps at es
   inner_type_seen w ps at (number z part_at) = wrong at
@@ -148,10 +155,12 @@ abbrev mutual
   inner_type_seen w ps at (quoted x part_at name_at) = wrong at
   inner_type_seen w ps at (stray part_at) = wrong at
 
+  -- a name, then its arguments
   pub type_parts_seen : Signatures → Names → ℕ → Datums → List TypePart
   type_parts_seen w ps at none = wrong at
   type_parts_seen w ps at (item h more) = headed_type_seen w ps at h (types_seen w ps more)
 
+  -- each argument, with what is looked at of it
   pub types_seen : Signatures → Names → Datums → List Sighted
   types_seen w ps none = []
   types_seen w ps (item d ds) = record { shape = d; seen = type_seen w ps d } ∷ types_seen w ps ds

@@ -48,6 +48,7 @@ abbrev mutual
   path_seen env (quoted s at name_at) = refused 6 at
   path_seen env (stray at) = refused 6 at
 
+  -- what is seen of a path in parentheses
   pub listed_path_seen : Names → ℕ → Datums → Seen
   listed_path_seen env at none = refused 6 at
   listed_path_seen env at (item d ds) = headed_path_seen at d (in_order ds) (first_path_seen env at ds)
@@ -73,6 +74,7 @@ cache_seen env (d ∷ ds) = paths_seen env ds
 abbrev pub key_seen : Names → List ℕ → Datum → List Seen
 key_seen env x v = if bytes_eq x (codes ":unique-id") then expression env v ∷ [] else cache_seen env (parts_of v)
 
+-- what is seen behind each key, in their order
 abbrev pub keys_seen : Names → List Datum → List Seen
 keys_seen env [] = []
 keys_seen env (k ∷ []) = []

@@ -153,6 +153,7 @@ with_declaration s (of_translator d) = record s { translators = with_first (λ e
 with_declaration s (of_dialog d) = record s { dialogs = with_first (λ e. e.name) s.dialogs d }
 with_declaration s (of_frame d) = record s { frames = s.frames ++ d ∷ [] }
 
+-- the tables with declarations put in, one after another
 abbrev pub with_declarations : Declarations → List Declaration → Declarations
 with_declarations s [] = s
 with_declarations s (e ∷ es) = with_declarations (with_declaration s e) es

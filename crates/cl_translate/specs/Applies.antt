@@ -2,9 +2,7 @@
 use Rattle.std.specs.Prelude.{ℕ, Bool, true, false, ◌&&◌, if◌then◌else◌, List, [], ◌∷◌, Option, Some, None, codes}
 use Rattle.std.specs.Str.{bytes_eq}
 use Rattle.cl_application.specs.declared.declarations.TranslatorDecl.{TranslatorDecl}
-use Rattle.cl_eval.specs.Evaluated.{outcome_of_eval}
-use Rattle.cl_eval.specs.Outcome.{Outcome, Gives, Traps}
-use Rattle.cl_eval.specs.declared.metering.Limits.{Limits}
+use Rattle.cl_eval.specs.Evaluated.{outcome_of_eval, own_limits, value_in}
 use Rattle.cl_syntax.specs.ExprTree.{ExprTree}
 use Rattle.cl_syntax.specs.TypeSpecTree.{TypeSpecTree, name_of, plain_type}
 use Rattle.cl_tables.specs.Lookups.{is_accessible}
@@ -14,18 +12,11 @@ use Rattle.cl_translate.specs.Scenes.{Scene}
 
 -- ---- testers and bodies
 
--- the limits of a tester and of a body, each on a counter of its own
-abbrev pub own_limits : Limits
-own_limits = record { budget = 10000; depth = 512 }
-
-abbrev pub value_in : Outcome Data → Option Data
-value_in (Gives d cost deepest) = Some d
-value_in (Traps kind cost deepest) = None
-
 -- what an expression comes to where the parameter is the object; none where it traps
 abbrev pub value_on : Scene → TranslatorDecl → Data → ExprTree → Option Data
 value_on s t d e = value_in (outcome_of_eval own_limits s.app s.slots ((t.parameter, d) ∷ []) e)
 
+-- whether a value is there and is true
 abbrev pub is_true : Option Data → Bool
 is_true None = false
 is_true (Some (bool b)) = b
@@ -51,6 +42,7 @@ command_with x (symbol y) = None
 command_with x null = None
 command_with x (rec y ds) = None
 
+-- the value of the body, or the command of this name with it as its arguments
 abbrev pub result_by : Option (List ℕ) → Option Data → Option Data
 result_by command None = None
 result_by None (Some d) = Some d
@@ -93,6 +85,7 @@ precedence_of s x = s.hierarchy.precedence x
 
 -- ---- what applies
 
+-- a value that is a member of the to-type and fits the context; none else
 abbrev pub if_fits : Scene → (context to : TypeSpecTree) → Option Data → Option Data
 if_fits s context to None = None
 if_fits s context to (Some v) = if s.holds v to && fits s context v then Some v else None

@@ -35,6 +35,7 @@ abbrev mutual
   pub heads : TypeSpecTree → List (List ℕ)
   heads (specifier x ts o) = heads_by (standard_named x) x (heads_of_all ts) (heads_of_first ts)
 
+  -- the heads of all parts
   pub heads_of_all : TypeArgTrees → List (List ℕ)
   heads_of_all none = []
   heads_of_all (argument (Constant d) ts) = heads_of_all ts
@@ -43,6 +44,7 @@ abbrev mutual
   heads_of_all (argument (Spec s) ts) = heads s ++ heads_of_all ts
   heads_of_all (argument (Names xs) ts) = heads_of_all ts
 
+  -- the heads of the first part
   pub heads_of_first : TypeArgTrees → List (List ℕ)
   heads_of_first none = []
   heads_of_first (argument (Constant d) ts) = heads_of_first ts

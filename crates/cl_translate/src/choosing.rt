@@ -3,7 +3,7 @@ ghost use Rattle.std.specs.Prelude.{◌≡◌, ◌<◌, ◌+◌, IfOk, filter, l
 ghost use Rattle.std.specs.List.{flat_map};
 ghost use Rattle.cl_record.specs.Marks.{history_marks};
 ghost use Rattle.cl_record.specs.TouchWalks.{touch_of};
-ghost use Rattle.cl_record.specs.Touches.{touch_of_label, touched};
+ghost use Rattle.cl_record.specs.Touches.{touch_of_label, touched_labels};
 ghost use Rattle.cl_syntax.specs.TypeSpecTree.{name_of};
 ghost use Rattle.cl_translate.specs.Applies.{precedence_of};
 ghost use Rattle.cl_translate.specs.Choices.{blank_area, candidates, chosen, first_answer, given_of, gives, place_gives, trial_gives};
@@ -43,7 +43,7 @@ impl<T: Types> Chooser<'_, T> {
         gesture: GestureName,
     ) -> Result<Option<Choice>, AllocError>
         ensures { IfOk result (λ o. option_map given_of o ≡ chosen (scene_of T.holds T.hierarchy self.now) gesture contexts.now
-            (candidates (touched L.bounds point.now.x point.now.y (history_marks L.moved_by history.now))
+            (candidates (touched_labels L.bounds point.now.x point.now.y (history_marks L.moved_by history.now))
             (blank_area point.now.pane.now point.now.x point.now.y))) }
     {
         let (object, spec) = (blank_object(self.alloc, point)?, blank_type(self.alloc)?);

@@ -7,17 +7,11 @@ ghost use Rattle.cl_value.specs.Value.{data_of};
 
 use crate::choosers::Chooser;
 use cl_application::TranslatorDecl;
-use cl_eval::{Env, Evaluated, Limits, Types, eval};
+use cl_eval::{Env, Evaluated, OWN_LIMITS, Types, eval};
 use cl_outside::own_steps;
 use cl_syntax::Expr;
 use cl_value::{Text, Value, Values};
 use std::alloc::{AllocError, Global};
-
-/// The limits of a tester and of a body.
-const LIMITS: Limits = Limits {
-    budget: 10_000,
-    depth: 512,
-};
 
 impl<T: Types> Chooser<'_, T> {
     // What an expression comes to where the parameter is the object.
@@ -38,7 +32,7 @@ impl<T: Types> Chooser<'_, T> {
             expr,
             &env,
             self.slots,
-            LIMITS,
+            OWN_LIMITS,
             &mut own_steps(),
         ) {
             Evaluated::Value(value, _, _) => Ok(Some(value)),

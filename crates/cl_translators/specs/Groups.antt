@@ -35,9 +35,11 @@ AreByTable ts groups = (table : List ℕ) → group_of table groups ≡ filter (
 
 -- ---- slots: one for each gesture and high part of the priority
 
+-- a translator that has the gesture and the high part of a slot
 abbrev pub is_in_slot : ℕ → TranslatorPlace → Bool
 is_in_slot slot t = has_rank (slot / 10) (slot % 10) t
 
+-- a translator of a slot that has a from-type of this name
 abbrev pub is_from : ℕ → List ℕ → TranslatorPlace → Bool
 is_from slot from t = is_in_slot slot t && bytes_eq t.from from
 

@@ -18,6 +18,7 @@ translators_of places = map (λ e. e.1) places
 abbrev pub digits : List ℕ
 digits = 9 ∷ 8 ∷ 7 ∷ 6 ∷ 5 ∷ 4 ∷ 3 ∷ 2 ∷ 1 ∷ 0 ∷ []
 
+-- a translator that stands in the table of this name
 abbrev pub stands_in : List ℕ → TranslatorPlace → Bool
 stands_in table t = bytes_eq t.table table
 
@@ -35,6 +36,7 @@ in_order order ts = flat_map (with_low order ts) digits
 
 -- ---- gestures and from-types
 
+-- the number of a gesture, from 0
 abbrev pub gesture_number : GestureName → ℕ
 gesture_number Select = 0
 gesture_number Describe = 1

@@ -26,7 +26,7 @@ use Rattle.cl_display.specs.Drawings.{DrawingAt}
 use Rattle.cl_display.specs.Fresh.{Allowance, bodies_on, draws_body, draws_keyed, left_over}
 use Rattle.cl_display.specs.Outcomes.{DrawOutcome}
 use Rattle.cl_display.specs.Siblings.{is_taken, note}
-use Rattle.cl_display.specs.Updates.{KeyAt, ended, enter_body, enter_update, head_at, key_weight, opening_at}
+use Rattle.cl_display.specs.Updates.{KeyAt, end_update, enter_body, enter_update, head_at, key_weight, opening_at}
 use Rattle.cl_display.specs.Walks.{OpeningAt, Walk, done, met}
 use Rattle.cl_reuse.specs.Keeping.{EndsAs, may_keep, shift_at}
 use Rattle.cl_reuse.specs.Kept.{OldUpdate, found}
@@ -208,7 +208,7 @@ module _ (app : App) (types : TypeMeanings) where
     ended-renews : (s : DrawingAt) (w : Walk) (o : Outcome DrawingAt)
         → ((t : DrawingAt) (n l : ℕ) → o ≡ Gives t n l
         → Renews at old s.part.marks (s.part.marks ++ (open_update (head_at key s.ambient t n l) ∷ (t.part.marks ++ close ∷ []))) w) → (c d : ℕ)
-        → (t : DrawingAt) (n l : ℕ) → ended key level s o c d ≡ Gives t n l → Renews at old s.part.marks t.part.marks w
+        → (t : DrawingAt) (n l : ℕ) → end_update key level s o c d ≡ Gives t n l → Renews at old s.part.marks t.part.marks w
     ended-renews s w (Gives u i r) h c d t n l p =
         subst (λ (x : DrawingAt). Renews at old s.part.marks x.part.marks w) (ap (end_of s) p) (h u i r refl)
     ended-renews s w (Traps k i r) h c d t n l p = absurd (no_value k (c + i) d t n l p)

@@ -32,7 +32,7 @@ use Rattle.cl_display.specs.declared.drawings.Drawing.{Drawing}
 use Rattle.cl_display.specs.declared.updates.Key.{Key}
 use Rattle.cl_display.specs.Fresh.{Allowance, Scene, bodies_on, draws_body, left_over}
 use Rattle.cl_display.specs.Outcomes.{DrawOutcome}
-use Rattle.cl_display.specs.Updates.{KeyAt, ended, enter_body, head_at, key_at, key_of, leave_update, opening_at}
+use Rattle.cl_display.specs.Updates.{KeyAt, end_update, enter_body, head_at, key_at, key_of, leave_update, opening_at}
 use Rattle.cl_display.specs.Walks.{OpeningAt}
 use Rattle.cl_reuse.specs.Keeping.{EndsAs, kept_head, kept_part, limits_fit, margin_fits, may_keep, measures_fit, origin_fits, same_cache, shift_at}
 use Rattle.cl_damage.specs.Keeps as keeps
@@ -135,7 +135,7 @@ module _ (scene : Scene) (env : Env) (body : ShapeTrees) (key : KeyAt) (l : Leve
   -- it is not, so what it holds is the level below
   pub over-body : (old : OldUpdate) → found key.site key.id l.at (trees_of l.old) ≡ Some old → may_keep old.head opening ≡ false
       → (r : Result (Unit {0}) Stop) (t : DrawingAt) (n : Meter) (a b : Tally)
-      → Redrawn (kept_anew (kept_over old.place old.inside)) r t c n a b (ended key level s drawn.outcome c d)
+      → Redrawn (kept_anew (kept_over old.place old.inside)) r t c n a b (end_update key level s drawn.outcome c d)
       → Redraws l r t c n a b (draws_body allowed (bodies_on depth scene) level env body key s c d)
   over-body old e keep r t n a b p =
       let kept : kept_from l (draws_body allowed (bodies_on depth scene) level env body key s c d).walk ≡ kept_anew (kept_over old.place old.inside) =
@@ -144,7 +144,7 @@ module _ (scene : Scene) (env : Env) (body : ShapeTrees) (key : KeyAt) (l : Leve
 
   -- nothing is found
   pub over-none : found key.site key.id l.at (trees_of l.old) ≡ None → (r : Result (Unit {0}) Stop) (t : DrawingAt) (n : Meter) (a b : Tally)
-      → Redrawn (kept_anew (kept_over still records.none)) r t c n a b (ended key level s drawn.outcome c d)
+      → Redrawn (kept_anew (kept_over still records.none)) r t c n a b (end_update key level s drawn.outcome c d)
       → Redraws l r t c n a b (draws_body allowed (bodies_on depth scene) level env body key s c d)
   over-none e r t n a b p = rw (kept-found None e) p
 
@@ -178,7 +178,7 @@ pub body-left : (k : KeptIn) (key : KeyAt) (level : ℕ) (s t after : DrawingAt)
     (a inner b left : Tally) (outer : Keeps) → Redrawn k (Ok tt) t 0 own inner b o → m.cost ≡ c + own.cost → m.deepest ≡ max d (level + own.deepest)
     → outer ≡ a.keeps → inner ≡ record a { keeps = keeps.none } → left ≡ record b { keeps = with_last outer None b.keeps }
     → Comes (always after) r (Ok (leave_update (head_at key s.ambient t own.cost own.deepest) t.part s))
-    → Redrawn (kept_anew k) r after c m a left (ended key level s o c d)
+    → Redrawn (kept_anew k) r after c m a left (end_update key level s o c d)
 body-left k key level s t after own m c d o (Ok u) a inner b left outer p cost deepest e i f h =
     let end = leave_update (head_at key s.ambient t own.cost own.deepest) t.part s in
     rw (p.0, cost, deepest)
@@ -197,7 +197,7 @@ body-left k key level s t after own m c d o (Err Memory) a inner b left outer p 
 pub body-trapped : (k : KeptIn) (key : KeyAt) (level : ℕ) (s t after : DrawingAt) (own m : Meter) (c d kind : ℕ) (o : Outcome DrawingAt)
     (a inner b left : Tally) (outer : Keeps) → Redrawn k (Err (Trap kind)) t 0 own inner b o → m.cost ≡ c + own.cost → m.deepest ≡ d
     → outer ≡ a.keeps → inner ≡ record a { keeps = keeps.none } → left ≡ record b { keeps = with_last outer None b.keeps }
-    → Redrawn (kept_anew k) (Err (Trap kind)) after c m a left (ended key level s o c d)
+    → Redrawn (kept_anew k) (Err (Trap kind)) after c m a left (end_update key level s o c d)
 body-trapped k key level s t after own m c d kind o a inner b left outer p cost deepest e i f =
     rw (p.0, cost, deepest) (refl, counts-anew k c own.cost a inner b left outer e i p.1 f)
 
@@ -205,9 +205,9 @@ body-trapped k key level s t after own m c d kind o a inner b left outer p cost 
 pub body-stopped : (k : KeptIn) (key : KeyAt) (level : ℕ) (s t after : DrawingAt) (own m : Meter) (c d kind told : ℕ) (o : Outcome DrawingAt)
     (a inner b left : Tally) (outer : Keeps) (r : Stop) → Redrawn k (Err (Trap kind)) t 0 own inner b o → m.cost ≡ c + own.cost → m.deepest ≡ d
     → outer ≡ a.keeps → inner ≡ record a { keeps = keeps.none } → told ≡ kind → LeavesTrapped r told outer b left
-    → Redrawn (kept_anew k) (Err r) after c m a left (ended key level s o c d)
+    → Redrawn (kept_anew k) (Err r) after c m a left (end_update key level s o c d)
 body-stopped k key level s t after own m c d kind told o a inner b left outer (Trap j) p cost deepest e i same f =
-    subst (λ (n : ℕ). Redrawn (kept_anew k) (Err (Trap n)) after c m a left (ended key level s o c d)) (sym (f.0 ∙ same))
+    subst (λ (n : ℕ). Redrawn (kept_anew k) (Err (Trap n)) after c m a left (end_update key level s o c d)) (sym (f.0 ∙ same))
     (body-trapped k key level s t after own m c d kind o a inner b left outer p cost deepest e i f.1)
 body-stopped k key level s t after own m c d kind told o a inner b left outer Memory p cost deepest e i same f = tt
 

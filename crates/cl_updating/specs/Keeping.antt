@@ -23,7 +23,7 @@ kept_drawing old opening s = leave_update
     (kept_part (shift_at old.piece.now.head (opening_of opening)) old.piece.now.head (history_marks move_item old.piece.now.inside)) s
 
 -- an old update was kept: it stands behind what was drawn, its cost and its reach count as they were, and it is in the tally
-pub record Keeps (level : ℕ) (old : Old) (opening : Opening) (before after : Drawing) (m n : Meter) (a b : Tally) : Type 0 where
+pub record KeepsOld (level : ℕ) (old : Old) (opening : Opening) (before after : Drawing) (m n : Meter) (a b : Tally) : Type 0 where
   pub drawing : drawing_of after ≡ kept_drawing old opening (drawing_of before)
   pub cost : n.cost ≡ m.cost + old.piece.now.head.measures.cost
   pub deepest : n.deepest ≡ max m.deepest (level + old.piece.now.head.measures.reach)
@@ -31,6 +31,6 @@ pub record Keeps (level : ℕ) (old : Old) (opening : Opening) (before after : D
 
 -- what is answered of it; only want of memory is in its way
 abbrev pub KeepsUpdate : (level : ℕ) → Old → Opening → Drawing → Result (Unit {0}) Stop → Drawing → (m n : Meter) → (a b : Tally) → Type 0
-KeepsUpdate level old opening before (Ok u) after m n a b = Keeps level old opening before after m n a b
+KeepsUpdate level old opening before (Ok u) after m n a b = KeepsOld level old opening before after m n a b
 KeepsUpdate level old opening before (Err (Trap k)) after m n a b = ⊥
 KeepsUpdate level old opening before (Err Memory) after m n a b = Unit {0}

@@ -14,6 +14,7 @@ pub record LevelAt : Type 0 where
   pub at : Shift
   pub old : List (Tree Item)
 
+-- old records and by how much they are moved, as a level
 abbrev pub level_at : Shift → List (Tree Item) → LevelAt
 level_at at old = record { at = at; old = old }
 

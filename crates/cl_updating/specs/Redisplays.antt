@@ -80,6 +80,7 @@ pub record IsBuiltOf (h : List (Tree Item)) (u : Reuse) (k : Keeps) (d : Drawing
   pub reuse : u ≡ record { kept = t.kept; moved = t.moved; items = t.items }
   pub keeps : k ≡ t.keeps
 
+-- a redisplay that ended has the records of its drawing, and what was kept of the old ones
 abbrev pub IsBuilt : Redisplayed → Drawing → Tally → Type 0
 IsBuilt (redisplayed.Built h u k) d t = IsBuiltOf h u k d t
 IsBuilt (redisplayed.Trapped h k) d t = ⊥
@@ -91,6 +92,7 @@ pub record IsTrappedOf (h : List (Tree Item)) (k kind : ℕ) : Type 0 where
   pub marks : history_marks move_item h ≡ trap_history kind
   pub sound : AreSound item_bounds move_item (trees_of h)
 
+-- a redisplay that trapped shows the trap alone
 abbrev pub IsTrapped : Redisplayed → ℕ → Type 0
 IsTrapped (redisplayed.Built h u k) kind = ⊥
 IsTrapped (redisplayed.Trapped h k) kind = IsTrappedOf h k kind

@@ -8,7 +8,7 @@ ghost use Rattle.cl_syntax.specs.declared.sites.Site.{Site};
 ghost use Rattle.cl_medium.specs.Items.{item_bounds, move_item};
 ghost use Rattle.cl_record.specs.Ranges.{ArePlaced, IsPlaced, StayInRange};
 ghost use Rattle.cl_record.specs.Seen.{tree_of};
-ghost use Rattle.cl_record.specs.Shifts.{IsShift, join_shifts, still};
+ghost use Rattle.cl_record.specs.Shifts.{still};
 ghost use Rattle.cl_record.specs.Trees.{trees_of};
 ghost use Rattle.cl_display.specs.Siblings.{same_site};
 ghost use Rattle.cl_reuse.specs.Kept.{found, is_that};
@@ -18,7 +18,7 @@ ghost use Rattle.cl_updating.specs.Places.{AreOf, placed_at, with_id};
 
 use cl_display::History;
 use cl_medium::{AnyLeaf, Leaf};
-use cl_record::{Node, Nodes, Piece, STILL};
+use cl_record::{Node, Nodes, Piece, STILL, join_shifts};
 use cl_region::Shift;
 use cl_syntax::Site;
 use cl_value::Value;
@@ -198,17 +198,6 @@ struct Met<'h, L: Leaf> {
     piece: &'h Piece<L>,
 }
 
-// One move after the other.
-fn joined(first: Shift, second: Shift) -> Shift
-    requires { IsShift (join_shifts first second) }
-    ensures { result ≡ join_shifts first second }
-{
-    Shift {
-        dx: first.dx + second.dx,
-        dy: first.dy + second.dy,
-    }
-}
-
 // Puts the updates at the level of a record, moved by `at`, behind the others.
 #[cycle(gather)]
 fn gather_node<'h, L: Leaf>(
@@ -222,11 +211,11 @@ fn gather_node<'h, L: Leaf>(
     match node {
         Node::Leaf(_) => Ok(()),
         Node::Presentation(presented) => {
-            let at = joined(presented.place(), at);
+            let at = join_shifts(presented.place(), at);
             gather_row(presented.inside(), at, met)
         }
         Node::Update(piece) => {
-            let place = joined(piece.place(), at);
+            let place = join_shifts(piece.place(), at);
             met.push(Met { place, piece })?;
             Ok(())
         }

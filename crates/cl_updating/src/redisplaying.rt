@@ -45,8 +45,8 @@ pub enum Redisplayed {
 }
 
 /// Evaluates display forms of a program on these variables and slots, within the limits of the program, over an old history of them:
-/// what may be kept of it is kept, and all else is drawn anew. The steps are those of what is drawn anew; where there was no memory none
-/// is counted.
+/// what may be kept of it is kept, and all else is drawn anew. The steps are those of what is drawn anew; where there was no memory, no more
+/// than these are counted.
 pub fn redisplay<T: Types, L: Ledger>(
     program: &Program<'_, T>,
     forms: &[Shape],

@@ -9,7 +9,7 @@ ghost use Rattle.cl_eval.specs.Standpoint.{meaning_at};
 ghost use Rattle.cl_display.specs.Drawings.{drawing_of};
 ghost use Rattle.cl_display.specs.Fresh.{draws_body, draws_keyed, draws_update};
 ghost use Rattle.cl_display.specs.Place.{allowance_at, bodies_at, scene_at};
-ghost use Rattle.cl_display.specs.Updates.{ended, key_of};
+ghost use Rattle.cl_display.specs.Updates.{end_update, key_of};
 ghost use Rattle.cl_reuse.specs.Kept.{found};
 ghost use Rattle.cl_reuse.specs.Sited.{AreOwn};
 ghost use Rattle.cl_record.specs.Trees.{trees_of};
@@ -133,7 +133,7 @@ fn redraw_body<T: Types>(
     requires below { IsReusable (scene_over T.holds T.presents ground.now).app (scene_over T.holds T.presents ground.now).types below.now }
     ensures { Redrawn (kept_anew (kept_from below.now
         (body_over T.holds T.presents ground.now (shape_trees_of body.now) (drawing_of drawing.old) meter.old.cost).walk))
-        result (drawing_of drawing.new) meter.old.cost meter.new tally.old tally.new (ended (key_of key) ground.now.place.here.level (drawing_of drawing.old)
+        result (drawing_of drawing.new) meter.old.cost meter.new tally.old tally.new (end_update (key_of key) ground.now.place.here.level (drawing_of drawing.old)
         (body_over T.holds T.presents ground.now (shape_trees_of body.now) (drawing_of drawing.old) meter.old.cost).outcome meter.old.cost meter.old.deepest) }
 {
     let context = ground.place.here.context;

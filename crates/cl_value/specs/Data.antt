@@ -10,6 +10,7 @@ use Rattle.std.specs.Coded.{Coded, coded_ℕ, coded_ℤ, coded_bool, coded_list}
 use base.Stored.{Gv, gnil, gnum, gcons}
 
 mutual
+  -- a value: a number, a truth value, a text, a symbol, null, a list, or a record with its name
   pub data Data : Type 0 where
     int : ℤ → Data
     bool : Bool → Data
@@ -24,6 +25,7 @@ mutual
     none : Items
     item : Data → Items → Items
 
+-- the parts of a list, one after another
 abbrev pub items_of : List Data → Items
 items_of [] = none
 items_of (d ∷ ds) = item d (items_of ds)
@@ -41,6 +43,7 @@ abbrev mutual
   size_of (list ds) = 1 + size_of_items ds
   size_of (rec s ds) = 1 + size_of_items ds
 
+  -- the sizes of the parts together
   pub size_of_items : Items → ℕ
   size_of_items none = 0
   size_of_items (item d ds) = size_of d + size_of_items ds
@@ -56,6 +59,7 @@ abbrev mutual
   depth_of (list ds) = 1 + depth_of_items ds
   depth_of (rec s ds) = 1 + depth_of_items ds
 
+  -- the depth of the deepest part
   pub depth_of_items : Items → ℕ
   depth_of_items none = 0
   depth_of_items (item d ds) = max (depth_of d) (depth_of_items ds)
@@ -93,10 +97,12 @@ abbrev mutual
 
 -- ---- how the logic stores data
 
+-- the term of a row of bytes
 abbrev pub bytes_code : List ℕ → Gv
 bytes_code s = (coded_list coded_ℕ).code s
 
 abbrev mutual
+  -- the term of a value
   pub code : Data → Gv
   code (int n) = gcons (gnum 0) (coded_ℤ.code n)
   code (bool b) = gcons (gnum 1) (coded_bool.code b)
@@ -106,15 +112,18 @@ abbrev mutual
   code (list ds) = gcons (gnum 5) (code_items ds)
   code (rec s ds) = gcons (gnum 6) (gcons (bytes_code s) (code_items ds))
 
+  -- the term of a row of parts
   pub code_items : Items → Gv
   code_items none = gnil
   code_items (item d ds) = gcons (code d) (code_items ds)
 
+-- the first part of a term
 abbrev pub code_head : Gv → Gv
 code_head gnil = gnil
 code_head (gnum n) = gnil
 code_head (gcons a b) = a
 
+-- what is behind the first part of a term
 abbrev pub code_tail : Gv → Gv
 code_tail gnil = gnil
 code_tail (gnum n) = gnil
@@ -126,12 +135,14 @@ code_kind gnil = 0
 code_kind (gnum n) = n
 code_kind (gcons a b) = code_kind a
 
+-- 1 for a term of two parts, or 0
 abbrev pub has_parts : Gv → ℕ
 has_parts gnil = 0
 has_parts (gnum n) = 0
 has_parts (gcons a b) = 1
 
 mutual
+  -- values of one term are one value
   pub code-inj : (x y : Data) → code x ≡ code y → x ≡ y
   code-inj (int m) (int n) p = ap int (coded_ℤ.inj m n (ap code_tail p))
   code-inj (bool a) (bool b) p = ap bool (coded_bool.inj a b (ap code_tail p))
@@ -145,6 +156,7 @@ mutual
       λ i. rec (names i) (parts i)
   code-inj x y p = absurd (eqb-false (kind_of x) (kind_of y) refl (ap code_kind p))
 
+  -- rows of one term are one row
   pub code_items-inj : (ds es : Items) → code_items ds ≡ code_items es → ds ≡ es
   code_items-inj none none p = refl
   code_items-inj (item d ds) (item e es) p =
@@ -154,5 +166,6 @@ mutual
   code_items-inj none (item e es) p = absurd (eqb-false 0 1 refl (ap has_parts p))
   code_items-inj (item d ds) none p = absurd (eqb-false 1 0 refl (ap has_parts p))
 
+-- how the logic stores a value
 abbrev pub data_code : Coded Data
 data_code = record { code = code; inj = code-inj }

@@ -11,6 +11,7 @@ use Rattle.std.specs.declared.rc.Rc.{Rc}
 use Rattle.std.specs.declared.alloc.Global.{Global}
 use denote.Param.Weighed.{most}
 
+-- a value as it is stored is at most twice as deep as it is large
 pub deep-size : (v : Value) → deep-Value v ≤ 2 * size_of (data_of v)
 deep-size (value.Int n) = omega arith
 deep-size (value.Bool b) = omega arith
@@ -20,13 +21,16 @@ deep-size value.Null = omega arith
 deep-size (value.List ds) = omega arith
 deep-size (value.Record s ds) = omega arith
 
+-- no value of a row is deeper than twice the row's size
 pub most-size : (vs : List Value) → most deep-Value vs ≤ 2 * size_of_items (items_of (map data_of vs))
 most-size [] = omega arith
 most-size (v ∷ vs) = omega (arith, deep-size v, most-size vs)
 
+-- a stored row is at most twice as deep as its parts are large
 pub row-size : (values : Vec Value Global) (size depth : ℕ) → deep-Row (record { values = values; size = size; depth = depth }) ≤ 2 * size_of_items (items_of (map data_of values.items))
 row-size values size depth = omega (arith, most-size values.items)
 
+-- a shared row is at most twice as deep as its parts are large
 pub shared-size : (alloc : Global) (row : Option (Rc (List Data) Global)) → deep-Values (record { alloc = alloc; row = row }) ≤ 2 * size_of_items (items_of (shared_row row)) + 1
 shared-size alloc None = omega arith
 shared-size alloc (Some r) = omega arith

@@ -11,16 +11,19 @@ use Rattle.cl_value.specs.Data.{Data, int, bool, text, symbol, null, list, rec, 
 
 -- ---- what is called equal is the same
 
+-- two orders in turn are equal only if the first is
 then_first : (a b : Ordering) → ordering_then a b ≡ Equal → a ≡ Equal
 then_first Less b p = p
 then_first Equal b p = refl
 then_first Greater b p = p
 
+-- two orders in turn are equal only if the second is
 then_second : (a b : Ordering) → ordering_then a b ≡ Equal → b ≡ Equal
 then_second Less b p = cc
 then_second Equal b p = p
 then_second Greater b p = cc
 
+-- truth values of equal order are one
 bool_same : (a b : Bool) → bool_cmp a b ≡ Equal → a ≡ b
 bool_same true true p = refl
 bool_same false false p = refl
@@ -28,6 +31,7 @@ bool_same true false p = cc
 bool_same false true p = cc
 
 mutual
+  -- values of equal order are one value
   pub same_data : (x y : Data) → order_of x y ≡ Equal → x ≡ y
   same_data (int m) (int n) p = ap int (exact_signed m n p)
   same_data (bool a) (bool b) p = ap bool (bool_same a b p)
@@ -41,6 +45,7 @@ mutual
       λ i. rec (names i) (parts i)
   same_data x y p = cc
 
+  -- rows of equal order are one row
   pub same_items : (ds es : Items) → order_of_items ds es ≡ Equal → ds ≡ es
   same_items none none p = refl
   same_items (item d ds) (item e es) p =
@@ -51,10 +56,12 @@ mutual
 
 -- ---- the other way round
 
+-- two reversed orders in turn are the reverse of the two in turn
 then_reversed : (a b c d : Ordering) → a ≡ ordering_reverse c → b ≡ ordering_reverse d → ordering_then a b ≡ ordering_reverse (ordering_then c d)
 then_reversed a b c d p q = rw (p, q) (then_flip c d)
 
 mutual
+  -- the order of two values is the reverse of their order the other way round
   reversed : (x y : Data) → order_of x y ≡ ordering_reverse (order_of y x)
   reversed (int m) (int n) = int_cmp_total.antisymm m n
   reversed (bool a) (bool b) = bool_cmp_total.antisymm a b
@@ -65,6 +72,7 @@ mutual
   reversed (rec s ds) (rec t es) = then_reversed _ _ _ _ (nat_list_cmp_total.antisymm s t) (reversed_items ds es)
   reversed x y = nat_cmp_total.antisymm (kind_of x) (kind_of y)
 
+  -- the order of two rows is the reverse of their order the other way round
   reversed_items : (ds es : Items) → order_of_items ds es ≡ ordering_reverse (order_of_items es ds)
   reversed_items none none = refl
   reversed_items none (item e es) = refl
@@ -73,9 +81,11 @@ mutual
 
 -- ---- along a chain
 
+-- a number that comes first is less
 nat_less : (m n : ℕ) → nat_cmp m n ≡ Less → m < n
 nat_less m n p = ranked m n Less (sym p)
 
+-- a number that is less comes first
 less_nat : (m n : ℕ) → m < n → Less ≡ nat_cmp m n
 less_nat m n h = nat_cmp_is m n Less h
 
@@ -90,6 +100,7 @@ kinds_rise (list ds) (list es) p = omega arith
 kinds_rise (rec s ds) (rec t es) p = omega arith
 kinds_rise x y p = omega (arith, nat_less (kind_of x) (kind_of y) p)
 
+-- a value of an earlier kind comes first
 earlier_kind : (x y : Data) → kind_of x < kind_of y → order_of x y ≡ Less
 earlier_kind (int m) (int n) h = absurd (omega arith)
 earlier_kind (bool a) (bool b) h = absurd (omega arith)
@@ -100,6 +111,7 @@ earlier_kind (list ds) (list es) h = absurd (omega arith)
 earlier_kind (rec s ds) (rec t es) h = absurd (omega arith)
 earlier_kind x y h = sym (less_nat (kind_of x) (kind_of y) h)
 
+-- orders in turn chain if each of the two does
 then_chained : (a b c r s t : Ordering) → (a ≡ Less → b ≡ Less → c ≡ Less) → (a ≡ Equal → c ≡ b) → (b ≡ Equal → c ≡ a) → (r ≡ Less → s ≡ Less → t ≡ Less) → ordering_then a r ≡ Less → ordering_then b s ≡ Less → ordering_then c t ≡ Less
 then_chained Less Less c r s t f g h k p q = let e : c ≡ Less = f refl refl in rw e refl
 then_chained Less Equal c r s t f g h k p q = let e : c ≡ Less = h refl in rw e refl
@@ -109,6 +121,7 @@ then_chained Greater b c r s t f g h k p q = cc
 then_chained a Greater c r s t f g h k p q = cc
 
 mutual
+  -- what comes before a value comes before all that the value comes before
   chained : (x y z : Data) → order_of x y ≡ Less → order_of y z ≡ Less → order_of x z ≡ Less
   chained (int l) (int m) (int n) p q = int_cmp_total.trans l m n p q
   chained (bool a) (bool b) (bool c) p q = bool_cmp_total.trans a b c p q
@@ -120,12 +133,14 @@ mutual
       then_chained _ _ _ _ _ _ (nat_list_cmp_total.trans s t u) (λ e. nat_list_cmp_total.congr s t u e) (λ e. ap (λ x. slice_cmp nat_cmp s x) (sym (exact_bytes t u e))) (chained_items ds es fs) p q
   chained x y z p q = earlier_kind x z (omega (arith, kinds_rise x y p, kinds_rise y z q))
 
+  -- what comes before a row comes before all that the row comes before
   chained_items : (ds es fs : Items) → order_of_items ds es ≡ Less → order_of_items es fs ≡ Less → order_of_items ds fs ≡ Less
   chained_items none (item e es) (item f fs) p q = refl
   chained_items (item d ds) (item e es) (item f fs) p q =
       then_chained _ _ _ _ _ _ (chained d e f) (λ a. ap (λ x. order_of x f) (same_data d e a)) (λ b. ap (λ x. order_of d x) (sym (same_data e f b))) (chained_items ds es fs) p q
   chained_items ds es fs p q = cc
 
+-- the order of values is total
 pub order_total : IsTotalOrder order_of
 order_total = record {
   antisymm = reversed;

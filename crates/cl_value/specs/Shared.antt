@@ -4,6 +4,7 @@ use Rattle.std.specs.declared.rc.Rc.{Rc}
 use Rattle.std.specs.declared.alloc.Global.{Global}
 use Rattle.cl_value.specs.Data.{Data}
 
+-- the values of a row; none where there is no row
 abbrev pub shared_row : Option (Rc (List Data) Global) → List Data
 shared_row None = []
 shared_row (Some r) = r.value

@@ -4,6 +4,7 @@ use Rattle.cl_value.specs.Data.{Data, int, bool, text, symbol, null, list, rec, 
 use Rattle.cl_value.specs.declared.Value.{Value}
 use Rattle.cl_value.specs.declared.Value.TheVariants as value
 
+-- the data that a value stands for
 abbrev pub data_of : Value → Data
 data_of (value.Int n) = int n
 data_of (value.Bool b) = bool b

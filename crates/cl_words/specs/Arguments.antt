@@ -23,6 +23,7 @@ abbrev pub are_named : List Datum → Bool
 are_named [] = true
 are_named (d ∷ ds) = is_named (parts_of d) && are_named ds
 
+-- the names that begin lists, in their order; None where not all are lists that names begin
 abbrev pub names_beginning : List Datum → Option (List (List ℕ))
 names_beginning ds = if are_named ds then Some (first_symbols ds) else None
 

@@ -35,6 +35,7 @@ named_or f None other = other
 
 -- ---- operators over the values of their parts
 
+-- the operator on two numbers that a word is
 abbrev pub arithmetic_named : List ℕ → Option Arithmetic
 arithmetic_named word =
     if bytes_eq word (codes "+") then Some Add
@@ -45,6 +46,7 @@ arithmetic_named word =
     else (if bytes_eq word (codes "div") then Some Quotient
     else (if bytes_eq word (codes "mod") then Some Remainder else None))))))
 
+-- the comparison that a word is
 abbrev pub comparison_named : List ℕ → Option Comparison
 comparison_named word =
     if bytes_eq word (codes "<") then Some Less
@@ -52,6 +54,7 @@ comparison_named word =
     else (if bytes_eq word (codes ">") then Some Greater
     else (if bytes_eq word (codes ">=") then Some AtLeast else None)))
 
+-- the operator on lists that a word is
 abbrev pub list_operator_named : List ℕ → Option ListOperator
 list_operator_named word =
     if bytes_eq word (codes "list") then Some list.List
@@ -62,6 +65,7 @@ list_operator_named word =
     else (if bytes_eq word (codes "contains") then Some list.Contains
     else (if bytes_eq word (codes "range") then Some list.Range else None))))))
 
+-- the operator on texts that a word is
 abbrev pub text_operator_named : List ℕ → Option TextOperator
 text_operator_named word =
     if bytes_eq word (codes "concat") then Some text.Concat
@@ -69,6 +73,7 @@ text_operator_named word =
     else (if bytes_eq word (codes "pad") then Some text.Pad
     else (if bytes_eq word (codes "text") then Some text.Written else None)))
 
+-- the operator that a word is, where it is of no other kind
 abbrev pub other_operator_named : List ℕ → Option Operator
 other_operator_named word =
     if bytes_eq word (codes "not") then Some operator.Not
@@ -76,6 +81,7 @@ other_operator_named word =
     else (if bytes_eq word (codes "length") then Some operator.Length
     else (if bytes_eq word (codes "is-null") then Some operator.IsNull else None)))
 
+-- the operator that a word is
 abbrev pub operator_named : List ℕ → Option Operator
 operator_named word =
     named_or (λ a. operator.Arithmetic a) (arithmetic_named word)
@@ -92,12 +98,14 @@ list_count list.Append = Some 2
 list_count list.Contains = Some 2
 list_count list.Range = Some 2
 
+-- how many parts an operator on texts takes
 abbrev pub text_count : TextOperator → Option ℕ
 text_count text.Concat = Some 2
 text_count text.Subtext = Some 3
 text_count text.Pad = Some 2
 text_count text.Written = Some 1
 
+-- how many parts each operator takes; None where it takes any number
 abbrev pub count_of : Operator → Option ℕ
 count_of (operator.Arithmetic a) = Some 2
 count_of (operator.Comparison c) = Some 2
@@ -128,6 +136,7 @@ walk_named word =
     else (if bytes_eq word (codes "filter") then Some special.Filter
     else (if bytes_eq word (codes "fold") then Some special.Fold else None))))
 
+-- the other head of expressions that a word is
 abbrev pub special_named : List ℕ → Option Special
 special_named word = named_or (λ s. s) (access_named word) (walk_named word)
 
@@ -187,11 +196,13 @@ abbrev pub planned_display : List ℕ → Option Planned
 planned_display word =
     if bytes_eq word (codes "formatting-table") then Some planned.Display else None
 
+-- the parts of tables, which are not built yet
 abbrev pub planned_other : List ℕ → Option Planned
 planned_other word =
     if bytes_eq word (codes "formatting-row") then Some planned.Part
     else (if bytes_eq word (codes "formatting-cell") then Some planned.Part else None)
 
+-- the head that is not built yet that a word is
 abbrev pub planned_named : List ℕ → Option Planned
 planned_named word = named_or (λ p. p) (planned_display word) (planned_other word)
 

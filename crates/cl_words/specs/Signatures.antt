@@ -42,10 +42,12 @@ with_type w kind None count = w
 with_type w kind (Some x) count =
     if is_standard_type x then w else record w { types = with_first (λ t. t.name) w.types (record { name = x; kind = kind; count = count }) }
 
+-- one more slot, where it has a name and none has it yet
 abbrev pub with_slot : Signatures → Option (List ℕ) → Signatures
 with_slot w None = w
 with_slot w (Some x) = record w { slots = with_first (λ s. s.name) w.slots (record { name = x }) }
 
+-- one more pane, where it has a name and none has it yet
 abbrev pub with_pane : Signatures → Option (List ℕ) → Signatures
 with_pane w None = w
 with_pane w (Some x) = record w { panes = with_first (λ p. p.name) w.panes (record { name = x }) }
@@ -55,10 +57,12 @@ abbrev pub part_name : List Datum → Option (List ℕ)
 part_name [] = None
 part_name (n ∷ more) = name_in n
 
+-- the slots that the parts of a section declare
 abbrev pub with_slots : Signatures → List Datum → Signatures
 with_slots w [] = w
 with_slots w (d ∷ ds) = with_slots (with_slot w (part_name (parts_of d))) ds
 
+-- the panes that the parts of a section declare
 abbrev pub with_panes : Signatures → List Datum → Signatures
 with_panes w [] = w
 with_panes w (d ∷ ds) = with_panes (with_pane w (part_name (parts_of d))) ds
@@ -72,6 +76,7 @@ with_sections w (d ∷ ds) = with_sections (with_panes (with_slots w (section_va
 abbrev pub global_table : List ℕ
 global_table = codes "global-command-table"
 
+-- the name of the command table that each text has
 abbrev pub is_global_table : List ℕ → Bool
 is_global_table x = bytes_eq x global_table
 
@@ -85,10 +90,12 @@ abbrev pub with_command : Signatures → Option (List ℕ) → Option (List (Lis
 with_command w None arguments = w
 with_command w (Some x) arguments = record w { commands = with_first (λ c. c.name) w.commands (record { name = x; arguments = arguments }) }
 
+-- one more dialog, where it has a name and none has it yet
 abbrev pub with_dialog : Signatures → Option (List ℕ) → Signatures
 with_dialog w None = w
 with_dialog w (Some x) = record w { dialogs = with_first (λ d. d.name) w.dialogs (record { name = x }) }
 
+-- what a declaration declares, by its kind
 abbrev pub with_declaration : Signatures → DeclarationKind → Outer → Signatures
 with_declaration w Record o = with_type w type.Record (declared_name o) (names_counted (behind_name o))
 with_declaration w PresentationType o = with_type w type.User (declared_name o) (parameters_counted (behind_name o))
@@ -104,22 +111,27 @@ with_declaration w CommandTranslator o = w
 with_declaration w Dialog o = with_dialog w (declared_name o)
 with_declaration w Frame o = with_sections w (behind_name o)
 
+-- what an outermost form declares, by what it is
 abbrev pub with_outer_kind : Signatures → OuterKind → Outer → Signatures
 with_outer_kind w (Declared kind) o = with_declaration w kind o
 with_outer_kind w (Planned at) o = w
 with_outer_kind w (Unknown at) o = w
 with_outer_kind w Headless o = w
 
+-- what an outermost form declares
 abbrev pub with_outer : Signatures → Outer → Signatures
 with_outer w o = with_outer_kind w o.kind o
 
+-- what outermost forms declare, in the order of the text
 abbrev pub with_outers : Signatures → List Outer → Signatures
 with_outers w [] = w
 with_outers w (o ∷ os) = with_outers (with_outer w o) os
 
+-- signatures without any name
 abbrev pub nothing_declared : Signatures
 nothing_declared = record { callees = []; types = []; slots = []; panes = []; tables = []; commands = []; dialogs = [] }
 
+-- the signatures of a text
 abbrev pub signatures_of : List Outer → Signatures
 signatures_of os = with_outers nothing_declared os
 
@@ -130,13 +142,16 @@ abbrev pub function_count : Option Callee → Option (Option ℕ)
 function_count None = None
 function_count (Some c) = elim c.kind [ Function ↦ Some c.count | Display ↦ None ]
 
+-- a display, with the count of its parameters where that can be told
 abbrev pub display_count : Option Callee → Option (Option ℕ)
 display_count None = None
 display_count (Some c) = elim c.kind [ Function ↦ None | Display ↦ Some c.count ]
 
+-- the function of a name, with the count of its parameters where that can be told
 abbrev pub function_in : Signatures → List ℕ → Option (Option ℕ)
 function_in w x = function_count (named x w.callees)
 
+-- the display of a name, with the count of its parameters where that can be told
 abbrev pub display_in : Signatures → List ℕ → Option (Option ℕ)
 display_in w x = display_count (named x w.callees)
 
@@ -149,9 +164,11 @@ abbrev pub record_count : Option TypeHead → Option (Option ℕ)
 record_count None = None
 record_count (Some t) = elim t.kind [ type.Record ↦ Some t.count | type.Host ↦ None | type.User ↦ None ]
 
+-- the record of a name, with the count of its fields where that can be told
 abbrev pub record_in : Signatures → List ℕ → Option (Option ℕ)
 record_in w x = record_count (type_in w x)
 
+-- a slot of some frame
 abbrev pub slot_in : Signatures → List ℕ → Bool
 slot_in w x = is_some (named x w.slots)
 
@@ -159,12 +176,15 @@ slot_in w x = is_some (named x w.slots)
 abbrev pub pane_in : Signatures → List ℕ → Bool
 pane_in w x = is_some (named x w.panes)
 
+-- a command table of the text, or the one that each text has
 abbrev pub table_in : Signatures → List ℕ → Bool
 table_in w x = is_global_table x || is_some (named x w.tables)
 
+-- a command of the text
 abbrev pub command_in : Signatures → List ℕ → Bool
 command_in w x = is_some (named x w.commands)
 
+-- the names of a command's arguments, where they can be told
 abbrev pub arguments_known : CommandHead → Option (List (List ℕ))
 arguments_known c = c.arguments
 
@@ -172,5 +192,6 @@ arguments_known c = c.arguments
 abbrev pub arguments_of : Signatures → List ℕ → Option (List (List ℕ))
 arguments_of w x = option_and_then arguments_known (named x w.commands)
 
+-- a dialog of the text
 abbrev pub dialog_in : Signatures → List ℕ → Bool
 dialog_in w x = is_some (named x w.dialogs)

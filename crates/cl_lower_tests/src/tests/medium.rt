@@ -61,16 +61,22 @@ fn cursor(rt: HostRuntime) {
 #[test]
 fn leaves(rt: HostRuntime) {
     let ambient = Ambient::start();
-    if let Drawn::Item(mut leaf) = draw_point(&ambient, 1, 0, b'x') {
-        if let Drawn::Item(other) = draw_point(&ambient, 2, 0, b'x') {
-            assert!(rt; !leaf.same(&other));
-            let right = Shift { dx: 1, dy: 0 };
-            if leaf.bounds().fits(right) {
-                leaf.shift(right);
-            }
-            assert!(rt; leaf.same(&other));
-        }
+    let Drawn::Item(mut leaf) = draw_point(&ambient, 1, 0, b'x') else {
+        assert!(rt; false);
+        return;
+    };
+    let Drawn::Item(other) = draw_point(&ambient, 2, 0, b'x') else {
+        assert!(rt; false);
+        return;
+    };
+    assert!(rt; !leaf.same(&other));
+    let right = Shift { dx: 1, dy: 0 };
+    let fits = leaf.bounds().fits(right);
+    assert!(rt; fits);
+    if fits {
+        leaf.shift(right);
     }
+    assert!(rt; leaf.same(&other));
 }
 
 // A row from the third column on: what stands left of it is not there, and places without an item are none.

@@ -9,14 +9,14 @@ ghost use Rattle.cl_updating.specs.Redisplays.{CanReuse};
 
 use super::showing::shows;
 use cl_application::App;
-use cl_eval::{Limits, Program, Slots, Types};
+use cl_eval::{Limits, MAX_DEPTH, Program, Slots, Types};
 use cl_frame::{Frame, PaneReport, State, Which};
 use cl_gesture::Gesture;
 use cl_load::{Loaded, load};
 use cl_outside::{MemDevice, own_steps};
 use cl_ptext::{HostTypes, Hosts, TypeBook};
 use cl_redisplay::Painted;
-use cl_session::{DEPTH, Session};
+use cl_session::Session;
 use cl_value::Text;
 use std::alloc::{AllocError, Global};
 use std::test::Fail;
@@ -41,7 +41,7 @@ fn program<'a, T: Types>(alloc: Global, app: &'a App, types: &'a T) -> Program<'
         types,
         limits: Limits {
             budget: 1_000_000,
-            depth: DEPTH,
+            depth: MAX_DEPTH,
         },
     }
 }

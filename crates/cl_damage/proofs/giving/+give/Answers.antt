@@ -7,8 +7,8 @@ use Rattle.cl_record.proofs.Ranges.{placed-first, placed-piece, placed-shown}
 use Rattle.cl_damage.proofs.GiveLemmas.{GivesOn, gives_on}
 use Rattle.cl_damage.proofs.giving.+give.Goals as goal
 
-pub give_node-joined-at-requires : goal.give_node-joined-at-requires
-give_node-joined-at-requires g t c =
+pub give_node-join_shifts-at-requires : goal.give_node-join_shifts-at-requires
+give_node-join_shifts-at-requires g t c =
     let s = c.in-Presentation.presented in
     let placed = subst (λ (n : Node _). IsPlaced g.L.Leaf.bounds g.L.Leaf.moved_by c.args.at (tree_of n)) c.in-Presentation.is c.requires in
     rw c.place.ensures (placed-shown g.L.Leaf.bounds g.L.Leaf.moved_by g.met.L.Leaf.moves_bounds c.args.at s.place s.label (trees_of s.inside) placed).shift
@@ -17,13 +17,13 @@ pub give_node-give_row-requires : goal.give_node-give_row-requires
 give_node-give_row-requires g t c κs within =
     let s = c.in-Presentation.presented in
     let placed = subst (λ (n : Node _). IsPlaced g.L.Leaf.bounds g.L.Leaf.moved_by c.args.at (tree_of n)) c.in-Presentation.is c.requires in
-    let inside : ArePlaced g.L.Leaf.bounds g.L.Leaf.moved_by c.joined-at.result (trees_of c.inside.result.now) =
-    rw (c.joined-at.ensures, c.place.ensures, c.inside.ensures)
+    let inside : ArePlaced g.L.Leaf.bounds g.L.Leaf.moved_by c.join_shifts-at.result (trees_of c.inside.result.now) =
+    rw (c.join_shifts-at.ensures, c.place.ensures, c.inside.ensures)
     (placed-shown g.L.Leaf.bounds g.L.Leaf.moved_by g.met.L.Leaf.moves_bounds c.args.at s.place s.label (trees_of s.inside) placed) in
     (search rules, (within, inside))
 
-pub give_node-joined-at-requires-in-Update : goal.give_node-joined-at-requires-in-Update
-give_node-joined-at-requires-in-Update g t c =
+pub give_node-join_shifts-at-requires-in-Update : goal.give_node-join_shifts-at-requires-in-Update
+give_node-join_shifts-at-requires-in-Update g t c =
     let p = c.in-Update.piece in
     let placed = subst (λ (n : Node _). IsPlaced g.L.Leaf.bounds g.L.Leaf.moved_by c.args.at (tree_of n)) c.in-Update.is c.requires in
     rw c.place-in-Update.ensures (placed-piece g.L.Leaf.bounds g.L.Leaf.moved_by g.met.L.Leaf.moves_bounds c.args.at p.place p.head (trees_of p.inside) placed).shift
@@ -32,8 +32,8 @@ pub give_node-give_row-requires-in-Update : goal.give_node-give_row-requires-in-
 give_node-give_row-requires-in-Update g t c κs within =
     let p = c.in-Update.piece in
     let placed = subst (λ (n : Node _). IsPlaced g.L.Leaf.bounds g.L.Leaf.moved_by c.args.at (tree_of n)) c.in-Update.is c.requires in
-    let inside : ArePlaced g.L.Leaf.bounds g.L.Leaf.moved_by c.joined-at-in-Update.result (trees_of c.inside-in-Update.result.now) =
-    rw (c.joined-at-in-Update.ensures, c.place-in-Update.ensures, c.inside-in-Update.ensures)
+    let inside : ArePlaced g.L.Leaf.bounds g.L.Leaf.moved_by c.join_shifts-at-in-Update.result (trees_of c.inside-in-Update.result.now) =
+    rw (c.join_shifts-at-in-Update.ensures, c.place-in-Update.ensures, c.inside-in-Update.ensures)
     (placed-piece g.L.Leaf.bounds g.L.Leaf.moved_by g.met.L.Leaf.moves_bounds c.args.at p.place p.head (trees_of p.inside) placed) in
     (search rules, (within, inside))
 

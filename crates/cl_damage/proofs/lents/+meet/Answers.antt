@@ -7,8 +7,8 @@ use Rattle.cl_record.proofs.Ranges.{placed-first, placed-piece, placed-shown}
 use Rattle.cl_damage.proofs.MeetLemmas.{MeetsOn, meets_on, stand-last}
 use Rattle.cl_damage.proofs.lents.+meet.Goals as goal
 
-pub meet_node-joined-at-requires : goal.meet_node-joined-at-requires
-meet_node-joined-at-requires g t c =
+pub meet_node-join_shifts-at-requires : goal.meet_node-join_shifts-at-requires
+meet_node-join_shifts-at-requires g t c =
     let s = c.in-Presentation.presented in
     let placed = subst (λ (n : Node _). IsPlaced g.L.Leaf.bounds g.L.Leaf.moved_by c.args.at (tree_of n)) c.in-Presentation.is c.requires.placed in
     rw c.place.ensures (placed-shown g.L.Leaf.bounds g.L.Leaf.moved_by g.met.L.Leaf.moves_bounds c.args.at s.place s.label (trees_of s.inside) placed).shift
@@ -17,13 +17,13 @@ pub meet_node-meet_row-requires : goal.meet_node-meet_row-requires
 meet_node-meet_row-requires g t c κs within =
     let s = c.in-Presentation.presented in
     let placed = subst (λ (n : Node _). IsPlaced g.L.Leaf.bounds g.L.Leaf.moved_by c.args.at (tree_of n)) c.in-Presentation.is c.requires.placed in
-    let inside : ArePlaced g.L.Leaf.bounds g.L.Leaf.moved_by c.joined-at.result (trees_of c.inside.result.now) =
-    rw (c.joined-at.ensures, c.place.ensures, c.inside.ensures)
+    let inside : ArePlaced g.L.Leaf.bounds g.L.Leaf.moved_by c.join_shifts-at.result (trees_of c.inside.result.now) =
+    rw (c.join_shifts-at.ensures, c.place.ensures, c.inside.ensures)
     (placed-shown g.L.Leaf.bounds g.L.Leaf.moved_by g.met.L.Leaf.moves_bounds c.args.at s.place s.label (trees_of s.inside) placed) in
     (search rules, (within, (inside, c.requires.stand)))
 
-pub meet_node-joined-place-requires : goal.meet_node-joined-place-requires
-meet_node-joined-place-requires g t c =
+pub meet_node-join_shifts-place-requires : goal.meet_node-join_shifts-place-requires
+meet_node-join_shifts-place-requires g t c =
     let p = c.in-Update.piece in
     let placed = subst (λ (n : Node _). IsPlaced g.L.Leaf.bounds g.L.Leaf.moved_by c.args.at (tree_of n)) c.in-Update.is c.requires.placed in
     rw c.place-in-Update.ensures (placed-piece g.L.Leaf.bounds g.L.Leaf.moved_by g.met.L.Leaf.moves_bounds c.args.at p.place p.head (trees_of p.inside) placed).shift
@@ -32,8 +32,8 @@ pub meet_node-returns-in_ok-push-in-Update-clause-stand : goal.meet_node-returns
 meet_node-returns-in_ok-push-in-Update-clause-stand g t c =
     let p = c.in-Update.piece in
     let placed = subst (λ (n : Node _). IsPlaced g.L.Leaf.bounds g.L.Leaf.moved_by c.args.at (tree_of n)) c.in-Update.is c.requires.placed in
-    let inside : ArePlaced g.L.Leaf.bounds g.L.Leaf.moved_by c.joined-place.result (trees_of p.inside) =
-    rw (c.joined-place.ensures, c.place-in-Update.ensures)
+    let inside : ArePlaced g.L.Leaf.bounds g.L.Leaf.moved_by c.join_shifts-place.result (trees_of p.inside) =
+    rw (c.join_shifts-place.ensures, c.place-in-Update.ensures)
     (placed-piece g.L.Leaf.bounds g.L.Leaf.moved_by g.met.L.Leaf.moves_bounds c.args.at p.place p.head (trees_of p.inside) placed) in
     stand-last g.L.Leaf.bounds g.L.Leaf.moved_by c.args.met.now.items c.push-in-Update.new.self.items _ c.requires.stand inside c.in_ok-push-in-Update.ensures.items
 

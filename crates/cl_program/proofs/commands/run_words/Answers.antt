@@ -9,7 +9,7 @@ use Rattle.cl_program.specs.Hosts.{hosts_of}
 use Rattle.cl_program.specs.Surroundings.{placed}
 use Rattle.cl_program.proofs.BenchLemmas.{Ran-bench}
 use Rattle.cl_program.proofs.BenchWords.{bench_within}
-use Rattle.cl_program.proofs.CommandLemmas.{KeepsFiles-read, Ran-check, Ran-text, wire_same}
+use Rattle.cl_program.proofs.CommandLemmas.{KeepsFiles-read, Ran-check, Ran-text, makes-kept, makes-read, wire_same}
 use Rattle.cl_program.proofs.commands.run_words.Goals as goal
 
 pub returns-in-Text-clause-ran : goal.returns-in-Text-clause-ran
@@ -82,3 +82,16 @@ returns-in-Some-Bench-clause-keeps g c =
     let old = placed (g.P.Place.file c.args.place.now) (g.P.Place.app_faults c.args.place.now) (g.P.Place.making_faults c.args.place.now)
     (wire_of (g.P.Place.taken c.args.place.now) (g.P.Place.writing_faults c.args.place.now) (g.P.Place.tells c.args.place.now)) in
     subst (λ (i : Option Invocation). KeptBy i (g.P.Place.by_name c.args.place.now) old old) (sym is) refl
+
+pub returns-in-Text-clause-makes : goal.returns-in-Text-clause-makes
+returns-in-Text-clause-makes g c =
+    makes-read _ _ _ c.run_text.result c.in-Text.ensures.files c.in-Text.ensures.making
+    (wire_same _ _ _ _ _ _ c.in-Text.ensures.taken c.in-Text.ensures.writing c.in-Text.ensures.tells) c.run_text.ensures.makes
+
+pub returns-in-Text-read_text-clause-makes : goal.returns-in-Text-read_text-clause-makes
+returns-in-Text-read_text-clause-makes g c =
+    makes-kept _ _ c.check_text.result c.in-Text-read_text.ensures.files c.in-Text-read_text.ensures.making
+    (wire_same _ _ _ _ _ _ c.in-Text-read_text.ensures.taken c.in-Text-read_text.ensures.writing c.in-Text-read_text.ensures.tells)
+
+pub returns-in-Some-Bench-clause-makes : goal.returns-in-Some-Bench-clause-makes
+returns-in-Some-Bench-clause-makes g c = makes-kept _ _ c.run_bench.result (λ name. refl) refl refl

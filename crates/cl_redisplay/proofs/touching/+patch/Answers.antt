@@ -54,8 +54,8 @@ patch_inside-returns-after-loop-node g t c =
     all_done g.L.Leaf.cell g.L.Leaf.bounds g.L.Leaf.moved_by c.args.area (spans_hold c.args.touched.now)
     c.args.at c.args.raster.now c.loop-node.raster (trees_of c.args.inside.now) last
 
-pub patch_node-joined-at-requires : goal.patch_node-joined-at-requires
-patch_node-joined-at-requires g t c =
+pub patch_node-join_shifts-at-requires : goal.patch_node-join_shifts-at-requires
+patch_node-join_shifts-at-requires g t c =
     let s = c.in-Presentation.presented in
     let placed = subst (λ (n : Node _). IsPlaced g.L.Leaf.bounds g.L.Leaf.moved_by c.args.at (tree_of n)) c.in-Presentation.is c.requires.placed in
     rw c.place.ensures (placed-shown g.L.Leaf.bounds g.L.Leaf.moved_by g.met.L.Leaf.moves_bounds c.args.at s.place s.label (trees_of s.inside) placed).shift
@@ -69,14 +69,14 @@ patch_node-patch_inside-requires g t c κs within =
         within,
         (
           search rules,
-          rw (c.joined-at.ensures, c.place.ensures, c.inside.ensures)
+          rw (c.join_shifts-at.ensures, c.place.ensures, c.inside.ensures)
               (placed-shown g.L.Leaf.bounds g.L.Leaf.moved_by g.met.L.Leaf.moves_bounds c.args.at s.place s.label (trees_of s.inside) placed),
         ),
       ),
     )
 
-pub patch_node-joined-at-requires-in-Update : goal.patch_node-joined-at-requires-in-Update
-patch_node-joined-at-requires-in-Update g t c =
+pub patch_node-join_shifts-at-requires-in-Update : goal.patch_node-join_shifts-at-requires-in-Update
+patch_node-join_shifts-at-requires-in-Update g t c =
     let p = c.in-Update.piece in
     let placed = subst (λ (n : Node _). IsPlaced g.L.Leaf.bounds g.L.Leaf.moved_by c.args.at (tree_of n)) c.in-Update.is c.requires.placed in
     rw c.place-in-Update.ensures (placed-piece g.L.Leaf.bounds g.L.Leaf.moved_by g.met.L.Leaf.moves_bounds c.args.at p.place p.head (trees_of p.inside) placed).shift
@@ -90,7 +90,7 @@ patch_node-patch_inside-requires-in-Update g t c κs within =
         within,
         (
           search rules,
-          rw (c.joined-at-in-Update.ensures, c.place-in-Update.ensures, c.inside-in-Update.ensures)
+          rw (c.join_shifts-at-in-Update.ensures, c.place-in-Update.ensures, c.inside-in-Update.ensures)
               (placed-piece g.L.Leaf.bounds g.L.Leaf.moved_by g.met.L.Leaf.moves_bounds c.args.at p.place p.head (trees_of p.inside) placed),
         ),
       ),
@@ -104,7 +104,7 @@ patch_node-returns-in-Presentation g t c =
           g.met.L.Leaf.moves_twice c.args.at c.in-Presentation.presented.place c.in-Presentation.presented.label (trees_of c.in-Presentation.presented.inside),
       ← c.place.ensures,
       ← c.inside.ensures,
-      ← c.joined-at.ensures,
+      ← c.join_shifts-at.ensures,
     )
     c.patch_inside.ensures
 
@@ -116,7 +116,7 @@ patch_node-returns-in-Update g t c =
           g.met.L.Leaf.moves_twice c.args.at c.in-Update.piece.place c.in-Update.piece.head (trees_of c.in-Update.piece.inside),
       ← c.place-in-Update.ensures,
       ← c.inside-in-Update.ensures,
-      ← c.joined-at-in-Update.ensures,
+      ← c.join_shifts-at-in-Update.ensures,
     )
     c.patch_inside-in-Update.ensures
 

@@ -8,8 +8,8 @@ use Rattle.cl_updating.specs.Gathers.{update_of}
 use Rattle.cl_updating.proofs.GatherLemmas.{GathersOn, gathers_on}
 use Rattle.cl_updating.proofs.levels.+gather.Goals as goal
 
-pub gather_node-joined-at-requires : goal.gather_node-joined-at-requires
-gather_node-joined-at-requires g t c =
+pub gather_node-join_shifts-at-requires : goal.gather_node-join_shifts-at-requires
+gather_node-join_shifts-at-requires g t c =
     let s = c.in-Presentation.presented in
     let placed = subst (λ (n : Node _). IsPlaced g.L.Leaf.bounds g.L.Leaf.moved_by c.args.at (tree_of n)) c.in-Presentation.is c.requires in
     rw c.place.ensures (placed-shown g.L.Leaf.bounds g.L.Leaf.moved_by g.met.L.Leaf.moves_bounds c.args.at s.place s.label (trees_of s.inside) placed).shift
@@ -21,13 +21,13 @@ gather_node-gather_row-requires g t c κs within =
       search rules,
       (
         within,
-        rw (c.joined-at.ensures, c.place.ensures, c.inside.ensures)
+        rw (c.join_shifts-at.ensures, c.place.ensures, c.inside.ensures)
             (placed-shown g.L.Leaf.bounds g.L.Leaf.moved_by g.met.L.Leaf.moves_bounds c.args.at s.place s.label (trees_of s.inside) placed),
       ),
     )
 
-pub gather_node-joined-place-requires : goal.gather_node-joined-place-requires
-gather_node-joined-place-requires g t c =
+pub gather_node-join_shifts-place-requires : goal.gather_node-join_shifts-place-requires
+gather_node-join_shifts-place-requires g t c =
     let p = c.in-Update.piece in
     let placed = subst (λ (n : Node _). IsPlaced g.L.Leaf.bounds g.L.Leaf.moved_by c.args.at (tree_of n)) c.in-Update.is c.requires in
     rw c.place-in-Update.ensures (placed-piece g.L.Leaf.bounds g.L.Leaf.moved_by g.met.L.Leaf.moves_bounds c.args.at p.place p.head (trees_of p.inside) placed).shift

@@ -7,7 +7,8 @@ use Rattle.cl_outside.specs.Lent.{Lent}
 use Rattle.cl_session.specs.Session.{world_of}
 use Rattle.cl_session.specs.Replies.{lines_of, met_of}
 use Rattle.cl_session.specs.World.{World}
-use Rattle.cl_session.specs.Transcript.{bad_line, line_bytes, lost, meters, stepped}
+use Rattle.cl_session.specs.Runs.{bad_line}
+use Rattle.cl_session.specs.Transcript.{line_bytes, lost, meters, stepped}
 use Rattle.cl_session.proofs.ServingLemmas.{turn-said, Served-end, Served-limit, Faulted-fault}
 use Rattle.cl_session.proofs.StepLemmas.{counted-to, lines-said}
 use Rattle.cl_session.proofs.sessions.Session.turn.Goals as goal

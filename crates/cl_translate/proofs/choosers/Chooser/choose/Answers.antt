@@ -6,7 +6,7 @@ use mir.Syntax.{w64}
 use mir.Val.{SFits}
 use Rattle.cl_record.specs.Marks.{history_marks}
 use Rattle.cl_record.specs.TouchWalks.{touch_of}
-use Rattle.cl_record.specs.Touches.{touch_of_label, touched}
+use Rattle.cl_record.specs.Touches.{touch_of_label, touched_labels}
 use Rattle.cl_value.specs.Value.{data_of}
 use Rattle.cl_translate.specs.Choices.{blank_area, candidates}
 use Rattle.cl_translate.specs.Scenes.{scene_of}
@@ -19,10 +19,10 @@ returns-in-Some g c =
     let across : SFits w64 c.args.point.now.x = search rules in
     let down : SFits w64 c.args.point.now.y = search rules in
     let s = scene_of g.T.Types.holds g.T.Types.hierarchy c.args.self.now in
-    let ls = touched g.L.Leaf.bounds c.args.point.now.x c.args.point.now.y (history_marks g.L.Leaf.moved_by c.args.history.now) in
+    let ls = touched_labels g.L.Leaf.bounds c.args.point.now.x c.args.point.now.y (history_marks g.L.Leaf.moved_by c.args.history.now) in
     let blank = blank_area c.args.point.now.pane.now c.args.point.now.x c.args.point.now.y in
     let gathered = spot_is (λ (x y : ℤ). map touch_of c.in_ok-candidates.candidates.items
-    ≡ map touch_of_label (reverse (touched g.L.Leaf.bounds x y (history_marks g.L.Leaf.moved_by c.args.history.now))))
+    ≡ map touch_of_label (reverse (touched_labels g.L.Leaf.bounds x y (history_marks g.L.Leaf.moved_by c.args.history.now))))
     c.args.point.now.x c.args.point.now.y _ _ (to_z-of_z w64 _ across) (to_z-of_z w64 _ down) c.in_ok-candidates.ensures in
     let all : map touch_of c.as_slice-in-loop-number.result.now ≡ candidates ls blank =
     all_candidates touch_of c.in_ok-candidates.candidates.items c.as_slice-in-loop-number.result.now _ ls blank gathered
@@ -36,10 +36,10 @@ loop-number-preserved g c =
     let across : SFits w64 c.args.point.now.x = search rules in
     let down : SFits w64 c.args.point.now.y = search rules in
     let s = scene_of g.T.Types.holds g.T.Types.hierarchy c.args.self.now in
-    let ls = touched g.L.Leaf.bounds c.args.point.now.x c.args.point.now.y (history_marks g.L.Leaf.moved_by c.args.history.now) in
+    let ls = touched_labels g.L.Leaf.bounds c.args.point.now.x c.args.point.now.y (history_marks g.L.Leaf.moved_by c.args.history.now) in
     let blank = blank_area c.args.point.now.pane.now c.args.point.now.x c.args.point.now.y in
     let gathered = spot_is (λ (x y : ℤ). map touch_of c.in_ok-candidates.candidates.items
-    ≡ map touch_of_label (reverse (touched g.L.Leaf.bounds x y (history_marks g.L.Leaf.moved_by c.args.history.now))))
+    ≡ map touch_of_label (reverse (touched_labels g.L.Leaf.bounds x y (history_marks g.L.Leaf.moved_by c.args.history.now))))
     c.args.point.now.x c.args.point.now.y _ _ (to_z-of_z w64 _ across) (to_z-of_z w64 _ down) c.in_ok-candidates.ensures in
     let all : map touch_of c.as_slice-in-loop-number.result.now ≡ candidates ls blank =
     all_candidates touch_of c.in_ok-candidates.candidates.items c.as_slice-in-loop-number.result.now _ ls blank gathered
@@ -51,6 +51,6 @@ loop-number-preserved g c =
 pub returns : goal.returns
 returns g c =
     let s = scene_of g.T.Types.holds g.T.Types.hierarchy c.args.self.now in
-    let cs = candidates (touched g.L.Leaf.bounds c.args.point.now.x c.args.point.now.y (history_marks g.L.Leaf.moved_by c.args.history.now))
+    let cs = candidates (touched_labels g.L.Leaf.bounds c.args.point.now.x c.args.point.now.y (history_marks g.L.Leaf.moved_by c.args.history.now))
     (blank_area c.args.point.now.pane.now c.args.point.now.x c.args.point.now.y) in
     no_context_left s c.args.gesture c.args.contexts.now cs c.loop-number.number (drop_all c.loop-number.number c.args.contexts.now (omega arith)) c.loop-number.invariant

@@ -1,6 +1,0 @@
-use Rattle.std.proofs.Common.{◌≡◌, [], drop}
-use Rattle.cl_load.specs.Placing.{place_panes}
-use Rattle.cl_load.proofs.placing.place_panes.Given as goal
-
-abbrev pub invariant-loop-pane : goal.invariant-loop-pane
-invariant-loop-pane l = place_panes l.width l.height (drop l.pane-index l.panes) l.placed ≡ place_panes l.width l.height l.panes []

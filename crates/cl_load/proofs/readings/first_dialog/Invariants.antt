@@ -1,6 +1,0 @@
-use Rattle.std.proofs.Common.{◌≡◌, drop}
-use Rattle.cl_load.proofs.DialogReadings.{DialogsLeft}
-use Rattle.cl_load.proofs.readings.first_dialog.Given as goal
-
-abbrev pub invariant-loop-place : goal.invariant-loop-place
-invariant-loop-place l = record { whole : l.search ≡ l.initial.search; left : DialogsLeft l.initial.search l.dialogs (drop l.place l.dialogs) }
