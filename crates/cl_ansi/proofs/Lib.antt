@@ -1,4 +1,5 @@
 pub mod Glyphs
+pub mod Pictures
 pub mod Screens
 pub mod Sequences
 pub mod Untold

@@ -19,6 +19,7 @@ clears_blank = record {
     ink_is = λ x y column row. refl;
   };
   rests = λ s. record { own_ink = refl; no_sequence = refl };
+  forgets = λ s t bytes. refl;
   entered = λ s width height. record {
     width_is = refl;
     height_is = refl;

@@ -1,5 +1,5 @@
 -- What a terminal shows of the operations of the device.
-use Rattle.std.specs.Prelude.{◌≡◌, ℕ, ◌^◌, ◌<◌, ◌≤◌, ◌⊎◌, true, List, None}
+use Rattle.std.specs.Prelude.{◌≡◌, ℕ, ◌^◌, ◌<◌, ◌≤◌, ◌⊎◌, true, List, ◌++◌, None}
 use Rattle.cl_outside.specs.Device.{IsBlank, IsPainted, IsSpan}
 use Rattle.cl_ansi.specs.Screen.{Screen, part_of, shown}
 use Rattle.cl_ansi.specs.Sequences.{clear_bytes, enter_bytes}
@@ -10,10 +10,12 @@ pub record IsAtRest (s : Screen) : Type 0 where
   pub own_ink : s.ink ≡ 0
   pub no_sequence : s.sequence ≡ None
 
--- a `clear` makes the whole screen blank, whatever broke off before it; and so does what takes the terminal over
+-- a `clear` makes the whole screen blank, whatever broke off before it, and leaves nothing of what was shown; and what takes the terminal over makes it
+-- blank too
 pub record ClearsBlank : Type 0 where
   pub blank : (s : Screen) (width height : ℕ) → IsBlank width height (part_of (shown s clear_bytes) width height)
   pub rests : (s : Screen) → IsAtRest (shown s clear_bytes)
+  pub forgets : (s t : Screen) (bytes : List ℕ) → shown s (clear_bytes ++ bytes) ≡ shown t (clear_bytes ++ bytes)
   pub entered : (s : Screen) (width height : ℕ) → IsBlank width height (part_of (shown s enter_bytes) width height)
 
 -- a span paints the part of the screen that is the device's picture, and nothing beside it: no glyph is put behind the last column of the picture

@@ -13,6 +13,10 @@ pub record Screen : Type 0 where
   pub ink : ℕ
   pub sequence : Option (List ℕ)
 
+-- a screen that shows nothing yet
+abbrev pub blank_screen : Screen
+blank_screen = record { glyph_at = λ x y. 32; ink_at = λ x y. 0; column = 0; row = 0; ink = 0; sequence = None }
+
 -- its first columns and rows
 abbrev pub part_of : Screen → (width height : ℕ) → Picture
 part_of s width height = record { width = width; height = height; glyph_at = s.glyph_at; ink_at = s.ink_at }
@@ -20,6 +24,10 @@ part_of s width height = record { width = width; height = height; glyph_at = s.g
 -- the value at one place is changed
 abbrev pub changed_at : (x y value : ℕ) → (ℕ → ℕ → ℕ) → ℕ → ℕ → ℕ
 changed_at x y value values u v = if v == y && u == x then value else values u v
+
+-- from column x of row y to the end of the row, all have this value
+abbrev pub erased_from : (x y value : ℕ) → (ℕ → ℕ → ℕ) → ℕ → ℕ → ℕ
+erased_from x y value values u v = if v == y && nat_le x u then value else values u v
 
 -- a glyph stands where the cursor is, which then goes on by one column; of what lies behind the last column nothing is said
 abbrev pub put : Screen → (glyph : ℕ) → Screen
@@ -46,13 +54,16 @@ place_in digits = digits_value 10 digits - 1
 abbrev pub ink_in : (number : ℕ) → ℕ
 ink_in number = if nat_le 31 number && nat_le number 37 then number - 30 else 0
 
--- `2 J` erases the whole display, `H` moves the cursor, and `m` chooses the ink; no other sequence changes what is shown
+-- `2 J` erases the whole display and `K` the row of the cursor from there on, `H` moves the cursor, and `m` chooses the ink; no other sequence that is
+-- sent changes what is shown
 abbrev pub acted : Screen → (parameters : List ℕ) → (final : ℕ) → Screen
 acted s parameters final =
     if final == 74 && digits_value 10 parameters == 2 then record s { glyph_at = λ x y. 32; ink_at = λ x y. 0; sequence = None }
     else (if final == 72 then record s { column = place_in (second parameters); row = place_in (first parameters); sequence = None }
     else (if final == 109 then record s { ink = ink_in (digits_value 10 parameters); sequence = None }
-    else record s { sequence = None }))
+    else (if final == 75 && digits_value 10 parameters == 0
+    then record s { glyph_at = erased_from s.column s.row 32 s.glyph_at; ink_at = erased_from s.column s.row 0 s.ink_at; sequence = None }
+    else record s { sequence = None })))
 
 -- ---- bytes one after another
 

@@ -5,14 +5,14 @@ ghost use Rattle.cl_outside.specs.Operations.{clears, mended, op_bytes, shows};
 ghost use Rattle.cl_outside.specs.Sending.{Sends};
 ghost use Rattle.cl_outside.specs.Writing.{Says, joined};
 ghost use Rattle.cl_ansi.specs.Sequences.{enter_bytes, leave_bytes, span_bytes};
-ghost use Rattle.cl_ansi.specs.Terminal.{Clears, Writes, new_terminal, shown_bytes};
+ghost use Rattle.cl_ansi.specs.Terminal.{Clears, IsTelling, Writes, new_terminal, picture_of, shown_bytes};
 
 use cl_outside::{Device, Sent, Sink, write_pieces};
 use itoa::Buffer;
 use std::marker::Model;
 
-/// A terminal that is at least as large as its picture. It takes no memory, and its picture and its
-/// wire are not told. A sequence that broke off is given up by the terminal at the next one, which begins
+/// A terminal that is at least as large as its picture, which is what it shows of all bytes that its sink
+/// took, the caller's own among them. It takes no memory, and its wire is not told. A sequence that broke off is given up by the terminal at the next one, which begins
 /// with an escape.
 #[derive(Drop)]
 pub struct AnsiDevice<S: Sink> {
@@ -24,11 +24,12 @@ pub struct AnsiDevice<S: Sink> {
 }
 
 impl<S: Sink> Model for AnsiDevice<S> {
-    ghost use Rattle.cl_ansi.specs.Terminal.{Terminal};
+    ghost use Rattle.cl_ansi.specs.Terminal.{IsTelling, Terminal};
 
     ghost Value = { Terminal };
 
     ghost view = { λ d. record {
+      told = (S.lent d.sink).told;
       taken = S.taken d.sink;
       faults = S.faults d.sink;
       broken = d.broken;
@@ -36,12 +37,15 @@ impl<S: Sink> Model for AnsiDevice<S> {
       width = d.width;
       height = d.height;
     } };
+
+    ghost invariant = { λ d. IsTelling (S.lent d.sink).told (S.taken d.sink) };
 }
 
 impl<S: Sink> AnsiDevice<S> {
     /// A terminal that is not yet cleared. Nothing is sent.
     pub fn new(sink: S) -> AnsiDevice<S>
-        ensures { result ≡ new_terminal (S.taken sink) (S.faults sink) }
+        requires tells { IsTelling (S.lent sink).told (S.taken sink) }
+        ensures { result ≡ new_terminal (S.lent sink).told (S.taken sink) (S.faults sink) }
     {
         AnsiDevice {
             sink,
@@ -101,6 +105,17 @@ impl<S: Sink> AnsiDevice<S> {
         Sent::Done
     }
 
+    // Sends the glyphs of a span that lie in the picture.
+    fn send_shown(&mut self, x: u16, y: u16, ink: u8, glyphs: &[u8]) -> Sent
+        requires ink { ink ≤ 7 }
+        ensures { Writes self.old self.new (shown_bytes self.old x y ink glyphs.now) result }
+    {
+        if !self.cleared || x >= self.width || y >= self.height {
+            return Sent::Done;
+        }
+        self.send_span(x, y, ink, front(glyphs, self.width - x))
+    }
+
     // Sends a span whole.
     fn send_span(&mut self, x: u16, y: u16, ink: u8, glyphs: &[u8]) -> Sent
         requires ink { ink ≤ 7 }
@@ -122,7 +137,7 @@ impl<S: Sink> AnsiDevice<S> {
 impl<S: Sink> Device for AnsiDevice<S> {
     ghost use Rattle.cl_outside.specs.Untied.{untied};
 
-    ghost picture = { λ _. None };
+    ghost picture = { λ d. picture_of d };
 
     ghost broken = { λ d. d.broken };
 
@@ -130,43 +145,43 @@ impl<S: Sink> Device for AnsiDevice<S> {
 
     ghost faults = { λ d. d.faults };
 
-    ghost tied = { λ d. untied None d.broken None };
+    ghost tied = { λ d. untied None d.broken (picture_of d) };
 
     fn clear(&mut self, width: u16, height: u16) -> Sent
         requires columns { (1 ≤ width) × (width ≤ 512) }
         requires rows { (1 ≤ height) × (height ≤ 256) }
-        ensures shows { ClearSent width height None self.new.broken self.new.cleared result }
+        ensures shows { ClearSent width height (picture_of self.new) self.new.broken
+            self.new.cleared result }
         ensures sends { Sends result None None
             (mended self.old.broken (op_bytes (clears width height))) self.old.faults
             self.new.faults }
         ensures cause { SentRose self.old.faults self.new.faults result }
         ensures clears { Clears self.old self.new width height result }
     {
-        let sent = self.send(&[b"\x1b[0m\x1b[2J\x1b[H"]);
-        if sent == Sent::Done {
-            self.width = width;
-            self.height = height;
-            self.cleared = true;
-            self.broken = false;
+        match self.send(&[b"\x1b[0m\x1b[2J\x1b[H"]) {
+            Sent::Done => {
+                self.width = width;
+                self.height = height;
+                self.cleared = true;
+                self.broken = false;
+                Sent::Done
+            }
+            Sent::Failed => Sent::Failed,
         }
-        sent
     }
 
     fn span(&mut self, x: u16, y: u16, ink: u8, glyphs: &[u8]) -> Sent
         requires whole { self.old.broken ≡ false }
         requires span { IsSpan ink glyphs.now }
         ensures cleared { self.new.cleared ≡ self.old.cleared }
-        ensures shows { SpanSent self.old.cleared None None x y ink glyphs.now self.new.broken
-            result }
+        ensures shows { SpanSent self.old.cleared (picture_of self.old) (picture_of self.new) x y ink
+            glyphs.now self.new.broken result }
         ensures sends { Sends result None None (op_bytes (shows x y ink glyphs.now))
             self.old.faults self.new.faults }
         ensures cause { SentRose self.old.faults self.new.faults result }
         ensures writes { Writes self.old self.new (shown_bytes self.old x y ink glyphs.now) result }
     {
-        if !self.cleared || x >= self.width || y >= self.height {
-            return Sent::Done;
-        }
-        self.send_span(x, y, ink, front(glyphs, self.width - x))
+        self.send_shown(x, y, ink, glyphs)
     }
 }
 

@@ -1,3 +1,4 @@
 pub mod Expected
+pub mod Laws
 pub mod Rows
 pub mod Typed

@@ -4,11 +4,13 @@
 #![tactic(auto)]
 
 mod expecting;
+mod laws;
 mod rows;
 #[cfg(test)]
 mod tests;
 mod typed;
 
 pub use expecting::expected;
+pub use laws::a_terminal_shows_the_interactor;
 pub use rows::{REPLY_ROWS, interactor};
 pub use typed::put_typed;

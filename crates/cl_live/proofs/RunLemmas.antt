@@ -1,5 +1,5 @@
 -- A run of words, by the run of the text that they ask for.
-use Rattle.std.proofs.Common.{refl, ◌≡◌, ℕ, List, Option, None}
+use Rattle.std.proofs.Common.{refl, ◌≡◌, ℕ, Bool, List, Option, None}
 use Rattle.std.specs.Prelude.{Err}
 use Rattle.cl_application.specs.declared.applications.App.{App}
 use Rattle.cl_eval.specs.declared.metering.Limits.{Limits}
@@ -22,24 +22,24 @@ use Rattle.cl_ptext.specs.Subtyping.{hierarchy_in}
 use Rattle.cl_terminal.specs.declared.running.RunEnd.{RunEnd}
 
 -- an application that was loaded, with its types
-pub RanText-ran : (hosts : HostMeanings) (text : List ℕ) (limits : Limits) (app : App) (types : World) (s t : Streams) (ended : RunEnd)
+pub RanText-ran : (told : Bool) (hosts : HostMeanings) (text : List ℕ) (limits : Limits) (app : App) (types : World) (s t : Streams) (ended : RunEnd)
     → IsApplication hosts.bounds text app → types ≡ types_in hosts.bounds app
-    → RanOn (ground app (meanings_in hosts.names types app) (reads_in hosts.names types app) (hierarchy_in types) limits) s t ended
-    → RanText hosts text limits s t (how.Ran ended)
-RanText-ran hosts text limits app types s t ended is same r = (app, is, rw same at r)
+    → RanOn told (ground app (meanings_in hosts.names types app) (reads_in hosts.names types app) (hierarchy_in types) limits) s t ended
+    → RanText told hosts text limits s t (how.Ran ended)
+RanText-ran told hosts text limits app types s t ended is same r = (app, is, rw same at r)
 
 -- a text that does not load
-pub RanText-refused : (hosts : HostMeanings) (text : List ℕ) (limits : Limits) (r : LoadRefusal) (s t : Streams) (h : How)
-    → Loads hosts.bounds text (Err r) → Tells r s t h → RanText hosts text limits s t h
-RanText-refused hosts text limits r s t how.Usage is told = absurd told
-RanText-refused hosts text limits r s t how.UsageCut is told = absurd told
-RanText-refused hosts text limits r s t how.AppFault is told = absurd told
-RanText-refused hosts text limits r s t how.Refused is told = refuses hosts.bounds text r (SaysWhole s t) (stands hosts.bounds text r is) told
-RanText-refused hosts text limits r s t how.RefusalCut is told = refuses hosts.bounds text r (SaysCut s t) (stands hosts.bounds text r is) told
-RanText-refused hosts text limits r s t how.Memory is told = told
-RanText-refused hosts text limits r s t (how.Ran ended) is told = absurd told
+pub RanText-refused : (told : Bool) (hosts : HostMeanings) (text : List ℕ) (limits : Limits) (r : LoadRefusal) (s t : Streams) (h : How)
+    → Loads hosts.bounds text (Err r) → Tells r s t h → RanText told hosts text limits s t h
+RanText-refused told hosts text limits r s t how.Usage is said = absurd said
+RanText-refused told hosts text limits r s t how.UsageCut is said = absurd said
+RanText-refused told hosts text limits r s t how.AppFault is said = absurd said
+RanText-refused told hosts text limits r s t how.Refused is said = refuses hosts.bounds text r (SaysWhole s t) (stands hosts.bounds text r is) said
+RanText-refused told hosts text limits r s t how.RefusalCut is said = refuses hosts.bounds text r (SaysCut s t) (stands hosts.bounds text r is) said
+RanText-refused told hosts text limits r s t how.Memory is said = said
+RanText-refused told hosts text limits r s t (how.Ran ended) is said = absurd said
 
-module _ (hosts : HostMeanings) (words : List (List ℕ)) (name : List ℕ) (budget : Option ℕ) (asked : IsLive words name budget) where
+module _ (told : Bool) (hosts : HostMeanings) (words : List (List ℕ)) (name : List ℕ) (budget : Option ℕ) (asked : IsLive words name budget) where
   opens : (place : Placed) (text : List ℕ) (app : App) → IsTextOf (place.file name) text → IsApplication hosts.bounds text app
       → Opens hosts (as_run words) place None (ground_in hosts app (limits_of budget))
   opens place text app of is =
@@ -47,7 +47,7 @@ module _ (hosts : HostMeanings) (words : List (List ℕ)) (name : List ℕ) (bud
 
   -- the file that the words ask for has this text
   pub Went-text : (old new : Placed) (s t : Streams) (text : List ℕ) (h : How) → IsTextOf (old.file name) text
-      → RanText hosts text (limits_of budget) s t h → Went hosts words old new s t h
+      → RanText told hosts text (limits_of budget) s t h → Went told hosts words old new s t h
   Went-text old new s t text how.Usage of r = absurd r
   Went-text old new s t text how.UsageCut of r = absurd r
   Went-text old new s t text how.AppFault of r = absurd r
@@ -60,12 +60,12 @@ module _ (hosts : HostMeanings) (words : List (List ℕ)) (name : List ℕ) (bud
       record { g = ground_in hosts r.0 (limits_of budget); opened = opens old text r.0 of r.1; ran = r.2 }
 
 -- the words ask for none
-pub Went-usage : (hosts : HostMeanings) (words : List (List ℕ)) (place : Placed) (s t : Streams) (h : How) → IsNoLive words → SaysUsage s t h
-    → Went hosts words place place s t h
-Went-usage hosts words place s t how.Usage none said = (none, said)
-Went-usage hosts words place s t how.UsageCut none said = (none, said)
-Went-usage hosts words place s t how.AppFault none said = absurd said
-Went-usage hosts words place s t how.Refused none said = absurd said
-Went-usage hosts words place s t how.RefusalCut none said = absurd said
-Went-usage hosts words place s t how.Memory none said = absurd said
-Went-usage hosts words place s t (how.Ran ended) none said = absurd said
+pub Went-usage : (told : Bool) (hosts : HostMeanings) (words : List (List ℕ)) (place : Placed) (s t : Streams) (h : How) → IsNoLive words → SaysUsage s t h
+    → Went told hosts words place place s t h
+Went-usage told hosts words place s t how.Usage none said = (none, said)
+Went-usage told hosts words place s t how.UsageCut none said = (none, said)
+Went-usage told hosts words place s t how.AppFault none said = absurd said
+Went-usage told hosts words place s t how.Refused none said = absurd said
+Went-usage told hosts words place s t how.RefusalCut none said = absurd said
+Went-usage told hosts words place s t how.Memory none said = absurd said
+Went-usage told hosts words place s t (how.Ran ended) none said = absurd said

@@ -1,5 +1,5 @@
 -- When a status is due.
-use Rattle.std.proofs.Common.{refl, ◌≡◌, ℕ, List, Option, None, inl, inr, subst}
+use Rattle.std.proofs.Common.{refl, ◌≡◌, ℕ, Bool, List, Option, None, inl, inr, subst}
 use Rattle.std.specs.Prelude.{◌⊎◌}
 use Rattle.cl_live.specs.Runs.{FaultRose, Refuses, Went}
 use Rattle.cl_live.specs.Statuses.{status_of}
@@ -40,8 +40,8 @@ refused_not_declared bounds words place old new name budget is r d =
     refused_declares bounds (as_run words) place old new name (record { reason = r.refuses.0; refused = refused; said = r.refuses.2 })
     (named words name budget is) d
 
-module _ (hosts : HostMeanings) (words : List (List ℕ)) (p q : Placed) (s t : Streams) where
-  pub usage_due : (h : How) → Went hosts words p q s t h → IsNoLive words
+module _ (told : Bool) (hosts : HostMeanings) (words : List (List ℕ)) (p q : Placed) (s t : Streams) where
+  pub usage_due : (h : How) → Went told hosts words p q s t h → IsNoLive words
       → (status_of h ≡ 2) ⊎ (status_of h ≡ 5) ⊎ (status_of h ≡ 7)
   usage_due how.Usage r none = inl refl
   usage_due how.UsageCut r none = inr (inl refl)
@@ -51,7 +51,7 @@ module _ (hosts : HostMeanings) (words : List (List ℕ)) (p q : Placed) (s t : 
   usage_due how.Memory r none = inr (inr refl)
   usage_due (how.Ran ended) r none = absurd (none r.opened.name r.opened.budget r.opened.command)
 
-  pub refusal_due : (h : How) (name : List ℕ) (budget : Option ℕ) (reason : Reason) → Went hosts words p q s t h → IsLive words name budget
+  pub refusal_due : (h : How) (name : List ℕ) (budget : Option ℕ) (reason : Reason) → Went told hosts words p q s t h → IsLive words name budget
       → (Rose (p.app_faults name) (q.app_faults name) → ⊥) → HasRefusal hosts.bounds (p.file name) reason
       → (status_of h ≡ 1) ⊎ (status_of h ≡ 5) ⊎ (status_of h ≡ 7)
   refusal_due how.Usage name budget reason r is quiet refusal = absurd (r.0 name budget is)
@@ -63,7 +63,7 @@ module _ (hosts : HostMeanings) (words : List (List ℕ)) (p q : Placed) (s t : 
   refusal_due (how.Ran ended) name budget reason r is quiet refusal =
       absurd (opened_declares hosts (as_run words) p None r.g name reason r.opened (named words name budget is) refusal)
 
-  pub complete : (h : How) (name : List ℕ) (budget : Option ℕ) → Went hosts words p q s t h → IsLive words name budget
+  pub complete : (h : How) (name : List ℕ) (budget : Option ℕ) → Went told hosts words p q s t h → IsLive words name budget
       → (Rose (p.app_faults name) (q.app_faults name) → ⊥) → (Rose s.gesture_faults t.gesture_faults → ⊥)
       → (Rose s.output_faults t.output_faults → ⊥) → DeclaresApplication hosts.bounds (p.file name)
       → (status_of h ≡ 0) ⊎ (status_of h ≡ 8) ⊎ (status_of h ≡ 7)
@@ -76,6 +76,7 @@ module _ (hosts : HostMeanings) (words : List (List ℕ)) (p q : Placed) (s t : 
   complete how.Memory name budget r is quiet keys output declares = inr (inr refl)
   complete (how.Ran end.Memory) name budget r is quiet keys output declares = inr (inr refl)
   complete (how.Ran (end.Served closing.Done)) name budget r is quiet keys output declares = inl refl
-  complete (how.Ran (end.Served closing.ReadFault)) name budget r is quiet keys output declares = absurd (keys r.ran.ran.serves.1)
-  complete (how.Ran (end.Served closing.OutputFault)) name budget r is quiet keys output declares = absurd (output r.ran.ran)
+  complete (how.Ran (end.Served closing.ReadFault)) name budget r is quiet keys output declares = absurd (keys r.ran.ran.served.serves.1)
+  complete (how.Ran (end.Served closing.OutputFault)) name budget r is quiet keys output declares =
+      absurd (output (subst (λ (n : ℕ). Rose s.output_faults n) r.ran.faults_is r.ran.ran.0))
   complete (how.Ran (end.Served closing.TooLong)) name budget r is quiet keys output declares = inr (inl refl)

@@ -1,6 +1,6 @@
 -- What a run in a terminal comes to. The gestures of the streams are the keys here, and their output is the terminal.
-use Rattle.std.specs.Prelude.{◌≡◌, ℕ, List, Option, None}
-use Rattle.cl_ansi.specs.Terminal.{Terminal}
+use Rattle.std.specs.Prelude.{◌≡◌, ℕ, Bool, List, Option, None}
+use Rattle.cl_ansi.specs.Terminal.{Terminal, new_terminal}
 use Rattle.cl_eval.specs.declared.metering.Limits.{Limits}
 use Rattle.cl_frame.specs.Ground.{Ground}
 use Rattle.cl_live.specs.Words.{IsLive, IsNoLive, as_run, usage_line}
@@ -20,29 +20,25 @@ use Rattle.cl_terminal.specs.declared.running.RunEnd.{RunEnd}
 
 -- ---- an application that was loaded
 
--- a terminal that took these bytes and had so many faults was given back
-pub record GivesBack (taken : Option (List ℕ)) (faults : ℕ) : Type 0 where
+-- It was run in the terminal from its opening slots on, and the terminal was given back. The output tells its bytes at all times, or does not.
+pub record RanOn (told : Bool) (g : Ground) (old new : Streams) (ended : RunEnd) : Type 0 where
   pub terminal : Terminal
-  pub taken_is : terminal.taken ≡ taken
-  pub faults_is : terminal.faults ≡ faults
+  pub taken_is : terminal.taken ≡ new.taken
+  pub faults_is : terminal.faults ≡ new.output_faults
+  pub ran : Ran g (opening_slots g.app) old.left new.left old.gesture_faults new.gesture_faults (new_terminal told old.taken old.output_faults) terminal ended
   pub given_back : IsGivenBack terminal
-
--- it was run in the terminal from its opening slots on, and the terminal was given back
-pub record RanOn (g : Ground) (old new : Streams) (ended : RunEnd) : Type 0 where
-  pub ran : Ran g (opening_slots g.app) old.left new.left old.gesture_faults new.gesture_faults old.output_faults new.output_faults ended
-  pub given_back : GivesBack new.taken new.output_faults
 
 -- ---- a text that was read
 
 -- a run of it
-abbrev pub RanText : HostMeanings → (text : List ℕ) → Limits → (old new : Streams) → How → Type 0
-RanText hosts text limits old new how.Usage = ⊥
-RanText hosts text limits old new how.UsageCut = ⊥
-RanText hosts text limits old new how.AppFault = ⊥
-RanText hosts text limits old new how.Refused = RefusesText hosts.bounds text (SaysWhole old new)
-RanText hosts text limits old new how.RefusalCut = RefusesText hosts.bounds text (SaysCut old new)
-RanText hosts text limits old new how.Memory = new ≡ old
-RanText hosts text limits old new (how.Ran ended) = OfApplication hosts text limits (λ g. RanOn g old new ended)
+abbrev pub RanText : (told : Bool) → HostMeanings → (text : List ℕ) → Limits → (old new : Streams) → How → Type 0
+RanText told hosts text limits old new how.Usage = ⊥
+RanText told hosts text limits old new how.UsageCut = ⊥
+RanText told hosts text limits old new how.AppFault = ⊥
+RanText told hosts text limits old new how.Refused = RefusesText hosts.bounds text (SaysWhole old new)
+RanText told hosts text limits old new how.RefusalCut = RefusesText hosts.bounds text (SaysCut old new)
+RanText told hosts text limits old new how.Memory = new ≡ old
+RanText told hosts text limits old new (how.Ran ended) = OfApplication hosts text limits (λ g. RanOn told g old new ended)
 
 -- the line of a refusal was written, or the output failed, or memory was wanting before it
 abbrev pub Tells : LoadRefusal → (old new : Streams) → How → Type 0
@@ -83,17 +79,17 @@ pub record Refuses (bounds : Bounds) (words : List (List ℕ)) (place : Placed) 
   pub refuses : RefusesText bounds text said
 
 -- the words ask for an application, which was run in the terminal
-pub record Runs (hosts : HostMeanings) (words : List (List ℕ)) (place : Placed) (old new : Streams) (ended : RunEnd) : Type 0 where
+pub record Runs (told : Bool) (hosts : HostMeanings) (words : List (List ℕ)) (place : Placed) (old new : Streams) (ended : RunEnd) : Type 0 where
   pub g : Ground
   pub opened : Opens hosts (as_run words) place None g
-  pub ran : RanOn g old new ended
+  pub ran : RanOn told g old new ended
 
 -- a run of these words, with these host types
-abbrev pub Went : HostMeanings → (words : List (List ℕ)) → (place_old place_new : Placed) → (old new : Streams) → How → Type 0
-Went hosts words place_old place_new old new how.Usage = IsNoLive words × SaysWhole old new usage_line
-Went hosts words place_old place_new old new how.UsageCut = IsNoLive words × SaysCut old new usage_line
-Went hosts words place_old place_new old new how.AppFault = FaultRose words place_old place_new × (new ≡ old)
-Went hosts words place_old place_new old new how.Refused = Refuses hosts.bounds words place_old (SaysWhole old new)
-Went hosts words place_old place_new old new how.RefusalCut = Refuses hosts.bounds words place_old (SaysCut old new)
-Went hosts words place_old place_new old new how.Memory = new ≡ old
-Went hosts words place_old place_new old new (how.Ran ended) = Runs hosts words place_old old new ended
+abbrev pub Went : (told : Bool) → HostMeanings → (words : List (List ℕ)) → (place_old place_new : Placed) → (old new : Streams) → How → Type 0
+Went told hosts words place_old place_new old new how.Usage = IsNoLive words × SaysWhole old new usage_line
+Went told hosts words place_old place_new old new how.UsageCut = IsNoLive words × SaysCut old new usage_line
+Went told hosts words place_old place_new old new how.AppFault = FaultRose words place_old place_new × (new ≡ old)
+Went told hosts words place_old place_new old new how.Refused = Refuses hosts.bounds words place_old (SaysWhole old new)
+Went told hosts words place_old place_new old new how.RefusalCut = Refuses hosts.bounds words place_old (SaysCut old new)
+Went told hosts words place_old place_new old new how.Memory = new ≡ old
+Went told hosts words place_old place_new old new (how.Ran ended) = Runs told hosts words place_old old new ended

@@ -1,5 +1,5 @@
 -- The statuses of a run in a terminal.
-use Rattle.std.specs.Prelude.{◌≡◌, ℕ, List}
+use Rattle.std.specs.Prelude.{◌≡◌, ℕ, Bool, List}
 use Rattle.cl_live.specs.Runs.{Went}
 use Rattle.cl_live.specs.declared.ends.How.{How}
 use Rattle.cl_live.specs.declared.ends.How.TheVariants as how
@@ -23,7 +23,7 @@ status_of (how.Ran (end.Served closing.OutputFault)) = 5
 status_of (how.Ran (end.Served closing.TooLong)) = 8
 
 -- a run ended with this status: in one of the ways that have it, and what that says holds
-pub record EndsWith (hosts : HostMeanings) (words : List (List ℕ)) (place_old place_new : Placed) (old new : Streams) (status : ℕ) : Type 0 where
+pub record EndsWith (told : Bool) (hosts : HostMeanings) (words : List (List ℕ)) (place_old place_new : Placed) (old new : Streams) (status : ℕ) : Type 0 where
   pub how : How
   pub status_is : status ≡ status_of how
-  pub went : Went hosts words place_old place_new old new how
+  pub went : Went told hosts words place_old place_new old new how

@@ -1,5 +1,6 @@
 //! The run that words ask for.
 ghost use Rattle.std.specs.Prelude.{◌≡◌, ◌≢◌, ◌≤◌, ℕ, List, None, Option, map};
+ghost use Rattle.cl_ansi.specs.Terminal.{IsTelling};
 ghost use Rattle.cl_application.specs.Panes.{IsPlaced};
 ghost use Rattle.cl_frame.specs.Ground.{ground, ground_of, meanings_of};
 ghost use Rattle.cl_frame.specs.Sending.{wire_of};
@@ -42,7 +43,8 @@ pub(crate) fn run_words<H: Hosts, P: Place, G: Source, O: Sink, L: Ledger>(
     mut out: O,
     steps: &mut Steps<L>,
 ) -> (How, O)
-    ensures went { Went (hosts_of H.bounds H.entries hosts.now) (map (λ w. w.now) words.now)
+    requires tells { IsTelling (O.lent out).told (O.taken out) }
+    ensures went { Went (O.lent out).told (hosts_of H.bounds H.entries hosts.now) (map (λ w. w.now) words.now)
         (placed (P.file place.old) (P.app_faults place.old) (P.making_faults place.old)
         (wire_of (P.taken place.old) (P.writing_faults place.old) (P.tells place.old)))
         (placed (P.file place.new) (P.app_faults place.new) (P.making_faults place.new)
@@ -88,8 +90,9 @@ fn run_asked<H: Hosts, P: Place, G: Source, O: Sink, L: Ledger>(
     out: O,
     steps: &mut Steps<L>,
 ) -> (How, O)
+    requires tells { IsTelling (O.lent out).told (O.taken out) }
     ensures went { (words : List (List ℕ)) → IsLive words asked.entry.application.now asked.entry.budget
-        → Went (hosts_of H.bounds H.entries hosts.now) words
+        → Went (O.lent out).told (hosts_of H.bounds H.entries hosts.now) words
         (placed (P.file place.old) (P.app_faults place.old) (P.making_faults place.old)
         (wire_of (P.taken place.old) (P.writing_faults place.old) (P.tells place.old)))
         (placed (P.file place.new) (P.app_faults place.new) (P.making_faults place.new)
@@ -127,8 +130,9 @@ fn run_text<H: Hosts, G: Source, O: Sink, L: Ledger>(
     mut out: O,
     steps: &mut Steps<L>,
 ) -> (How, O)
+    requires tells { IsTelling (O.lent out).told (O.taken out) }
     requires depth { setting.limits.depth ≤ 512 }
-    ensures ran { RanText (hosts_of H.bounds H.entries hosts.now) text.now setting.limits
+    ensures ran { RanText (O.lent out).told (hosts_of H.bounds H.entries hosts.now) text.now setting.limits
         (streams (G.left keys.old) (G.faults keys.old) (O.taken out) (O.faults out) steps.old)
         (streams (G.left keys.new) (G.faults keys.new) (O.taken result.1) (O.faults result.1) steps.new) result.0 }
     ensures lent { G.lent keys.new ≡ G.lent keys.old }
@@ -154,9 +158,10 @@ fn run_application<H: Hosts, G: Source, O: Sink, L: Ledger>(
     out: O,
     steps: &mut Steps<L>,
 ) -> (RunEnd, O)
+    requires tells { IsTelling (O.lent out).told (O.taken out) }
     requires depth { setting.limits.depth ≤ 512 }
     requires reuse { CanReuse loaded.app (meanings_in (H.entries hosts.now) loaded.lattice loaded.app) }
-    ensures ran { RanOn (ground loaded.app (meanings_in (H.entries hosts.now) loaded.lattice loaded.app)
+    ensures ran { RanOn (O.lent out).told (ground loaded.app (meanings_in (H.entries hosts.now) loaded.lattice loaded.app)
         (reads_in (H.entries hosts.now) loaded.lattice loaded.app) (hierarchy_in loaded.lattice) setting.limits)
         (streams (G.left keys.old) (G.faults keys.old) (O.taken out) (O.faults out) steps.old)
         (streams (G.left keys.new) (G.faults keys.new) (O.taken result.1) (O.faults result.1) steps.new) result.0 }
@@ -178,9 +183,10 @@ fn run_types<'a, T: Types, G: Source, O: Sink, L: Ledger>(
     out: O,
     steps: &mut Steps<L>,
 ) -> (RunEnd, O)
+    requires tells { IsTelling (O.lent out).told (O.taken out) }
     requires depth { setting.limits.depth ≤ 512 }
     requires reuse { CanReuse loaded.now.app (meanings_of T.holds T.presents types.now) }
-    ensures ran { RanOn (ground loaded.now.app (meanings_of T.holds T.presents types.now) (T.reads types.now) (T.hierarchy types.now) setting.limits)
+    ensures ran { RanOn (O.lent out).told (ground loaded.now.app (meanings_of T.holds T.presents types.now) (T.reads types.now) (T.hierarchy types.now) setting.limits)
         (streams (G.left keys.old) (G.faults keys.old) (O.taken out) (O.faults out) steps.old)
         (streams (G.left keys.new) (G.faults keys.new) (O.taken result.1) (O.faults result.1) steps.new) result.0 }
     ensures lent { G.lent keys.new ≡ G.lent keys.old }
@@ -205,12 +211,13 @@ fn run_program<T: Types, G: Source, O: Sink, L: Ledger>(
     out: O,
     steps: &mut Steps<L>,
 ) -> (RunEnd, O)
+    requires tells { IsTelling (O.lent out).told (O.taken out) }
     requires depth { program.now.limits.depth ≤ 512 }
     requires placed { IsPlaced program.now.app.now.frame }
     requires no_ring { HasNoRing program.now.app.now.tables }
     requires reuse { CanReuse program.now.app.now (meanings_of T.holds T.presents program.now.types.now) }
     requires opening { slots.now ≡ opening_slots program.now.app.now }
-    ensures ran { RanOn (ground_of T.holds T.presents T.reads T.hierarchy program.now)
+    ensures ran { RanOn (O.lent out).told (ground_of T.holds T.presents T.reads T.hierarchy program.now)
         (streams (G.left keys.old) (G.faults keys.old) (O.taken out) (O.faults out) steps.old)
         (streams (G.left keys.new) (G.faults keys.new) (O.taken result.1) (O.faults result.1) steps.new) result.0 }
     ensures lent { G.lent keys.new ≡ G.lent keys.old }

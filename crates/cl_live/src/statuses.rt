@@ -1,5 +1,6 @@
 //! The top call and its exit status.
 ghost use Rattle.std.specs.Prelude.{◌≡◌, ◌≤◌, ◌⊎◌, ℕ, List, None, Option, map};
+ghost use Rattle.cl_ansi.specs.Terminal.{IsTelling};
 ghost use Rattle.cl_frame.specs.Sending.{wire_of};
 ghost use Rattle.cl_live.specs.Statuses.{EndsWith, status_of};
 ghost use Rattle.cl_live.specs.Words.{IsLive, IsNoLive};
@@ -42,7 +43,8 @@ pub fn live_main<H: Hosts, P: Place, G: Source, O: Sink, L: Ledger>(
     out: O,
     steps: &mut Steps<L>,
 ) -> Ended<O>
-    ensures ends { EndsWith (hosts_of H.bounds H.entries hosts.now) (map (λ w. w.now) words.now)
+    requires tells { IsTelling (O.lent out).told (O.taken out) }
+    ensures ends { EndsWith (O.lent out).told (hosts_of H.bounds H.entries hosts.now) (map (λ w. w.now) words.now)
         (placed (P.file place.old) (P.app_faults place.old) (P.making_faults place.old)
         (wire_of (P.taken place.old) (P.writing_faults place.old) (P.tells place.old)))
         (placed (P.file place.new) (P.app_faults place.new) (P.making_faults place.new)

@@ -3,11 +3,11 @@ use Rattle.std.proofs.Common.{◌≡◌, ◌||◌, arith, suc, ◌∙◌, ◌++�
 use Rattle.std.specs.List.{before_first, list_any, prefix_len}
 use Rattle.cl_application.specs.declared.applications.App.{App}
 use Rattle.cl_gesture.specs.declared.answers.Gesture.{Gesture}
-use Rattle.cl_keys.specs.Decoding.{State, before_keys, keys_from, step}
+use Rattle.cl_keys.specs.Decoding.{State, before_keys, keys_from, state_after, step}
 use Rattle.cl_keys.specs.Gestures.{gesture_of, gestures_of}
 use Rattle.cl_keys.specs.declared.keys.Key.{Key}
 use Rattle.cl_keys.specs.declared.keys.Key.TheVariants as key
-use Rattle.cl_terminal.specs.Handled.{AreHandled, EndsAt, GoesOn, Handles, end_among, is_end}
+use Rattle.cl_terminal.specs.Handled.{AreHandled, EndsAt, GoesOn, Handles, end_among, gestures_from, is_end}
 
 one-more : {X : Type 0} (n : ℕ) (x : X) (xs : List X) → take (1 + n) (x ∷ xs) ≡ x ∷ take n xs
 one-more n x xs = let e : 1 + n ≡ suc n = omega arith in ap (λ (m : ℕ). take m (x ∷ xs)) e
@@ -51,15 +51,21 @@ by_key (Some k) keys e = true-behind (is_end k) (list_any is_end keys) e
 end-behind : (s : State) (b : ℕ) (more : List ℕ) → end_among (step s b).state more ≡ true → end_among s (b ∷ more) ≡ true
 end-behind s b more e = by_key (step s b).key (keys_from (step s b).state more) e
 
+-- the state behind bytes, and then others
+pub after_append : (s : State) (front back : List ℕ) → state_after s (front ++ back) ≡ state_after (state_after s front) back
+after_append s [] back = refl
+after_append s (b ∷ front) back = after_append (step s b).state front back
+
 module _ {World Choice : Type 0} (after : World → Gesture → Choice → World) (app : App) where
   -- no byte
   pub nothing-taken : (s : State) (w : World) → GoesOn after app s w s w []
-  nothing-taken s w = record { handles = λ more to h. h; ends = λ more e. e }
+  nothing-taken s w = record { state = refl; handles = λ more to h. h; ends = λ more e. e }
 
   -- bytes, and then others
   pub both-taken : (s : State) (w : World) (s_mid : State) (w_mid : World) (s_new : State) (w_new : World) (front back : List ℕ)
       → GoesOn after app s w s_mid w_mid front → GoesOn after app s_mid w_mid s_new w_new back → GoesOn after app s w s_new w_new (front ++ back)
   both-taken s w s_mid w_mid s_new w_new front back first then = record {
+    state = then.state ∙ (ap (λ (t : State). state_after t back) first.state ∙ sym (after_append s front back));
     handles = λ more to h.
         subst (λ (bytes : List ℕ). Handles after app s w to bytes) (sym (append_assoc front back more)) (first.handles (back ++ more) to (then.handles more to h));
     ends = λ more e. ap (end_among s) (append_assoc front back more) ∙ first.ends (back ++ more) (then.ends more e);
@@ -96,6 +102,7 @@ module _ {World Choice : Type 0} (after : World → Gesture → Choice → World
   -- a byte that ends no key
   pub byte-idle : (s : State) (w : World) (b : ℕ) → (step s b).key ≡ None → GoesOn after app s w (step s b).state w (b ∷ [])
   byte-idle s w b e = record {
+    state = refl;
     handles = λ more to h.
         subst (λ (k : Option Key). AreHandled after app w (gestures_of app (before_first is_end (before_keys k (keys_from (step s b).state more)))) to) (sym e) h;
     ends = λ more. end-behind s b more;
@@ -122,6 +129,7 @@ module _ {World Choice : Type 0} (after : World → Gesture → Choice → World
   pub byte-without : (s : State) (w : World) (b : ℕ) (k : Key) → (step s b).key ≡ Some k → is_end k ≡ false → gesture_of app k ≡ None
       → GoesOn after app s w (step s b).state w (b ∷ [])
   byte-without s w b k e other none = record {
+    state = refl;
     handles = λ more to h.
         subst (λ (o : Option Key). AreHandled after app w (gestures_of app (before_first is_end (before_keys o (keys_from (step s b).state more)))) to) (sym e)
         (subst (λ (gs : List Gesture). AreHandled after app w gs to) (sym (no-act k (keys_from (step s b).state more) other none)) h);
@@ -138,6 +146,7 @@ module _ {World Choice : Type 0} (after : World → Gesture → Choice → World
   pub byte-lost : (s : State) (w : World) (b : ℕ) (k : Key) (act : Gesture) → (step s b).key ≡ Some k → is_end k ≡ false → gesture_of app k ≡ Some act
       → GoesOn after app s w (step s b).state w (b ∷ [])
   byte-lost s w b k act e other has = record {
+    state = refl;
     handles = λ more to h.
         subst (λ (o : Option Key). AreHandled after app w (gestures_of app (before_first is_end (before_keys o (keys_from (step s b).state more)))) to) (sym e)
         (subst (λ (gs : List Gesture). AreHandled after app w gs to) (sym (acts-of k (keys_from (step s b).state more) act other has)) (inl h));
@@ -157,9 +166,16 @@ module _ {World Choice : Type 0} (after : World → Gesture → Choice → World
   pub byte-handled : (s : State) (w w_new : World) (b : ℕ) (k : Key) (act : Gesture) (choice : Choice) → (step s b).key ≡ Some k → is_end k ≡ false
       → gesture_of app k ≡ Some act → w_new ≡ after w act choice → GoesOn after app s w (step s b).state w_new (b ∷ [])
   byte-handled s w w_new b k act choice e other has world = record {
+    state = refl;
     handles = λ more to h.
         subst (λ (o : Option Key). AreHandled after app w (gestures_of app (before_first is_end (before_keys o (keys_from (step s b).state more)))) to) (sym e)
         (subst (λ (gs : List Gesture). AreHandled after app w gs to) (sym (acts-of k (keys_from (step s b).state more) act other has))
         (inr (choice, subst (λ (v : World). AreHandled after app v (gestures_of app (before_first is_end (keys_from (step s b).state more))) to) world h)));
     ends = λ more. end-behind s b more;
   }
+
+  -- the gesture of a byte that ends such a key
+  pub byte-act : (s : State) (b : ℕ) (k : Key) (act : Gesture) → (step s b).key ≡ Some k → is_end k ≡ false → gesture_of app k ≡ Some act
+      → gestures_from app s (b ∷ []) ≡ act ∷ []
+  byte-act s b k act e other has =
+      ap (λ (o : Option Key). gestures_of app (before_first is_end (before_keys o []))) e ∙ acts-of k [] act other has

@@ -3,7 +3,7 @@ use Rattle.std.specs.Prelude.{◌≡◌, ◌⊎◌, ℕ, Bool, true, false, List
 use Rattle.std.specs.List.{before_first, list_any}
 use Rattle.cl_application.specs.declared.applications.App.{App}
 use Rattle.cl_gesture.specs.declared.answers.Gesture.{Gesture}
-use Rattle.cl_keys.specs.Decoding.{State, keys_from}
+use Rattle.cl_keys.specs.Decoding.{State, keys_from, state_after}
 use Rattle.cl_keys.specs.Gestures.{gestures_of}
 use Rattle.cl_keys.specs.declared.keys.Key.{Key}
 use Rattle.cl_keys.specs.declared.keys.Key.TheVariants as key
@@ -40,6 +40,7 @@ module _ {World Choice : Type 0} (after : World → Gesture → Choice → World
   -- Bytes were taken on the way from a state and a world to others. What handling more bytes comes to from there on, handling all of them comes
   -- to from the first ones on; and where the key that ends the run is among those, it is among all of them.
   pub record GoesOn (s : State) (w : World) (s_new : State) (w_new : World) (bytes : List ℕ) : Type 0 where
+    pub state : s_new ≡ state_after s bytes
     pub handles : (more : List ℕ) (to : World) → Handles s_new w_new to more → Handles s w to (bytes ++ more)
     pub ends : (more : List ℕ) → end_among s_new more ≡ true → end_among s (bytes ++ more) ≡ true
 

@@ -4,6 +4,7 @@ ghost use Rattle.cl_application.specs.Panes.{IsPlaced};
 ghost use Rattle.cl_frame.specs.Ground.{ground_of, meanings_of};
 ghost use Rattle.cl_keys.specs.Decoding.{at_rest};
 ghost use Rattle.cl_session.specs.Session.{world_of};
+ghost use Rattle.cl_session.specs.Transcript.{RoseIf};
 ghost use Rattle.cl_session.specs.World.{opening};
 ghost use Rattle.cl_tables.specs.Rings.{HasNoRing};
 ghost use Rattle.cl_terminal.specs.Live.{IsReady};
@@ -32,6 +33,7 @@ impl Seat {
         ensures decoder { IfOk result (λ s. s.decoder ≡ at_rest) }
         ensures world { IfOk result (λ s. world_of s.session s.slots
             ≡ opening (ground_of T.holds T.presents T.reads T.hierarchy program.now) slots.now s.session.frame.screen.stale) }
+        ensures failed { IfOk result (λ s. RoseIf s.session.frame.screen.stale device.old.faults device.new.faults) }
         ensures ready { IfOk result (λ s. IsReady (ground_of T.holds T.presents T.reads T.hierarchy program.now) s.slots s.session device.new) }
         ensures later { device.old.faults ≤ device.new.faults }
         ensures steps_later { steps.old ≤ steps.new }

@@ -3,7 +3,7 @@ ghost use Rattle.std.specs.Prelude.{◌≡◌, ◌≤◌};
 ghost use Rattle.cl_application.specs.Panes.{IsPlaced};
 ghost use Rattle.cl_frame.specs.Ground.{ground_of, meanings_of};
 ghost use Rattle.cl_tables.specs.Rings.{HasNoRing};
-ghost use Rattle.cl_terminal.specs.Running.{IsGivenBack, Ran, despite_fault};
+ghost use Rattle.cl_terminal.specs.Running.{IsGivenBack, Ran, RanEntered, despite_fault};
 ghost use Rattle.cl_updating.specs.Redisplays.{CanReuse};
 
 use crate::flows::Closing;
@@ -36,7 +36,7 @@ pub fn run<T: Types, G: Source, S: Sink, L: Ledger>(
     requires no_ring { HasNoRing program.now.app.now.tables }
     requires reuse { CanReuse program.now.app.now (meanings_of T.holds T.presents program.now.types.now) }
     ensures ran { Ran (ground_of T.holds T.presents T.reads T.hierarchy program.now) slots.now (G.left keys.old) (G.left keys.new)
-        (G.faults keys.old) (G.faults keys.new) device.old.faults device.new.faults result }
+        (G.faults keys.old) (G.faults keys.new) device.old device.new result }
     ensures given_back { IsGivenBack device.new }
     ensures lent { G.lent keys.new ≡ G.lent keys.old }
     ensures later { G.faults keys.old ≤ G.faults keys.new }
@@ -65,8 +65,8 @@ fn run_entered<T: Types, G: Source, S: Sink, L: Ledger>(
     requires placed { IsPlaced program.now.app.now.frame }
     requires no_ring { HasNoRing program.now.app.now.tables }
     requires reuse { CanReuse program.now.app.now (meanings_of T.holds T.presents program.now.types.now) }
-    ensures ran { Ran (ground_of T.holds T.presents T.reads T.hierarchy program.now) slots.now (G.left keys.old) (G.left keys.new)
-        (G.faults keys.old) (G.faults keys.new) device.old.faults device.new.faults result }
+    ensures ran { RanEntered (ground_of T.holds T.presents T.reads T.hierarchy program.now) slots.now (G.left keys.old) (G.left keys.new)
+        (G.faults keys.old) (G.faults keys.new) device.old.faults device.new result }
     ensures lent { G.lent keys.new ≡ G.lent keys.old }
     ensures later { G.faults keys.old ≤ G.faults keys.new }
     ensures device_later { device.old.faults ≤ device.new.faults }

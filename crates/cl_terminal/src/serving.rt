@@ -1,10 +1,10 @@
 //! The serving of a terminal.
-ghost use Rattle.std.specs.Prelude.{◌≡◌, ◌≤◌, None};
+ghost use Rattle.std.specs.Prelude.{◌≡◌, ◌≤◌};
 ghost use Rattle.cl_application.specs.Panes.{IsPlaced};
 ghost use Rattle.cl_frame.specs.Ground.{ground_of};
 ghost use Rattle.cl_session.specs.Session.{world_of};
 ghost use Rattle.cl_terminal.specs.Live.{IsReady};
-ghost use Rattle.cl_terminal.specs.Serving.{Serves, Turns, closing_of, standing};
+ghost use Rattle.cl_terminal.specs.Serving.{IsReadyAt, IsReadyBehind, Serves, Turns, closing_of, standing};
 
 use crate::flows::{Closing, Flow};
 use crate::seats::Seat;
@@ -34,6 +34,7 @@ impl Seat {
         ensures serves { Serves (ground_of T.holds T.presents T.reads T.hierarchy program.now)
             (standing self.old.decoder (world_of self.old.session self.old.slots)) (standing self.new.decoder (world_of self.new.session self.new.slots))
             (G.left keys.old) (G.left keys.new) (G.faults keys.old) (G.faults keys.new) device.old.faults device.new.faults result }
+        ensures ready { IsReadyAt (ground_of T.holds T.presents T.reads T.hierarchy program.now) self.new.slots self.new.session device.new result }
         ensures lent { G.lent keys.new ≡ G.lent keys.old }
         ensures later { G.faults keys.old ≤ G.faults keys.new }
         ensures device_later { device.old.faults ≤ device.new.faults }
@@ -62,7 +63,7 @@ impl Seat {
         ensures turns { Turns (ground_of T.holds T.presents T.reads T.hierarchy program.now)
             (standing self.old.decoder (world_of self.old.session self.old.slots)) (standing self.new.decoder (world_of self.new.session self.new.slots))
             (G.left keys.old) (G.left keys.new) (G.faults keys.old) (G.faults keys.new) device.old.faults device.new.faults result }
-        ensures ready { result ≡ None → IsReady (ground_of T.holds T.presents T.reads T.hierarchy program.now) self.new.slots self.new.session device.new }
+        ensures ready { IsReadyBehind (ground_of T.holds T.presents T.reads T.hierarchy program.now) self.new.slots self.new.session device.new result }
         ensures lent { G.lent keys.new ≡ G.lent keys.old }
         ensures later { G.faults keys.old ≤ G.faults keys.new }
         ensures device_later { device.old.faults ≤ device.new.faults }

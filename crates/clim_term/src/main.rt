@@ -4,6 +4,7 @@
 
 ghost use Rattle.std.specs.Prelude.{◌≡◌, ◌⊎◌, ℕ, IfOk, List, None, Option, map, string_bytes};
 ghost use Rattle.std.specs.Process.{exit_status};
+ghost use Rattle.cl_ansi.specs.Terminal.{IsTelling};
 ghost use Rattle.cl_frame.specs.Sending.{wire_of};
 ghost use Rattle.cl_live.specs.Statuses.{EndsWith};
 ghost use Rattle.cl_live.specs.Words.{IsLive, IsNoLive};
@@ -75,7 +76,8 @@ fn run<H: Hosts, P: Place, G: Source, O: Sink>(
     keys: &mut G,
     out: O,
 ) -> (ExitCode, O)
-    ensures ends { (spent : ℕ) × EndsWith (hosts_of H.bounds H.entries hosts.now) (map (λ w. w.now) words.now)
+    requires tells { IsTelling (O.lent out).told (O.taken out) }
+    ensures ends { (spent : ℕ) × EndsWith (O.lent out).told (hosts_of H.bounds H.entries hosts.now) (map (λ w. w.now) words.now)
         (placed (P.file place.old) (P.app_faults place.old) (P.making_faults place.old)
         (wire_of (P.taken place.old) (P.writing_faults place.old) (P.tells place.old)))
         (placed (P.file place.new) (P.app_faults place.new) (P.making_faults place.new)

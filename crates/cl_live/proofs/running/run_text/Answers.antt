@@ -9,10 +9,10 @@ run_application-end-requires-clause-reuse g c =
 
 pub returns-in-Ok-clause-ran : goal.returns-in-Ok-clause-ran
 returns-in-Ok-clause-ran g c =
-    RanText-ran (hosts_of g.H.Hosts.bounds g.H.Hosts.entries c.args.hosts.now) _ _ c.in-Ok.loaded.app c.in-Ok.loaded.lattice _ _ _ c.in-Ok.ensures.0 c.in-Ok.ensures.1
+    RanText-ran (g.O.Sink.lent c.args.out).told (hosts_of g.H.Hosts.bounds g.H.Hosts.entries c.args.hosts.now) _ _ c.in-Ok.loaded.app c.in-Ok.loaded.lattice _ _ _ c.in-Ok.ensures.0 c.in-Ok.ensures.1
     c.run_application-end.ensures.ran
 
 pub returns-in-Err-clause-ran : goal.returns-in-Err-clause-ran
 returns-in-Err-clause-ran g c =
-    RanText-refused (hosts_of g.H.Hosts.bounds g.H.Hosts.entries c.args.hosts.now) _ _ c.in-Err.refusal _ _ c.tell_refusal.result c.in-Err.ensures
+    RanText-refused (g.O.Sink.lent c.args.out).told (hosts_of g.H.Hosts.bounds g.H.Hosts.entries c.args.hosts.now) _ _ c.in-Err.refusal _ _ c.tell_refusal.result c.in-Err.ensures
     (c.tell_refusal.ensures.tells (g.G.Source.left c.args.keys.now) (g.G.Source.faults c.args.keys.now) c.args.steps.now)

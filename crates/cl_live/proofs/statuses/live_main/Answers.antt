@@ -18,7 +18,7 @@ returns-clause-refusal_due g c = λ name budget reason is quiet refusal.
     let t = streams (g.G.Source.left c.run_words-how.new.keys) (g.G.Source.faults c.run_words-how.new.keys) (g.O.Sink.taken c.run_words-how.result.1)
     (g.O.Sink.faults c.run_words-how.result.1) c.run_words-how.new.steps in
     rw c.status_of.ensures
-    (refusal_due (hosts_of g.H.Hosts.bounds g.H.Hosts.entries c.args.hosts.now) words old new s t c.run_words-how.result.0 name budget reason
+    (refusal_due (g.O.Sink.lent c.args.out).told (hosts_of g.H.Hosts.bounds g.H.Hosts.entries c.args.hosts.now) words old new s t c.run_words-how.result.0 name budget reason
     c.run_words-how.ensures.went is quiet refusal)
 
 pub returns-clause-complete : goal.returns-clause-complete
@@ -34,5 +34,5 @@ returns-clause-complete g c = λ name budget is quiet keys output declares.
     let t = streams (g.G.Source.left c.run_words-how.new.keys) (g.G.Source.faults c.run_words-how.new.keys) (g.O.Sink.taken c.run_words-how.result.1)
     (g.O.Sink.faults c.run_words-how.result.1) c.run_words-how.new.steps in
     rw c.status_of.ensures
-    (complete (hosts_of g.H.Hosts.bounds g.H.Hosts.entries c.args.hosts.now) words old new s t c.run_words-how.result.0 name budget
+    (complete (g.O.Sink.lent c.args.out).told (hosts_of g.H.Hosts.bounds g.H.Hosts.entries c.args.hosts.now) words old new s t c.run_words-how.result.0 name budget
     c.run_words-how.ensures.went is quiet keys output declares)
